@@ -1,0 +1,104 @@
+-- How words are read from left to right, byte by byte: the answer of `split`.
+use Rattle.std.specs.Prelude.{ℕ, ◌==◌, ◌||◌, ◌&&◌, nat_le, nat_lt, List, [], ◌∷◌, ◌++◌, length, Result, Ok, Err, if◌then◌else◌, slice_index}
+use Rattle.nut_words.specs.declared.words.WordFault.{WordFault}
+use Rattle.nut_words.specs.declared.words.WordFault.TheVariants as faults
+use Rattle.nut_words.specs.declared.reader.Kind.{Kind}
+use Rattle.nut_words.specs.declared.reader.Kind.TheVariants as kinds
+
+abbrev pub kind : ℕ → Kind
+kind c =
+    if c == 32 then kinds.Space else
+    if c == 9 || c == 13 then kinds.Gap else
+    if c == 34 then kinds.Quote else
+    if c == 92 then kinds.Backslash else
+    if c == 35 then kinds.Hash else
+    if c == 61 then kinds.Equals else
+    if nat_le 33 c && nat_le c 126 then kinds.Plain else kinds.Bad
+
+abbrev pub kind_at : List ℕ → ℕ → Kind
+kind_at line at = kind (slice_index line at)
+
+-- between words; in a bare or a quoted word, perhaps behind a backslash; behind a closing quote; in a comment
+pub data State : Type 0 where
+  Between : List (List ℕ) → State
+  Bare : List ℕ → List (List ℕ) → State
+  BareEscape : List ℕ → List (List ℕ) → State
+  Quoted : List ℕ → List (List ℕ) → State
+  QuotedEscape : List ℕ → List (List ℕ) → State
+  Closed : List (List ℕ) → State
+  Comment : List (List ℕ) → State
+
+infixl 10 ◌>>=◌
+abbrev pub ◌>>=◌ : {A B : Type 0} → Result A WordFault → (A → Result B WordFault) → Result B WordFault
+(Ok x) >>= f = f x
+(Err e) >>= f = Err e
+
+-- a word begins only where there is room for it
+abbrev pub begun : ℕ → List (List ℕ) → State → Result State WordFault
+begun most ws s = if nat_lt (length ws) most then Ok s else Err faults.TooManyWords
+
+-- a byte where a word may begin
+abbrev pub apart : ℕ → List (List ℕ) → Kind → ℕ → Result State WordFault
+apart most ws kinds.Space c = Ok (Between ws)
+apart most ws kinds.Gap c = Ok (Between ws)
+apart most ws kinds.Quote c = begun most ws (Quoted [] ws)
+apart most ws kinds.Backslash c = begun most ws (BareEscape [] ws)
+apart most ws kinds.Hash c = Ok (Comment ws)
+apart most ws kinds.Equals c = begun most ws (Between (ws ++ (61 ∷ []) ∷ []))
+apart most ws kinds.Plain c = begun most ws (Bare (c ∷ []) ws)
+apart most ws kinds.Bad c = Err faults.BadByte
+
+abbrev pub in_bare : ℕ → List ℕ → List (List ℕ) → Kind → ℕ → Result State WordFault
+in_bare most w ws kinds.Quote c = Err faults.QuoteInWord
+in_bare most w ws kinds.Backslash c = Ok (BareEscape w ws)
+in_bare most w ws kinds.Plain c = Ok (Bare (w ++ c ∷ []) ws)
+in_bare most w ws k c = apart most (ws ++ w ∷ []) k c
+
+abbrev pub in_quotes : List ℕ → List (List ℕ) → Kind → ℕ → Result State WordFault
+in_quotes w ws kinds.Gap c = Err faults.BadByte
+in_quotes w ws kinds.Quote c = Ok (Closed (ws ++ w ∷ []))
+in_quotes w ws kinds.Backslash c = Ok (QuotedEscape w ws)
+in_quotes w ws kinds.Bad c = Err faults.BadByte
+in_quotes w ws k c = Ok (Quoted (w ++ c ∷ []) ws)
+
+-- behind a backslash
+abbrev pub escaped : Kind → State → Result State WordFault
+escaped kinds.Gap s = Err faults.BadByte
+escaped kinds.Bad s = Err faults.BadByte
+escaped k s = Ok s
+
+abbrev pub behind_quote : ℕ → List (List ℕ) → Kind → ℕ → Result State WordFault
+behind_quote most ws kinds.Quote c = Err faults.AfterQuote
+behind_quote most ws kinds.Backslash c = Err faults.AfterQuote
+behind_quote most ws kinds.Plain c = Err faults.AfterQuote
+behind_quote most ws k c = apart most ws k c
+
+abbrev pub in_comment : List (List ℕ) → Kind → Result State WordFault
+in_comment ws kinds.Bad = Err faults.BadByte
+in_comment ws k = Ok (Comment ws)
+
+abbrev pub step : ℕ → State → Kind → ℕ → Result State WordFault
+step most (Between ws) k c = apart most ws k c
+step most (Bare w ws) k c = in_bare most w ws k c
+step most (BareEscape w ws) k c = escaped k (Bare (w ++ c ∷ []) ws)
+step most (Quoted w ws) k c = in_quotes w ws k c
+step most (QuotedEscape w ws) k c = escaped k (Quoted (w ++ c ∷ []) ws)
+step most (Closed ws) k c = behind_quote most ws k c
+step most (Comment ws) k c = in_comment ws k
+
+abbrev pub finish : State → Result (List (List ℕ)) WordFault
+finish (Between ws) = Ok ws
+finish (Bare w ws) = Ok (ws ++ w ∷ [])
+finish (BareEscape w ws) = Err faults.LoneBackslash
+finish (Quoted w ws) = Err faults.OpenQuote
+finish (QuotedEscape w ws) = Err faults.LoneBackslash
+finish (Closed ws) = Ok ws
+finish (Comment ws) = Ok ws
+
+unfoldable pub read : ℕ → State → List ℕ → Result (List (List ℕ)) WordFault
+read most s [] = finish s
+read most s (c ∷ cs) = step most s (kind c) c >>= λ t. read most t cs
+
+-- The words that a line spells, or its fault. That this is what `Spells` and `HasFault` say is the law `spelled_is_meant`.
+abbrev pub spelled : List ℕ → Result (List (List ℕ)) WordFault
+spelled line = read 32 (Between []) line

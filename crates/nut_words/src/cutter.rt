@@ -1,0 +1,126 @@
+//! Lines out of bytes that come in any pieces.
+ghost use Rattle.std.specs.Prelude.{◌≡◌, ◌≤◌, [], ◌∷◌, ◌++◌, List, ℕ, length, take, IfNone, OnSome, IsTrue, ◌<◌};
+ghost use Rattle.std.specs.Borrow.{sem};
+ghost use Rattle.nut_words.specs.Lines.{Text, joined, lines, rest};
+ghost use Rattle.nut_words.specs.Cutter.{LeavesRest, handed_out, kept_of};
+
+use arrayvec::ArrayVec;
+use memchr::memchr;
+use std::marker::Model;
+
+/// How many bytes a line has at most, its line feed not counted.
+pub const LINE_MAX: usize = 512;
+
+/// A line without its line feed, or the mark of one that is too long.
+#[derive(Clone, Copy)]
+pub enum Line<'a> {
+    Text(&'a [u8]),
+    TooLong,
+}
+
+#[derive(Clone, Copy)]
+enum Stage {
+    Growing,
+    Overlong,
+    HandedOut,
+}
+
+/// Cuts a stream of bytes into lines. It keeps the bytes of the unfinished line, and takes no memory.
+#[derive(Drop)]
+pub struct LineCutter {
+    kept: ArrayVec<u8, 512>,
+    stage: Stage,
+}
+
+impl Model for LineCutter {
+    ghost use Rattle.nut_words.specs.Lines.{LineText};
+
+    ghost Value = { LineText };
+
+    ghost use Rattle.nut_words.specs.Inside.{rest_inside};
+
+    ghost view = { rest_inside };
+}
+
+impl LineCutter {
+    pub fn new() -> Self
+        ensures { result ≡ rest [] }
+    {
+        LineCutter {
+            kept: ArrayVec::new(),
+            stage: Stage::Growing,
+        }
+    }
+
+    pub fn kept(&self) -> usize
+        ensures { result ≡ kept_of self.now }
+    {
+        match self.stage {
+            Stage::Growing => self.kept.len(),
+            Stage::Overlong | Stage::HandedOut => 0,
+        }
+    }
+
+    /// Whether nothing is kept, so that the next byte begins a line.
+    fn is_at_start(&self) -> bool
+        ensures { IsTrue result → self.now ≡ Text [] }
+    {
+        match self.stage {
+            Stage::Growing => self.kept.is_empty(),
+            Stage::Overlong => false,
+            Stage::HandedOut => true,
+        }
+    }
+
+    /// Puts bytes without a line feed behind the unfinished line.
+    fn keep(&mut self, text: &[u8])
+        ensures { self.new ≡ joined self.old text.now }
+    {
+        match self.stage {
+            Stage::Growing => {
+                if self.kept.try_extend_from_slice(text).is_err() {
+                    self.stage = Stage::Overlong;
+                }
+            }
+            Stage::Overlong => {}
+            Stage::HandedOut => {
+                self.kept.clear();
+                self.stage = if self.kept.try_extend_from_slice(text).is_ok() {
+                    Stage::Growing
+                } else {
+                    Stage::Overlong
+                };
+            }
+        }
+    }
+
+    /// Takes the next piece of the stream up to its first line feed, which completes a line, or whole where it has none.
+    /// The second part of the answer is how many bytes that used, the line feed counted.
+    pub fn feed<'a>(&'a mut self, piece: &'a [u8]) -> (Option<Line<'a>>, usize)
+        ensures* after_borrow { sem 𝓛 (LeavesRest self.entry (take result.1 piece.now) result.0) }
+        ensures line { (b : List ℕ) → self.old ≡ rest b
+            → lines (b ++ take result.1 piece.now) ≡ lines b ++ handed_out result.0 }
+        ensures used { result.1 ≤ length piece.now }
+        ensures all { IfNone result.0 (result.1 ≡ length piece.now) }
+        ensures some { OnSome result.0 (0 < result.1) }
+    {
+        let Some(at) = memchr(b'\n', piece) else {
+            self.keep(piece);
+            return (None, piece.len());
+        };
+        let front = &piece[..at];
+        if at <= LINE_MAX && self.is_at_start() {
+            return (Some(Line::Text(front)), at + 1);
+        }
+        self.keep(front);
+        let stage = self.stage;
+        self.stage = Stage::HandedOut;
+        let kept = &self.kept;
+        let line = match stage {
+            Stage::Growing => Line::Text(kept.as_slice()),
+            Stage::Overlong => Line::TooLong,
+            Stage::HandedOut => Line::Text(&[]),
+        };
+        (Some(line), at + 1)
+    }
+}
