@@ -38,32 +38,32 @@ fn the_whole_ring_can_be_filled(rt: HostRuntime) -> Result<(), Fail> {
     Ok(())
 }
 
-/// Pushes rising bytes in pieces of many lengths and takes them in others, through some hundred turns of the ring.
-#[test]
-fn order_is_kept_over_many_turns(rt: HostRuntime) -> Result<(), Fail> {
-    let mut ring = AskRing::new(rt.alloc())?;
-    let mut pushed = 0u8;
-    let mut taken = 0u8;
-    let mut turned = 0usize;
-    for turn in 0..4000usize {
-        let mut piece = [0u8; 251];
-        let length = turn * 7 % 251;
-        for byte in &mut piece[..length] {
-            *byte = pushed;
-            pushed = pushed.wrapping_add(1);
+/// A request of seven bytes, a length that does not divide the ring's.
+fn numbered(number: u32) -> [u8; 7] {
+    let [a, b, c, d] = number.to_be_bytes();
+    [b'S', b'E', b'T', a, b, c, d]
+}
+
+/// Takes a request byte by byte, as a slow driver does, and says whether it was this one.
+fn takes(ring: &mut AskRing, request: &[u8]) -> bool {
+    for byte in request {
+        if ring.front().first() != Some(byte) || !ring.took(1) {
+            return false;
         }
-        if !ring.push(&piece[..length]) {
-            pushed = pushed.wrapping_sub(length as u8);
-        }
-        let front = ring.front();
-        let shown = front.len().min(turn * 11 % 241);
-        for byte in &front[..shown] {
-            assert_eq!(rt; *byte, taken);
-            taken = taken.wrapping_add(1);
-        }
-        assert!(rt; ring.took(shown));
-        turned += shown;
     }
-    assert!(rt; turned > 50 * RING_BYTES);
+    true
+}
+
+#[test]
+fn order_is_kept_over_a_hundred_turns(rt: HostRuntime) -> Result<(), Fail> {
+    let mut ring = AskRing::new(rt.alloc())?;
+    for number in 0..500u32 {
+        assert!(rt; ring.push(&numbered(number)));
+    }
+    for number in 500..60_000u32 {
+        assert!(rt; ring.push(&numbered(number)));
+        assert!(rt; takes(&mut ring, &numbered(number.wrapping_sub(500))));
+        assert_eq!(rt; ring.len(), 3500);
+    }
     Ok(())
 }

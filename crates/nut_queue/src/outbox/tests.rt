@@ -42,13 +42,11 @@ fn a_queue_that_is_emptied_does_not_grow(rt: HostRuntime) -> Result<(), Fail> {
     let reply = [b'x'; 361];
     outbox.push(&reply)?;
     let room = outbox.buffer.capacity();
-    let place = outbox.front().as_ptr();
     for _ in 0..100_000 {
         assert!(rt; outbox.took(200));
         assert!(rt; outbox.took(161));
         outbox.push(&reply)?;
         assert_eq!(rt; outbox.len(), 361);
-        assert!(rt; outbox.front().as_ptr() == place);
     }
     assert_eq!(rt; outbox.buffer.capacity(), room);
     Ok(())
