@@ -1,10 +1,9 @@
 -- How a server may answer an event, and the history that stands after it.
-use Rattle.std.specs.Prelude.{ℕ, ◌≡◌, ◌<◌, List, [], ◌∷◌, Some, None, Result, Ok, Err}
+use Rattle.std.specs.Prelude.{◌≡◌, ◌<◌, List, ◌∷◌, Some, None, Result, Ok, Err}
 use Rattle.nut_history.specs.declared.Place.{Place}
 use Rattle.nut_history.specs.declared.Place.TheVariants.{Line}
 use Rattle.nut_history.specs.declared.Refused.{Refused}
 use Rattle.nut_history.specs.declared.Refused.TheVariants.{NoSuchConnection, PieceTooLong, Busy, TooMuchTaken, BadAddress, Full, Memory}
-use Rattle.nut_history.specs.Configuration.{Configuration}
 use Rattle.nut_history.specs.Event.{Event, Bytes}
 use Rattle.nut_history.specs.Content.{Content}
 use Rattle.nut_history.specs.Acceptance.{refusal, lost, line_feeds}

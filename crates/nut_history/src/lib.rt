@@ -2,6 +2,12 @@
 //! to the histories that it was told.
 #![tactic(auto)]
 
+ghost use Rattle.std.specs.Prelude.{◌≡◌, ℕ, List, ◌∷◌, ◌++◌};
+ghost use Rattle.nut_history.specs.Configuration.{Configuration};
+ghost use Rattle.nut_history.specs.Event.{Event, Bytes};
+ghost use Rattle.nut_history.specs.Content.{content};
+ghost use Rattle.nut_history.specs.Machine.{KeepsContent};
+
 use thiserror::Error;
 
 /// Where a growth of memory was refused.
@@ -37,3 +43,14 @@ pub enum Refused {
     #[error("out of memory")]
     Memory(Place),
 }
+
+/// The machine that a server runs keeps what its answers depend on, for every history of accepted events.
+pub fn machine_keeps_content()
+    ensures { KeepsContent }
+{}
+
+/// However a connection's bytes are cut into pieces, the content is the same.
+pub fn cuts_do_not_matter()
+    ensures { (first : Configuration) (h : List Event) (c : ℕ) (x y : List ℕ) →
+        content first (Bytes c (x ++ y) ∷ h) ≡ content first (Bytes c y ∷ Bytes c x ∷ h) }
+{}
