@@ -9,7 +9,8 @@ use Rattle.nut_history.specs.Trace.{Entry, opened, open_numbers, logged_out, due
 use Rattle.nut_history.specs.Content.{Session, past, content, session}
 use Rattle.nut_history.specs.Acceptance.{refusal, IsAccepted, session_of, bytes_refusal, took_refusal}
 use Rattle.nut_history.specs.Machine.{advance, fresh, KeepsContent}
-use Rattle.nut_history.proofs.Numbers.{IsUpTo, numbers_up_to}
+use Rattle.nut_history.proofs.Numbers.{numbers_up_to}
+use Rattle.nut_history.specs.Laws.{IsUpTo}
 use Rattle.nut_history.proofs.Law.{law-close, law-write_failed, law-took, law-bytes, covered_bytes, IsCovered}
 
 -- a session that is found has that number, which was given out

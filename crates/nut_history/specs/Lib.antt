@@ -7,3 +7,4 @@ pub mod Content
 pub mod Acceptance
 pub mod Machine
 pub mod Outcome
+pub mod Laws

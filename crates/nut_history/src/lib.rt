@@ -2,11 +2,8 @@
 //! to the histories that it was told.
 #![tactic(auto)]
 
-ghost use Rattle.std.specs.Prelude.{◌≡◌, ℕ, List, ◌∷◌, ◌++◌};
-ghost use Rattle.nut_history.specs.Configuration.{Configuration};
-ghost use Rattle.nut_history.specs.Event.{Event, Bytes};
-ghost use Rattle.nut_history.specs.Content.{content};
 ghost use Rattle.nut_history.specs.Machine.{KeepsContent};
+ghost use Rattle.nut_history.specs.Laws.{AnswersKeepContent, CutsDoNotMatter, NumbersRise, SentAndWaitingIsDue, SentIsFrontOfDue, SentIsReceived};
 
 use thiserror::Error;
 
@@ -51,6 +48,30 @@ pub fn machine_keeps_content()
 
 /// However a connection's bytes are cut into pieces, the content is the same.
 pub fn cuts_do_not_matter()
-    ensures { (first : Configuration) (h : List Event) (c : ℕ) (x y : List ℕ) →
-        content first (Bytes c (x ++ y) ∷ h) ≡ content first (Bytes c y ∷ Bytes c x ∷ h) }
+    ensures { CutsDoNotMatter }
+{}
+
+/// Whatever a server may answer to an event, what it has then is the content of the history after it.
+pub fn answers_keep_content()
+    ensures { AnswersKeepContent }
+{}
+
+/// The numbers of the open connections rise, and none is greater than how many connections were opened.
+pub fn numbers_rise()
+    ensures { NumbersRise }
+{}
+
+/// What a connection was sent is what it took, in turn, of the bytes that waited for it.
+pub fn sent_is_received()
+    ensures { SentIsReceived }
+{}
+
+/// What an open connection was sent, and then what waits for it, is the answers to its lines, joined.
+pub fn sent_and_waiting_is_due()
+    ensures { SentAndWaitingIsDue }
+{}
+
+/// What a connection was sent is a front of the answers to its lines, also after it is closed.
+pub fn sent_is_front_of_due()
+    ensures { SentIsFrontOfDue }
 {}
