@@ -1,12 +1,13 @@
 -- What holds of every history of accepted events.
-use Rattle.std.specs.Prelude.{◌≡◌, ℕ, ◌<◌, ◌≤◌, ◌==◌, if◌then◌else◌, List, [], ◌∷◌, ◌++◌, map, take, Some, Result}
+use Rattle.std.specs.Prelude.{◌≡◌, ℕ, ◌<◌, ◌≤◌, ◌==◌, ◌+◌, false, if◌then◌else◌, List, [], ◌∷◌, ◌++◌, map, take, Some, None, Result}
 use Rattle.nut_words.specs.Quoting.{Begins}
 use Rattle.nut_history.specs.Configuration.{Configuration}
-use Rattle.nut_history.specs.Event.{Event, Bytes, Took}
+use Rattle.nut_history.specs.Event.{Event, Open, Bytes, Took, Close, WriteFailed}
 use Rattle.nut_history.specs.Trace.{due}
 use Rattle.nut_history.specs.Content.{Session, Content, content, past, sent}
 use Rattle.nut_history.specs.declared.Refused.{Refused}
 use Rattle.nut_history.specs.Acceptance.{IsAccepted, Tells, session_of, waiting_of}
+use Rattle.nut_history.specs.Machine.{fresh}
 use Rattle.nut_history.specs.Outcome.{IsAnswer, after, content_after}
 
 -- However a connection's bytes are cut into pieces, the content is the same.
@@ -63,3 +64,30 @@ abbrev pub AnswersKeepContent : Type 0
 AnswersKeepContent =
     (first : Configuration) (h : List Event) (s : Content) (e : Event) (r : Result (Unit {0}) Refused) →
     Tells first h s → IsAnswer s e r → Tells first (after r e h) (content_after r s e)
+
+-- the connection that an event is of; an Open is of the one that it opens
+abbrev pub connection_of : Content → Event → ℕ
+connection_of s (Open address) = s.opened + 1
+connection_of s (Bytes c piece) = c
+connection_of s (Took c n) = c
+connection_of s (Close c) = c
+connection_of s (WriteFailed c) = c
+
+-- An accepted event changes no connection but its own.
+abbrev pub OthersStay : Type 0
+OthersStay =
+    (first : Configuration) (h : List Event) (e : Event) (d : ℕ) → IsAccepted first (e ∷ h) → (connection_of (content first h) e == d) ≡ false →
+    session_of d (content first (e ∷ h)).sessions ≡ session_of d (content first h).sessions
+
+-- A new connection has said nothing, and nothing waits for it.
+abbrev pub OpenedIsFresh : Type 0
+OpenedIsFresh =
+    (first : Configuration) (h : List Event) (address : List ℕ) → IsAccepted first (Open address ∷ h) →
+    session_of (content first (Open address ∷ h)).opened (content first (Open address ∷ h)).sessions
+    ≡ Some (fresh (content first (Open address ∷ h)).opened address)
+
+-- A connection that was opened and is closed is never open again.
+abbrev pub ClosedStaysClosed : Type 0
+ClosedStaysClosed =
+    (first : Configuration) (h : List Event) (e : Event) (d : ℕ) → IsAccepted first (e ∷ h) → d ≤ (content first h).opened →
+    session_of d (content first h).sessions ≡ None → session_of d (content first (e ∷ h)).sessions ≡ None

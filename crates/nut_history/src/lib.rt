@@ -3,7 +3,7 @@
 #![tactic(auto)]
 
 ghost use Rattle.nut_history.specs.Machine.{KeepsContent};
-ghost use Rattle.nut_history.specs.Laws.{AnswersKeepContent, CutsDoNotMatter, NumbersRise, SentAndWaitingIsDue, SentIsFrontOfDue, SentIsReceived};
+ghost use Rattle.nut_history.specs.Laws.{AnswersKeepContent, ClosedStaysClosed, CutsDoNotMatter, NumbersRise, OpenedIsFresh, OthersStay, SentAndWaitingIsDue, SentIsFrontOfDue, SentIsReceived};
 
 use thiserror::Error;
 
@@ -74,4 +74,19 @@ pub fn sent_and_waiting_is_due()
 /// What a connection was sent is a front of the answers to its lines, also after it is closed.
 pub fn sent_is_front_of_due()
     ensures { SentIsFrontOfDue }
+{}
+
+/// An accepted event changes no connection but its own.
+pub fn others_stay()
+    ensures { OthersStay }
+{}
+
+/// A new connection has said nothing, and nothing waits for it.
+pub fn opened_is_fresh()
+    ensures { OpenedIsFresh }
+{}
+
+/// A connection that was opened and is closed is never open again.
+pub fn closed_stays_closed()
+    ensures { ClosedStaysClosed }
 {}
