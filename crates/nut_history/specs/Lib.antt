@@ -8,3 +8,4 @@ pub mod Acceptance
 pub mod Machine
 pub mod Outcome
 pub mod Laws
+pub mod Examples

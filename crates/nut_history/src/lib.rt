@@ -3,6 +3,7 @@
 #![tactic(auto)]
 
 ghost use Rattle.nut_history.specs.Machine.{KeepsContent};
+ghost use Rattle.nut_history.specs.Examples.{WorkedExamples};
 ghost use Rattle.nut_history.specs.Laws.{AnswersKeepContent, ClosedStaysClosed, CutsDoNotMatter, NumbersRise, OpenedIsFresh, OthersStay, SentAndWaitingIsDue, SentIsFrontOfDue, SentIsReceived};
 
 use thiserror::Error;
@@ -89,4 +90,9 @@ pub fn opened_is_fresh()
 /// A connection that was opened and is closed is never open again.
 pub fn closed_stays_closed()
     ensures { ClosedStaysClosed }
+{}
+
+/// What is answered in some histories, computed from the definitions.
+pub fn worked_examples()
+    ensures { WorkedExamples }
 {}
