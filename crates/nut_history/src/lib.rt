@@ -1,0 +1,98 @@
+//! What a server of UPSes is told and what it answers: definitions, and the laws that tie the machine of a server
+//! to the histories that it was told.
+#![tactic(auto)]
+
+ghost use Rattle.nut_history.specs.Machine.{KeepsContent};
+ghost use Rattle.nut_history.specs.Examples.{WorkedExamples};
+ghost use Rattle.nut_history.specs.Laws.{AnswersKeepContent, ClosedStaysClosed, CutsDoNotMatter, NumbersRise, OpenedIsFresh, OthersStay, SentAndWaitingIsDue, SentIsFrontOfDue, SentIsReceived};
+
+use thiserror::Error;
+
+/// Where a growth of memory was refused.
+#[derive(Clone, Copy, Debug, PartialEq, Eq)]
+pub enum Place {
+    /// In a piece of the connection with this number, at the line behind so many that were done. Those stand, the
+    /// line left no trace, and the connection is closed.
+    Line(u64, usize),
+}
+
+/// Why an arrival isn't accepted. All but `Memory` change nothing.
+#[derive(Clone, Copy, Debug, PartialEq, Eq, Error)]
+pub enum Refused {
+    /// No connection with this number is open.
+    #[error("no such connection")]
+    NoSuchConnection,
+    /// The piece has more than 512 bytes.
+    #[error("the piece is too long")]
+    PieceTooLong,
+    /// Answers wait for the connection: it has to take them first.
+    #[error("answers wait")]
+    Busy,
+    /// More bytes were taken than wait.
+    #[error("more was taken than waits")]
+    TooMuchTaken,
+    /// The address isn't one of 1 to 64 bytes that may stand in a bare word.
+    #[error("not an address")]
+    BadAddress,
+    /// As many connections are open as may be, or 4,294,967,295 were opened.
+    #[error("too many connections")]
+    Full,
+    /// A growth of memory was refused there.
+    #[error("out of memory")]
+    Memory(Place),
+}
+
+/// The machine that a server runs keeps what its answers depend on, for every history of accepted events.
+pub fn machine_keeps_content()
+    ensures { KeepsContent }
+{}
+
+/// However a connection's bytes are cut into pieces, the content is the same.
+pub fn cuts_do_not_matter()
+    ensures { CutsDoNotMatter }
+{}
+
+/// Whatever a server may answer to an event, what it has then is the content of the history after it.
+pub fn answers_keep_content()
+    ensures { AnswersKeepContent }
+{}
+
+/// The numbers of the open connections rise, and none is greater than how many connections were opened.
+pub fn numbers_rise()
+    ensures { NumbersRise }
+{}
+
+/// What a connection was sent is what it took, in turn, of the bytes that waited for it.
+pub fn sent_is_received()
+    ensures { SentIsReceived }
+{}
+
+/// What an open connection was sent, and then what waits for it, is the answers to its lines, joined.
+pub fn sent_and_waiting_is_due()
+    ensures { SentAndWaitingIsDue }
+{}
+
+/// What a connection was sent is a front of the answers to its lines, also after it is closed.
+pub fn sent_is_front_of_due()
+    ensures { SentIsFrontOfDue }
+{}
+
+/// An accepted event changes no connection but its own.
+pub fn others_stay()
+    ensures { OthersStay }
+{}
+
+/// A new connection has said nothing, and nothing waits for it.
+pub fn opened_is_fresh()
+    ensures { OpenedIsFresh }
+{}
+
+/// A connection that was opened and is closed is never open again.
+pub fn closed_stays_closed()
+    ensures { ClosedStaysClosed }
+{}
+
+/// What is answered in some histories, computed from the definitions.
+pub fn worked_examples()
+    ensures { WorkedExamples }
+{}
