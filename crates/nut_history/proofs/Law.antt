@@ -11,7 +11,8 @@ use Rattle.nut_history.specs.Answer.{Answer, text_of}
 use Rattle.nut_history.specs.Trace.{Entry, configuration, opened, open_numbers, address, logged_out, due, trace, answer_to}
 use Rattle.nut_history.specs.Content.{Session, Content, past, content, session}
 use Rattle.nut_history.specs.Machine.{advance, update, heard, with_rest, byte_heard, bytes_heard, with_sessions, without}
-use Rattle.nut_history.proofs.LineLaws.{brought_none, brought_feed, brought_byte, brought-append, rest_feed, rest_byte}
+use Rattle.nut_history.proofs.LineLaws.{brought_none, brought_line_feed, brought_within, brought-append}
+use Rattle.nut_words.proofs.StreamGrowth.{rest_at_line_feed, rest_within}
 use Rattle.nut_history.proofs.Numbers.{IsNone', IsDistinct, numbers_distinct}
 
 -- a session and a content by the past, the unfinished lines and how much was taken
@@ -142,17 +143,17 @@ after_byte c b s = with_sessions (update c (byte_heard s.configuration b) s.sess
 
 law-feed : (first : Configuration) (h : List Event) (c : ℕ) → IsCovered first h c → content first (Bytes c (10 ∷ []) ∷ h) ≡ after_byte c 10 (content first h)
 law-feed first h c covered =
-    ap (λ ls. content_from first (trace first (with_lines c ls (steps h))) (rests_of (Bytes c (10 ∷ []) ∷ h)) (takes_of h)) (brought_feed (input c h))
+    ap (λ ls. content_from first (trace first (with_lines c ls (steps h))) (rests_of (Bytes c (10 ∷ []) ∷ h)) (takes_of h)) (brought_line_feed (input c h))
     ∙ said-law first (past first h) c (rests_of h c) (rests_of h) (rests_of (Bytes c (10 ∷ []) ∷ h)) (takes_of h)
     (byte_heard (content first h).configuration 10) covered (rests_other h c (10 ∷ []))
-    (ap (λ r. with_rest r (heard (configuration first (past first h)) (rests_of h c) (session first h c))) (sym (rests_self h c (10 ∷ []) ∙ rest_feed (input c h))))
+    (ap (λ r. with_rest r (heard (configuration first (past first h)) (rests_of h c) (session first h c))) (sym (rests_self h c (10 ∷ []) ∙ rest_at_line_feed (input c h))))
 
 law-other_byte : (first : Configuration) (h : List Event) (c b : ℕ) → eqb b 10 ≡ false → content first (Bytes c (b ∷ []) ∷ h) ≡ after_byte c b (content first h)
 law-other_byte first h c b other =
-    ap (λ ls. content_from first (trace first (with_lines c ls (steps h))) (rests_of (Bytes c (b ∷ []) ∷ h)) (takes_of h)) (brought_byte (input c h) b other)
+    ap (λ ls. content_from first (trace first (with_lines c ls (steps h))) (rests_of (Bytes c (b ∷ []) ∷ h)) (takes_of h)) (brought_within (input c h) b other)
     ∙ rest-law first (past first h) c (rests_of h) (rests_of (Bytes c (b ∷ []) ∷ h)) (takes_of h)
     (byte_heard (content first h).configuration b) (rests_other h c (b ∷ []))
-    (rw other (ap (λ r. with_rest r (session first h c)) (sym (rests_self h c (b ∷ []) ∙ rest_byte (input c h) b other))))
+    (rw other (ap (λ r. with_rest r (session first h c)) (sym (rests_self h c (b ∷ []) ∙ rest_within (input c h) b (eqb-false b 10 other)))))
 
 law-byte : (first : Configuration) (h : List Event) (c b : ℕ) → IsCovered first h c → content first (Bytes c (b ∷ []) ∷ h) ≡ after_byte c b (content first h)
 law-byte first h c b covered =
