@@ -1,4 +1,4 @@
--- What holds of every history of accepted events.
+-- What holds of every history of accepted events. Each of these is the contract of a function of the crate.
 use Rattle.std.specs.Prelude.{◌≡◌, ℕ, ◌<◌, ◌≤◌, ◌==◌, ◌+◌, false, if◌then◌else◌, List, [], ◌∷◌, ◌++◌, map, take, Some, None, Result}
 use Rattle.nut_words.specs.Quoting.{Begins}
 use Rattle.nut_history.specs.Configuration.{Configuration}
