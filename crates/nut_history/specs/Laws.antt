@@ -55,9 +55,11 @@ IsUpTo n (m ∷ ns) = (m ≤ n) × IsUpTo n ns
 abbrev pub numbers : Content → List ℕ
 numbers s = map (λ k. k.number) s.sessions
 
--- The numbers of the open connections rise, and none is greater than how many connections were opened.
+-- The numbers of the open connections rise from 1 on, and none is greater than how many connections were opened.
 abbrev pub NumbersRise : Type 0
-NumbersRise = (first : Configuration) (h : List Event) → IsRising (numbers (content first h)) × IsUpTo (content first h).opened (numbers (content first h))
+NumbersRise =
+    (first : Configuration) (h : List Event) →
+    IsBelow 0 (numbers (content first h)) × IsRising (numbers (content first h)) × IsUpTo (content first h).opened (numbers (content first h))
 
 -- What a server has after any answer that it may give to an event is the content of the history after it.
 abbrev pub AnswersKeepContent : Type 0
