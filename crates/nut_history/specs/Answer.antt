@@ -1,4 +1,4 @@
--- What a client is answered (RFC 9271, sections 4.2 and 4.3).
+-- What a client is answered (RFC 9271: the same commands, and its error responses; NUT developer guide, chapters 9.4, 9.5, 9.8, 9.15, 9.16).
 use Rattle.std.specs.Prelude.{ℕ, List, [], ◌++◌, codes, flat_map, Option, Some, None}
 use Rattle.nut_words.specs.Quoting.{quoted, word_text}
 use Rattle.nut_history.specs.Configuration.{Ups, Configuration, ups_named}

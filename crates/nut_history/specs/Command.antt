@@ -1,4 +1,4 @@
--- What a client's line asks for (RFC 9271, section 4.2).
+-- What a client's line asks for (RFC 9271: GET UPSDESC, LIST UPS, LOGOUT, VER; NUT developer guide, chapters 9.4, 9.5, 9.8, 9.15).
 use Rattle.std.specs.Prelude.{ℕ, Bool, if◌then◌else◌, List, [], ◌∷◌, codes, Result, Ok, Err}
 use Rattle.std.specs.Str.{str_eq_ignore_ascii_case}
 use Rattle.nut_words.specs.declared.words.WordFault.{WordFault}
