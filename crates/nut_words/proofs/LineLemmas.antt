@@ -11,11 +11,11 @@ pub joined-as_line : (text more : List ℕ) → joined (as_line text) more ≡ a
 joined-as_line text more = grind (arith, length-append text more)
 
 -- the parts with a text put before the first
-abbrev behind : List ℕ → List (List ℕ) → List (List ℕ)
+abbrev pub behind : List ℕ → List (List ℕ) → List (List ℕ)
 behind t [] = t ∷ []
 behind t (p ∷ ps) = (t ++ p) ∷ ps
 
-is_some_parts : (xs : List ℕ) → (p : List ℕ) × (ps : List (List ℕ)) × (parts xs ≡ p ∷ ps)
+pub is_some_parts : (xs : List ℕ) → (p : List ℕ) × (ps : List (List ℕ)) × (parts xs ≡ p ∷ ps)
 is_some_parts [] = ([], [], refl)
 is_some_parts (x ∷ xs) = let later = is_some_parts xs in by_first (eqb x 10) x (parts xs) later.0 later.1 later.2 where
   by_first : (b : Bool) (x : ℕ) (all : List (List ℕ)) (p : List ℕ) (ps : List (List ℕ)) → all ≡ p ∷ ps → (q : List ℕ) × (qs : List (List ℕ)) × (cond b ([] ∷ all) (onto_first x all) ≡ q ∷ qs)
@@ -40,12 +40,12 @@ parts-append (c ∷ cs) b =
     let after = is_some_parts b in
     step_parts (eqb c 10) c (parts (cs ++ b)) (parts cs) (parts b) before.0 before.1 after.0 after.1 before.2 after.2 (parts-append cs b)
 
-last_of-append : (xs : List (List ℕ)) (y : List ℕ) (ys : List (List ℕ)) → last_of (xs ++ y ∷ ys) ≡ last_of (y ∷ ys)
+pub last_of-append : (xs : List (List ℕ)) (y : List ℕ) (ys : List (List ℕ)) → last_of (xs ++ y ∷ ys) ≡ last_of (y ∷ ys)
 last_of-append [] y ys = refl
 last_of-append (x ∷ []) y ys = refl
 last_of-append (x ∷ u ∷ us) y ys = last_of-append (u ∷ us) y ys
 
-all_but_last-append : (xs : List (List ℕ)) (y : List ℕ) (ys : List (List ℕ)) → all_but_last (xs ++ y ∷ ys) ≡ xs ++ all_but_last (y ∷ ys)
+pub all_but_last-append : (xs : List (List ℕ)) (y : List ℕ) (ys : List (List ℕ)) → all_but_last (xs ++ y ∷ ys) ≡ xs ++ all_but_last (y ∷ ys)
 all_but_last-append [] y ys = refl
 all_but_last-append (x ∷ []) y ys = refl
 all_but_last-append (x ∷ u ∷ us) y ys = ap (λ zs. x ∷ zs) (all_but_last-append (u ∷ us) y ys)

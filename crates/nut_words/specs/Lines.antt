@@ -1,12 +1,13 @@
--- What the lines of a stream of bytes are, and what is left unfinished behind them.
+-- What the lines of a stream of bytes are, what is left unfinished behind them, and how both grow with the stream.
 use Rattle.std.specs.Prelude.{ℕ, ◌==◌, List, [], ◌∷◌, ◌++◌, length, map, nat_le, if◌then◌else◌}
 use Rattle.std.specs.List.{slice_split}
 
--- a text of at most 512 bytes, or the mark of a longer one
+-- a line without its line feed: its text, or the mark of one that is longer than 512 bytes
 pub data LineText : Type 0 where
   Text : List ℕ → LineText
   TooLong : LineText
 
+-- the line of this text
 abbrev pub as_line : List ℕ → LineText
 as_line text = if nat_le (length text) 512 then Text text else TooLong
 
@@ -14,25 +15,47 @@ as_line text = if nat_le (length text) 512 then Text text else TooLong
 abbrev pub parts : List ℕ → List (List ℕ)
 parts bytes = slice_split (λ c. c == 10) bytes
 
+-- the last of the parts
 abbrev pub last_of : List (List ℕ) → List ℕ
 last_of [] = []
 last_of (t ∷ []) = t
 last_of (t ∷ u ∷ ts) = last_of (u ∷ ts)
 
+-- the parts before the last
 abbrev pub all_but_last : List (List ℕ) → List (List ℕ)
 all_but_last [] = []
 all_but_last (t ∷ []) = []
 all_but_last (t ∷ u ∷ ts) = t ∷ all_but_last (u ∷ ts)
 
--- the parts that end at a line feed, without it
+-- The lines of a stream: the parts that end at a line feed, without it.
 abbrev pub lines : List ℕ → List LineText
 lines bytes = map as_line (all_but_last (parts bytes))
 
--- what follows the last line feed
+-- The unfinished line of a stream: what follows its last line feed.
 abbrev pub rest : List ℕ → LineText
 rest bytes = as_line (last_of (parts bytes))
 
--- the unfinished line with more bytes behind it
+-- an unfinished line with more bytes behind it, of which none is a line feed
 abbrev pub joined : LineText → List ℕ → LineText
 joined (Text text) more = as_line (text ++ more)
 joined TooLong more = TooLong
+
+-- the lines that these parts complete behind an unfinished line: the first goes on with it
+abbrev pub completed : LineText → List (List ℕ) → List LineText
+completed old [] = []
+completed old (t ∷ []) = []
+completed old (t ∷ u ∷ ts) = joined old t ∷ map as_line (all_but_last (u ∷ ts))
+
+-- the unfinished line behind these parts
+abbrev pub unfinished : LineText → List (List ℕ) → LineText
+unfinished old [] = old
+unfinished old (t ∷ []) = joined old t
+unfinished old (t ∷ u ∷ ts) = as_line (last_of (u ∷ ts))
+
+-- The lines that more bytes complete, where this unfinished line stands before them.
+abbrev pub lines_after : LineText → List ℕ → List LineText
+lines_after old more = completed old (parts more)
+
+-- The unfinished line behind more bytes.
+abbrev pub rest_after : LineText → List ℕ → LineText
+rest_after old more = unfinished old (parts more)

@@ -1,5 +1,6 @@
 -- How words are read from left to right, byte by byte: the answer of `split`.
-use Rattle.std.specs.Prelude.{ℕ, ◌==◌, ◌||◌, ◌&&◌, nat_le, nat_lt, List, [], ◌∷◌, ◌++◌, length, Result, Ok, Err, if◌then◌else◌, slice_index}
+use Rattle.std.specs.Prelude.{ℕ, ◌==◌, ◌||◌, ◌&&◌, nat_le, nat_lt, Bool, List, [], ◌∷◌, ◌++◌, length, Result, Ok, Err, if◌then◌else◌, slice_index}
+use Rattle.std.specs.List.{list_any}
 use Rattle.nut_words.specs.declared.words.WordFault.{WordFault}
 use Rattle.nut_words.specs.declared.words.WordFault.TheVariants as faults
 use Rattle.nut_words.specs.declared.reader.Kind.{Kind}
@@ -102,3 +103,7 @@ read most s (c ∷ cs) = step most s (kind c) c >>= λ t. read most t cs
 -- The words that a line spells, or its fault. That this is what `Spells` and `HasFault` say is the law `spelled_is_meant`.
 abbrev pub spelled : List ℕ → Result (List (List ℕ)) WordFault
 spelled line = read 32 (Between []) line
+
+-- whether a backslash stands in the line: only the words of such a line take memory
+abbrev pub has_backslash : List ℕ → Bool
+has_backslash line = list_any (λ c. c == 92) line

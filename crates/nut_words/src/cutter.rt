@@ -1,7 +1,7 @@
 //! Lines out of bytes that come in any pieces.
-ghost use Rattle.std.specs.Prelude.{◌≡◌, ◌≤◌, [], ◌∷◌, ◌++◌, List, ℕ, length, take, IfNone, OnSome, IsTrue, ◌<◌};
+ghost use Rattle.std.specs.Prelude.{◌≡◌, ◌≢◌, ◌≤◌, [], ◌∷◌, ◌++◌, List, ℕ, length, take, IfNone, OnSome, IsTrue, ◌<◌};
 ghost use Rattle.std.specs.Borrow.{sem};
-ghost use Rattle.nut_words.specs.Lines.{Text, joined, lines, rest};
+ghost use Rattle.nut_words.specs.Lines.{Text, joined, lines, lines_after, rest, rest_after};
 ghost use Rattle.nut_words.specs.Cutter.{LeavesRest, handed_out, kept_of};
 
 use arrayvec::ArrayVec;
@@ -124,3 +124,16 @@ impl LineCutter {
         (Some(line), at + 1)
     }
 }
+
+/// How the lines of a stream grow: what comes later adds to the lines and to the rest by the rest alone, so it
+/// doesn't matter how the bytes before were cut into pieces.
+pub fn stream_growth()
+    ensures lines { (b more : List ℕ) → lines (b ++ more) ≡ lines b ++ lines_after (rest b) more }
+    ensures rest { (b more : List ℕ) → rest (b ++ more) ≡ rest_after (rest b) more }
+
+    // By a line feed, and by any other byte.
+    ensures lines_at_line_feed { (b : List ℕ) → lines (b ++ 10 ∷ []) ≡ lines b ++ rest b ∷ [] }
+    ensures rest_at_line_feed { (b : List ℕ) → rest (b ++ 10 ∷ []) ≡ Text [] }
+    ensures lines_within { (b : List ℕ) (c : ℕ) → c ≢ 10 → lines (b ++ c ∷ []) ≡ lines b }
+    ensures rest_within { (b : List ℕ) (c : ℕ) → c ≢ 10 → rest (b ++ c ∷ []) ≡ joined (rest b) (c ∷ []) }
+{}
