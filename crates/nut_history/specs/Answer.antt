@@ -1,5 +1,5 @@
 -- What a client is answered (RFC 9271, sections 4.2 and 4.3).
-use Rattle.std.specs.Prelude.{ℕ, List, [], ◌∷◌, ◌++◌, codes, flat_map, Option, Some, None}
+use Rattle.std.specs.Prelude.{ℕ, List, [], ◌++◌, codes, flat_map, Option, Some, None}
 use Rattle.nut_words.specs.Quoting.{quoted, word_text}
 use Rattle.nut_history.specs.Configuration.{Ups, Configuration, ups_named}
 use Rattle.nut_history.specs.Command.{Request, Version, Logout, ListUps, GetUpsDesc, Refusal, UnknownCommand, InvalidArgument, UnknownUps, Command, Blank, Malformed, Asks}

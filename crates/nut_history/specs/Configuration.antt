@@ -1,5 +1,5 @@
 -- What a server is made with.
-use Rattle.std.specs.Prelude.{ℕ, List, Option, find, option_map}
+use Rattle.std.specs.Prelude.{ℕ, List, Option, find}
 use Rattle.std.specs.Str.{bytes_eq}
 
 pub record Ups : Type 0 where

@@ -7,3 +7,5 @@ pub mod Content
 pub mod Acceptance
 pub mod Machine
 pub mod Outcome
+pub mod Laws
+pub mod Examples

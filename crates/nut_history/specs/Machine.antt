@@ -1,6 +1,6 @@
 -- The server as a machine over its content: what an accepted event makes of it. The machine forgets the past.
-use Rattle.std.specs.Prelude.{ℕ, false, not, ◌==◌, ◌≡◌, nat_lt, if◌then◌else◌, ◌+◌, List, [], ◌∷◌, ◌++◌, length, filter, drop}
-use Rattle.nut_words.specs.Lines.{LineText, Text, TooLong, joined}
+use Rattle.std.specs.Prelude.{ℕ, false, not, ◌==◌, ◌≡◌, if◌then◌else◌, ◌+◌, List, [], ◌∷◌, ◌++◌, filter, drop}
+use Rattle.nut_words.specs.Lines.{LineText, Text, joined}
 use Rattle.nut_history.specs.Configuration.{Configuration}
 use Rattle.nut_history.specs.Command.{Command, command_of}
 use Rattle.nut_history.specs.Event.{Event, Open, Bytes, Took, Close, WriteFailed}

@@ -1,13 +1,13 @@
 -- How a server may answer an event, and the history that stands after it.
-use Rattle.std.specs.Prelude.{ℕ, ◌≡◌, ◌<◌, List, [], ◌∷◌, Some, None, Result, Ok, Err}
+use Rattle.std.specs.Prelude.{◌≡◌, ◌<◌, List, ◌∷◌, Some, None, Result, Ok, Err}
 use Rattle.nut_history.specs.declared.Place.{Place}
 use Rattle.nut_history.specs.declared.Place.TheVariants.{Line}
 use Rattle.nut_history.specs.declared.Refused.{Refused}
 use Rattle.nut_history.specs.declared.Refused.TheVariants.{NoSuchConnection, PieceTooLong, Busy, TooMuchTaken, BadAddress, Full, Memory}
-use Rattle.nut_history.specs.Configuration.{Configuration}
 use Rattle.nut_history.specs.Event.{Event, Bytes}
 use Rattle.nut_history.specs.Content.{Content}
 use Rattle.nut_history.specs.Acceptance.{refusal, lost, line_feeds}
+use Rattle.nut_history.specs.Machine.{advance, with_sessions, without}
 
 -- Memory may run out in a piece alone, at a line that it completes, behind the k lines that were done.
 abbrev pub MayLack : Place → Event → Type 0
@@ -42,3 +42,16 @@ after_refusal r e h = h
 abbrev pub after : {U : Type 0} → Result U Refused → Event → List Event → List Event
 after (Ok u) e h = e ∷ h
 after (Err r) e h = after_refusal r e h
+
+-- the content after a lack of memory in a piece: the connection is gone, whatever was done of the piece
+abbrev pub content_after_lack : Place → Content → Content
+content_after_lack (Line c k) s = with_sessions (without c s.sessions) s
+
+abbrev pub content_after_refusal : Refused → Content → Content
+content_after_refusal (Memory place) s = content_after_lack place s
+content_after_refusal r s = s
+
+-- the content after an event and the answer to it: that of the history after it
+abbrev pub content_after : {U : Type 0} → Result U Refused → Content → Event → Content
+content_after (Ok u) s e = advance s e
+content_after (Err r) s e = content_after_refusal r s

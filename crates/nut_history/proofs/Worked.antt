@@ -1,0 +1,36 @@
+-- The examples, computed.
+use Rattle.std.proofs.Common.{refl}
+use Rattle.nut_words.specs.Reader.{read}
+use Rattle.nut_history.specs.Answer.{text_of, ups_row}
+use Rattle.nut_history.specs.Examples.{WorkedExamples}
+
+pub examples : WorkedExamples
+unfolding read text_of ups_row
+examples = record {
+  list_ups = refl;
+  small_letters = refl;
+  quoted_words = refl;
+  single_bytes = refl;
+  description = refl;
+  unknown_ups = refl;
+  version = refl;
+  one_word_more = refl;
+  blank_lines = refl;
+  unfinished = refl;
+  unknown_command = refl;
+  open_quote = refl;
+  after_logout = refl;
+  longest_line = refl;
+  too_long_line = refl;
+  sent_first = refl;
+  waits_still = refl;
+  accepted = ((((tt, refl), refl), refl), refl);
+  busy = refl;
+  too_much = refl;
+  long_piece = refl;
+  closed = refl;
+  no_number_again = refl;
+  full = refl;
+  no_address = refl;
+  blank_in_address = refl;
+}
