@@ -1,0 +1,21 @@
+//! The outer loop of a server over a world that gives arrivals and takes bytes, the worlds over memory and over
+//! standard streams, and what the programs run.
+#![tactic(auto)]
+
+mod memory;
+mod replay;
+mod serving;
+mod stdio;
+mod streams;
+mod types;
+mod ups_option;
+mod world;
+
+pub use memory::MemoryWorld;
+pub use replay::serve_memory;
+pub use serving::serve;
+pub use stdio::run_stdio;
+pub use streams::StreamWorld;
+pub use types::{Address, Fault, Given, Next, Note, Piece, ServeFault, Written};
+pub use ups_option::{UpsFault, UpsOption, read_ups_option};
+pub use world::World;

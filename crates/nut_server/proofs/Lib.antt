@@ -1,0 +1,4 @@
+pub mod Hearing
+pub mod Places
+pub mod Orderly
+pub mod Arrives

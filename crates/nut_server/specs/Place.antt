@@ -1,0 +1,21 @@
+-- Where the connection with a number stands.
+use Rattle.std.specs.Prelude.{ℕ, zero, suc, ◌≡◌, false, true, ◌==◌, if◌then◌else◌, ◌+◌, ◌<◌, length, slice_get, List, [], ◌∷◌, Option, Some, None}
+use Rattle.nut_history.specs.Content.{Session}
+use Rattle.nut_history.specs.Acceptance.{session_of}
+
+-- the place of the first session with the number c, counted from i
+abbrev pub place_from : ℕ → ℕ → List Session → Option ℕ
+place_from i c [] = None
+place_from i c (k ∷ sessions) = if k.number == c then Some i else place_from (i + 1) c sessions
+
+-- the session with the number c stands there, and none before it
+abbrev pub IsPlace : ℕ → List Session → ℕ → Type 0
+IsPlace c [] at = ⊥
+IsPlace c (k ∷ sessions) zero = (k.number == c) ≡ true
+IsPlace c (k ∷ sessions) (suc at) = ((k.number == c) ≡ false) × IsPlace c sessions at
+
+-- the connection c stands at a place of the list
+pub record Stands (c : ℕ) (sessions : List Session) (at : ℕ) : Type 0 where
+  pub place : IsPlace c sessions at
+  pub within : at < length sessions
+  pub session : session_of c sessions ≡ slice_get sessions at

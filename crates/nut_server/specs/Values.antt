@@ -1,0 +1,61 @@
+-- What the values of the code are in the definitions.
+use Rattle.std.specs.Prelude.{ℕ, List, Option, Some, None, Result, Ok, Err}
+use Rattle.nut_history.specs.Command as C
+use Rattle.nut_history.specs.Answer as A
+use Rattle.nut_history.specs.Event as E
+use Rattle.nut_server.specs.declared.request.Request.{Request}
+use Rattle.nut_server.specs.declared.request.Request.TheVariants as request
+use Rattle.nut_server.specs.declared.request.Refusal.{Refusal}
+use Rattle.nut_server.specs.declared.request.Refusal.TheVariants as refusal
+use Rattle.nut_server.specs.declared.request.Command.{Command}
+use Rattle.nut_server.specs.declared.request.Command.TheVariants as command
+use Rattle.nut_server.specs.declared.answer.Answer.{Answer}
+use Rattle.nut_server.specs.declared.answer.Answer.TheVariants as answer
+use Rattle.nut_server.specs.declared.arrival.Arrival.{Arrival}
+use Rattle.nut_server.specs.declared.arrival.Arrival.TheVariants as arrival
+
+-- the request that is asked for
+abbrev pub asked_for : Request → C.Request
+asked_for request.Version = C.Version
+asked_for request.Logout = C.Logout
+asked_for request.ListUps = C.ListUps
+asked_for (request.GetUpsDesc ups) = C.GetUpsDesc ups.now
+
+-- the reason that is given
+abbrev pub reason : Refusal → C.Refusal
+reason refusal.UnknownCommand = C.UnknownCommand
+reason refusal.InvalidArgument = C.InvalidArgument
+reason refusal.UnknownUps = C.UnknownUps
+
+-- what words are read as
+abbrev pub read_as : Result Request Refusal → Result C.Request C.Refusal
+read_as (Ok request) = Ok (asked_for request)
+read_as (Err refusal) = Err (reason refusal)
+
+-- the command that is meant
+abbrev pub meant : Command → C.Command
+meant command.Blank = C.Blank
+meant (command.Malformed refusal) = C.Malformed (reason refusal)
+meant (command.Asks request) = C.Asks (asked_for request)
+
+-- the command of a line that was read, which spells these words or none
+abbrev pub command_read : Option (List (List ℕ)) → C.Command
+command_read None = C.Malformed C.InvalidArgument
+command_read (Some words) = C.command_in (Ok words)
+
+-- the answer that is given
+abbrev pub given : Answer → A.Answer
+given answer.Silence = A.Silence
+given answer.VersionText = A.VersionText
+given answer.Goodbye = A.Goodbye
+given (answer.UpsList upses) = A.UpsList upses.now
+given (answer.UpsDescription ups) = A.UpsDescription ups.now
+given (answer.Refused refusal) = A.Refused (reason refusal)
+
+-- the event that an arrival tells
+abbrev pub event_of : Arrival → E.Event
+event_of (arrival.Open address) = E.Open address.now
+event_of (arrival.Bytes c piece) = E.Bytes c piece.now
+event_of (arrival.Took c n) = E.Took c n
+event_of (arrival.Close c) = E.Close c
+event_of (arrival.WriteFailed c) = E.WriteFailed c

@@ -1,0 +1,38 @@
+//! The addresses of clients.
+
+ghost use Rattle.std.specs.Prelude.{◌≡◌, Some, None, option_map, if◌then◌else◌};
+ghost use Rattle.std.specs.List.{list_all};
+ghost use Rattle.nut_words.specs.Spelling.{is_bare};
+ghost use Rattle.nut_history.specs.Acceptance.{is_address};
+
+use arrayvec::ArrayVec;
+
+/// The address that a client connects from, without memory of its own.
+pub type Address = ArrayVec<u8, 64>;
+
+/// Whether a byte may stand in a bare word.
+fn is_bare(byte: u8) -> bool
+    ensures { result ≡ is_bare byte }
+{
+    matches!(&byte, 0x21 | 0x24..=0x3c | 0x3e..=0x5b | 0x5d..=0x7e)
+}
+
+fn has_bare_bytes(text: &[u8]) -> bool
+    ensures { result ≡ list_all is_bare text.now }
+{
+    text.iter().all(|byte| is_bare(*byte))
+}
+
+/// The address, where it is one: 1 to 64 bytes, each of which may stand in a bare word.
+pub fn address_of(text: &[u8]) -> Option<Address>
+    ensures { option_map (λ address. address.items) result ≡ (if is_address text.now then Some text.now else None) }
+{
+    if text.is_empty() || !has_bare_bytes(text) {
+        return None;
+    }
+    let mut address = ArrayVec::new();
+    match address.try_extend_from_slice(text) {
+        Ok(()) => Some(address),
+        Err(_) => None,
+    }
+}

@@ -1,0 +1,19 @@
+//! What a server is told.
+
+/// How many bytes a piece has at most.
+pub const PIECE_MAX: usize = 512;
+
+/// One thing that a server is told. Connections go by the numbers that they are given, from 1 on.
+#[derive(Clone, Copy, Drop)]
+pub enum Arrival<'a> {
+    /// A client connects from this address, of 1 to 64 bytes that may stand in a bare word.
+    Open(&'a [u8]),
+    /// A piece of the bytes that a connection sends, of at most 512 bytes.
+    Bytes(u64, &'a [u8]),
+    /// A connection took so many of the bytes that wait for it.
+    Took(u64, usize),
+    /// A connection is closed.
+    Close(u64),
+    /// A write to a connection failed, which ends it.
+    WriteFailed(u64),
+}
