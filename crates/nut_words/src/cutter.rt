@@ -139,6 +139,14 @@ impl LineCutter {
     }
 }
 
+impl Default for LineCutter {
+    ghost is_default = { λ c. c ≡ rest [] };
+
+    fn default() -> Self {
+        LineCutter::new()
+    }
+}
+
 /// A law, with nothing to run: what comes next in a stream adds to its lines and its rest by the rest alone, so it
 /// doesn't matter how the bytes before were cut into pieces.
 pub fn stream_growth()
