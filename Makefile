@@ -13,8 +13,8 @@ all: $(PROGRAMS)
 # build takes seconds.
 $(PROGRAMS): toolchain
 	@mkdir -p bin
-	@cd crates/$@ && rt run -- --version > out.log 2>&1 < /dev/null || { cat out.log; rm -f out.log; exit 1; }
-	@rm -f crates/$@/out.log
+	@cd crates/$@ && rt run -- --version > ../../bin/$@.log 2>&1 < /dev/null || { cat ../../bin/$@.log; exit 1; }
+	@rm -f bin/$@.log
 	@cp crates/$@/out/$@ bin/$@
 	@echo "bin/$@ is proved and built"
 

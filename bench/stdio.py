@@ -20,16 +20,31 @@ def command(program):
     return [program, "--stdio", "--ups", "su700=Server room"]
 
 
+def greatest_resident(pid):
+    """Gives the greatest resident size so far of a running process in KiB, or 0 once it has ended."""
+    try:
+        with open(f"/proc/{pid}/status") as status:
+            return next((int(line.split()[1]) for line in status if line.startswith("VmHWM:")), 0)
+    except OSError:
+        return 0
+
+
 def run(program, file):
     """Gives the seconds, processor seconds and greatest resident size in KiB of one run over the file."""
     with open(file, "rb") as lines, open(os.devnull, "wb") as nowhere:
         begun = time.monotonic()
         process = subprocess.Popen(command(program), stdin=lines, stdout=nowhere)
-        _, status, usage = os.wait4(process.pid, 0)
+        resident = 0
+        while True:
+            ended, status, usage = os.wait4(process.pid, os.WNOHANG)
+            if ended:
+                break
+            resident = max(resident, greatest_resident(process.pid))
+            time.sleep(0.01)
         seconds = time.monotonic() - begun
     if status != 0:
         sys.exit(f"{program} ended with status {status}")
-    return seconds, usage.ru_utime + usage.ru_stime, usage.ru_maxrss
+    return seconds, usage.ru_utime + usage.ru_stime, resident
 
 
 def check_answers(program, count):

@@ -165,6 +165,8 @@ class Tests:
         for args in ([], ["--ups", "a=b"], ["--stdio", "--nothing"], ["--stdio", "more"], ["--stdio", "--ups"], ["-c", "reload"]):
             status, out, err = self.run(args, b"VER\n")
             expect((status, out, err != b""), (2, b"", True), f"{args}")
+        invalid = b"error: invalid UTF-8 was detected in one or more arguments\n"
+        expect(self.run([b"--stdio", b"--ups", b"a=\xff"]), (2, b"", invalid), "words that are no text")
         for args, word in ((["--help"], b"--ups"), (["--version"], b"upsd")):
             status, out, err = self.run(args)
             expect((status, word in out, err), (0, True, b""), f"{args}")

@@ -2,6 +2,7 @@
 //! standard streams, and what the programs run.
 #![tactic(auto)]
 
+mod arguments;
 mod memory;
 mod replay;
 mod serving;
@@ -11,6 +12,7 @@ mod types;
 mod ups_option;
 mod world;
 
+pub use arguments::refuse_arguments;
 pub use memory::MemoryWorld;
 pub use replay::serve_memory;
 pub use serving::serve;
