@@ -11,8 +11,10 @@ use Rattle.nut_history.specs.Answer.{Answer, text_of}
 use Rattle.nut_history.specs.Trace.{Entry, configuration, opened, open_numbers, address, logged_out, due, trace, answer_to}
 use Rattle.nut_history.specs.Content.{Session, Content, past, content, session}
 use Rattle.nut_history.specs.Machine.{advance, update, heard, with_rest, byte_heard, bytes_heard, with_sessions, without}
-use Rattle.nut_history.proofs.LineLaws.{brought_none, brought_feed, brought_byte, brought-append, rest_feed, rest_byte}
-use Rattle.nut_history.proofs.Numbers.{IsNone', IsDistinct, numbers_distinct}
+use Rattle.nut_history.proofs.LineLaws.{brought_none, brought_line_feed, brought_within, brought-append}
+use Rattle.nut_words.proofs.StreamGrowth.{rest_at_line_feed, rest_within}
+use Rattle.nut_history.proofs.Numbers.{open_numbers_rise}
+use Rattle.nut_history.specs.Laws.{IsBelow, IsRising}
 
 -- a session and a content by the past, the unfinished lines and how much was taken
 abbrev pub session_from : List Entry → (ℕ → LineText) → (ℕ → ℕ) → ℕ → Session
@@ -40,25 +42,25 @@ takes_of h c = taken c h
 pub content_is : (first : Configuration) (h : List Event) → content first h ≡ content_from first (past first h) (rests_of h) (takes_of h)
 content_is first h = refl
 
--- none changes
-same-map : (c : ℕ) (f g : ℕ → Session) (ns : List ℕ) → IsNone' c ns → ((d : ℕ) → eqb d c ≡ false → g d ≡ f d) → map g ns ≡ map f ns
-same-map c f g [] none other = refl
-same-map c f g (n ∷ ns) none other = rw (other n none.0, same-map c f g ns none.1 other) refl
+-- no session changes behind that of c
+same-map : (c : ℕ) (f g : ℕ → Session) (ns : List ℕ) → IsBelow c ns → ((d : ℕ) → eqb d c ≡ false → g d ≡ f d) → map g ns ≡ map f ns
+same-map c f g [] below other = refl
+same-map c f g (n ∷ ns) below other = rw (other n (ne_eqb n c (λ e. omega (arith, below.0))), same-map c f g ns below.1 other) refl
 
 -- one session changes
-update-map : (c : ℕ) (f g : ℕ → Session) (change : Session → Session) (ns : List ℕ) → IsDistinct ns → ((d : ℕ) → (f d).number ≡ d) → ((d : ℕ) → eqb d c ≡ false → g d ≡ f d) → g c ≡ change (f c) → map g ns ≡ update c change (map f ns)
-update-map c f g change [] distinct numbered other this = refl
-update-map c f g change (n ∷ ns) distinct numbered other this =
+update-map : (c : ℕ) (f g : ℕ → Session) (change : Session → Session) (ns : List ℕ) → IsRising ns → ((d : ℕ) → (f d).number ≡ d) → ((d : ℕ) → eqb d c ≡ false → g d ≡ f d) → g c ≡ change (f c) → map g ns ≡ update c change (map f ns)
+update-map c f g change [] rising numbered other this = refl
+update-map c f g change (n ∷ ns) rising numbered other this =
     elim (cases_Bool (eqb n c)) [
       | inl is ↦
           let e : n ≡ c = eqb-true n c is in
-          let none : IsNone' c ns = let P : ℕ → Type 0 = λ m. IsNone' m ns in subst P e distinct.0 in
+          let below : IsBelow c ns = let P : ℕ → Type 0 = λ m. IsBelow m ns in subst P e rising.0 in
           let test : eqb (f n).number c ≡ true = ap (λ m. eqb m c) (numbered n) ∙ is in
           let changed : g n ≡ change (f n) = ap g e ∙ this ∙ ap (λ m. change (f m)) (sym e) in
-          rw (test, same-map c f g ns none other, changed) refl
+          rw (test, same-map c f g ns below other, changed) refl
       | inr not' ↦
           let test : eqb (f n).number c ≡ false = ap (λ m. eqb m c) (numbered n) ∙ not' in
-          rw (test, other n not', update-map c f g change ns distinct.1 numbered other this) refl
+          rw (test, other n not', update-map c f g change ns rising.1 numbered other this) refl
     ]
 
 pub eqb_turn : (a b : ℕ) → eqb a b ≡ false → eqb b a ≡ false
@@ -84,7 +86,7 @@ said-law : (first : Configuration) (t : List Entry) (c : ℕ) (line : LineText) 
 said-law first t c line rests rests' takes change covered same at' =
     ap (λ sessions. with_sessions sessions (content_from first t rests takes))
     (update-map c (session_from t rests takes) (session_from (record { step = Said c line; answer = answer_to first t c line } ∷ t) rests' takes)
-    change (open_numbers t) (numbers_distinct t) (λ d. refl)
+    change (open_numbers t) (open_numbers_rise t) (λ d. refl)
     (λ d differ. session_other t c line (answer_to first t c line) rests rests' takes d differ (same d differ))
     (session_self first t c line rests rests' takes covered ∙ sym at'))
 
@@ -95,7 +97,7 @@ rest-law : (first : Configuration) (t : List Entry) (c : ℕ) (rests rests' : �
     → content_from first t rests' takes ≡ with_sessions (update c change (content_from first t rests takes).sessions) (content_from first t rests takes)
 rest-law first t c rests rests' takes change same at' =
     ap (λ sessions. with_sessions sessions (content_from first t rests takes))
-    (update-map c (session_from t rests takes) (session_from t rests' takes) change (open_numbers t) (numbers_distinct t) (λ d. refl)
+    (update-map c (session_from t rests takes) (session_from t rests' takes) change (open_numbers t) (open_numbers_rise t) (λ d. refl)
     (λ d differ. rw (same d differ) refl) (sym at'))
 
 took-law : (first : Configuration) (t : List Entry) (c n : ℕ) (rests : ℕ → LineText) (takes takes' : ℕ → ℕ)
@@ -103,7 +105,7 @@ took-law : (first : Configuration) (t : List Entry) (c n : ℕ) (rests : ℕ →
     → content_from first t rests takes' ≡ with_sessions (update c (λ k. record k { waits = drop n k.waits }) (content_from first t rests takes).sessions) (content_from first t rests takes)
 took-law first t c n rests takes takes' same more =
     ap (λ sessions. with_sessions sessions (content_from first t rests takes))
-    (update-map c (session_from t rests takes) (session_from t rests takes') (λ k. record k { waits = drop n k.waits }) (open_numbers t) (numbers_distinct t) (λ d. refl)
+    (update-map c (session_from t rests takes) (session_from t rests takes') (λ k. record k { waits = drop n k.waits }) (open_numbers t) (open_numbers_rise t) (λ d. refl)
     (λ d differ. rw (same d differ) refl) (rw (more, drop-drop n (takes c) (due c t)) refl))
 
 -- a connection goes
@@ -142,17 +144,17 @@ after_byte c b s = with_sessions (update c (byte_heard s.configuration b) s.sess
 
 law-feed : (first : Configuration) (h : List Event) (c : ℕ) → IsCovered first h c → content first (Bytes c (10 ∷ []) ∷ h) ≡ after_byte c 10 (content first h)
 law-feed first h c covered =
-    ap (λ ls. content_from first (trace first (with_lines c ls (steps h))) (rests_of (Bytes c (10 ∷ []) ∷ h)) (takes_of h)) (brought_feed (input c h))
+    ap (λ ls. content_from first (trace first (with_lines c ls (steps h))) (rests_of (Bytes c (10 ∷ []) ∷ h)) (takes_of h)) (brought_line_feed (input c h))
     ∙ said-law first (past first h) c (rests_of h c) (rests_of h) (rests_of (Bytes c (10 ∷ []) ∷ h)) (takes_of h)
     (byte_heard (content first h).configuration 10) covered (rests_other h c (10 ∷ []))
-    (ap (λ r. with_rest r (heard (configuration first (past first h)) (rests_of h c) (session first h c))) (sym (rests_self h c (10 ∷ []) ∙ rest_feed (input c h))))
+    (ap (λ r. with_rest r (heard (configuration first (past first h)) (rests_of h c) (session first h c))) (sym (rests_self h c (10 ∷ []) ∙ rest_at_line_feed (input c h))))
 
 law-other_byte : (first : Configuration) (h : List Event) (c b : ℕ) → eqb b 10 ≡ false → content first (Bytes c (b ∷ []) ∷ h) ≡ after_byte c b (content first h)
 law-other_byte first h c b other =
-    ap (λ ls. content_from first (trace first (with_lines c ls (steps h))) (rests_of (Bytes c (b ∷ []) ∷ h)) (takes_of h)) (brought_byte (input c h) b other)
+    ap (λ ls. content_from first (trace first (with_lines c ls (steps h))) (rests_of (Bytes c (b ∷ []) ∷ h)) (takes_of h)) (brought_within (input c h) b other)
     ∙ rest-law first (past first h) c (rests_of h) (rests_of (Bytes c (b ∷ []) ∷ h)) (takes_of h)
     (byte_heard (content first h).configuration b) (rests_other h c (b ∷ []))
-    (rw other (ap (λ r. with_rest r (session first h c)) (sym (rests_self h c (b ∷ []) ∙ rest_byte (input c h) b other))))
+    (rw other (ap (λ r. with_rest r (session first h c)) (sym (rests_self h c (b ∷ []) ∙ rest_within (input c h) b (eqb-false b 10 other)))))
 
 law-byte : (first : Configuration) (h : List Event) (c b : ℕ) → IsCovered first h c → content first (Bytes c (b ∷ []) ∷ h) ≡ after_byte c b (content first h)
 law-byte first h c b covered =

@@ -9,6 +9,7 @@ use Rattle.nut_history.specs.Configuration.{Configuration}
 use Rattle.nut_history.specs.Event.{Event, Open, Bytes, Took, Close, WriteFailed}
 use Rattle.nut_history.specs.Content.{Session, Content, content}
 
+-- the session of the connection c, where it is open
 abbrev pub session_of : ℕ → List Session → Option Session
 session_of c sessions = find (λ k. k.number == c) sessions
 
@@ -16,21 +17,25 @@ session_of c sessions = find (λ k. k.number == c) sessions
 abbrev pub is_address : List ℕ → Bool
 is_address address = nat_le 1 (length address) && nat_le (length address) 64 && list_all is_bare address
 
+-- A connection is refused for its address, and then where as many are open or were opened as may be.
 abbrev pub open_refusal : Content → List ℕ → Option Refused
 open_refusal s address =
     if not (is_address address) then Some BadAddress else
     if not (nat_lt (length s.sessions) s.configuration.most_connections && nat_lt s.opened 4_294_967_295) then Some Full else None
 
+-- Of an open connection come pieces of at most 512 bytes, and none while answers wait for it.
 abbrev pub bytes_refusal : List ℕ → Option Session → Option Refused
 bytes_refusal piece None = Some NoSuchConnection
 bytes_refusal piece (Some k) =
     if nat_lt 512 (length piece) then Some PieceTooLong else
     if nat_lt 0 (length k.waits) then Some Busy else None
 
+-- An open connection takes no more than waits for it.
 abbrev pub took_refusal : ℕ → Option Session → Option Refused
 took_refusal n None = Some NoSuchConnection
 took_refusal n (Some k) = if nat_lt (length k.waits) n then Some TooMuchTaken else None
 
+-- Only an open connection is closed.
 abbrev pub close_refusal : Option Session → Option Refused
 close_refusal None = Some NoSuchConnection
 close_refusal (Some k) = None
@@ -73,6 +78,7 @@ abbrev pub waiting_in : Option Session → List ℕ
 waiting_in None = []
 waiting_in (Some k) = k.waits
 
+-- what the connection c awaits
 abbrev pub waiting_of : ℕ → List Session → List ℕ
 waiting_of c sessions = waiting_in (session_of c sessions)
 

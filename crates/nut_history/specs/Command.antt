@@ -1,10 +1,11 @@
--- What a client's line asks for (RFC 9271, section 4.2).
+-- What a client's line asks for (RFC 9271: GET UPSDESC, LIST UPS, LOGOUT, VER; NUT developer guide, chapters 9.4, 9.5, 9.8, 9.15).
 use Rattle.std.specs.Prelude.{ℕ, Bool, if◌then◌else◌, List, [], ◌∷◌, codes, Result, Ok, Err}
 use Rattle.std.specs.Str.{str_eq_ignore_ascii_case}
 use Rattle.nut_words.specs.declared.words.WordFault.{WordFault}
 use Rattle.nut_words.specs.Lines.{LineText, Text, TooLong}
 use Rattle.nut_words.specs.Reader.{spelled}
 
+-- what a client may ask for
 pub data Request : Type 0 where
   Version : Request
   Logout : Request
@@ -13,8 +14,11 @@ pub data Request : Type 0 where
 
 -- why a client is refused
 pub data Refusal : Type 0 where
+  -- the first word is no command
   UnknownCommand : Refusal
+  -- the line can't be read, or what follows the command doesn't fit it
   InvalidArgument : Refusal
+  -- the server has no UPS of this name
   UnknownUps : Refusal
 
 -- Command words are compared without ASCII case.
@@ -56,16 +60,18 @@ pub data Command : Type 0 where
   Malformed : (refusal : Refusal) → Command
   Asks : (request : Request) → Command
 
+-- a line of words, by what they mean
 abbrev pub asked : Result Request Refusal → Command
 asked (Ok request) = Asks request
 asked (Err refusal) = Malformed refusal
 
+-- a line, by the words that it spells or its fault; a line of no words, as a comment, is blank
 abbrev pub command_in : Result (List (List ℕ)) WordFault → Command
 command_in (Ok []) = Blank
 command_in (Ok (w ∷ words)) = asked (meaning w words)
 command_in (Err fault) = Malformed InvalidArgument
 
--- a line that spells no words, or is too long, is an invalid argument
+-- what a line says; one that can't be read or is too long is an invalid argument
 abbrev pub command_of : LineText → Command
 command_of (Text bytes) = command_in (spelled bytes)
 command_of TooLong = Malformed InvalidArgument

@@ -1,11 +1,11 @@
--- What a server has to know of a history, and nothing else of it.
+-- What a server has to know of a history: its content. Two histories of the same content are answered alike.
 use Rattle.std.specs.Prelude.{ℕ, Bool, List, map, take, drop}
 use Rattle.nut_words.specs.Lines.{LineText, rest}
 use Rattle.nut_history.specs.Configuration.{Configuration}
 use Rattle.nut_history.specs.Event.{Event, input, taken, steps}
 use Rattle.nut_history.specs.Trace.{Entry, configuration, opened, open_numbers, address, logged_out, due, trace}
 
--- an open connection: `rest` is its unfinished line, and `waits` the bytes that it still has to take
+-- An open connection: `rest` is its unfinished line, and `waits` the bytes that it still has to take.
 pub record Session : Type 0 where
   pub number : ℕ
   pub address : List ℕ
@@ -13,24 +13,25 @@ pub record Session : Type 0 where
   pub rest : LineText
   pub waits : List ℕ
 
--- `opened` is how many connections were opened, and `sessions` those that are open, by rising number
+-- `opened` is how many connections were opened so far, and `sessions` those that are open, by rising number.
 pub record Content : Type 0 where
   pub configuration : Configuration
   pub opened : ℕ
   pub sessions : List Session
 
--- the past of a history
+-- the past of a history: its steps, each with its answer
 abbrev pub past : Configuration → List Event → List Entry
 past first h = trace first (steps h)
 
--- the answers that c was sent: a front of those due, as long as what it took
+-- What c was sent: as much of the answers due as it took. The law `sent_is_received` says that it took these bytes.
 abbrev pub sent : Configuration → ℕ → List Event → List ℕ
 sent first c h = take (taken c h) (due c (past first h))
 
--- the answers that c still awaits
+-- what c still awaits: the rest of the answers due
 abbrev pub waits : Configuration → ℕ → List Event → List ℕ
 waits first c h = drop (taken c h) (due c (past first h))
 
+-- what the history h says of the connection c
 abbrev pub session : Configuration → List Event → ℕ → Session
 session first h c = record {
   number = c;

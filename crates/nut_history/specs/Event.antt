@@ -1,4 +1,4 @@
--- What a server is told, and its histories: lists of accepted events, the newest first.
+-- What a server is told: events, and histories of them, which are lists with the newest first.
 use Rattle.std.specs.Prelude.{ℕ, ◌==◌, if◌then◌else◌, ◌+◌, List, [], ◌∷◌, ◌++◌, drop, length}
 use Rattle.nut_words.specs.Lines.{LineText, lines}
 
@@ -10,12 +10,12 @@ pub data Event : Type 0 where
   Bytes : (c : ℕ) (piece : List ℕ) → Event
   -- c took the first n of the bytes that wait for it
   Took : (c : ℕ) (n : ℕ) → Event
-  -- c is closed
+  -- c is closed, by its client or by the world around the server
   Close : (c : ℕ) → Event
   -- a write to c failed, which ends it
   WriteFailed : (c : ℕ) → Event
 
--- the bytes of all pieces of c, joined
+-- all bytes that c sent, joined
 abbrev pub input : ℕ → List Event → List ℕ
 input c [] = []
 input c (Bytes d piece ∷ h) = if d == c then input c h ++ piece else input c h
@@ -27,13 +27,16 @@ taken c [] = 0
 taken c (Took d n ∷ h) = if d == c then taken c h + n else taken c h
 taken c (e ∷ h) = taken c h
 
--- what a history comes to: lines in place of pieces
+-- What a history comes to, with lines in place of pieces: it doesn't show how a text was cut.
 pub data Step : Type 0 where
+  -- the next connection is open, from this address
   Opened : (address : List ℕ) → Step
+  -- c ended a line
   Said : (c : ℕ) (line : LineText) → Step
+  -- c is no longer open
   Gone : (c : ℕ) → Step
 
--- the lines that a piece completes behind the bytes `before`
+-- the lines that a piece completes, where c sent the bytes `before` ahead of it
 abbrev pub brought : List ℕ → List ℕ → List LineText
 brought before piece = drop (length (lines before)) (lines (before ++ piece))
 
@@ -42,7 +45,7 @@ abbrev pub with_lines : ℕ → List LineText → List Step → List Step
 with_lines c [] s = s
 with_lines c (line ∷ lines) s = with_lines c lines (Said c line ∷ s)
 
--- the steps of a history, the newest first
+-- The steps of a history, the newest first: a piece stands for the lines that it completes.
 abbrev pub steps : List Event → List Step
 steps [] = []
 steps (Open address ∷ h) = Opened address ∷ steps h

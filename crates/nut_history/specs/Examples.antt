@@ -20,6 +20,7 @@ abbrev pub in_single_bytes : List ℕ → List Event → List Event
 in_single_bytes [] h = h
 in_single_bytes (b ∷ bytes) h = in_single_bytes bytes (Bytes 1 (b ∷ []) ∷ h)
 
+-- the byte b, n times
 abbrev pub many : ℕ → ℕ → List ℕ
 many zero b = []
 many (suc n) b = b ∷ many n b
@@ -32,9 +33,11 @@ answers h = due 1 (past su700 h)
 abbrev pub answers_to : List ℕ → List ℕ
 answers_to text = answers (Bytes 1 text ∷ one_open)
 
+-- what LIST UPS and LOGOUT are answered
 abbrev pub list_and_logout : List ℕ
 list_and_logout = codes "BEGIN LIST UPS\nUPS su700 \"Server room\"\nEND LIST UPS\nOK Goodbye\n"
 
+-- what is answered, what was sent and waits, and what is refused
 pub record WorkedExamples : Type 0 where
   pub list_ups : answers_to (codes "LIST UPS\nLOGOUT\n") ≡ list_and_logout
   pub small_letters : answers_to (codes "list ups\nLogout\n") ≡ list_and_logout

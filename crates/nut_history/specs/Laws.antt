@@ -1,4 +1,4 @@
--- What holds of every history of accepted events.
+-- What holds of every history of accepted events. Each of these is the contract of a function of the crate.
 use Rattle.std.specs.Prelude.{◌≡◌, ℕ, ◌<◌, ◌≤◌, ◌==◌, ◌+◌, false, if◌then◌else◌, List, [], ◌∷◌, ◌++◌, map, take, Some, None, Result}
 use Rattle.nut_words.specs.Quoting.{Begins}
 use Rattle.nut_history.specs.Configuration.{Configuration}
@@ -55,9 +55,11 @@ IsUpTo n (m ∷ ns) = (m ≤ n) × IsUpTo n ns
 abbrev pub numbers : Content → List ℕ
 numbers s = map (λ k. k.number) s.sessions
 
--- The numbers of the open connections rise, and none is greater than how many connections were opened.
+-- The numbers of the open connections rise from 1 on, and none is greater than how many connections were opened.
 abbrev pub NumbersRise : Type 0
-NumbersRise = (first : Configuration) (h : List Event) → IsRising (numbers (content first h)) × IsUpTo (content first h).opened (numbers (content first h))
+NumbersRise =
+    (first : Configuration) (h : List Event) →
+    IsBelow 0 (numbers (content first h)) × IsRising (numbers (content first h)) × IsUpTo (content first h).opened (numbers (content first h))
 
 -- What a server has after any answer that it may give to an event is the content of the history after it.
 abbrev pub AnswersKeepContent : Type 0

@@ -1,4 +1,5 @@
--- The server as a machine over its content: what an accepted event makes of it. The machine forgets the past.
+-- The server as a machine over its content: what an accepted event makes of it. The machine forgets the past. That
+-- it keeps the content of every history is the law `machine_keeps_content`.
 use Rattle.std.specs.Prelude.{ℕ, false, not, ◌==◌, ◌≡◌, if◌then◌else◌, ◌+◌, List, [], ◌∷◌, ◌++◌, filter, drop}
 use Rattle.nut_words.specs.Lines.{LineText, Text, joined}
 use Rattle.nut_history.specs.Configuration.{Configuration}
@@ -14,6 +15,7 @@ abbrev pub update : ℕ → (Session → Session) → List Session → List Sess
 update c change [] = []
 update c change (k ∷ sessions) = if k.number == c then change k ∷ sessions else k ∷ update c change sessions
 
+-- the answer to a command of a session: none once it has logged out
 abbrev pub answer_in : Configuration → Command → Session → Answer
 answer_in configuration command k = if k.logged_out then Silence else answer configuration command
 
@@ -31,24 +33,29 @@ answered command reply k = record {
 abbrev pub heard : Configuration → LineText → Session → Session
 heard configuration line k = answered (command_of line) (answer_in configuration (command_of line) k) k
 
+-- a session with this unfinished line
 abbrev pub with_rest : LineText → Session → Session
 with_rest line k = record k { rest = line }
 
--- a line feed ends the unfinished line, and any other byte makes it longer
+-- a session after one byte of it: a line feed ends the unfinished line, and any other byte makes it longer
 abbrev pub byte_heard : Configuration → ℕ → Session → Session
 byte_heard configuration b k =
     if b == 10 then with_rest (Text []) (heard configuration k.rest k) else with_rest (joined k.rest (b ∷ [])) k
 
+-- a session after bytes of it, in turn
 abbrev pub bytes_heard : Configuration → List ℕ → Session → Session
 bytes_heard configuration [] k = k
 bytes_heard configuration (b ∷ bytes) k = bytes_heard configuration bytes (byte_heard configuration b k)
 
+-- a content with these sessions
 abbrev pub with_sessions : List Session → Content → Content
 with_sessions sessions s = record s { sessions = sessions }
 
+-- the sessions but that of c
 abbrev pub without : ℕ → List Session → List Session
 without c sessions = filter (λ k. not (k.number == c)) sessions
 
+-- a session that said nothing yet
 abbrev pub fresh : ℕ → List ℕ → Session
 fresh number address = record { number = number; address = address; logged_out = false; rest = Text []; waits = [] }
 
@@ -60,6 +67,6 @@ advance s (Took c n) = with_sessions (update c (λ k. record k { waits = drop n 
 advance s (Close c) = with_sessions (without c s.sessions) s
 advance s (WriteFailed c) = with_sessions (without c s.sessions) s
 
--- the machine keeps the content of every history of accepted events
+-- The machine keeps the content of every history of accepted events: the step of the content needs no past.
 abbrev pub KeepsContent : Type 0
 KeepsContent = (first : Configuration) (h : List Event) (e : Event) → IsAccepted first (e ∷ h) → content first (e ∷ h) ≡ advance (content first h) e

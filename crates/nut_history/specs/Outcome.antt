@@ -25,6 +25,7 @@ IsRefusal s e TooMuchTaken = refusal s e ≡ Some TooMuchTaken
 IsRefusal s e BadAddress = refusal s e ≡ Some BadAddress
 IsRefusal s e Full = refusal s e ≡ Some Full
 
+-- A server with this content may answer the event by this result.
 abbrev pub IsAnswer : {U : Type 0} → Content → Event → Result U Refused → Type 0
 IsAnswer s e (Ok u) = refusal s e ≡ None
 IsAnswer s e (Err r) = IsRefusal s e r
@@ -34,6 +35,7 @@ abbrev pub after_lack : Place → Event → List Event → List Event
 after_lack (Line c k) (Bytes d piece) h = lost d piece k h
 after_lack (Line c k) e h = h
 
+-- the history after a refusal: no other than a lack of memory changes it
 abbrev pub after_refusal : Refused → Event → List Event → List Event
 after_refusal (Memory place) e h = after_lack place e h
 after_refusal r e h = h
@@ -47,6 +49,7 @@ after (Err r) e h = after_refusal r e h
 abbrev pub content_after_lack : Place → Content → Content
 content_after_lack (Line c k) s = with_sessions (without c s.sessions) s
 
+-- the content after a refusal
 abbrev pub content_after_refusal : Refused → Content → Content
 content_after_refusal (Memory place) s = content_after_lack place s
 content_after_refusal r s = s

@@ -57,7 +57,7 @@ pub fn answers_keep_content()
     ensures { AnswersKeepContent }
 {}
 
-/// The numbers of the open connections rise, and none is greater than how many connections were opened.
+/// The numbers of the open connections rise from 1 on, and none is greater than how many connections were opened.
 pub fn numbers_rise()
     ensures { NumbersRise }
 {}

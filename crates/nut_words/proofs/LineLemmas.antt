@@ -50,13 +50,15 @@ all_but_last-append [] y ys = refl
 all_but_last-append (x ∷ []) y ys = refl
 all_but_last-append (x ∷ u ∷ us) y ys = ap (λ zs. x ∷ zs) (all_but_last-append (u ∷ us) y ys)
 
+-- a byte that is no line feed goes on with the part behind it
+pub goes_on : (b : Bool) (x : ℕ) (xs : List ℕ) (all : List (List ℕ)) → (b ≡ true → ⊥) → all ≡ xs ∷ [] → cond b ([] ∷ all) (onto_first x all) ≡ (x ∷ xs) ∷ []
+goes_on true x xs all never e = absurd (never refl)
+goes_on false x xs all never e = ap (onto_first x) e
+
 -- a text without a line feed is one part
 pub parts_of_unbroken : (xs : List ℕ) → ((k : ℕ) → k < length xs → eqb (get_or xs k 0) 10 ≡ true → ⊥) → parts xs ≡ xs ∷ []
 parts_of_unbroken [] h = refl
-parts_of_unbroken (x ∷ xs) h = by_first (eqb x 10) x xs (parts xs) (h 0 (omega arith)) (parts_of_unbroken xs (λ k l. h (suc k) (omega arith))) where
-  by_first : (b : Bool) (x : ℕ) (xs : List ℕ) (all : List (List ℕ)) → (b ≡ true → ⊥) → all ≡ xs ∷ [] → cond b ([] ∷ all) (onto_first x all) ≡ (x ∷ xs) ∷ []
-  by_first true x xs all never e = absurd (never refl)
-  by_first false x xs all never e = ap (onto_first x) e
+parts_of_unbroken (x ∷ xs) h = goes_on (eqb x 10) x xs (parts xs) (h 0 (omega arith)) (parts_of_unbroken xs (λ k l. h (suc k) (omega arith)))
 
 -- what a piece without a line feed adds
 pub rest_of_unbroken : (b p : List ℕ) → parts p ≡ p ∷ [] → rest (b ++ p) ≡ joined (rest b) p

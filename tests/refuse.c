@@ -1,0 +1,111 @@
+/* Makes one call of a program fail, to test what it does then. It is preloaded; no program is linked with it.
+ *
+ *   cc -shared -fPIC -o refuse.so refuse.c -ldl
+ *   LD_PRELOAD=./refuse.so REFUSE=allocation REFUSE_AT=3 PROGRAM ..
+ *
+ * REFUSE is 'allocation', 'read' or 'write': the call of that kind with the number REFUSE_AT fails. It is 'short-read'
+ * or 'short-write': from that call on each moves one byte. Calls are counted from 1. At its end the program's count
+ * of calls of that kind is written to the file that REFUSE_COUNT names. */
+#define _GNU_SOURCE
+#include <dlfcn.h>
+#include <errno.h>
+#include <stdio.h>
+#include <stdlib.h>
+#include <string.h>
+#include <sys/uio.h>
+#include <unistd.h>
+
+static long calls;
+
+static const char *setting(const char *name) {
+    const char *value = getenv(name);
+    return value ? value : "";
+}
+
+/* Whether this call of the kind is the one that REFUSE_AT names, or with `from` a later one. */
+static int is_refused(const char *kind, int from) {
+    if (strcmp(setting("REFUSE"), kind) != 0)
+        return 0;
+    calls++;
+    long at = atol(setting("REFUSE_AT"));
+    return from ? at > 0 && calls >= at : calls == at;
+}
+
+#define NEXT(name) dlsym(RTLD_NEXT, name)
+
+void *malloc(size_t size) {
+    static void *(*next)(size_t);
+    if (!next)
+        next = NEXT("malloc");
+    if (is_refused("allocation", 0)) {
+        errno = ENOMEM;
+        return NULL;
+    }
+    return next(size);
+}
+
+void *realloc(void *old, size_t size) {
+    static void *(*next)(void *, size_t);
+    if (!next)
+        next = NEXT("realloc");
+    if (is_refused("allocation", 0)) {
+        errno = ENOMEM;
+        return NULL;
+    }
+    return next(old, size);
+}
+
+int posix_memalign(void **to, size_t alignment, size_t size) {
+    static int (*next)(void **, size_t, size_t);
+    if (!next)
+        next = NEXT("posix_memalign");
+    return is_refused("allocation", 0) ? ENOMEM : next(to, alignment, size);
+}
+
+void *aligned_alloc(size_t alignment, size_t size) {
+    static void *(*next)(size_t, size_t);
+    if (!next)
+        next = NEXT("aligned_alloc");
+    if (is_refused("allocation", 0)) {
+        errno = ENOMEM;
+        return NULL;
+    }
+    return next(alignment, size);
+}
+
+ssize_t read(int file, void *to, size_t size) {
+    static ssize_t (*next)(int, void *, size_t);
+    if (!next)
+        next = NEXT("read");
+    if (file == 0 && is_refused("read", 0)) {
+        errno = EIO;
+        return -1;
+    }
+    if (file == 0 && size > 1 && is_refused("short-read", 1))
+        size = 1;
+    return next(file, to, size);
+}
+
+ssize_t write(int file, const void *from, size_t size) {
+    static ssize_t (*next)(int, const void *, size_t);
+    if (!next)
+        next = NEXT("write");
+    if (file == 1 && is_refused("write", 0)) {
+        errno = EIO;
+        return -1;
+    }
+    if (file == 1 && size > 1 && is_refused("short-write", 1))
+        size = 1;
+    return next(file, from, size);
+}
+
+__attribute__((destructor)) static void say(void) {
+    const char *name = setting("REFUSE_COUNT");
+    if (*name) {
+        FILE *file = fopen(name, "w");
+        if (file) {
+            fprintf(file, "%ld\n", calls);
+            fclose(file);
+        }
+    }
+}
