@@ -1,5 +1,6 @@
+pub mod Arrival
+pub mod Settling
 pub mod Values
 pub mod Dialogs
-pub mod Settling
 pub mod Place
 pub mod Inside

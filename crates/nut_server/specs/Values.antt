@@ -1,8 +1,7 @@
--- What the values of the code are in the definitions.
+-- What the requests and answers of the code are in the definitions.
 use Rattle.std.specs.Prelude.{ℕ, List, Option, Some, None, Result, Ok, Err}
 use Rattle.nut_history.specs.Command as C
 use Rattle.nut_history.specs.Answer as A
-use Rattle.nut_history.specs.Event as E
 use Rattle.nut_server.specs.declared.request.Request.{Request}
 use Rattle.nut_server.specs.declared.request.Request.TheVariants as request
 use Rattle.nut_server.specs.declared.request.Refusal.{Refusal}
@@ -11,8 +10,6 @@ use Rattle.nut_server.specs.declared.request.Command.{Command}
 use Rattle.nut_server.specs.declared.request.Command.TheVariants as command
 use Rattle.nut_server.specs.declared.answer.Answer.{Answer}
 use Rattle.nut_server.specs.declared.answer.Answer.TheVariants as answer
-use Rattle.nut_server.specs.declared.arrival.Arrival.{Arrival}
-use Rattle.nut_server.specs.declared.arrival.Arrival.TheVariants as arrival
 
 -- the request that is asked for
 abbrev pub asked_for : Request → C.Request
@@ -51,11 +48,3 @@ given answer.Goodbye = A.Goodbye
 given (answer.UpsList upses) = A.UpsList upses.now
 given (answer.UpsDescription ups) = A.UpsDescription ups.now
 given (answer.Refused refusal) = A.Refused (reason refusal)
-
--- the event that an arrival tells
-abbrev pub event_of : Arrival → E.Event
-event_of (arrival.Open address) = E.Open address.now
-event_of (arrival.Bytes c piece) = E.Bytes c piece.now
-event_of (arrival.Took c n) = E.Took c n
-event_of (arrival.Close c) = E.Close c
-event_of (arrival.WriteFailed c) = E.WriteFailed c

@@ -10,6 +10,8 @@ mod dialog;
 mod request;
 mod server;
 mod table;
+#[cfg(test)]
+mod tests;
 mod text;
 
 pub use arrival::{Arrival, PIECE_MAX};

@@ -7,7 +7,7 @@ ghost use Rattle.nut_history.specs.Event.{Event, Open, Bytes, Took, Close};
 ghost use Rattle.nut_history.specs.Content.{content};
 ghost use Rattle.nut_history.specs.Acceptance.{Tells, refusal, session_of, waiting_of, may_read, leaves, kept};
 ghost use Rattle.nut_history.specs.Outcome.{IsAnswer, after, content_after};
-ghost use Rattle.nut_server.specs.Values.{event_of};
+ghost use Rattle.nut_server.specs.Arrival.{event_of};
 ghost use Rattle.nut_server.specs.Settling.{IsNextUnsettled};
 
 use crate::address::address_of;

@@ -1,4 +1,4 @@
-use Rattle.nut_server.specs.Values.{event_of}
+use Rattle.nut_server.specs.Arrival.{event_of}
 use Rattle.nut_server.proofs.Arrives.{stands_after, refused_is}
 use Rattle.nut_server.proofs.server.Server.arrive.Goals as goal
 

@@ -1,0 +1,12 @@
+-- What an arrival tells.
+use Rattle.nut_history.specs.Event as E
+use Rattle.nut_server.specs.declared.arrival.Arrival.{Arrival}
+use Rattle.nut_server.specs.declared.arrival.Arrival.TheVariants as arrival
+
+-- the event that an arrival tells
+abbrev pub event_of : Arrival → E.Event
+event_of (arrival.Open address) = E.Open address.now
+event_of (arrival.Bytes c piece) = E.Bytes c piece.now
+event_of (arrival.Took c n) = E.Took c n
+event_of (arrival.Close c) = E.Close c
+event_of (arrival.WriteFailed c) = E.WriteFailed c
