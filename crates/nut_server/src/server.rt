@@ -79,6 +79,7 @@ impl Server {
         })
     }
 
+    /// A client connects, which takes no memory.
     fn open(&mut self, address: &[u8]) -> Result<(), Refused>
         ensures answered { IsAnswer self.old (Open address.now) result }
         ensures content { self.new ≡ content_after result self.old (Open address.now) }
@@ -96,6 +97,7 @@ impl Server {
         Ok(())
     }
 
+    /// A connection sends a piece. Where memory runs out in it, the connection is closed.
     fn bytes(&mut self, c: u64, piece: &[u8]) -> Result<(), Refused>
         ensures answered { IsAnswer self.old (Bytes c piece.now) result }
         ensures content { self.new ≡ content_after result self.old (Bytes c piece.now) }
@@ -123,6 +125,7 @@ impl Server {
         Ok(())
     }
 
+    /// A connection took the first `n` of the bytes that wait for it.
     fn took(&mut self, c: u64, n: usize) -> Result<(), Refused>
         ensures answered { IsAnswer self.old (Took c n) result }
         ensures content { self.new ≡ content_after result self.old (Took c n) }
@@ -137,6 +140,7 @@ impl Server {
         Ok(())
     }
 
+    /// A connection is closed.
     fn close(&mut self, c: u64) -> Result<(), Refused>
         ensures answered { IsAnswer self.old (Close c) result }
         ensures content { self.new ≡ content_after result self.old (Close c) }
@@ -148,6 +152,7 @@ impl Server {
         Ok(())
     }
 
+    /// Takes one arrival as the machine does.
     fn step(&mut self, arrival: Arrival<'_>) -> Result<(), Refused>
         ensures answered { IsAnswer self.old (event_of arrival.entry) result }
         ensures content { self.new ≡ content_after result self.old (event_of arrival.entry) }

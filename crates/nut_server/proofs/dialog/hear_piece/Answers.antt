@@ -1,8 +1,7 @@
-use Rattle.std.proofs.Common.{◌≡◌, ◌+◌, ◌<◌, ◌≤◌, ◌++◌, ℕ, List, [], ◌∷◌, Option, Some, None, length, take, drop, refl, sym, ap, ◌∙◌, arith}
+use Rattle.std.proofs.Common.{◌≡◌, ◌+◌, ◌≤◌, ◌++◌, ℕ, List, [], ◌∷◌, length, take, drop, sym, ap, ◌∙◌, arith}
 use Rattle.std.proofs.lemmas.List.{take_rest, drop-drop, length-drop, append_assoc}
-use Rattle.nut_words.specs.Lines.{rest, lines}
+use Rattle.nut_words.specs.Lines.{rest}
 use Rattle.nut_words.specs.Cutter.{handed_out, line_of}
-use Rattle.nut_history.specs.Acceptance.{line_feeds}
 use Rattle.nut_history.specs.Content.{Session}
 use Rattle.nut_history.specs.Machine.{with_rest, bytes_heard}
 use Rattle.nut_server.specs.Dialogs.{with_dialog}

@@ -1,4 +1,4 @@
-use Rattle.std.proofs.Common.{◌≡◌, ℕ, zero, suc, ◌<◌, List, [], ◌∷◌, drop, length, refl, sym, arith, Err}
+use Rattle.std.proofs.Common.{◌≡◌, ℕ, zero, suc, ◌<◌, List, [], ◌∷◌, drop, length, refl, arith, Err}
 use Rattle.nut_history.specs.Command.{Request, InvalidArgument, alone}
 use Rattle.nut_server.specs.Values.{asked_for}
 use Rattle.nut_server.proofs.request.alone.Goals as goal

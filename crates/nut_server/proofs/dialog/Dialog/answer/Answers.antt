@@ -1,8 +1,8 @@
-use Rattle.std.proofs.Common.{◌≡◌, ◌++◌, ℕ, List, ap, ◌∙◌}
+use Rattle.std.proofs.Common.{◌≡◌, ◌++◌, ap, ◌∙◌}
 use Rattle.nut_history.specs.Answer.{text_of}
 use Rattle.nut_history.specs.Trace.{logged_out_then}
 use Rattle.nut_server.specs.Values.{meant, given}
-use Rattle.nut_server.proofs.Hearing.{answered_is, piece_heard, lines_brought, line_feeds-append, bytes_heard-append, silent}
+use Rattle.nut_server.proofs.Hearing.{answered_is}
 use Rattle.nut_server.proofs.dialog.Dialog.answer.Goals as goal
 
 pub returns : goal.returns

@@ -1,4 +1,4 @@
-use Rattle.std.proofs.Common.{◌≤◌, List, length, refl, subst, sym, arith}
+use Rattle.std.proofs.Common.{◌≤◌, List, refl, subst, arith}
 use Rattle.nut_history.specs.Content.{Session}
 use Rattle.nut_history.specs.Machine.{bytes_heard}
 use Rattle.nut_history.proofs.Sessions.{bytes_heard-number}

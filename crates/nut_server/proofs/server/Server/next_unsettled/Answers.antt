@@ -1,6 +1,5 @@
 use Rattle.std.proofs.Common.{◌≡◌, ◌∙◌, ℕ, Some, None, Option, option_map, ap, sym, subst, arith}
 use Rattle.std.specs.Prelude.{find}
-use Rattle.nut_history.specs.Content.{Session}
 use Rattle.nut_server.specs.Settling.{IsNextUnsettled, settles}
 use Rattle.nut_server.proofs.Orderly.{next_is, found_up_to}
 use Rattle.nut_server.proofs.server.Server.next_unsettled.Goals as goal

@@ -1,4 +1,4 @@
-use Rattle.std.proofs.Common.{◌∙◌, ◌≤◌, List, drop, refl, subst, arith}
+use Rattle.std.proofs.Common.{◌≤◌, List, drop, refl, subst, arith}
 use Rattle.nut_history.specs.Content.{Session}
 use Rattle.nut_server.specs.Place.{Stands}
 use Rattle.nut_server.proofs.Places.{read_session}
