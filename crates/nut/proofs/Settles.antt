@@ -1,11 +1,11 @@
 -- What a write and a close change: the connection alone, of which less waits, or which is gone.
-use Rattle.std.proofs.Common.{◌≡◌, ◌≢◌, ℕ, ◌<◌, ◌≤◌, ◌-◌, true, false, eqb, List, [], length, drop, Option, Some, None, Result, refl, sym, ◌∙◌, ap, subst, arith, length-drop}
+use Rattle.std.proofs.Common.{◌≡◌, ℕ, ◌<◌, ◌≤◌, true, List, [], length, drop, Option, None, Result, refl, ◌∙◌, ap, subst, arith, length-drop}
 use Rattle.std.proofs.lemmas.Bool.{ne_eqb}
 use Rattle.nut_queue.specs.Front.{IsFrontPart}
 use Rattle.nut_history.specs.declared.Refused.{Refused}
 use Rattle.nut_history.specs.Configuration.{Configuration}
 use Rattle.nut_history.specs.Event as event
-use Rattle.nut_history.specs.Content.{Session, Content}
+use Rattle.nut_history.specs.Content.{Content}
 use Rattle.nut_history.specs.Acceptance.{session_of, waiting_in, waiting_of, leaves}
 use Rattle.nut_history.specs.Machine.{advance}
 use Rattle.nut_history.specs.Outcome.{IsAnswer}

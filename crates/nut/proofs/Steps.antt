@@ -1,5 +1,5 @@
 -- One step of the loop at a time: what is served stays served.
-use Rattle.std.proofs.Common.{◌≡◌, ℕ, zero, suc, ◌<◌, ◌≤◌, true, false, eqb, List, [], ◌∷◌, ◌++◌, length, take, drop, Option, Some, None, Result, Ok, Err, IfSome, OnErr, if◌then◌else◌, refl, sym, ◌∙◌, ap, subst, inl, inr, arith, length-append}
+use Rattle.std.proofs.Common.{◌≡◌, ℕ, zero, suc, ◌<◌, ◌≤◌, true, eqb, List, [], ◌∷◌, ◌++◌, length, take, drop, Option, Some, None, Result, Ok, Err, IfSome, OnErr, if◌then◌else◌, refl, sym, ◌∙◌, ap, subst, inl, inr, arith, length-append}
 use Rattle.std.proofs.lemmas.Bool.{cases_Bool, eqb-true, le-ltb}
 use Rattle.std.proofs.lemmas.List.{length-take-le, take-append-le}
 use Rattle.nut_queue.specs.Front.{IsFrontPart}
@@ -13,7 +13,7 @@ use Rattle.nut_history.specs.Event as event
 use Rattle.nut_history.specs.Content.{Session, Content, content, sent}
 use Rattle.nut_history.specs.Acceptance.{refusal, took_refusal, close_refusal, IsAccepted, Tells, lost, session_of, waiting_in, waiting_of, leaves}
 use Rattle.nut_history.specs.Machine.{advance}
-use Rattle.nut_history.specs.Outcome.{IsAnswer, IsRefusal, MayLack, after, after_lack, after_refusal, content_after, content_after_refusal}
+use Rattle.nut_history.specs.Outcome.{IsAnswer, IsRefusal, MayLack, after, after_lack, after_refusal, content_after}
 use Rattle.nut_history.specs.Laws.{received}
 use Rattle.nut_history.proofs.Sent.{sent-received}
 use Rattle.nut_history.proofs.Tells.{tells-after}

@@ -1,11 +1,11 @@
 -- What a world over memory may become by its calls, and by calls after calls.
-use Rattle.std.specs.Prelude.{◌≡◌, ℕ, ◌+◌, Bool, List, [], ◌∷◌, ◌++◌, map, count_by, refl}
+use Rattle.std.specs.Prelude.{◌≡◌, ◌+◌, Bool, List, [], ◌∷◌, ◌++◌, map, count_by, refl}
 use Rattle.std.proofs.Common.{cond, sym, ◌∙◌, ap, zero-add, append_assoc, arith}
 use Rattle.std.proofs.lemmas.List.Sums.{sum_by-append}
 use Rattle.nut_history.specs.Event.{Event}
 use Rattle.nut.specs.Record as entry
 use Rattle.nut.specs.declared.types.Given.{Given}
-use Rattle.nut.specs.Memory.{event_of_given, gave_of, StandIn, GoesOn}
+use Rattle.nut.specs.Memory.{event_of_given, gave_of, GoesOn}
 
 gave_of-append : (xs ys : List entry.Entry) → gave_of (xs ++ ys) ≡ gave_of xs ++ gave_of ys
 gave_of-append [] ys = refl

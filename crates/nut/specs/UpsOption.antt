@@ -46,3 +46,9 @@ parted before value (Some i) =
 -- what a value reads as, behind the UPSes of the values before it: it is parted at its first `=`
 abbrev pub ups_option : List Ups → List ℕ → Result Ups UpsFault
 ups_option before value = parted before value (position (λ b. b == 61) value)
+
+-- what values read as in turn, each behind those before it, or the fault of the first that doesn't read
+abbrev pub ups_options : List Ups → List (List ℕ) → Result (List Ups) UpsFault
+ups_options before [] = Ok before
+ups_options before (value ∷ values) =
+    elim (ups_option before value) [ Ok ups ↦ ups_options (before ++ ups ∷ []) values | Err fault ↦ Err fault ]

@@ -19,5 +19,10 @@ pub use serving::serve;
 pub use stdio::run_stdio;
 pub use streams::StreamWorld;
 pub use types::{Address, Fault, Given, Next, Note, Piece, ServeFault, Written};
-pub use ups_option::{UpsFault, UpsOption, read_ups_option};
+pub use ups_option::{
+    MOST_UPSES, UpsFault, UpsOption, UpsOptions, read_ups_option, read_ups_options,
+};
 pub use world::World;
+
+#[cfg(test)]
+mod tests;

@@ -1,7 +1,7 @@
 //! `upsd --stdio`: one client over standard streams.
 
 use crate::streams::StreamWorld;
-use crate::{ServeFault, UpsFault, UpsOption, read_ups_option, serve};
+use crate::{ServeFault, UpsFault, UpsOption, read_ups_options, serve};
 use clap::{Arg, ArgAction, Command};
 use nut_server::{Config, Server, ServerFault, Ups};
 use std::alloc::{AllocError, AllocFailed, Global};
@@ -120,13 +120,9 @@ fn serve_client<S: AsStr, I: Read, O: Write>(
 /// What the words of the command line ask the server to be.
 fn configuration<S: AsStr>(alloc: Global, words: &[S]) -> Result<Config, Failure> {
     let matches = command(alloc)?.try_get_matches_from(words)?;
-    let mut read = Vec::new(alloc);
-    for value in matches.get_strs("ups").unwrap_or(&[]) {
-        let ups = read_ups_option(read.as_slice(), value.as_bytes())?;
-        read.push(ups)?;
-    }
+    let read = read_ups_options(matches.get_strs("ups").unwrap_or(&[]))?;
     let mut upses = Vec::new(alloc);
-    for ups in &read {
+    for ups in read.as_slice() {
         upses.push(owned(alloc, ups)?)?;
     }
     Ok(Config::new(upses, 1))

@@ -1,15 +1,17 @@
 //! The values of the option `--ups`: `NAME=DESC`.
 
-ghost use Rattle.std.specs.Prelude.{◌≡◌, ◌==◌, ◌<◌, position, length, IfSome};
+ghost use Rattle.std.specs.Prelude.{◌≡◌, ◌==◌, ◌<◌, position, length, map, [], Ok, Err, IfSome, IfNone, OnOk, MatchResult};
 ghost use Rattle.std.specs.List.{list_all, list_any};
+ghost use Rattle.std.specs.Bool.{OnFalse};
 ghost use Rattle.std.specs.Str.{bytes_eq};
-ghost use Rattle.nut.specs.UpsOption.{is_name_byte, is_name, is_readable, is_past_limit, fault_of, ups_option};
+ghost use Rattle.nut.specs.UpsOption.{is_name_byte, is_name, is_readable, is_past_limit, fault_of, ups_option, ups_options};
 
+use arrayvec::ArrayVec;
 use std::marker::Model;
 use thiserror::Error;
 
 /// The most UPSes that may be given.
-const MOST_UPSES: usize = 32;
+pub const MOST_UPSES: usize = 32;
 /// The most bytes of a name.
 const NAME_BYTES: usize = 32;
 /// The most bytes of a description.
@@ -35,8 +37,11 @@ pub enum UpsFault {
     Unreadable,
 }
 
+/// The UPSes of a command line, in its order.
+pub type UpsOptions<'a> = ArrayVec<UpsOption<'a>, MOST_UPSES>;
+
 /// A UPS as a value names it.
-#[derive(Drop)]
+#[derive(Default, Drop)]
 pub struct UpsOption<'a> {
     /// Before the first `=`.
     pub name: &'a [u8],
@@ -52,6 +57,21 @@ impl<'a> Model for UpsOption<'a> {
     ghost view = { λ u. record { name = u.name.now; description = u.description.now } };
 }
 
+/// Reads values in turn, each behind those before it. It takes no memory.
+///
+/// # Errors
+/// The fault of the first value that doesn't read.
+pub fn read_ups_options<'a>(values: &[&'a str]) -> Result<UpsOptions<'a>, UpsFault>
+    ensures { MatchResult result (λ r. ups_options [] (map (λ v. v.now) values.now) ≡ Ok r.items) (λ fault. ups_options [] (map (λ v. v.now) values.now) ≡ Err fault) }
+{
+    let mut read = UpsOptions::new();
+    for value in values {
+        let ups = read_ups_option(read.as_slice(), value.as_bytes())?;
+        read.push(ups);
+    }
+    Ok(read)
+}
+
 /// Reads a value behind those before it. It takes no memory.
 ///
 /// # Errors
@@ -60,7 +80,8 @@ pub fn read_ups_option<'a>(
     before: &[UpsOption<'a>],
     value: &'a [u8],
 ) -> Result<UpsOption<'a>, UpsFault>
-    ensures { result ≡ ups_option before.now value.now }
+    ensures value { result ≡ ups_option before.now value.now }
+    ensures room { OnOk result (length before.now < MOST_UPSES) }
 {
     let Some(at) = place_of_equals(value) else {
         return Err(UpsFault::BadForm);
@@ -85,7 +106,8 @@ fn place_of_equals(value: &[u8]) -> Option<usize>
 
 /// The first fault of a UPS, behind those before it.
 fn fault_of(before: &[UpsOption<'_>], ups: &UpsOption<'_>) -> Option<UpsFault>
-    ensures { result ≡ fault_of before.now ups.now }
+    ensures value { result ≡ fault_of before.now ups.now }
+    ensures room { IfNone result (length before.now < MOST_UPSES) }
 {
     if !is_name(ups.name) {
         return Some(UpsFault::BadName);
@@ -121,7 +143,8 @@ fn is_name_byte(byte: u8) -> bool
 }
 
 fn is_past_limit(before: &[UpsOption<'_>], ups: &UpsOption<'_>) -> bool
-    ensures { result ≡ is_past_limit before.now ups.now }
+    ensures value { result ≡ is_past_limit before.now ups.now }
+    ensures room { OnFalse result (length before.now < MOST_UPSES) }
 {
     ups.name.len() > NAME_BYTES
         || ups.description.len() > DESCRIPTION_BYTES
