@@ -1,4 +1,4 @@
-//! What a client's line asks for (RFC 9271, section 4.2).
+//! What a client's line asks for (RFC 9271: GET UPSDESC, LIST UPS, LOGOUT, VER).
 
 ghost use Rattle.std.specs.Prelude.{◌≡◌, ◌≢◌, ℕ, List, [], drop, slice_index_or, IfOk, Ok};
 ghost use Rattle.nut_words.specs.Cutter.{line_of};
