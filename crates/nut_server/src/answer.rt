@@ -1,4 +1,4 @@
-//! What a client is answered (RFC 9271, sections 4.2 and 4.3).
+//! What a client is answered (RFC 9271: the same commands, and its error responses).
 
 ghost use Rattle.std.specs.Prelude.{◌≡◌};
 ghost use Rattle.nut_history.specs.Answer.{answer_request, answer};
