@@ -41,13 +41,13 @@ impl Name {
 /// The value of a variable, or one of its enum values: 0 to [`VALUE_BYTES`] bytes.
 #[derive(Drop)]
 pub struct Text {
-    bytes: ArrayVec<u8, VALUE_BYTES>,
+    contents: ArrayVec<u8, VALUE_BYTES>,
 }
 
 impl Model for Text {
     ghost Value = { List ℕ };
 
-    ghost view = { λ text. text.bytes.items };
+    ghost view = { λ text. text.contents.items };
 }
 
 impl Text {
@@ -57,7 +57,7 @@ impl Text {
     {
         let mut text = ArrayVec::new();
         text.try_extend_from_slice(bytes).unwrap();
-        Text { bytes: text }
+        Text { contents: text }
     }
 
     /// Writes another text in the place of this one.
@@ -65,8 +65,8 @@ impl Text {
         requires { length bytes.now ≤ VALUE_BYTES }
         ensures { self.new ≡ bytes.now }
     {
-        self.bytes.clear();
-        self.bytes.try_extend_from_slice(bytes).unwrap();
+        self.contents.clear();
+        self.contents.try_extend_from_slice(bytes).unwrap();
     }
 
     /// The bytes of the text.
@@ -74,7 +74,7 @@ impl Text {
         ensures value { result.now ≡ self.now }
         ensures fits { length result.now ≤ VALUE_BYTES }
     {
-        self.bytes.as_slice()
+        self.contents.as_slice()
     }
 }
 

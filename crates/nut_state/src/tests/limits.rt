@@ -1,5 +1,5 @@
 //! Lines at each limit of the table and one past it. Such a line is heard and changes nothing.
-use super::told;
+use super::{holds, told};
 use crate::{Heard, UpsState, natural, whole_number};
 use std::alloc::Global;
 use std::test::Fail;
@@ -27,12 +27,12 @@ fn variables(rt: HostRuntime) -> Result<(), Fail> {
     assert_eq!(rt; state.variables().len(), 511);
     told(&mut state, &["SETINFO w x", "SETINFO u x"])?;
     assert_eq!(rt; state.variables().len(), 512);
-    assert_eq!(rt; state.value(b"w"), Some(b"x".as_slice()));
-    assert_eq!(rt; state.value(b"u"), None);
+    assert!(rt; holds(&state, b"w", b"x"));
+    assert!(rt; state.value(b"u").is_none());
     told(&mut state, &["SETINFO v7 y", "DELINFO v8", "SETINFO u z"])?;
-    assert_eq!(rt; state.value(b"v7"), Some(b"y".as_slice()));
-    assert_eq!(rt; state.value(b"v8"), None);
-    assert_eq!(rt; state.value(b"u"), Some(b"z".as_slice()));
+    assert!(rt; holds(&state, b"v7", b"y"));
+    assert!(rt; state.value(b"v8").is_none());
+    assert!(rt; holds(&state, b"u", b"z"));
     assert_eq!(rt; state.variables().len(), 512);
     Ok(())
 }
@@ -117,8 +117,8 @@ fn lengths(rt: HostRuntime) -> Result<(), Fail> {
         assert_eq!(rt; state.apply(line.as_bytes())?, Heard::Heard);
     }
     assert_eq!(rt; state.variables().len(), 2);
-    assert_eq!(rt; state.value(name.as_bytes()), Some(b"x".as_slice()));
-    assert_eq!(rt; state.value(b"a"), Some(value.as_bytes()));
+    assert!(rt; holds(&state, name.as_bytes(), b"x"));
+    assert!(rt; holds(&state, b"a", value.as_bytes()));
     assert_eq!(rt; state.enums(b"a").len(), 1);
     assert_eq!(rt; state.commands().len(), 1);
     assert_eq!(rt; state.has_cmd(name.as_bytes()), true);
