@@ -227,40 +227,62 @@ fn one_look_up_shows_all_of_a_variable(rt: HostRuntime) -> Result<(), Fail> {
     Ok(())
 }
 
+/// Whether the table answers so to each line.
+fn answers(state: &mut UpsState, lines: &[&str], wanted: Heard) -> Result<bool, StateFault> {
+    for line in lines {
+        if state.apply(line.as_bytes())? != wanted {
+            return Ok(false);
+        }
+    }
+    Ok(true)
+}
+
 #[test]
-fn heard_and_ignored(rt: HostRuntime) -> Result<(), Fail> {
+fn heard_lines_may_change_nothing(rt: HostRuntime) -> Result<(), Fail> {
     let mut state = UpsState::new(rt.alloc());
-    for line in [
-        "PONG",
-        "pong",
-        " \tpong\r# still here",
-        "DELINFO none",
-        "SETAUX none abc",
-        "SETFLAGS none",
-        "SETINFO b! x",
-        "ADDRANGE none 2 1",
-        "SETFLAGS a 3 4 5 6 7 8 9 10 11 12 13 14 15 16 17 18 19 20 21 22 23 24 25 26 27 28 29 30 31 32",
-    ] {
-        assert_eq!(rt; state.apply(line.as_bytes())?, Heard::Heard);
-    }
-    for line in [
-        "",
-        " # DATAOK",
-        "PONG x",
-        "SETINFO a",
-        "SETINFO a b c",
-        "SETINFO a=b",
-        "SETFLAGS",
-        "FOO a b",
-        "DATAO",
-        "SETINFO a \"b",
-        "SETINFO a \"b\"c",
-        "SETINFO a b\\",
-        "SETINFO a \x7f",
-        "SETFLAGS a 3 4 5 6 7 8 9 10 11 12 13 14 15 16 17 18 19 20 21 22 23 24 25 26 27 28 29 30 31 32 33",
-    ] {
-        assert_eq!(rt; state.apply(line.as_bytes())?, Heard::Ignored);
-    }
+    let heard = answers(
+        &mut state,
+        &[
+            "PONG",
+            " \tpong\r# still here",
+            "DELINFO none",
+            "SETAUX none abc",
+            "SETFLAGS none",
+            "SETINFO b! x",
+            "ADDRANGE none 2 1",
+            "SETFLAGS a 3 4 5 6 7 8 9 10 11 12 13 14 15 16 17 18 19 20 21 22 23 24 25 26 27 28 29 30 31 32",
+        ],
+        Heard::Heard,
+    )?;
+    assert!(rt; heard);
+    assert_eq!(rt; state.variables().len(), 0);
+    Ok(())
+}
+
+#[test]
+fn other_lines_are_ignored(rt: HostRuntime) -> Result<(), Fail> {
+    let mut state = UpsState::new(rt.alloc());
+    let ignored = answers(
+        &mut state,
+        &[
+            "",
+            " # DATAOK",
+            "PONG x",
+            "SETINFO a",
+            "SETINFO a b c",
+            "SETINFO a=b",
+            "SETFLAGS",
+            "FOO a b",
+            "DATAO",
+            "SETINFO a \"b",
+            "SETINFO a \"b\"c",
+            "SETINFO a b\\",
+            "SETINFO a \x7f",
+            "SETFLAGS a 3 4 5 6 7 8 9 10 11 12 13 14 15 16 17 18 19 20 21 22 23 24 25 26 27 28 29 30 31 32 33",
+        ],
+        Heard::Ignored,
+    )?;
+    assert!(rt; ignored);
     assert_eq!(rt; state.variables().len(), 0);
     Ok(())
 }

@@ -1,6 +1,6 @@
 //! Lines at each limit of the table and one past it. Such a line is heard and changes nothing.
 use super::{holds, told};
-use crate::{Heard, UpsState, natural, whole_number};
+use crate::{UpsState, natural, whole_number};
 use std::alloc::Global;
 use std::test::Fail;
 
@@ -96,32 +96,49 @@ fn letters(alloc: Global, count: usize) -> Result<String, Fail> {
     Ok(text)
 }
 
+/// Tells the table a line with a text of so many letters in it.
+fn told_letters(
+    alloc: Global,
+    state: &mut UpsState,
+    before: &str,
+    count: usize,
+    after: &str,
+) -> Result<(), Fail> {
+    let text = letters(alloc, count)?;
+    let line = format!(in alloc; "{before}{text}{after}")?;
+    state.apply(line.as_bytes())?;
+    Ok(())
+}
+
 #[test]
-fn lengths(rt: HostRuntime) -> Result<(), Fail> {
+fn lengths_of_names(rt: HostRuntime) -> Result<(), Fail> {
     let alloc = rt.alloc();
     let mut state = UpsState::new(alloc);
-    let name = letters(alloc, 64)?;
-    let value = letters(alloc, 128)?;
-    for line in [
-        format!(in alloc; "SETINFO {name} x")?,
-        format!(in alloc; "SETINFO {name}a x")?,
-        format!(in alloc; "SETINFO a {value}")?,
-        format!(in alloc; "SETINFO a {value}a")?,
-        format!(in alloc; "ADDENUM a {value}")?,
-        format!(in alloc; "ADDENUM a {value}a")?,
-        format!(in alloc; "ADDCMD {name}")?,
-        format!(in alloc; "ADDCMD {name}a")?,
-        format!(in alloc; "SETINFO \"\" x")?,
-        format!(in alloc; "ADDCMD \"\"")?,
-    ] {
-        assert_eq!(rt; state.apply(line.as_bytes())?, Heard::Heard);
-    }
-    assert_eq!(rt; state.variables().len(), 2);
-    assert!(rt; holds(&state, name.as_bytes(), b"x"));
-    assert!(rt; holds(&state, b"a", value.as_bytes()));
-    assert_eq!(rt; state.enums(b"a").len(), 1);
+    told_letters(alloc, &mut state, "SETINFO ", 64, " x")?;
+    told_letters(alloc, &mut state, "SETINFO ", 65, " x")?;
+    told_letters(alloc, &mut state, "ADDCMD ", 64, "")?;
+    told_letters(alloc, &mut state, "ADDCMD ", 65, "")?;
+    told(&mut state, &["SETINFO \"\" x", "ADDCMD \"\""])?;
+    assert_eq!(rt; state.variables().len(), 1);
+    assert_eq!(rt; state.variables()[0].name().len(), 64);
     assert_eq!(rt; state.commands().len(), 1);
-    assert_eq!(rt; state.has_cmd(name.as_bytes()), true);
+    assert_eq!(rt; state.commands()[0].as_bytes().len(), 64);
+    Ok(())
+}
+
+#[test]
+fn lengths_of_values(rt: HostRuntime) -> Result<(), Fail> {
+    let alloc = rt.alloc();
+    let mut state = UpsState::new(alloc);
+    told_letters(alloc, &mut state, "SETINFO a ", 128, "")?;
+    told_letters(alloc, &mut state, "SETINFO a ", 129, "")?;
+    told_letters(alloc, &mut state, "SETINFO b ", 129, "")?;
+    told_letters(alloc, &mut state, "ADDENUM a ", 128, "")?;
+    told_letters(alloc, &mut state, "ADDENUM a ", 129, "")?;
+    assert_eq!(rt; state.variables().len(), 1);
+    assert_eq!(rt; state.variables()[0].value().len(), 128);
+    assert_eq!(rt; state.enums(b"a").len(), 1);
+    assert_eq!(rt; state.enums(b"a")[0].as_bytes().len(), 128);
     Ok(())
 }
 
