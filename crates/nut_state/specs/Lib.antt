@@ -1,0 +1,10 @@
+pub mod Attribute
+pub mod Change
+pub mod Holds
+pub mod LookBack
+pub mod Number
+pub mod Sorted
+pub mod Step
+pub mod Table
+pub mod Text
+pub mod Verb

@@ -1,0 +1,30 @@
+-- Whole numbers as a driver's lines have them.
+use Rattle.std.specs.Prelude.{ℕ, ℤ, pos, neg_ℤ, ◌+◌, ◌-◌, ◌*◌, ◌==◌, ◌&&◌, Bool, List, [], ◌∷◌, Option, Some, None, if◌then◌else◌, nat_lt, nat_le, length, fold, option_map, int_le}
+use Rattle.std.specs.Option.{option_and_then}
+use Rattle.nut_state.specs.declared.number.Range.{Range}
+use Rattle.std.specs.List.{list_all}
+use Rattle.std.specs.Char.{is_ascii_digit}
+
+-- What decimal digits say, the first one weighing most.
+abbrev pub digits_value : List ℕ → ℕ
+digits_value text = fold (λ n digit. 10 * n + (digit - 48)) 0 text
+
+-- A number has one to nine digits.
+abbrev pub is_natural : List ℕ → Bool
+is_natural text = nat_lt 0 (length text) && nat_le (length text) 9 && list_all is_ascii_digit text
+
+-- The number that a text is, if it is one.
+abbrev pub natural : List ℕ → Option ℕ
+natural text = if is_natural text then Some (digits_value text) else None
+
+-- The same, perhaps after a minus sign, which is the byte 45.
+abbrev pub whole_number : List ℕ → Option ℤ
+whole_number [] = None
+whole_number (byte ∷ rest) =
+    if byte == 45 then option_map (λ n. neg_ℤ (pos n)) (natural rest) else option_map pos (natural (byte ∷ rest))
+
+-- A range is two whole numbers, the first at most the second.
+abbrev pub range_of : List ℕ → List ℕ → Option Range
+range_of low high =
+    option_and_then (λ minimum. option_and_then (λ maximum.
+    if int_le minimum maximum then Some (record { minimum = minimum; maximum = maximum }) else None) (whole_number high)) (whole_number low)

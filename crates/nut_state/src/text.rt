@@ -1,0 +1,98 @@
+//! Names and values, which stand in place and take no memory of their own.
+ghost use Rattle.std.specs.Prelude.{◌≡◌, ◌≤◌, List, ℕ, length};
+ghost use Rattle.nut_state.specs.Text.{is_name_byte, is_name};
+ghost use Rattle.std.specs.List.{list_all};
+
+use crate::limits::{NAME_BYTES, VALUE_BYTES};
+use arrayvec::ArrayVec;
+use std::marker::Model;
+
+/// The name of a variable or a command: 1 to [`NAME_BYTES`] letters, digits, `.`, `_` and `-`.
+#[derive(Drop)]
+pub struct Name {
+    bytes: ArrayVec<u8, NAME_BYTES>,
+}
+
+impl Model for Name {
+    ghost Value = { List ℕ };
+
+    ghost view = { λ name. name.bytes.items };
+}
+
+impl Name {
+    pub(crate) fn new(bytes: &[u8]) -> Name
+        requires { length bytes.now ≤ NAME_BYTES }
+        ensures { result ≡ bytes.now }
+    {
+        let mut name = ArrayVec::new();
+        name.try_extend_from_slice(bytes).unwrap();
+        Name { bytes: name }
+    }
+
+    /// The bytes of the name.
+    pub fn as_bytes(&self) -> &[u8]
+        ensures value { result.now ≡ self.now }
+        ensures fits { length result.now ≤ NAME_BYTES }
+    {
+        self.bytes.as_slice()
+    }
+}
+
+/// The value of a variable, or one of its enum values: 0 to [`VALUE_BYTES`] bytes.
+#[derive(Drop)]
+pub struct Text {
+    contents: ArrayVec<u8, VALUE_BYTES>,
+}
+
+impl Model for Text {
+    ghost Value = { List ℕ };
+
+    ghost view = { λ text. text.contents.items };
+}
+
+impl Text {
+    pub(crate) fn new(bytes: &[u8]) -> Text
+        requires { length bytes.now ≤ VALUE_BYTES }
+        ensures { result ≡ bytes.now }
+    {
+        let mut text = ArrayVec::new();
+        text.try_extend_from_slice(bytes).unwrap();
+        Text { contents: text }
+    }
+
+    /// Writes another text in the place of this one.
+    pub(crate) fn set(&mut self, bytes: &[u8])
+        requires { length bytes.now ≤ VALUE_BYTES }
+        ensures { self.new ≡ bytes.now }
+    {
+        self.contents.clear();
+        self.contents.try_extend_from_slice(bytes).unwrap();
+    }
+
+    /// The bytes of the text.
+    pub fn as_bytes(&self) -> &[u8]
+        ensures value { result.now ≡ self.now }
+        ensures fits { length result.now ≤ VALUE_BYTES }
+    {
+        self.contents.as_slice()
+    }
+}
+
+fn is_name_byte(byte: u8) -> bool
+    ensures { result ≡ is_name_byte byte }
+{
+    byte.is_ascii_alphanumeric() || byte == b'.' || byte == b'_' || byte == b'-'
+}
+
+fn all_name_bytes(text: &[u8]) -> bool
+    ensures { result ≡ list_all is_name_byte text.now }
+{
+    text.iter().all(|byte| is_name_byte(*byte))
+}
+
+/// Whether a variable or a command may have this name.
+pub(crate) fn is_name(text: &[u8]) -> bool
+    ensures { result ≡ is_name text.now }
+{
+    !text.is_empty() && text.len() <= NAME_BYTES && all_name_bytes(text)
+}

@@ -1,0 +1,212 @@
+//! One variable of the table.
+ghost use Rattle.std.specs.Prelude.{◌≡◌, ◌<◌, ◌≤◌, [], ◌∷◌, ◌++◌, List, ℕ, false, length, drop, IsOk, OnOk, OnErr};
+ghost use Rattle.nut_state.specs.Step.{fresh, without_enum, without_range};
+ghost use Rattle.nut_state.specs.Attribute.{takes_enum, takes_range, lists_enum, lists_range};
+ghost use Rattle.nut_state.specs.Verb.{says};
+ghost use Rattle.nut_state.specs.Change.{flags_named};
+ghost use Rattle.std.specs.List.{list_any};
+
+use crate::limits::{MAX_ENUMS, MAX_RANGES, NAME_BYTES, VALUE_BYTES};
+use crate::number::Range;
+use crate::text::{Name, Text};
+use crate::verb::says;
+use nut_words::Words;
+use std::alloc::{AllocError, Global};
+use std::marker::Model;
+
+/// What SETFLAGS says of a variable.
+#[derive(Clone, Copy, PartialEq, Eq)]
+pub struct Flags {
+    /// `RW`: a client may set it.
+    pub writable: bool,
+    /// `STRING`: its value is a text of at most `aux` bytes.
+    pub string: bool,
+    /// `NUMBER`: its value is a number.
+    pub number: bool,
+}
+
+impl Flags {
+    /// No flags, as a variable has before any SETFLAGS.
+    pub const NONE: Flags = Flags {
+        writable: false,
+        string: false,
+        number: false,
+    };
+
+    /// The flags that the words past a name say, letter case aside.
+    pub(crate) fn read(words: &Words) -> Flags
+        ensures { result ≡ flags_named (drop 2 words.now) }
+    {
+        Flags {
+            writable: names(words, b"RW"),
+            string: names(words, b"STRING"),
+            number: names(words, b"NUMBER"),
+        }
+    }
+}
+
+/// Whether one of the words past a name is this text.
+fn names(words: &Words, text: &[u8]) -> bool
+    ensures { result ≡ list_any (says text.now) (drop 2 words.now) }
+{
+    for place in 2..words.len() {
+        if says(text, words.get(place)) {
+            return true;
+        }
+    }
+    false
+}
+
+/// A variable of the table: its value, and what a client may set it to.
+#[derive(Drop)]
+pub struct Variable {
+    name: Name,
+    value: Text,
+    flags: Flags,
+    aux: u16,
+    enums: Vec<Text>,
+    ranges: Vec<Range>,
+}
+
+impl Model for Variable {
+    ghost use Rattle.std.specs.Prelude.{List};
+    ghost use Rattle.nut_state.specs.Table.{Entry};
+
+    ghost Value = { Entry };
+
+    ghost view = { λ v. record { name = v.name; value = v.value; flags = v.flags; aux = v.aux; enums = v.enums.items; ranges = v.ranges.items } };
+}
+
+impl Variable {
+    /// A variable without flags and limits.
+    pub(crate) fn new(alloc: Global, name: &[u8], value: &[u8]) -> Variable
+        requires name { length name.now ≤ NAME_BYTES }
+        requires value { length value.now ≤ VALUE_BYTES }
+        ensures { result ≡ fresh name.now value.now }
+    {
+        Variable {
+            name: Name::new(name),
+            value: Text::new(value),
+            flags: Flags::NONE,
+            aux: 0,
+            enums: Vec::new(alloc),
+            ranges: Vec::new(alloc),
+        }
+    }
+
+    /// Its name.
+    pub fn name(&self) -> &[u8]
+        ensures { result.now ≡ self.now.name }
+    {
+        self.name.as_bytes()
+    }
+
+    /// Its value: at most [`VALUE_BYTES`] bytes.
+    pub fn value(&self) -> &[u8]
+        ensures { result.now ≡ self.now.value }
+    {
+        self.value.as_bytes()
+    }
+
+    /// The flags of the last SETFLAGS.
+    pub fn flags(&self) -> Flags
+        ensures { result ≡ self.now.flags }
+    {
+        self.flags
+    }
+
+    /// The number of the last SETAUX, which is the greatest length of a string value in bytes; 0 before any.
+    pub fn aux(&self) -> u16
+        ensures { result ≡ self.now.aux }
+    {
+        self.aux
+    }
+
+    /// The enum values, in order of addition.
+    pub fn enums(&self) -> &[Text]
+        ensures { result.now ≡ self.now.enums }
+    {
+        &self.enums
+    }
+
+    /// The ranges, in order of addition.
+    pub fn ranges(&self) -> &[Range]
+        ensures { result.now ≡ self.now.ranges }
+    {
+        &self.ranges
+    }
+
+    pub(crate) fn set_value(&mut self, value: &[u8])
+        requires { length value.now ≤ VALUE_BYTES }
+        ensures { self.new ≡ record self.old { value = value.now } }
+    {
+        self.value.set(value);
+    }
+
+    pub(crate) fn set_flags(&mut self, flags: Flags)
+        ensures { self.new ≡ record self.old { flags = flags } }
+    {
+        self.flags = flags;
+    }
+
+    pub(crate) fn set_aux(&mut self, aux: u16)
+        ensures { self.new ≡ record self.old { aux = aux } }
+    {
+        self.aux = aux;
+    }
+
+    fn has_enum(&self, value: &[u8]) -> bool
+        ensures { result ≡ lists_enum value.now self.now.enums }
+    {
+        self.enums.iter().any(|text| text.as_bytes() == value)
+    }
+
+    /// Whether an enum value may be added.
+    pub(crate) fn takes_enum(&self, value: &[u8]) -> bool
+        ensures { result ≡ takes_enum value.now self.now.enums }
+    {
+        value.len() <= VALUE_BYTES && self.enums.len() < MAX_ENUMS && !self.has_enum(value)
+    }
+
+    pub(crate) fn add_enum(&mut self, value: &[u8]) -> Result<(), AllocError>
+        requires { length value.now ≤ VALUE_BYTES }
+        ensures ok { OnOk result (self.new ≡ record self.old { enums = self.old.enums ++ value.now ∷ [] }) }
+        ensures err { OnErr result (self.new ≡ self.old) }
+    {
+        self.enums.push(Text::new(value))?;
+        Ok(())
+    }
+
+    pub(crate) fn remove_enum(&mut self, value: &[u8])
+        ensures { self.new ≡ without_enum value.now self.old }
+    {
+        self.enums.retain(|text| text.as_bytes() != value);
+    }
+
+    fn has_range(&self, range: Range) -> bool
+        ensures { result ≡ lists_range range self.now.ranges }
+    {
+        self.ranges.iter().any(|listed| *listed == range)
+    }
+
+    /// Whether a range may be added.
+    pub(crate) fn takes_range(&self, range: Range) -> bool
+        ensures { result ≡ takes_range range self.now.ranges }
+    {
+        self.ranges.len() < MAX_RANGES && !self.has_range(range)
+    }
+
+    pub(crate) fn add_range(&mut self, range: Range) -> Result<(), AllocError>
+        ensures ok { OnOk result (self.new ≡ record self.old { ranges = self.old.ranges ++ range ∷ [] }) }
+        ensures err { OnErr result (self.new ≡ self.old) }
+    {
+        self.ranges.push(range)?;
+        Ok(())
+    }
+
+    pub(crate) fn remove_range(&mut self, range: Range)
+        ensures { self.new ≡ without_range range self.old }
+    {
+        self.ranges.retain(|listed| *listed != range);
+    }
+}
