@@ -72,8 +72,13 @@ length-rows ups (row ∷ rows) u h =
 
 length-list : (ups : List ℕ) (rows : List (List ℕ × List ℕ)) → IsName 32 ups → length (variable_list ups rows) ≤ 94 + length (variable_rows ups rows)
 length-list ups rows u =
-    omega (arith, length-append (begin_line (queries.Var ups)) (variable_rows ups rows ++ end_line (queries.Var ups)),
-        length-append (variable_rows ups rows) (end_line (queries.Var ups)), length-begin ups u, length-end ups u)
+    omega (
+      arith,
+      length-append (begin_line (queries.Var ups)) (variable_rows ups rows ++ end_line (queries.Var ups)),
+      length-append (variable_rows ups rows) (end_line (queries.Var ups)),
+      length-begin ups u,
+      length-end ups u,
+    )
 
 pub lists_are_bounded : ListsAreBounded
 lists_are_bounded ups rows u h most = omega (arith, length-list ups rows u, length-rows ups rows u h)
@@ -82,11 +87,21 @@ lists_are_bounded ups rows u h most = omega (arith, length-list ups rows u, leng
 length-forced_rows : (ups name value : List ℕ) (before after : List (List ℕ × List ℕ)) → IsName 32 ups → AllByRecursion IsVariable before → IsVariable (name, value) → AllByRecursion IsVariable after →
     length (variable_rows ups (before ++ (name, codes "FSD " ++ value) ∷ after)) ≤ 361 * (length before + length after) + 365
 length-forced_rows ups name value [] after u h v k =
-    omega (arith, length-append (reply_line (replies.Var ups name (codes "FSD " ++ value))) (variable_rows ups after),
-        length-row ups name (codes "FSD " ++ value) u v.0, length-quoted value, v.1, length-rows ups after u k)
+    omega (
+      arith,
+      length-append (reply_line (replies.Var ups name (codes "FSD " ++ value))) (variable_rows ups after),
+      length-row ups name (codes "FSD " ++ value) u v.0,
+      length-quoted value,
+      v.1,
+      length-rows ups after u k,
+    )
 length-forced_rows ups name value (row ∷ before) after u h v k =
-    omega (arith, length-append (reply_line (replies.Var ups row.0 row.1)) (variable_rows ups (before ++ (name, codes "FSD " ++ value) ∷ after)),
-        rows_are_bounded ups row.0 row.1 u h.0, length-forced_rows ups name value before after u h.1 v k)
+    omega (
+      arith,
+      length-append (reply_line (replies.Var ups row.0 row.1)) (variable_rows ups (before ++ (name, codes "FSD " ++ value) ∷ after)),
+      rows_are_bounded ups row.0 row.1 u h.0,
+      length-forced_rows ups name value before after u h.1 v k,
+    )
 
 pub forced_lists_are_bounded : ForcedListsAreBounded
 forced_lists_are_bounded ups name value before after u h v k most =

@@ -105,9 +105,10 @@ list_writable : IsPrintable (codes "LIST")
 list_writable = (refl, (refl, (refl, (refl, tt))))
 
 pub lists_are_read : ListsAreRead
-lists_are_read query writable =
-    (ap answer_for (message_spelled (begin_parts query) (begin_writable, (list_writable, writable)) (omega (arith, short_query query))) ∙ begin_back query,
-     ap answer_for (message_spelled (end_parts query) (end_writable, (list_writable, writable)) (omega (arith, short_query query))) ∙ end_back query)
+lists_are_read query writable = (
+  ap answer_for (message_spelled (begin_parts query) (begin_writable, (list_writable, writable)) (omega (arith, short_query query))) ∙ begin_back query,
+  ap answer_for (message_spelled (end_parts query) (end_writable, (list_writable, writable)) (omega (arith, short_query query))) ∙ end_back query,
+)
 
 ask_back : (ask : DriverAsk) → ask_of (message_words (ask_parts ask)) ≡ Some ask
 unfolding ask_of

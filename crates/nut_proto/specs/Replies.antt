@@ -1,4 +1,4 @@
--- What the server answers, line by line.
+-- What the server answers, line by line (RFC 9271, section 4.2).
 use Rattle.std.specs.Prelude.{ℕ, Bool, List, [], ◌∷◌, codes, if◌then◌else◌}
 use Rattle.nut_proto.specs.declared.reply.Reply.{Reply}
 use Rattle.nut_proto.specs.declared.reply.Reply.TheVariants as replies
@@ -9,14 +9,19 @@ use Rattle.nut_proto.specs.declared.part.Part.TheVariants.{Word, Quoted, Number,
 use Rattle.nut_proto.specs.Lines.{line}
 use Rattle.nut_proto.specs.Refusals.{refusal_name}
 
+-- to VER
 abbrev pub version_parts : List Part
-version_parts = Word (codes "Network") ∷ Word (codes "UPS") ∷ Word (codes "Tools") ∷ Word (codes "upsd") ∷ Word (codes "profile") ∷ Word (codes "1.2") ∷ []
+version_parts =
+    Word (codes "Network") ∷ Word (codes "UPS") ∷ Word (codes "Tools") ∷ Word (codes "upsd") ∷ Word (codes "profile") ∷ Word (codes "1.2") ∷ []
 
+-- to HELP
 abbrev pub commands_parts : List Part
 commands_parts =
-    Word (codes "Commands:") ∷ Word (codes "GET") ∷ Word (codes "LIST") ∷ Word (codes "SET") ∷ Word (codes "INSTCMD") ∷ Word (codes "USERNAME") ∷ Word (codes "PASSWORD") ∷
-    Word (codes "LOGIN") ∷ Word (codes "PRIMARY") ∷ Word (codes "FSD") ∷ Word (codes "LOGOUT") ∷ Word (codes "VER") ∷ Word (codes "NETVER") ∷ Word (codes "HELP") ∷ Word (codes "STARTTLS") ∷ []
+    Word (codes "Commands:") ∷ Word (codes "GET") ∷ Word (codes "LIST") ∷ Word (codes "SET") ∷ Word (codes "INSTCMD") ∷
+    Word (codes "USERNAME") ∷ Word (codes "PASSWORD") ∷ Word (codes "LOGIN") ∷ Word (codes "PRIMARY") ∷ Word (codes "FSD") ∷
+    Word (codes "LOGOUT") ∷ Word (codes "VER") ∷ Word (codes "NETVER") ∷ Word (codes "HELP") ∷ Word (codes "STARTTLS") ∷ []
 
+-- of GET TYPE
 abbrev pub kind_part : VariableKind → Part
 kind_part kinds.Enum = Word (codes "ENUM")
 kind_part kinds.Range = Word (codes "RANGE")

@@ -12,7 +12,7 @@ use nut_words::{put_quoted, put_quoted_in, put_word, put_word_in};
 use std::alloc::AllocError;
 
 /// A word of a message, by the way it is written.
-#[derive(Debug, Drop)]
+#[derive(Drop)]
 pub enum Part<'a> {
     /// Bare where it may stand bare, else quoted.
     Word(Word<'a>),

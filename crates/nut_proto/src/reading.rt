@@ -138,11 +138,8 @@ fn list_about<'a>(subject: Subject, rest: Cursor<'a, '_>) -> Option<Request<'a>>
             Some(Request::List(ListQuery::Range { ups, variable }))
         }
         Subject::Client => Some(Request::List(ListQuery::Client { ups: rest.one()? })),
-        Subject::NumLogins
-        | Subject::UpsDesc
-        | Subject::Type
-        | Subject::Desc
-        | Subject::CmdDesc => None,
+        Subject::NumLogins | Subject::UpsDesc | Subject::Type | Subject::Desc | Subject::CmdDesc =>
+            None,
     }
 }
 

@@ -41,7 +41,10 @@ pub enum Reply<'a> {
     /// The commands that the server knows, to HELP.
     Commands,
     /// To GET NUMLOGINS.
-    NumLogins { ups: Word<'a>, count: u32 },
+    NumLogins {
+        ups: Word<'a>,
+        count: u32,
+    },
     /// To GET UPSDESC.
     UpsDesc {
         ups: Word<'a>,
@@ -84,7 +87,10 @@ pub enum Reply<'a> {
         value: Word<'a>,
     },
     /// A row of LIST CMD.
-    Cmd { ups: Word<'a>, command: Word<'a> },
+    Cmd {
+        ups: Word<'a>,
+        command: Word<'a>,
+    },
     /// A row of LIST ENUM.
     Enum {
         ups: Word<'a>,
@@ -99,7 +105,10 @@ pub enum Reply<'a> {
         max: i32,
     },
     /// A row of LIST CLIENT.
-    Client { ups: Word<'a>, address: Word<'a> },
+    Client {
+        ups: Word<'a>,
+        address: Word<'a>,
+    },
 }
 
 impl Reply<'_> {
@@ -139,7 +148,12 @@ impl Reply<'_> {
                 description,
             } => put_line(
                 out,
-                &[text(b"DESC"), word(ups), word(variable), quoted(description)],
+                &[
+                    text(b"DESC"),
+                    word(ups),
+                    word(variable),
+                    quoted(description),
+                ],
             ),
             Reply::CmdDesc {
                 ups,
@@ -147,9 +161,18 @@ impl Reply<'_> {
                 description,
             } => put_line(
                 out,
-                &[text(b"CMDDESC"), word(ups), word(command), quoted(description)],
+                &[
+                    text(b"CMDDESC"),
+                    word(ups),
+                    word(command),
+                    quoted(description),
+                ],
             ),
-            Reply::Var { ups, variable, value } => put_line(
+            Reply::Var {
+                ups,
+                variable,
+                value,
+            } => put_line(
                 out,
                 &[text(b"VAR"), word(ups), word(variable), quoted(value)],
             ),
@@ -157,16 +180,29 @@ impl Reply<'_> {
                 out,
                 &[text(b"UPS"), word(ups), quoted(description)],
             ),
-            Reply::Rw { ups, variable, value } => put_line(
+            Reply::Rw {
+                ups,
+                variable,
+                value,
+            } => put_line(
                 out,
                 &[text(b"RW"), word(ups), word(variable), quoted(value)],
             ),
             Reply::Cmd { ups, command } => put_line(out, &[text(b"CMD"), word(ups), word(command)]),
-            Reply::Enum { ups, variable, value } => put_line(
+            Reply::Enum {
+                ups,
+                variable,
+                value,
+            } => put_line(
                 out,
                 &[text(b"ENUM"), word(ups), word(variable), quoted(value)],
             ),
-            Reply::Range { ups, variable, min, max } => put_line(
+            Reply::Range {
+                ups,
+                variable,
+                min,
+                max,
+            } => put_line(
                 out,
                 &[
                     text(b"RANGE"),
@@ -184,46 +220,21 @@ impl Reply<'_> {
     }
 }
 
+#[tactic(auto, unfolding(crate::specs::Lines::line))]
 fn put_version(out: &mut Vec<u8>) -> Result<(), AllocError>
     ensures ok { OnOk result (out.new.items ≡ out.old.items ++ line version_parts) }
     ensures err { OnErr result (out.new.items ≡ out.old.items) }
 {
-    put_line(
-        out,
-        &[
-            text(b"Network"),
-            text(b"UPS"),
-            text(b"Tools"),
-            text(b"upsd"),
-            text(b"profile"),
-            text(b"1.2"),
-        ],
-    )
+    out.extend_from_slice(b"Network UPS Tools upsd profile 1.2\n")
 }
 
+#[tactic(auto, unfolding(crate::specs::Lines::line))]
 fn put_commands(out: &mut Vec<u8>) -> Result<(), AllocError>
     ensures ok { OnOk result (out.new.items ≡ out.old.items ++ line commands_parts) }
     ensures err { OnErr result (out.new.items ≡ out.old.items) }
 {
-    put_line(
-        out,
-        &[
-            text(b"Commands:"),
-            text(b"GET"),
-            text(b"LIST"),
-            text(b"SET"),
-            text(b"INSTCMD"),
-            text(b"USERNAME"),
-            text(b"PASSWORD"),
-            text(b"LOGIN"),
-            text(b"PRIMARY"),
-            text(b"FSD"),
-            text(b"LOGOUT"),
-            text(b"VER"),
-            text(b"NETVER"),
-            text(b"HELP"),
-            text(b"STARTTLS"),
-        ],
+    out.extend_from_slice(
+        b"Commands: GET LIST SET INSTCMD USERNAME PASSWORD LOGIN PRIMARY FSD LOGOUT VER NETVER HELP STARTTLS\n",
     )
 }
 
@@ -249,7 +260,10 @@ fn put_type<'a>(
             ],
         )
     } else {
-        put_line(out, &[text(b"TYPE"), word(ups), word(variable), kind_part(kind)])
+        put_line(
+            out,
+            &[text(b"TYPE"), word(ups), word(variable), kind_part(kind)],
+        )
     }
 }
 

@@ -15,17 +15,33 @@ use std::alloc::AllocError;
 #[derive(Debug, Drop)]
 pub enum Request<'a> {
     /// `GET NUMLOGINS`: how many connections are logged in to the UPS.
-    GetNumLogins { ups: Word<'a> },
+    GetNumLogins {
+        ups: Word<'a>,
+    },
     /// `GET UPSDESC`: the configured description of the UPS.
-    GetUpsDesc { ups: Word<'a> },
+    GetUpsDesc {
+        ups: Word<'a>,
+    },
     /// `GET VAR`: the value of a variable.
-    GetVar { ups: Word<'a>, variable: Word<'a> },
+    GetVar {
+        ups: Word<'a>,
+        variable: Word<'a>,
+    },
     /// `GET TYPE`: whether a variable may be set, and what values it takes.
-    GetType { ups: Word<'a>, variable: Word<'a> },
+    GetType {
+        ups: Word<'a>,
+        variable: Word<'a>,
+    },
     /// `GET DESC`: what a variable tells.
-    GetDesc { ups: Word<'a>, variable: Word<'a> },
+    GetDesc {
+        ups: Word<'a>,
+        variable: Word<'a>,
+    },
     /// `GET CMDDESC`: what a command does.
-    GetCmdDesc { ups: Word<'a>, command: Word<'a> },
+    GetCmdDesc {
+        ups: Word<'a>,
+        command: Word<'a>,
+    },
     /// `LIST`: several rows between a first and a last line.
     List(ListQuery<'a>),
     /// `SET VAR`: a new value for a variable.
@@ -35,17 +51,30 @@ pub enum Request<'a> {
         value: Word<'a>,
     },
     /// `INSTCMD`: a command for the UPS to do at once.
-    InstCmd { ups: Word<'a>, command: Word<'a> },
+    InstCmd {
+        ups: Word<'a>,
+        command: Word<'a>,
+    },
     /// `USERNAME`, of 1 to 128 bytes where it was read.
-    Username { name: Word<'a> },
+    Username {
+        name: Word<'a>,
+    },
     /// `PASSWORD`, of 1 to 128 bytes where it was read.
-    Password { password: Word<'a> },
+    Password {
+        password: Word<'a>,
+    },
     /// `LOGIN`: the client draws power from the UPS.
-    Login { ups: Word<'a> },
+    Login {
+        ups: Word<'a>,
+    },
     /// `PRIMARY`: the client wants to shut the UPS down.
-    Primary { ups: Word<'a> },
+    Primary {
+        ups: Word<'a>,
+    },
     /// `FSD`: the forced shutdown of all who draw power from the UPS.
-    Fsd { ups: Word<'a> },
+    Fsd {
+        ups: Word<'a>,
+    },
     /// `LOGOUT`: the end of the connection.
     Logout,
     /// `VER`: the server's name and version.
@@ -114,7 +143,11 @@ impl Request<'_> {
                 &[text(b"GET"), text(b"CMDDESC"), word(ups), word(command)],
             ),
             Request::List(query) => query.put_in(out),
-            Request::SetVar { ups, variable, value } => put_line_in(
+            Request::SetVar {
+                ups,
+                variable,
+                value,
+            } => put_line_in(
                 out,
                 &[
                     text(b"SET"),
