@@ -5,3 +5,4 @@ pub mod Places
 pub mod Spelling
 pub mod RoundTrip
 pub mod Lengths
+pub mod Digits

@@ -5,9 +5,9 @@ ghost use Rattle.std.specs.List.{flat_map};
 ghost use Rattle.arrayvec.specs.ArrayVec.{array_vec_len};
 ghost use Rattle.nut_proto.specs.Lines.{part_text, line};
 
+use crate::number::{decimal, signed_decimal};
 use crate::word::Word;
 use arrayvec::ArrayVec;
-use itoa::Buffer;
 use nut_words::{put_quoted, put_quoted_in, put_word, put_word_in};
 use std::alloc::AllocError;
 
@@ -52,8 +52,8 @@ impl Part<'_> {
         match self {
             Part::Word(word) => put_word(out, word.as_bytes()),
             Part::Quoted(text) => put_quoted(out, text.as_bytes()),
-            Part::Number(number) => put_word(out, Buffer::new().format(*number).as_bytes()),
-            Part::QuotedNumber(number) => put_quoted(out, Buffer::new().format(*number).as_bytes()),
+            Part::Number(number) => put_word(out, decimal(*number).as_slice()),
+            Part::QuotedNumber(number) => put_quoted(out, signed_decimal(*number).as_slice()),
             Part::StringOf(limit) => put_word(out, string_of(*limit).as_slice()),
         }
     }
@@ -66,11 +66,8 @@ impl Part<'_> {
         match self {
             Part::Word(word) => put_word_in(out, word.as_bytes()),
             Part::Quoted(text) => put_quoted_in(out, text.as_bytes()),
-            Part::Number(number) => put_word_in(out, Buffer::new().format(*number).as_bytes()),
-            Part::QuotedNumber(number) => put_quoted_in(
-                out,
-                Buffer::new().format(*number).as_bytes(),
-            ),
+            Part::Number(number) => put_word_in(out, decimal(*number).as_slice()),
+            Part::QuotedNumber(number) => put_quoted_in(out, signed_decimal(*number).as_slice()),
             Part::StringOf(limit) => put_word_in(out, string_of(*limit).as_slice()),
         }
     }
@@ -94,13 +91,12 @@ impl Part<'_> {
 }
 
 /// `STRING:` and the limit.
-fn string_of(limit: u32) -> ArrayVec<u8, 47>
+fn string_of(limit: u32) -> ArrayVec<u8, 18>
     ensures { result.items ≡ codes "STRING:" ++ decimal limit }
 {
-    let mut digits = Buffer::new();
     let mut out = ArrayVec::new();
     let _ = out.try_extend_from_slice(b"STRING:");
-    let _ = out.try_extend_from_slice(digits.format(limit).as_bytes());
+    let _ = out.try_extend_from_slice(decimal(limit).as_slice());
     out
 }
 
