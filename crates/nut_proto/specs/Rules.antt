@@ -1,6 +1,6 @@
 -- How many words stand behind the command words of a form, and what they make.
 use Rattle.std.specs.Prelude.{ℕ, Bool, ◌&&◌, List, [], ◌∷◌, length, Option, Some, None, nat_le, if◌then◌else◌}
-use Rattle.std.specs.Option.{option_map, option_and_then}
+use Rattle.std.specs.Option.{option_and, option_and_then, option_map}
 
 -- The number of words is exact.
 abbrev pub no_word : List (List ℕ) → Option (Unit {0})
@@ -34,7 +34,7 @@ credential_word words = option_and_then (λ x. if is_credential x then Some x el
 
 -- What no word, one word, two or three words, or one user name or password make.
 abbrev pub none : {A : Type 0} → A → List (List ℕ) → Option A
-none made words = option_map (λ x. made) (no_word words)
+none made words = option_and (no_word words) (Some made)
 
 abbrev pub one : {A : Type 0} → (List ℕ → A) → List (List ℕ) → Option A
 one made words = option_map (λ x. made x) (one_word words)

@@ -37,12 +37,10 @@ impl<'a> DriverAsk<'a> {
         let word = rest.next()?;
         let name = word.as_bytes();
         if is_named(name, b"PING") {
-            rest.end()?;
-            return Some(DriverAsk::Ping);
+            return rest.end().and(Some(DriverAsk::Ping));
         }
         if is_named(name, b"DUMPALL") {
-            rest.end()?;
-            return Some(DriverAsk::DumpAll);
+            return rest.end().and(Some(DriverAsk::DumpAll));
         }
         if is_named(name, b"SET") {
             let (variable, value) = rest.two()?;

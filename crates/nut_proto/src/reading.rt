@@ -48,26 +48,11 @@ fn request_of<'a>(command: Command, rest: Cursor<'a, '_>) -> Option<Request<'a>>
         Command::Login => Some(Request::Login { ups: rest.one()? }),
         Command::Primary => Some(Request::Primary { ups: rest.one()? }),
         Command::Fsd => Some(Request::Fsd { ups: rest.one()? }),
-        Command::Logout => {
-            rest.end()?;
-            Some(Request::Logout)
-        }
-        Command::Ver => {
-            rest.end()?;
-            Some(Request::Ver)
-        }
-        Command::NetVer => {
-            rest.end()?;
-            Some(Request::NetVer)
-        }
-        Command::Help => {
-            rest.end()?;
-            Some(Request::Help)
-        }
-        Command::StartTls => {
-            rest.end()?;
-            Some(Request::StartTls)
-        }
+        Command::Logout => rest.end().and(Some(Request::Logout)),
+        Command::Ver => rest.end().and(Some(Request::Ver)),
+        Command::NetVer => rest.end().and(Some(Request::NetVer)),
+        Command::Help => rest.end().and(Some(Request::Help)),
+        Command::StartTls => rest.end().and(Some(Request::StartTls)),
     }
 }
 
@@ -122,10 +107,7 @@ fn list_about<'a>(subject: Subject, rest: Cursor<'a, '_>) -> Option<Request<'a>>
     ensures { result ≡ list_about (Some subject) rest.entry }
 {
     match subject {
-        Subject::Ups => {
-            rest.end()?;
-            Some(Request::List(ListQuery::Ups))
-        }
+        Subject::Ups => rest.end().and(Some(Request::List(ListQuery::Ups))),
         Subject::Var => Some(Request::List(ListQuery::Var { ups: rest.one()? })),
         Subject::Rw => Some(Request::List(ListQuery::Rw { ups: rest.one()? })),
         Subject::Cmd => Some(Request::List(ListQuery::Cmd { ups: rest.one()? })),
