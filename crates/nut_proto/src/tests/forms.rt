@@ -5,33 +5,69 @@ use nut_words::split;
 use std::alloc::Global;
 use std::test::Fail;
 
-/// Each form with its words in mixed case, and as it is written.
-const FORMS: [(&[u8], &[u8]); 25] = [
-    (b"get NumLogins Su700", b"GET NUMLOGINS Su700"),
-    (b"Get upsdesc Su700", b"GET UPSDESC Su700"),
-    (b"gEt vAr Su700 ups.Status", b"GET VAR Su700 ups.Status"),
-    (b"get type Su700 ups.ID", b"GET TYPE Su700 ups.ID"),
-    (b"get Desc Su700 ups.id", b"GET DESC Su700 ups.id"),
-    (b"get CmdDesc Su700 load.Off", b"GET CMDDESC Su700 load.Off"),
-    (b"list ups", b"LIST UPS"),
-    (b"List var Su700", b"LIST VAR Su700"),
-    (b"LIST rw Su700", b"LIST RW Su700"),
-    (b"lisT Cmd Su700", b"LIST CMD Su700"),
-    (b"list eNum Su700 ups.id", b"LIST ENUM Su700 ups.id"),
-    (b"list range Su700 ups.id", b"LIST RANGE Su700 ups.id"),
-    (b"list Client Su700", b"LIST CLIENT Su700"),
-    (b"set var Su700 ups.id X", b"SET VAR Su700 ups.id \"X\""),
-    (b"instcmd Su700 load.Off", b"INSTCMD Su700 load.Off"),
-    (b"userName Admin", b"USERNAME Admin"),
-    (b"password Secret", b"PASSWORD Secret"),
-    (b"Login Su700", b"LOGIN Su700"),
-    (b"primary Su700", b"PRIMARY Su700"),
-    (b"fsd Su700", b"FSD Su700"),
-    (b"LogOut", b"LOGOUT"),
-    (b"ver", b"VER"),
-    (b"NetVer", b"NETVER"),
-    (b"hElP", b"HELP"),
-    (b"StartTls", b"STARTTLS"),
+/// Each form with its words in mixed case, as it is written, and without its last word.
+const FORMS: [(&[u8], &[u8], &[u8]); 25] = [
+    (
+        b"get NumLogins Su700",
+        b"GET NUMLOGINS Su700",
+        b"GET NUMLOGINS",
+    ),
+    (b"Get upsdesc Su700", b"GET UPSDESC Su700", b"GET UPSDESC"),
+    (
+        b"gEt vAr Su700 ups.Status",
+        b"GET VAR Su700 ups.Status",
+        b"GET VAR Su700",
+    ),
+    (
+        b"get type Su700 ups.ID",
+        b"GET TYPE Su700 ups.ID",
+        b"GET TYPE Su700",
+    ),
+    (
+        b"get Desc Su700 ups.id",
+        b"GET DESC Su700 ups.id",
+        b"GET DESC Su700",
+    ),
+    (
+        b"get CmdDesc Su700 load.Off",
+        b"GET CMDDESC Su700 load.Off",
+        b"GET CMDDESC Su700",
+    ),
+    (b"list ups", b"LIST UPS", b"LIST"),
+    (b"List var Su700", b"LIST VAR Su700", b"LIST VAR"),
+    (b"LIST rw Su700", b"LIST RW Su700", b"LIST RW"),
+    (b"lisT Cmd Su700", b"LIST CMD Su700", b"LIST CMD"),
+    (
+        b"list eNum Su700 ups.id",
+        b"LIST ENUM Su700 ups.id",
+        b"LIST ENUM Su700",
+    ),
+    (
+        b"list range Su700 ups.id",
+        b"LIST RANGE Su700 ups.id",
+        b"LIST RANGE Su700",
+    ),
+    (b"list Client Su700", b"LIST CLIENT Su700", b"LIST CLIENT"),
+    (
+        b"set var Su700 ups.id X",
+        b"SET VAR Su700 ups.id \"X\"",
+        b"SET VAR Su700 ups.id",
+    ),
+    (
+        b"instcmd Su700 load.Off",
+        b"INSTCMD Su700 load.Off",
+        b"INSTCMD Su700",
+    ),
+    (b"userName Admin", b"USERNAME Admin", b"USERNAME"),
+    (b"password Secret", b"PASSWORD Secret", b"PASSWORD"),
+    (b"Login Su700", b"LOGIN Su700", b"LOGIN"),
+    (b"primary Su700", b"PRIMARY Su700", b"PRIMARY"),
+    (b"fsd Su700", b"FSD Su700", b"FSD"),
+    (b"LogOut", b"LOGOUT", b""),
+    (b"ver", b"VER", b""),
+    (b"NetVer", b"NETVER", b""),
+    (b"hElP", b"HELP", b""),
+    (b"StartTls", b"STARTTLS", b""),
 ];
 
 /// The line that is written of the request that a line reads as, or the name of its refusal.
@@ -49,20 +85,9 @@ fn rewritten(alloc: Global, line: &[u8]) -> Result<ArrayVec<u8, 513>, Fail> {
     Ok(out)
 }
 
-/// Where the last word of a line begins, with the blank before it.
-fn last_word(line: &[u8]) -> usize {
-    let mut start = 0;
-    for (at, byte) in line.iter().enumerate() {
-        if *byte == b' ' {
-            start = at;
-        }
-    }
-    start
-}
-
 #[test]
 fn right_and_mixed_case(rt: HostRuntime) -> Result<(), Fail> {
-    for (mixed, written) in FORMS {
+    for (mixed, written, _) in FORMS {
         let mut line = Vec::from_slice(rt.alloc(), written)?;
         line.push(b'\n')?;
         assert_eq!(rt; rewritten(rt.alloc(), mixed)?.as_slice(), line.as_slice());
@@ -73,8 +98,7 @@ fn right_and_mixed_case(rt: HostRuntime) -> Result<(), Fail> {
 
 #[test]
 fn a_word_short_or_long(rt: HostRuntime) -> Result<(), Fail> {
-    for (_, written) in FORMS {
-        let short = &written[..last_word(written)];
+    for (_, written, short) in FORMS {
         assert_eq!(rt;
             rewritten(rt.alloc(), short)?.as_slice(),
             b"INVALID-ARGUMENT".as_slice()
@@ -126,14 +150,20 @@ fn takes(alloc: Global, command: &[u8], len: usize) -> Result<bool, Fail> {
 
 #[test]
 fn lengths_of_user_names_and_passwords(rt: HostRuntime) -> Result<(), Fail> {
-    for command in [b"USERNAME", b"PASSWORD"] {
-        assert!(rt; !takes(rt.alloc(), command, 0)?);
-        assert!(rt; takes(rt.alloc(), command, 1)?);
-        assert!(rt; takes(rt.alloc(), command, 128)?);
-        assert!(rt; !takes(rt.alloc(), command, 129)?);
+    let rows: [(&[u8], usize, bool); 9] = [
+        (b"USERNAME", 0, false),
+        (b"USERNAME", 1, true),
+        (b"USERNAME", 128, true),
+        (b"USERNAME", 129, false),
+        (b"PASSWORD", 0, false),
+        (b"PASSWORD", 128, true),
+        (b"PASSWORD", 129, false),
+        (b"LOGIN", 0, true),
+        (b"LOGIN", 400, true),
+    ];
+    for (command, len, taken) in rows {
+        assert_eq!(rt; takes(rt.alloc(), command, len)?, taken);
     }
-    assert!(rt; takes(rt.alloc(), b"LOGIN", 0)?);
-    assert!(rt; takes(rt.alloc(), b"LOGIN", 400)?);
     Ok(())
 }
 

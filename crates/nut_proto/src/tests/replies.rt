@@ -2,35 +2,33 @@
 use super::word;
 use crate::{ListQuery, Refusal, Reply, VariableKind, command_description, variable_description};
 use std::alloc::Global;
-use std::process::Abort;
 use std::test::Fail;
 
-fn expect(rt: &impl Abort, alloc: Global, reply: Reply<'_>, line: &[u8]) -> Result<(), Fail> {
+/// Whether a reply is written as this line, behind what was there.
+fn is_written(alloc: Global, reply: Reply<'_>, line: &[u8]) -> Result<bool, Fail> {
     let mut out = Vec::from_slice(alloc, b"..")?;
     reply.put(&mut out)?;
-    assert_eq!(rt; &out.as_slice()[2..], line);
-    Ok(())
+    let written = out.as_slice();
+    Ok(written.len() == line.len() + 2 && written.starts_with(b"..") && written.ends_with(line))
 }
 
 #[test]
 fn fixed_lines(rt: HostRuntime) -> Result<(), Fail> {
-    let alloc = rt.alloc();
-    expect(&rt, alloc, Reply::Accepted, b"OK\n")?;
-    expect(&rt, alloc, Reply::FsdSet, b"OK FSD-SET\n")?;
-    expect(&rt, alloc, Reply::Goodbye, b"OK Goodbye\n")?;
-    expect(
-        &rt,
-        alloc,
-        Reply::Version,
-        b"Network UPS Tools upsd profile 1.2\n",
-    )?;
-    expect(&rt, alloc, Reply::NetworkVersion, b"1.2\n")?;
-    expect(
-        &rt,
-        alloc,
-        Reply::Commands,
-        b"Commands: GET LIST SET INSTCMD USERNAME PASSWORD LOGIN PRIMARY FSD LOGOUT VER NETVER HELP STARTTLS\n",
-    )
+    let rows: [(Reply<'_>, &[u8]); 6] = [
+        (Reply::Accepted, b"OK\n"),
+        (Reply::FsdSet, b"OK FSD-SET\n"),
+        (Reply::Goodbye, b"OK Goodbye\n"),
+        (Reply::Version, b"Network UPS Tools upsd profile 1.2\n"),
+        (Reply::NetworkVersion, b"1.2\n"),
+        (
+            Reply::Commands,
+            b"Commands: GET LIST SET INSTCMD USERNAME PASSWORD LOGIN PRIMARY FSD LOGOUT VER NETVER HELP STARTTLS\n",
+        ),
+    ];
+    for (reply, line) in rows {
+        assert!(rt; is_written(rt.alloc(), reply, line)?);
+    }
+    Ok(())
 }
 
 #[test]
@@ -60,46 +58,50 @@ fn refusals(rt: HostRuntime) -> Result<(), Fail> {
         (Refusal::UnknownCommand, b"ERR UNKNOWN-COMMAND\n"),
     ];
     for (refusal, line) in rows {
-        expect(&rt, rt.alloc(), Reply::Refused(refusal), line)?;
+        assert!(rt; is_written(rt.alloc(), Reply::Refused(refusal), line)?);
     }
     Ok(())
 }
 
 #[test]
 fn single_lines(rt: HostRuntime) -> Result<(), Fail> {
-    let alloc = rt.alloc();
-    let count = Reply::NumLogins {
-        ups: word(b"su700"),
-        count: 17,
-    };
-    expect(&rt, alloc, count, b"NUMLOGINS su700 17\n")?;
-    let ups = Reply::UpsDesc {
-        ups: word(b"su700"),
-        description: word(b"Server room"),
-    };
-    expect(&rt, alloc, ups, b"UPSDESC su700 \"Server room\"\n")?;
-    let variable = Reply::Desc {
-        ups: word(b"su700"),
-        variable: word(b"ups.id"),
-        description: word(variable_description(b"ups.id")),
-    };
-    expect(
-        &rt,
-        alloc,
-        variable,
-        b"DESC su700 ups.id \"Identifier of the UPS\"\n",
-    )?;
-    let command = Reply::CmdDesc {
-        ups: word(b"su700"),
-        command: word(b"load.off"),
-        description: word(command_description(b"load.off")),
-    };
-    expect(
-        &rt,
-        alloc,
-        command,
-        b"CMDDESC su700 load.off \"Turn off the load\"\n",
-    )
+    let ups = b"su700";
+    let rows: [(Reply<'_>, &[u8]); 4] = [
+        (
+            Reply::NumLogins {
+                ups: word(ups),
+                count: 17,
+            },
+            b"NUMLOGINS su700 17\n",
+        ),
+        (
+            Reply::UpsDesc {
+                ups: word(ups),
+                description: word(b"Server room"),
+            },
+            b"UPSDESC su700 \"Server room\"\n",
+        ),
+        (
+            Reply::Desc {
+                ups: word(ups),
+                variable: word(b"ups.id"),
+                description: word(b"Name"),
+            },
+            b"DESC su700 ups.id \"Name\"\n",
+        ),
+        (
+            Reply::CmdDesc {
+                ups: word(ups),
+                command: word(b"load.off"),
+                description: word(b"Off"),
+            },
+            b"CMDDESC su700 load.off \"Off\"\n",
+        ),
+    ];
+    for (reply, line) in rows {
+        assert!(rt; is_written(rt.alloc(), reply, line)?);
+    }
+    Ok(())
 }
 
 #[test]
@@ -117,53 +119,65 @@ fn types(rt: HostRuntime) -> Result<(), Fail> {
             writable,
             kind,
         };
-        expect(&rt, rt.alloc(), reply, line)?;
+        assert!(rt; is_written(rt.alloc(), reply, line)?);
     }
     Ok(())
 }
 
 #[test]
 fn rows(rt: HostRuntime) -> Result<(), Fail> {
-    let alloc = rt.alloc();
-    let ups = Reply::Ups {
-        ups: word(b"su700"),
-        description: word(b"Server room"),
-    };
-    expect(&rt, alloc, ups, b"UPS su700 \"Server room\"\n")?;
-    let variable = Reply::Var {
-        ups: word(b"su700"),
-        variable: word(b"ups.mfr"),
-        value: word(b"a \"b\" \\c"),
-    };
-    expect(
-        &rt,
-        alloc,
-        variable,
-        b"VAR su700 ups.mfr \"a \\\"b\\\" \\\\c\"\n",
-    )?;
-    let command = Reply::Cmd {
-        ups: word(b"su700"),
-        command: word(b"load.off"),
-    };
-    expect(&rt, alloc, command, b"CMD su700 load.off\n")?;
-    let option = Reply::Enum {
-        ups: word(b"u"),
-        variable: word(b"v"),
-        value: word(b""),
-    };
-    expect(&rt, alloc, option, b"ENUM u v \"\"\n")?;
-    let range = Reply::Range {
-        ups: word(b"u"),
-        variable: word(b"v"),
-        min: -5,
-        max: 100,
-    };
-    expect(&rt, alloc, range, b"RANGE u v \"-5\" \"100\"\n")?;
-    let client = Reply::Client {
-        ups: word(b"u"),
-        address: word(b"::1"),
-    };
-    expect(&rt, alloc, client, b"CLIENT u ::1\n")
+    let rows: [(Reply<'_>, &[u8]); 6] = [
+        (
+            Reply::Ups {
+                ups: word(b"su700"),
+                description: word(b"Server room"),
+            },
+            b"UPS su700 \"Server room\"\n",
+        ),
+        (
+            Reply::Var {
+                ups: word(b"su700"),
+                variable: word(b"ups.mfr"),
+                value: word(b"a \"b\" \\c"),
+            },
+            b"VAR su700 ups.mfr \"a \\\"b\\\" \\\\c\"\n",
+        ),
+        (
+            Reply::Cmd {
+                ups: word(b"u"),
+                command: word(b"load.off"),
+            },
+            b"CMD u load.off\n",
+        ),
+        (
+            Reply::Enum {
+                ups: word(b"u"),
+                variable: word(b"v"),
+                value: word(b""),
+            },
+            b"ENUM u v \"\"\n",
+        ),
+        (
+            Reply::Range {
+                ups: word(b"u"),
+                variable: word(b"v"),
+                min: -5,
+                max: 100,
+            },
+            b"RANGE u v \"-5\" \"100\"\n",
+        ),
+        (
+            Reply::Client {
+                ups: word(b"u"),
+                address: word(b"::1"),
+            },
+            b"CLIENT u ::1\n",
+        ),
+    ];
+    for (reply, line) in rows {
+        assert!(rt; is_written(rt.alloc(), reply, line)?);
+    }
+    Ok(())
 }
 
 #[test]
@@ -199,16 +213,30 @@ fn longest_row(rt: HostRuntime) -> Result<(), Fail> {
 
 #[test]
 fn descriptions(rt: HostRuntime) {
-    let unknown: &[u8] = b"Description unavailable";
-    assert_eq!(rt;
-        variable_description(b"battery.charge"),
-        b"Battery charge (percent)".as_slice()
-    );
-    assert_eq!(rt; variable_description(b"UPS.ID"), unknown);
-    assert_eq!(rt; variable_description(b"load.off"), unknown);
-    assert_eq!(rt;
-        command_description(b"test.battery.stop"),
-        b"Stop the battery test".as_slice()
-    );
-    assert_eq!(rt; command_description(b"ups.id"), unknown);
+    let rows: [(&[u8], &[u8], &[u8]); 4] = [
+        (
+            b"battery.charge",
+            b"Battery charge (percent)",
+            b"Description unavailable",
+        ),
+        (
+            b"test.battery.stop",
+            b"Description unavailable",
+            b"Stop the battery test",
+        ),
+        (
+            b"UPS.ID",
+            b"Description unavailable",
+            b"Description unavailable",
+        ),
+        (
+            b"ups.id",
+            b"Identifier of the UPS",
+            b"Description unavailable",
+        ),
+    ];
+    for (name, variable, command) in rows {
+        assert_eq!(rt; variable_description(name), variable);
+        assert_eq!(rt; command_description(name), command);
+    }
 }
