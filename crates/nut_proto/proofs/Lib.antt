@@ -1,0 +1,8 @@
+pub mod Cursors
+pub mod Agreement
+pub mod Room
+pub mod Places
+pub mod Spelling
+pub mod RoundTrip
+pub mod Lengths
+pub mod Digits

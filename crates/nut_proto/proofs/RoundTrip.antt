@@ -1,0 +1,127 @@
+-- The words that a message is written in are read as what was meant.
+use Rattle.std.proofs.Common.{◌≡◌, ℕ, ◌≤◌, Bool, true, false, List, [], ◌∷◌, length, IsTrue, refl, ◌∙◌, cond, ap, arith, Option, Some, None, Result, Ok, codes}
+use Rattle.std.specs.Option.{option_map, option_or, ok_or}
+use Rattle.nut_words.specs.Quoting.{IsPrintable}
+use Rattle.nut_words.specs.Reader.{spelled}
+use Rattle.nut_proto.specs.declared.refusal.Refusal.{Refusal}
+use Rattle.nut_proto.specs.declared.request.Request.{Request}
+use Rattle.nut_proto.specs.declared.request.Request.TheVariants as requests
+use Rattle.nut_proto.specs.declared.request.ListQuery.{ListQuery}
+use Rattle.nut_proto.specs.declared.request.ListQuery.TheVariants as queries
+use Rattle.nut_proto.specs.declared.reply.Reply.{Reply}
+use Rattle.nut_proto.specs.declared.reply.Reply.TheVariants as replies
+use Rattle.nut_proto.specs.declared.answer.Answer.TheVariants as answers
+use Rattle.nut_proto.specs.declared.driver_ask.DriverAsk.{DriverAsk}
+use Rattle.nut_proto.specs.declared.driver_ask.DriverAsk.TheVariants as asks
+use Rattle.nut_proto.specs.Lines.{AreWritable, message, message_words}
+use Rattle.nut_proto.specs.Keywords.{command_of, subject_of}
+use Rattle.nut_proto.specs.Rules.{is_credential}
+use Rattle.nut_proto.specs.Forms.{meaning}
+use Rattle.nut_proto.specs.Refusals.{refusal_name}
+use Rattle.nut_proto.specs.Requests.{request_parts, query_parts, begin_parts, end_parts}
+use Rattle.nut_proto.specs.Replies.{reply_parts}
+use Rattle.nut_proto.specs.DriverAsks.{ask_parts, ask_of}
+use Rattle.nut_proto.specs.Answers.{answer_of, answer_in, answer_for}
+use Rattle.nut_proto.specs.ReadBack.{IsReadable, RequestsAreRead, RepliesAreRead, ListsAreRead, AsksAreRead, answer_to}
+use Rattle.nut_proto.proofs.Spelling.{message_spelled}
+
+accepted : (b : Bool) (x : List ℕ) (request : List ℕ → Request) (refusal : Refusal) → IsTrue b → ok_or (option_or (option_map (λ y. request y) (cond b (Some x) None)) None) refusal ≡ Ok (request x)
+accepted true x request refusal h = refl
+accepted false x request refusal h = cc
+
+meaning_back : (request : Request) → IsReadable request → meaning (message_words (request_parts request)) ≡ Ok request
+unfolding meaning command_of subject_of
+meaning_back (requests.GetNumLogins ups) h = refl
+meaning_back (requests.GetUpsDesc ups) h = refl
+meaning_back (requests.GetVar ups variable) h = refl
+meaning_back (requests.GetType ups variable) h = refl
+meaning_back (requests.GetDesc ups variable) h = refl
+meaning_back (requests.GetCmdDesc ups command) h = refl
+meaning_back (requests.List queries.Ups) h = refl
+meaning_back (requests.List (queries.Var ups)) h = refl
+meaning_back (requests.List (queries.Rw ups)) h = refl
+meaning_back (requests.List (queries.Cmd ups)) h = refl
+meaning_back (requests.List (queries.Enum ups variable)) h = refl
+meaning_back (requests.List (queries.Range ups variable)) h = refl
+meaning_back (requests.List (queries.Client ups)) h = refl
+meaning_back (requests.SetVar ups variable value) h = refl
+meaning_back (requests.InstCmd ups command) h = refl
+meaning_back (requests.Login ups) h = refl
+meaning_back (requests.Primary ups) h = refl
+meaning_back (requests.Fsd ups) h = refl
+meaning_back requests.Logout h = refl
+meaning_back requests.Ver h = refl
+meaning_back requests.NetVer h = refl
+meaning_back requests.Help h = refl
+meaning_back requests.StartTls h = refl
+meaning_back (requests.Username name) h = accepted (is_credential name) name requests.Username _ h
+meaning_back (requests.Password password) h = accepted (is_credential password) password requests.Password _ h
+
+short_query : (query : ListQuery) → length (query_parts query) ≤ 3
+short_query queries.Ups = omega arith
+short_query (queries.Var ups) = omega arith
+short_query (queries.Rw ups) = omega arith
+short_query (queries.Cmd ups) = omega arith
+short_query (queries.Enum ups variable) = omega arith
+short_query (queries.Range ups variable) = omega arith
+short_query (queries.Client ups) = omega arith
+
+short_request : (request : Request) → length (request_parts request) ≤ 32
+short_request (requests.List query) = omega (arith, short_query query)
+short_request request = omega arith
+
+pub requests_are_read : RequestsAreRead
+requests_are_read request writable readable = (message_spelled (request_parts request) writable (short_request request), meaning_back request readable)
+
+words_back : (reply : Reply) → answer_for (Ok (message_words (reply_parts reply))) ≡ Ok (answer_to reply)
+unfolding answer_of
+words_back (replies.Type ups variable true kind) = refl
+words_back (replies.Type ups variable false kind) = refl
+words_back reply = refl
+
+short_reply : (reply : Reply) → length (reply_parts reply) ≤ 32
+short_reply (replies.Type ups variable true kind) = omega arith
+short_reply (replies.Type ups variable false kind) = omega arith
+short_reply reply = omega arith
+
+pub replies_are_read : RepliesAreRead
+replies_are_read reply writable = ap answer_for (message_spelled (reply_parts reply) writable (short_reply reply)) ∙ words_back reply
+
+begin_back : (query : ListQuery) → answer_for (Ok (message_words (begin_parts query))) ≡ Ok (answers.Begin (message_words (query_parts query)))
+unfolding answer_of
+begin_back query = refl
+
+end_back : (query : ListQuery) → answer_for (Ok (message_words (end_parts query))) ≡ Ok (answers.End (message_words (query_parts query)))
+unfolding answer_of
+end_back query = refl
+
+begin_writable : IsPrintable (codes "BEGIN")
+begin_writable = (refl, (refl, (refl, (refl, (refl, tt)))))
+
+end_writable : IsPrintable (codes "END")
+end_writable = (refl, (refl, (refl, tt)))
+
+list_writable : IsPrintable (codes "LIST")
+list_writable = (refl, (refl, (refl, (refl, tt))))
+
+pub lists_are_read : ListsAreRead
+lists_are_read query writable = (
+  ap answer_for (message_spelled (begin_parts query) (begin_writable, (list_writable, writable)) (omega (arith, short_query query))) ∙ begin_back query,
+  ap answer_for (message_spelled (end_parts query) (end_writable, (list_writable, writable)) (omega (arith, short_query query))) ∙ end_back query,
+)
+
+ask_back : (ask : DriverAsk) → ask_of (message_words (ask_parts ask)) ≡ Some ask
+unfolding ask_of
+ask_back asks.Ping = refl
+ask_back asks.DumpAll = refl
+ask_back (asks.Set variable value) = refl
+ask_back (asks.InstCmd command) = refl
+
+short_ask : (ask : DriverAsk) → length (ask_parts ask) ≤ 32
+short_ask asks.Ping = omega arith
+short_ask asks.DumpAll = omega arith
+short_ask (asks.Set variable value) = omega arith
+short_ask (asks.InstCmd command) = omega arith
+
+pub asks_are_read : AsksAreRead
+asks_are_read ask writable = (message_spelled (ask_parts ask) writable (short_ask ask), ask_back ask)

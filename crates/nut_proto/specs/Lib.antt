@@ -1,0 +1,14 @@
+pub mod Keywords
+pub mod Refusals
+pub mod Rules
+pub mod Forms
+pub mod Steps
+pub mod Lines
+pub mod Requests
+pub mod Replies
+pub mod DriverAsks
+pub mod Descriptions
+pub mod Positions
+pub mod Answers
+pub mod ReadBack
+pub mod Bounds

@@ -1,0 +1,47 @@
+-- A message is a line of parts with a blank between them.
+use Rattle.std.specs.Prelude.{ℕ, ◌<◌, ◌^◌, List, [], ◌∷◌, ◌++◌, codes, decimal, map}
+use Rattle.std.specs.Fmt.{signed_decimal}
+use Rattle.std.specs.Int.Signed.{mag}
+use Rattle.std.specs.List.{AllByRecursion, join_by}
+use Rattle.nut_words.specs.Quoting.{IsPrintable, word_text, quoted}
+use Rattle.nut_proto.specs.declared.part.Part.{Part}
+use Rattle.nut_proto.specs.declared.part.Part.TheVariants.{Word, Quoted, Number, QuotedNumber, StringOf}
+
+-- the word as which a part is read
+abbrev pub part_word : Part → List ℕ
+part_word (Word word) = word
+part_word (Quoted text) = text
+part_word (Number n) = decimal n
+part_word (QuotedNumber z) = signed_decimal z
+part_word (StringOf n) = codes "STRING:" ++ decimal n
+
+-- how a part is written: bare where its word can stand bare, or in quotes whatever it holds
+abbrev pub part_text : Part → List ℕ
+part_text (Word word) = word_text word
+part_text (Quoted text) = quoted text
+part_text (Number n) = word_text (decimal n)
+part_text (QuotedNumber z) = quoted (signed_decimal z)
+part_text (StringOf n) = word_text (codes "STRING:" ++ decimal n)
+
+-- the words that a message spells
+abbrev pub message_words : List Part → List (List ℕ)
+message_words parts = map part_word parts
+
+-- the parts with blanks between them
+abbrev pub message : List Part → List ℕ
+message parts = join_by part_text (32 ∷ []) parts
+
+-- a message and its line feed
+unfoldable pub line : List Part → List ℕ
+line parts = message parts ++ 10 ∷ []
+
+-- A part has printing bytes, or a number of 32 bits.
+abbrev pub IsWritable : Part → Type 0
+IsWritable (Word word) = IsPrintable word
+IsWritable (Quoted text) = IsPrintable text
+IsWritable (Number n) = n < 2 ^ 32
+IsWritable (QuotedNumber z) = mag z < 2 ^ 32
+IsWritable (StringOf n) = n < 2 ^ 32
+
+abbrev pub AreWritable : List Part → Type 0
+AreWritable parts = AllByRecursion IsWritable parts

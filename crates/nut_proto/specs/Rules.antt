@@ -1,0 +1,49 @@
+-- How many words stand behind the command words of a form, and what they make.
+use Rattle.std.specs.Prelude.{ℕ, Bool, ◌&&◌, List, [], ◌∷◌, length, Option, Some, None, nat_le, if◌then◌else◌}
+use Rattle.std.specs.Option.{option_and, option_and_then, option_map}
+
+-- The number of words is exact.
+abbrev pub no_word : List (List ℕ) → Option (Unit {0})
+no_word [] = Some tt
+no_word (x ∷ xs) = None
+
+abbrev pub one_word : List (List ℕ) → Option (List ℕ)
+one_word [] = None
+one_word (x ∷ []) = Some x
+one_word (x ∷ y ∷ ys) = None
+
+abbrev pub two_words : List (List ℕ) → Option (List ℕ × List ℕ)
+two_words [] = None
+two_words (x ∷ []) = None
+two_words (x ∷ y ∷ []) = Some (x, y)
+two_words (x ∷ y ∷ z ∷ zs) = None
+
+abbrev pub three_words : List (List ℕ) → Option (List ℕ × List ℕ × List ℕ)
+three_words [] = None
+three_words (x ∷ []) = None
+three_words (x ∷ y ∷ []) = None
+three_words (x ∷ y ∷ z ∷ []) = Some (x, y, z)
+three_words (x ∷ y ∷ z ∷ w ∷ ws) = None
+
+-- A user name or a password has 1 to 128 bytes.
+abbrev pub is_credential : List ℕ → Bool
+is_credential x = nat_le 1 (length x) && nat_le (length x) 128
+
+abbrev pub credential_word : List (List ℕ) → Option (List ℕ)
+credential_word words = option_and_then (λ x. if is_credential x then Some x else None) (one_word words)
+
+-- What no word, one word, two or three words, or one user name or password make.
+abbrev pub none : {A : Type 0} → A → List (List ℕ) → Option A
+none made words = option_and (no_word words) (Some made)
+
+abbrev pub one : {A : Type 0} → (List ℕ → A) → List (List ℕ) → Option A
+one made words = option_map (λ x. made x) (one_word words)
+
+abbrev pub two : {A : Type 0} → (List ℕ → List ℕ → A) → List (List ℕ) → Option A
+two made words = option_map (λ x. made x.0 x.1) (two_words words)
+
+abbrev pub three : {A : Type 0} → (List ℕ → List ℕ → List ℕ → A) → List (List ℕ) → Option A
+three made words = option_map (λ x. made x.0 x.1 x.2) (three_words words)
+
+abbrev pub credential : {A : Type 0} → (List ℕ → A) → List (List ℕ) → Option A
+credential made words = option_map (λ x. made x) (credential_word words)

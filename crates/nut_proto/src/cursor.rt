@@ -1,0 +1,93 @@
+//! Taking the words of a line one after the other.
+ghost use Rattle.std.specs.Prelude.{◌≡◌, ◌≤◌, List, ℕ, [], ◌∷◌, length, drop, MatchOption};
+ghost use Rattle.nut_proto.specs.Rules.{no_word, one_word, two_words, three_words, credential_word};
+
+use crate::word::Word;
+use nut_words::Words;
+use std::marker::Model;
+
+/// The words of a line that are not read yet.
+#[derive(Drop)]
+pub struct Cursor<'a, 'l> {
+    words: &'a Words<'l>,
+    next: usize,
+}
+
+impl<'a, 'l> Model for Cursor<'a, 'l> {
+    ghost Value = { List (List ℕ) };
+
+    ghost view = { λ c. drop c.next c.words.now };
+
+    ghost invariant = { λ c. c.next ≤ length c.words.now };
+}
+
+impl<'a, 'l> Cursor<'a, 'l> {
+    pub fn new(words: &'a Words<'l>) -> Cursor<'a, 'l>
+        ensures { result ≡ words.now }
+    {
+        Cursor { words, next: 0 }
+    }
+
+    /// The next word, if there is one.
+    #[tactic(auto, using(crate::proofs::Cursors::next_word))]
+    pub fn next(&mut self) -> Option<Word<'a>>
+        ensures { MatchOption result ((self.old ≡ []) × (self.new ≡ [])) (λ word. self.old ≡ word ∷ self.new) }
+    {
+        if self.next == self.words.len() {
+            return None;
+        }
+        let word = Word::new(self.words.get(self.next));
+        self.next += 1;
+        Some(word)
+    }
+
+    /// `Some` where nothing is left.
+    pub fn end(mut self) -> Option<()>
+        ensures { result ≡ no_word self.entry }
+    {
+        match self.next() {
+            None => Some(()),
+            Some(_) => None,
+        }
+    }
+
+    /// The last word, where exactly one is left.
+    pub fn one(mut self) -> Option<Word<'a>>
+        ensures { result ≡ one_word self.entry }
+    {
+        let word = self.next()?;
+        self.end()?;
+        Some(word)
+    }
+
+    /// The last two words, where exactly two are left.
+    pub fn two(mut self) -> Option<(Word<'a>, Word<'a>)>
+        ensures { result ≡ two_words self.entry }
+    {
+        let first = self.next()?;
+        let second = self.one()?;
+        Some((first, second))
+    }
+
+    /// The last three words, where exactly three are left.
+    pub fn three(mut self) -> Option<(Word<'a>, Word<'a>, Word<'a>)>
+        ensures { result ≡ three_words self.entry }
+    {
+        let first = self.next()?;
+        let (second, third) = self.two()?;
+        Some((first, second, third))
+    }
+
+    /// The last word, where exactly one is left, of 1 to 128 bytes.
+    pub fn credential(self) -> Option<Word<'a>>
+        ensures { result ≡ credential_word self.entry }
+    {
+        let word = self.one()?;
+        let len = word.as_bytes().len();
+        if 1 <= len && len <= 128 {
+            Some(word)
+        } else {
+            None
+        }
+    }
+}

@@ -1,0 +1,47 @@
+//! Worked examples. The check computes them over the definitions, so that a reader can see what these mean.
+ghost use Rattle.std.specs.Prelude.{◌≡◌, [], ◌∷◌, Ok, Err, Some, None, codes, true};
+ghost use Rattle.nut_proto.specs.Answers.{answer_in};
+ghost use Rattle.nut_proto.specs.DriverAsks.{ask_line, ask_of};
+ghost use Rattle.nut_proto.specs.Forms.{meaning};
+ghost use Rattle.nut_proto.specs.Replies.{reply_line};
+ghost use Rattle.nut_proto.specs.Requests.{begin_line, end_line, request_line};
+ghost use Rattle.nut_proto.specs.declared.answer.Answer.TheVariants as answers;
+ghost use Rattle.nut_proto.specs.declared.answer.AnswerFault.TheVariants as faults;
+ghost use Rattle.nut_proto.specs.declared.driver_ask.DriverAsk.TheVariants as asks;
+ghost use Rattle.nut_proto.specs.declared.refusal.Refusal.TheVariants as refusals;
+ghost use Rattle.nut_proto.specs.declared.reply.Reply.TheVariants as replies;
+ghost use Rattle.nut_proto.specs.declared.reply.VariableKind.TheVariants as kinds;
+ghost use Rattle.nut_proto.specs.declared.request.ListQuery.TheVariants as queries;
+ghost use Rattle.nut_proto.specs.declared.request.Request.TheVariants as requests;
+
+/// What some lines mean, and how some are written.
+pub fn worked_examples()
+    // Command words have no case, names have.
+    ensures mixed_case { meaning (codes "Get" ∷ codes "var" ∷ codes "Su700" ∷ codes "ups.Status" ∷ [])
+        ≡ Ok (requests.GetVar (codes "Su700") (codes "ups.Status")) }
+    ensures too_short { meaning (codes "GET" ∷ codes "VAR" ∷ codes "su700" ∷ []) ≡ Err refusals.InvalidArgument }
+    ensures too_long { meaning (codes "VER" ∷ codes "x" ∷ []) ≡ Err refusals.InvalidArgument }
+    ensures no_form { meaning (codes "LIST" ∷ codes "DESC" ∷ codes "su700" ∷ []) ≡ Err refusals.InvalidArgument }
+    ensures no_words { meaning [] ≡ Err refusals.InvalidArgument }
+    ensures no_command { meaning (codes "FOO" ∷ []) ≡ Err refusals.UnknownCommand }
+
+    ensures setting { request_line (requests.SetVar (codes "su700") (codes "ups.id") (codes "a"))
+        ≡ codes "SET VAR su700 ups.id \"a\"\n" }
+    ensures value { reply_line (replies.Var (codes "su700") (codes "ups.mfr") (codes "a \"b\" \\c"))
+        ≡ codes "VAR su700 ups.mfr \"a \\\"b\\\" \\\\c\"\n" }
+    ensures kind { reply_line (replies.Type (codes "su700") (codes "ups.id") true (kinds.String 3))
+        ≡ codes "TYPE su700 ups.id RW STRING:3\n" }
+    ensures refused { reply_line (replies.Refused refusals.DataStale) ≡ codes "ERR DATA-STALE\n" }
+    ensures begin_of_list { begin_line (queries.Var (codes "su700")) ≡ codes "BEGIN LIST VAR su700\n" }
+    ensures end_of_list { end_line (queries.Var (codes "su700")) ≡ codes "END LIST VAR su700\n" }
+
+    ensures success { answer_in (codes "OK FSD-SET") ≡ Ok (answers.Ok (codes "FSD-SET" ∷ [])) }
+    ensures error { answer_in (codes "ERR DATA-STALE now") ≡ Ok (answers.Err (codes "DATA-STALE")) }
+    ensures row { answer_in (codes "ok") ≡ Ok (answers.Row (codes "ok" ∷ [])) }
+    ensures unreadable { answer_in (codes "OK \"") ≡ Err faults.Unreadable }
+    ensures empty { answer_in (codes " # OK") ≡ Err faults.Empty }
+
+    ensures asked { ask_line (asks.Set (codes "ups.id") (codes "abc")) ≡ codes "SET ups.id \"abc\"\n" }
+    ensures understood { ask_of (codes "dumpall" ∷ []) ≡ Some asks.DumpAll }
+    ensures not_understood { ask_of (codes "PING" ∷ codes "x" ∷ []) ≡ None }
+{}

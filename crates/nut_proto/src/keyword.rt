@@ -1,0 +1,144 @@
+//! The command words of a client's line.
+ghost use Rattle.std.specs.Prelude.{◌≡◌};
+ghost use Rattle.nut_proto.specs.Keywords.{command_name, command_of, is_named, subject_name, subject_of};
+
+/// The first word of a request.
+#[derive(Clone, Copy)]
+pub enum Command {
+    Get,
+    List,
+    Set,
+    InstCmd,
+    Username,
+    Password,
+    Login,
+    Primary,
+    Fsd,
+    Logout,
+    Ver,
+    NetVer,
+    Help,
+    StartTls,
+}
+
+/// The word behind GET, LIST or SET.
+#[derive(Clone, Copy)]
+pub enum Subject {
+    NumLogins,
+    UpsDesc,
+    Ups,
+    Var,
+    Type,
+    Desc,
+    CmdDesc,
+    Rw,
+    Cmd,
+    Enum,
+    Range,
+    Client,
+}
+
+const COMMANDS: [Command; 14] = [
+    Command::Get,
+    Command::List,
+    Command::Set,
+    Command::InstCmd,
+    Command::Username,
+    Command::Password,
+    Command::Login,
+    Command::Primary,
+    Command::Fsd,
+    Command::Logout,
+    Command::Ver,
+    Command::NetVer,
+    Command::Help,
+    Command::StartTls,
+];
+
+const SUBJECTS: [Subject; 12] = [
+    Subject::NumLogins,
+    Subject::UpsDesc,
+    Subject::Ups,
+    Subject::Var,
+    Subject::Type,
+    Subject::Desc,
+    Subject::CmdDesc,
+    Subject::Rw,
+    Subject::Cmd,
+    Subject::Enum,
+    Subject::Range,
+    Subject::Client,
+];
+
+/// Whether a word is this one, whatever the case of its letters.
+pub fn is_named(word: &[u8], name: &[u8]) -> bool
+    ensures { result ≡ is_named word.now name.now }
+{
+    word.eq_ignore_ascii_case(name)
+}
+
+impl Command {
+    /// The command that a word is, if any.
+    #[tactic(auto, unfolding(crate::specs::Keywords::command_of))]
+    pub fn of(word: &[u8]) -> Option<Command>
+        ensures { result ≡ command_of word.now }
+    {
+        COMMANDS
+            .iter()
+            .copied()
+            .find(|command| is_named(word, command.name()))
+    }
+
+    fn name(self) -> &'static [u8]
+        ensures { result.now ≡ command_name self }
+    {
+        match self {
+            Command::Get => b"GET",
+            Command::List => b"LIST",
+            Command::Set => b"SET",
+            Command::InstCmd => b"INSTCMD",
+            Command::Username => b"USERNAME",
+            Command::Password => b"PASSWORD",
+            Command::Login => b"LOGIN",
+            Command::Primary => b"PRIMARY",
+            Command::Fsd => b"FSD",
+            Command::Logout => b"LOGOUT",
+            Command::Ver => b"VER",
+            Command::NetVer => b"NETVER",
+            Command::Help => b"HELP",
+            Command::StartTls => b"STARTTLS",
+        }
+    }
+}
+
+impl Subject {
+    /// What a word behind GET, LIST or SET asks about, if anything.
+    #[tactic(auto, unfolding(crate::specs::Keywords::subject_of))]
+    pub fn of(word: &[u8]) -> Option<Subject>
+        ensures { result ≡ subject_of word.now }
+    {
+        SUBJECTS
+            .iter()
+            .copied()
+            .find(|subject| is_named(word, subject.name()))
+    }
+
+    fn name(self) -> &'static [u8]
+        ensures { result.now ≡ subject_name self }
+    {
+        match self {
+            Subject::NumLogins => b"NUMLOGINS",
+            Subject::UpsDesc => b"UPSDESC",
+            Subject::Ups => b"UPS",
+            Subject::Var => b"VAR",
+            Subject::Type => b"TYPE",
+            Subject::Desc => b"DESC",
+            Subject::CmdDesc => b"CMDDESC",
+            Subject::Rw => b"RW",
+            Subject::Cmd => b"CMD",
+            Subject::Enum => b"ENUM",
+            Subject::Range => b"RANGE",
+            Subject::Client => b"CLIENT",
+        }
+    }
+}

@@ -1,0 +1,34 @@
+//! The messages of the network protocol (RFC 9271), and what the server asks of drivers.
+//!
+//! The server reads requests with `read` and writes replies with `put`; a client writes requests with `put_in` and reads
+//! answers with `read_answer`. Each message is one line. What one side writes the other reads as it was meant: `messages_are_read`.
+#![tactic(auto)]
+
+mod answer;
+mod cursor;
+mod description;
+mod driver_ask;
+mod examples;
+mod keyword;
+mod laws;
+mod number;
+mod part;
+mod reading;
+mod refusal;
+mod reply;
+mod request;
+mod word;
+
+pub use answer::{Answer, AnswerFault, ErrorName, Rest, read_answer};
+pub use description::{command_description, variable_description};
+pub use driver_ask::DriverAsk;
+pub use examples::worked_examples;
+pub use laws::{messages_are_read, replies_are_bounded};
+pub use reading::read;
+pub use refusal::Refusal;
+pub use reply::{Reply, VariableKind};
+pub use request::{ListQuery, Request};
+pub use word::Word;
+
+#[cfg(test)]
+mod tests;

@@ -1,0 +1,141 @@
+//! What a client's line asks for.
+ghost use Rattle.std.specs.Prelude.{◌≡◌};
+ghost use Rattle.nut_proto.specs.Forms.{meaning};
+ghost use Rattle.nut_proto.specs.Steps.{get_about, get_request, list_about, list_request, request_of, set_request};
+
+use crate::cursor::Cursor;
+use crate::keyword::{Command, Subject};
+use crate::refusal::Refusal;
+use crate::request::{ListQuery, Request};
+use nut_words::Words;
+
+/// The request that the words of a client's line make (RFC 9271, section 4.2). Takes no memory.
+///
+/// Command words are compared without ASCII case, and the number of words is exact.
+/// `UnknownCommand` is for a first word that is no command, `InvalidArgument` for every other line that is no request,
+/// one without words included. A name that nothing bears is no fault here.
+pub fn read<'a>(words: &'a Words<'_>) -> Result<Request<'a>, Refusal>
+    ensures { result ≡ meaning words.now }
+{
+    let mut rest = Cursor::new(words);
+    let Some(first) = rest.next() else {
+        return Err(Refusal::InvalidArgument);
+    };
+    let Some(command) = Command::of(first.as_bytes()) else {
+        return Err(Refusal::UnknownCommand);
+    };
+    request_of(command, rest).ok_or(Refusal::InvalidArgument)
+}
+
+/// The request of a command and the words behind it.
+fn request_of<'a>(command: Command, rest: Cursor<'a, '_>) -> Option<Request<'a>>
+    ensures { result ≡ request_of command rest.entry }
+{
+    match command {
+        Command::Get => get_request(rest),
+        Command::List => list_request(rest),
+        Command::Set => set_request(rest),
+        Command::InstCmd => {
+            let (ups, command) = rest.two()?;
+            Some(Request::InstCmd { ups, command })
+        }
+        Command::Username => Some(Request::Username {
+            name: rest.credential()?,
+        }),
+        Command::Password => Some(Request::Password {
+            password: rest.credential()?,
+        }),
+        Command::Login => Some(Request::Login { ups: rest.one()? }),
+        Command::Primary => Some(Request::Primary { ups: rest.one()? }),
+        Command::Fsd => Some(Request::Fsd { ups: rest.one()? }),
+        Command::Logout => rest.end().and(Some(Request::Logout)),
+        Command::Ver => rest.end().and(Some(Request::Ver)),
+        Command::NetVer => rest.end().and(Some(Request::NetVer)),
+        Command::Help => rest.end().and(Some(Request::Help)),
+        Command::StartTls => rest.end().and(Some(Request::StartTls)),
+    }
+}
+
+fn get_request<'a>(mut rest: Cursor<'a, '_>) -> Option<Request<'a>>
+    ensures { result ≡ get_request rest.entry }
+{
+    let word = rest.next()?;
+    let subject = Subject::of(word.as_bytes())?;
+    get_about(subject, rest)
+}
+
+fn get_about<'a>(subject: Subject, rest: Cursor<'a, '_>) -> Option<Request<'a>>
+    ensures { result ≡ get_about (Some subject) rest.entry }
+{
+    match subject {
+        Subject::NumLogins => Some(Request::GetNumLogins { ups: rest.one()? }),
+        Subject::UpsDesc => Some(Request::GetUpsDesc { ups: rest.one()? }),
+        Subject::Var => {
+            let (ups, variable) = rest.two()?;
+            Some(Request::GetVar { ups, variable })
+        }
+        Subject::Type => {
+            let (ups, variable) = rest.two()?;
+            Some(Request::GetType { ups, variable })
+        }
+        Subject::Desc => {
+            let (ups, variable) = rest.two()?;
+            Some(Request::GetDesc { ups, variable })
+        }
+        Subject::CmdDesc => {
+            let (ups, command) = rest.two()?;
+            Some(Request::GetCmdDesc { ups, command })
+        }
+        Subject::Ups
+        | Subject::Rw
+        | Subject::Cmd
+        | Subject::Enum
+        | Subject::Range
+        | Subject::Client => None,
+    }
+}
+
+fn list_request<'a>(mut rest: Cursor<'a, '_>) -> Option<Request<'a>>
+    ensures { result ≡ list_request rest.entry }
+{
+    let word = rest.next()?;
+    let subject = Subject::of(word.as_bytes())?;
+    list_about(subject, rest)
+}
+
+fn list_about<'a>(subject: Subject, rest: Cursor<'a, '_>) -> Option<Request<'a>>
+    ensures { result ≡ list_about (Some subject) rest.entry }
+{
+    match subject {
+        Subject::Ups => rest.end().and(Some(Request::List(ListQuery::Ups))),
+        Subject::Var => Some(Request::List(ListQuery::Var { ups: rest.one()? })),
+        Subject::Rw => Some(Request::List(ListQuery::Rw { ups: rest.one()? })),
+        Subject::Cmd => Some(Request::List(ListQuery::Cmd { ups: rest.one()? })),
+        Subject::Enum => {
+            let (ups, variable) = rest.two()?;
+            Some(Request::List(ListQuery::Enum { ups, variable }))
+        }
+        Subject::Range => {
+            let (ups, variable) = rest.two()?;
+            Some(Request::List(ListQuery::Range { ups, variable }))
+        }
+        Subject::Client => Some(Request::List(ListQuery::Client { ups: rest.one()? })),
+        Subject::NumLogins | Subject::UpsDesc | Subject::Type | Subject::Desc | Subject::CmdDesc =>
+            None,
+    }
+}
+
+fn set_request<'a>(mut rest: Cursor<'a, '_>) -> Option<Request<'a>>
+    ensures { result ≡ set_request rest.entry }
+{
+    let word = rest.next()?;
+    if !matches!(Subject::of(word.as_bytes()), Some(Subject::Var)) {
+        return None;
+    }
+    let (ups, variable, value) = rest.three()?;
+    Some(Request::SetVar {
+        ups,
+        variable,
+        value,
+    })
+}

@@ -1,0 +1,279 @@
+//! What the server answers, and how it is written.
+ghost use Rattle.std.specs.Prelude.{◌≡◌, ◌++◌, OnOk, OnErr};
+ghost use Rattle.nut_proto.specs.Lines.{line};
+ghost use Rattle.nut_proto.specs.Replies.{reply_line, version_parts, commands_parts, type_parts, kind_part};
+
+use crate::part::{Part, put_line, quoted, text, word};
+use crate::refusal::Refusal;
+use crate::word::Word;
+use std::alloc::AllocError;
+
+/// What values a variable takes, as `GET TYPE` tells it.
+#[derive(Clone, Copy, Debug, PartialEq, Eq)]
+pub enum VariableKind {
+    /// One of the values that are listed.
+    Enum,
+    /// A whole number in one of the ranges that are listed.
+    Range,
+    /// A text of at most so many bytes.
+    String(u32),
+    /// A number, or any other value.
+    Number,
+}
+
+/// A line of the server's (RFC 9271, section 4.2). It borrows its words.
+///
+/// The reply to a LIST is its query's `put_begin`, a row for each entry, and its query's `put_end`.
+#[derive(Debug, Drop)]
+pub enum Reply<'a> {
+    /// `OK`, to SET, INSTCMD, USERNAME, PASSWORD, LOGIN and PRIMARY.
+    Accepted,
+    /// `OK FSD-SET`, to FSD.
+    FsdSet,
+    /// `OK Goodbye`, to LOGOUT.
+    Goodbye,
+    /// `ERR` and the refusal's name, to any request.
+    Refused(Refusal),
+    /// The server's name and version, to VER.
+    Version,
+    /// The version of the protocol, to NETVER.
+    NetworkVersion,
+    /// The commands that the server knows, to HELP.
+    Commands,
+    /// To GET NUMLOGINS.
+    NumLogins {
+        ups: Word<'a>,
+        count: u32,
+    },
+    /// To GET UPSDESC.
+    UpsDesc {
+        ups: Word<'a>,
+        description: Word<'a>,
+    },
+    /// To GET TYPE.
+    Type {
+        ups: Word<'a>,
+        variable: Word<'a>,
+        writable: bool,
+        kind: VariableKind,
+    },
+    /// To GET DESC.
+    Desc {
+        ups: Word<'a>,
+        variable: Word<'a>,
+        description: Word<'a>,
+    },
+    /// To GET CMDDESC.
+    CmdDesc {
+        ups: Word<'a>,
+        command: Word<'a>,
+        description: Word<'a>,
+    },
+    /// To GET VAR, and a row of LIST VAR.
+    Var {
+        ups: Word<'a>,
+        variable: Word<'a>,
+        value: Word<'a>,
+    },
+    /// A row of LIST UPS.
+    Ups {
+        ups: Word<'a>,
+        description: Word<'a>,
+    },
+    /// A row of LIST RW.
+    Rw {
+        ups: Word<'a>,
+        variable: Word<'a>,
+        value: Word<'a>,
+    },
+    /// A row of LIST CMD.
+    Cmd {
+        ups: Word<'a>,
+        command: Word<'a>,
+    },
+    /// A row of LIST ENUM.
+    Enum {
+        ups: Word<'a>,
+        variable: Word<'a>,
+        value: Word<'a>,
+    },
+    /// A row of LIST RANGE, both ends included.
+    Range {
+        ups: Word<'a>,
+        variable: Word<'a>,
+        min: i32,
+        max: i32,
+    },
+    /// A row of LIST CLIENT.
+    Client {
+        ups: Word<'a>,
+        address: Word<'a>,
+    },
+}
+
+impl Reply<'_> {
+    /// Appends the line, its line feed included. An `Err` is for want of memory, and leaves `out` as before.
+    ///
+    /// Names stand bare where they can, values and descriptions in quotes. Words of bytes 0x20 to 0x7E read back as they are.
+    #[tactic(auto, unfolding(crate::specs::Replies::reply_line))]
+    pub fn put(&self, out: &mut Vec<u8>) -> Result<(), AllocError>
+        ensures ok { OnOk result (out.new.items ≡ out.old.items ++ reply_line self.now) }
+        ensures err { OnErr result (out.new.items ≡ out.old.items) }
+    {
+        match self {
+            Reply::Accepted => put_line(out, &[text(b"OK")]),
+            Reply::FsdSet => put_line(out, &[text(b"OK"), text(b"FSD-SET")]),
+            Reply::Goodbye => put_line(out, &[text(b"OK"), text(b"Goodbye")]),
+            Reply::Refused(refusal) => put_line(out, &[text(b"ERR"), text(refusal.name())]),
+            Reply::Version => put_version(out),
+            Reply::NetworkVersion => put_line(out, &[text(b"1.2")]),
+            Reply::Commands => put_commands(out),
+            Reply::NumLogins { ups, count } => put_line(
+                out,
+                &[text(b"NUMLOGINS"), word(ups), Part::Number(*count)],
+            ),
+            Reply::UpsDesc { ups, description } => put_line(
+                out,
+                &[text(b"UPSDESC"), word(ups), quoted(description)],
+            ),
+            Reply::Type {
+                ups,
+                variable,
+                writable,
+                kind,
+            } => put_type(out, ups, variable, *writable, *kind),
+            Reply::Desc {
+                ups,
+                variable,
+                description,
+            } => put_line(
+                out,
+                &[
+                    text(b"DESC"),
+                    word(ups),
+                    word(variable),
+                    quoted(description),
+                ],
+            ),
+            Reply::CmdDesc {
+                ups,
+                command,
+                description,
+            } => put_line(
+                out,
+                &[
+                    text(b"CMDDESC"),
+                    word(ups),
+                    word(command),
+                    quoted(description),
+                ],
+            ),
+            Reply::Var {
+                ups,
+                variable,
+                value,
+            } => put_line(
+                out,
+                &[text(b"VAR"), word(ups), word(variable), quoted(value)],
+            ),
+            Reply::Ups { ups, description } => put_line(
+                out,
+                &[text(b"UPS"), word(ups), quoted(description)],
+            ),
+            Reply::Rw {
+                ups,
+                variable,
+                value,
+            } => put_line(
+                out,
+                &[text(b"RW"), word(ups), word(variable), quoted(value)],
+            ),
+            Reply::Cmd { ups, command } => put_line(out, &[text(b"CMD"), word(ups), word(command)]),
+            Reply::Enum {
+                ups,
+                variable,
+                value,
+            } => put_line(
+                out,
+                &[text(b"ENUM"), word(ups), word(variable), quoted(value)],
+            ),
+            Reply::Range {
+                ups,
+                variable,
+                min,
+                max,
+            } => put_line(
+                out,
+                &[
+                    text(b"RANGE"),
+                    word(ups),
+                    word(variable),
+                    Part::QuotedNumber(*min),
+                    Part::QuotedNumber(*max),
+                ],
+            ),
+            Reply::Client { ups, address } => put_line(
+                out,
+                &[text(b"CLIENT"), word(ups), word(address)],
+            ),
+        }
+    }
+}
+
+#[tactic(auto, unfolding(crate::specs::Lines::line))]
+fn put_version(out: &mut Vec<u8>) -> Result<(), AllocError>
+    ensures ok { OnOk result (out.new.items ≡ out.old.items ++ line version_parts) }
+    ensures err { OnErr result (out.new.items ≡ out.old.items) }
+{
+    out.extend_from_slice(b"Network UPS Tools upsd profile 1.2\n")
+}
+
+#[tactic(auto, unfolding(crate::specs::Lines::line))]
+fn put_commands(out: &mut Vec<u8>) -> Result<(), AllocError>
+    ensures ok { OnOk result (out.new.items ≡ out.old.items ++ line commands_parts) }
+    ensures err { OnErr result (out.new.items ≡ out.old.items) }
+{
+    out.extend_from_slice(
+        b"Commands: GET LIST SET INSTCMD USERNAME PASSWORD LOGIN PRIMARY FSD LOGOUT VER NETVER HELP STARTTLS\n",
+    )
+}
+
+fn put_type<'a>(
+    out: &mut Vec<u8>,
+    ups: &Word<'a>,
+    variable: &Word<'a>,
+    writable: bool,
+    kind: VariableKind,
+) -> Result<(), AllocError>
+    ensures ok { OnOk result (out.new.items ≡ out.old.items ++ line (type_parts ups.now variable.now writable kind)) }
+    ensures err { OnErr result (out.new.items ≡ out.old.items) }
+{
+    if writable {
+        put_line(
+            out,
+            &[
+                text(b"TYPE"),
+                word(ups),
+                word(variable),
+                text(b"RW"),
+                kind_part(kind),
+            ],
+        )
+    } else {
+        put_line(
+            out,
+            &[text(b"TYPE"), word(ups), word(variable), kind_part(kind)],
+        )
+    }
+}
+
+fn kind_part<'a>(kind: VariableKind) -> Part<'a>
+    ensures { result ≡ kind_part kind }
+{
+    match kind {
+        VariableKind::Enum => text(b"ENUM"),
+        VariableKind::Range => text(b"RANGE"),
+        VariableKind::String(limit) => Part::StringOf(limit),
+        VariableKind::Number => text(b"NUMBER"),
+    }
+}
