@@ -1,4 +1,4 @@
--- What a line cutter is to its callers.
+-- What a line cutter hands out and keeps.
 use Rattle.std.specs.Prelude.{◌≡◌, ℕ, List, [], ◌∷◌, ◌++◌, length, Option, Some, None, OnSome}
 use Rattle.std.specs.Borrow.{Fml, MutBor}
 use Rattle.std.specs.Io.BufRead.{Rests}
@@ -18,15 +18,16 @@ abbrev pub handed_out : Option Line → List LineText
 handed_out None = []
 handed_out (Some line) = line_of line ∷ []
 
--- how many bytes are kept of the unfinished line
+-- how many bytes are kept of the unfinished line: none of one that is too long
 abbrev pub kept_of : LineText → ℕ
 kept_of (Text text) = length text
 kept_of TooLong = 0
 
--- Where the cutter has the rest of the bytes b, it ends with the rest of b and the used front of the piece.
+-- A cutter that had the rest of the bytes b now has the rest of b with the used front of the piece behind it.
 abbrev pub Follows : LineText → LineText → List ℕ → Type 0
 Follows old new used = (b : List ℕ) → old ≡ rest b → new ≡ rest (b ++ used)
 
--- the cutter ends with the rest, and a line is handed out only at its line feed
+-- Once the line that was handed out is let go, the cutter has the rest, which is empty where there was a line: a line
+-- is handed out only at its line feed.
 abbrev pub LeavesRest : MutBor LineCutter → List ℕ → Option Line → Fml
 LeavesRest c used line = Rests the_row c (λ new. Follows c.now new used × OnSome line (new ≡ Text []))

@@ -1,4 +1,4 @@
--- How words are read from left to right, byte by byte: the answer of `split`.
+-- What words a line spells, computed from left to right, byte by byte.
 use Rattle.std.specs.Prelude.{ℕ, ◌==◌, ◌||◌, ◌&&◌, nat_le, nat_lt, Bool, List, [], ◌∷◌, ◌++◌, length, Result, Ok, Err, if◌then◌else◌, slice_index}
 use Rattle.std.specs.List.{list_any}
 use Rattle.nut_words.specs.declared.words.WordFault.{WordFault}
@@ -6,6 +6,7 @@ use Rattle.nut_words.specs.declared.words.WordFault.TheVariants as faults
 use Rattle.nut_words.specs.declared.reader.Kind.{Kind}
 use Rattle.nut_words.specs.declared.reader.Kind.TheVariants as kinds
 
+-- what a byte is to reading
 abbrev pub kind : ℕ → Kind
 kind c =
     if c == 32 then kinds.Space else
@@ -16,10 +17,12 @@ kind c =
     if c == 61 then kinds.Equals else
     if nat_le 33 c && nat_le c 126 then kinds.Plain else kinds.Bad
 
+-- what the byte at a place of the line is to reading
 abbrev pub kind_at : List ℕ → ℕ → Kind
 kind_at line at = kind (slice_index line at)
 
--- between words; in a bare or a quoted word, perhaps behind a backslash; behind a closing quote; in a comment
+-- Where reading stands: between words; in a bare or a quoted word, perhaps behind a backslash; right behind a closing
+-- quote; in a comment. It has the bytes of the word so far and the words before it.
 pub data State : Type 0 where
   Between : List (List ℕ) → State
   Bare : List ℕ → List (List ℕ) → State
@@ -30,6 +33,7 @@ pub data State : Type 0 where
   Comment : List (List ℕ) → State
 
 infixl 10 ◌>>=◌
+-- goes on unless there was a fault
 abbrev pub ◌>>=◌ : {A B : Type 0} → Result A WordFault → (A → Result B WordFault) → Result B WordFault
 (Ok x) >>= f = f x
 (Err e) >>= f = Err e
@@ -49,12 +53,14 @@ apart most ws kinds.Equals c = begun most ws (Between (ws ++ (61 ∷ []) ∷ [])
 apart most ws kinds.Plain c = begun most ws (Bare (c ∷ []) ws)
 apart most ws kinds.Bad c = Err faults.BadByte
 
+-- a byte of a bare word, or one that ends it
 abbrev pub in_bare : ℕ → List ℕ → List (List ℕ) → Kind → ℕ → Result State WordFault
 in_bare most w ws kinds.Quote c = Err faults.QuoteInWord
 in_bare most w ws kinds.Backslash c = Ok (BareEscape w ws)
 in_bare most w ws kinds.Plain c = Ok (Bare (w ++ c ∷ []) ws)
 in_bare most w ws k c = apart most (ws ++ w ∷ []) k c
 
+-- a byte between quotes
 abbrev pub in_quotes : List ℕ → List (List ℕ) → Kind → ℕ → Result State WordFault
 in_quotes w ws kinds.Gap c = Err faults.BadByte
 in_quotes w ws kinds.Quote c = Ok (Closed (ws ++ w ∷ []))
@@ -62,22 +68,25 @@ in_quotes w ws kinds.Backslash c = Ok (QuotedEscape w ws)
 in_quotes w ws kinds.Bad c = Err faults.BadByte
 in_quotes w ws k c = Ok (Quoted (w ++ c ∷ []) ws)
 
--- behind a backslash
+-- a byte behind a backslash, which leads to the state s
 abbrev pub escaped : Kind → State → Result State WordFault
 escaped kinds.Gap s = Err faults.BadByte
 escaped kinds.Bad s = Err faults.BadByte
 escaped k s = Ok s
 
+-- a byte right behind a closing quote
 abbrev pub behind_quote : ℕ → List (List ℕ) → Kind → ℕ → Result State WordFault
 behind_quote most ws kinds.Quote c = Err faults.AfterQuote
 behind_quote most ws kinds.Backslash c = Err faults.AfterQuote
 behind_quote most ws kinds.Plain c = Err faults.AfterQuote
 behind_quote most ws k c = apart most ws k c
 
+-- a byte of a comment
 abbrev pub in_comment : List (List ℕ) → Kind → Result State WordFault
 in_comment ws kinds.Bad = Err faults.BadByte
 in_comment ws k = Ok (Comment ws)
 
+-- the state behind one byte more
 abbrev pub step : ℕ → State → Kind → ℕ → Result State WordFault
 step most (Between ws) k c = apart most ws k c
 step most (Bare w ws) k c = in_bare most w ws k c
@@ -87,6 +96,7 @@ step most (QuotedEscape w ws) k c = escaped k (Quoted (w ++ c ∷ []) ws)
 step most (Closed ws) k c = behind_quote most ws k c
 step most (Comment ws) k c = in_comment ws k
 
+-- the words at the end of the line
 abbrev pub finish : State → Result (List (List ℕ)) WordFault
 finish (Between ws) = Ok ws
 finish (Bare w ws) = Ok (ws ++ w ∷ [])
@@ -96,6 +106,7 @@ finish (QuotedEscape w ws) = Err faults.LoneBackslash
 finish (Closed ws) = Ok ws
 finish (Comment ws) = Ok ws
 
+-- the words of a line of which these bytes are left to be read, with at most `most` words
 unfoldable pub read : ℕ → State → List ℕ → Result (List (List ℕ)) WordFault
 read most s [] = finish s
 read most s (c ∷ cs) = step most s (kind c) c >>= λ t. read most t cs

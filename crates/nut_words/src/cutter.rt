@@ -1,4 +1,4 @@
-//! Lines out of bytes that come in any pieces.
+//! Lines out of a stream of bytes that comes in any pieces.
 ghost use Rattle.std.specs.Prelude.{◌≡◌, ◌≢◌, ◌≤◌, [], ◌∷◌, ◌++◌, List, ℕ, length, take, IfNone, OnSome, IsTrue, ◌<◌};
 ghost use Rattle.std.specs.Borrow.{sem};
 ghost use Rattle.nut_words.specs.Lines.{Text, joined, lines, lines_after, rest, rest_after};
@@ -8,24 +8,33 @@ use arrayvec::ArrayVec;
 use memchr::memchr;
 use std::marker::Model;
 
-/// How many bytes a line has at most, its line feed not counted.
+/// How many bytes a line has at most. Its line feed isn't counted, a carriage return is.
 pub const LINE_MAX: usize = 512;
 
-/// A line without its line feed, or the mark of one that is too long.
+/// A complete line.
 #[derive(Clone, Copy)]
 pub enum Line<'a> {
+    /// The bytes before the line feed, at most [`LINE_MAX`].
     Text(&'a [u8]),
+    /// A line past [`LINE_MAX`] bytes, whose bytes are lost.
     TooLong,
 }
 
+/// What the kept bytes are.
 #[derive(Clone, Copy)]
 enum Stage {
+    /// The unfinished line.
     Growing,
+    /// The front of an unfinished line that is too long.
     Overlong,
+    /// A line that was handed out. The next line has no byte yet.
     HandedOut,
 }
 
-/// Cuts a stream of bytes into lines. It keeps the bytes of the unfinished line, and takes no memory.
+/// Cuts a stream of bytes into lines, however the stream comes in pieces.
+///
+/// It keeps the bytes of the unfinished line, at most [`LINE_MAX`], in itself, and takes no memory.
+/// Contracts see it as the rest of the bytes fed so far.
 #[derive(Drop)]
 pub struct LineCutter {
     kept: ArrayVec<u8, 512>,
@@ -43,6 +52,7 @@ impl Model for LineCutter {
 }
 
 impl LineCutter {
+    /// A cutter of a stream of which no byte came yet.
     pub fn new() -> Self
         ensures { result ≡ rest [] }
     {
@@ -52,6 +62,7 @@ impl LineCutter {
         }
     }
 
+    /// How many bytes of the unfinished line are kept: its length in bytes, or 0 once it is past [`LINE_MAX`].
     pub fn kept(&self) -> usize
         ensures { result ≡ kept_of self.now }
     {
@@ -94,8 +105,11 @@ impl LineCutter {
         }
     }
 
-    /// Takes the next piece of the stream up to its first line feed, which completes a line, or whole where it has none.
-    /// The second part of the answer is how many bytes that used, the line feed counted.
+    /// Takes the next piece of the stream up to its first line feed, and gives the line that this completes and how many
+    /// bytes of the piece it used, the line feed counted. The rest of the piece is to be fed next.
+    ///
+    /// A piece without a line feed is kept whole: then the answer is `None` and the piece's length. A piece may have any
+    /// length, and the line lies in the piece or in the cutter. The call can't fail and takes no memory.
     pub fn feed<'a>(&'a mut self, piece: &'a [u8]) -> (Option<Line<'a>>, usize)
         ensures* after_borrow { sem 𝓛 (LeavesRest self.entry (take result.1 piece.now) result.0) }
         ensures line { (b : List ℕ) → self.old ≡ rest b
@@ -125,7 +139,7 @@ impl LineCutter {
     }
 }
 
-/// How the lines of a stream grow: what comes later adds to the lines and to the rest by the rest alone, so it
+/// A law, with nothing to run: what comes next in a stream adds to its lines and its rest by the rest alone, so it
 /// doesn't matter how the bytes before were cut into pieces.
 pub fn stream_growth()
     ensures lines { (b more : List ℕ) → lines (b ++ more) ≡ lines b ++ lines_after (rest b) more }

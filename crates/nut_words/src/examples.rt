@@ -5,7 +5,8 @@ ghost use Rattle.nut_words.specs.Quoting.{line_text};
 ghost use Rattle.nut_words.specs.Reader.{spelled};
 ghost use Rattle.nut_words.specs.declared.words.WordFault.TheVariants.{BadByte, OpenQuote, LoneBackslash, QuoteInWord, AfterQuote, TooManyWords};
 
-/// What some lines spell, how words are written, and where the lines of some streams end.
+/// A law, with nothing to run: what some lines spell, how some words are written, and where the lines of some streams
+/// end.
 pub fn worked_examples()
     ensures words { spelled (codes "a=b \"\" # c")
         ≡ Ok (codes "a" ∷ codes "=" ∷ codes "b" ∷ codes "" ∷ []) }
