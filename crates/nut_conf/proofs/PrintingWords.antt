@@ -1,5 +1,5 @@
 -- The words that a line spells are printing bytes.
-use Rattle.std.proofs.Common.{◌≡◌, ℕ, Bool, true, false, cond, nat_lt, List, [], ◌∷◌, ◌++◌, length, Result, Ok, Err, refl, ap, ◌∙◌, subst, arith}
+use Rattle.std.proofs.Common.{◌≡◌, ℕ, Bool, true, false, cond, ◌&&◌, nat_le, nat_lt, List, [], ◌∷◌, ◌++◌, length, Result, Ok, Err, refl, ap, ◌∙◌, subst, arith}
 use Rattle.std.specs.List.{list_all}
 use Rattle.std.proofs.lemmas.List.Folds.{list_all-append}
 use Rattle.std.proofs.lemmas.Bool.Decides.{nat_tests}
@@ -10,7 +10,9 @@ use Rattle.nut_words.specs.declared.reader.Kind.{Kind}
 use Rattle.nut_words.specs.declared.reader.Kind.TheVariants.{Space, Gap, Quote, Backslash, Hash, Equals, Plain, Bad}
 use Rattle.nut_words.specs.Reader.{State, Between, Bare, BareEscape, Quoted, QuotedEscape, Closed, Comment, kind, begun, apart, in_bare, in_quotes, escaped, behind_quote, in_comment, step, finish, read, spelled, ◌>>=◌}
 use Rattle.nut_words.proofs.ByteKinds.{KindMeans, kind_means}
+use Rattle.nut_words.specs.Quoting.{IsPrintable}
 use Rattle.nut_conf.specs.Files.{words_of, readable}
+use Rattle.nut_conf.specs.Values.{is_name_byte, is_name, is_text}
 use Rattle.nut_conf.specs.declared.fault.FaultKind.TheVariants.{PastLimit}
 
 abbrev is_word : List ℕ → Bool
@@ -151,3 +153,30 @@ printing_of line ws is = by_test (nat_lt 512 (length line)) is where
   by_test : (b : Bool) → cond b (Err PastLimit) (readable (spelled line)) ≡ Ok ws → AllWords ws
   by_test true h = absurd (cc)
   by_test false h = by_words (spelled line) refl h
+
+left_true : (a b : Bool) → (a && b) ≡ true → a ≡ true
+left_true true b h = refl
+left_true false b h = absurd (cc)
+
+right_true : (a b : Bool) → (a && b) ≡ true → b ≡ true
+right_true true b h = h
+right_true false b h = absurd (cc)
+
+-- printing bytes can be written
+pub printable : (w : List ℕ) → list_all is_printing w ≡ true → IsPrintable w
+printable [] h = tt
+printable (c ∷ cs) h = (left_true (is_printing c) (list_all is_printing cs) h, printable cs (right_true (is_printing c) (list_all is_printing cs) h))
+
+name_byte_printing : (c : ℕ) → is_name_byte c ≡ true → is_printing c ≡ true
+name_byte_printing c h = grind (arith, nat_tests)
+
+name_bytes_printable : (w : List ℕ) → list_all is_name_byte w ≡ true → IsPrintable w
+name_bytes_printable [] h = tt
+name_bytes_printable (c ∷ cs) h = (name_byte_printing c (left_true (is_name_byte c) (list_all is_name_byte cs) h), name_bytes_printable cs (right_true (is_name_byte c) (list_all is_name_byte cs) h))
+
+-- so can names and texts
+pub name_printable : (most : ℕ) (w : List ℕ) → is_name most w ≡ true → IsPrintable w
+name_printable most w h = name_bytes_printable w (right_true (nat_le 1 (length w) && nat_le (length w) most) (list_all is_name_byte w) h)
+
+pub text_printable : (least most : ℕ) (w : List ℕ) → is_text least most w ≡ true → IsPrintable w
+text_printable least most w h = printable w (right_true (nat_le least (length w) && nat_le (length w) most) (list_all is_printing w) h)

@@ -23,9 +23,9 @@ number_or-set value d (Some n) = refl
 
 -- the file has enough where the configuration has
 pub supplied-conf : (c : UpsmonConf) (lines : List Words) → UpsmonHolds c lines
-    → supplied lines ≡ cond (nat_lt (sum_by (λ m. m.power.value) c.monitors.items) (option_map_or (λ n. n.value) c.min_supplies 1)) (Err (0, PastLimit)) (Ok lines)
+    → supplied lines ≡ cond (nat_lt (sum_by (λ m. m.power.value) c.monitors.lines.items) (option_map_or (λ n. n.value) c.min_supplies 1)) (Err (0, PastLimit)) (Ok lines)
 supplied-conf c lines holds =
-    let sums : power lines ≡ sum_by (λ m. m.power.value) c.monitors.items = ap (sum_by power_of) (sym (holds directives.Monitor)) ∙ sum_by-monitors c.monitors.items in
+    let sums : power lines ≡ sum_by (λ m. m.power.value) c.monitors.lines.items = ap (sum_by power_of) (sym (holds directives.Monitor)) ∙ sum_by-monitors c.monitors.lines.items in
     let least : min_supplies lines ≡ option_map_or (λ n. n.value) c.min_supplies 1 = ap (number_or 1) (sym (holds directives.MinSupplies)) ∙ number_or-set (λ n. n.value) 1 c.min_supplies in
     ap (λ p. cond (nat_lt p (min_supplies lines)) (Err (0, PastLimit)) (Ok lines)) sums
-    ∙ ap (λ n. cond (nat_lt (sum_by (λ m. m.power.value) c.monitors.items) n) (Err (0, PastLimit)) (Ok lines)) least
+    ∙ ap (λ n. cond (nat_lt (sum_by (λ m. m.power.value) c.monitors.lines.items) n) (Err (0, PastLimit)) (Ok lines)) least

@@ -1,5 +1,5 @@
 -- Files in sections: each begins with its name in brackets, and its lines follow.
-use Rattle.std.specs.Prelude.{◌≡◌, ℕ, ◌-◌, ◌==◌, Bool, ◌&&◌, List, [], ◌∷◌, length, nat_le, if◌then◌else◌, slice_index, slice_range, Option, None, Some, Result, Ok, Err}
+use Rattle.std.specs.Prelude.{◌≡◌, ℕ, ◌-◌, ◌==◌, Bool, ◌&&◌, List, [], ◌∷◌, length, map, nat_le, if◌then◌else◌, slice_index, slice_range, Option, None, Some, Result, Ok, Err}
 use Rattle.std.specs.List.{list_any}
 use Rattle.std.specs.Option.{option_map_or}
 use Rattle.std.specs.Str.{bytes_eq}
@@ -68,3 +68,7 @@ AllHold holds (e ∷ es) (s ∷ ss) = (e.0.bytes.items ≡ s.0) × holds e.1 s.1
 -- a name that was read is this one
 abbrev pub is_named : List ℕ → Name 32 → Bool
 is_named bytes n = bytes_eq bytes n.bytes.items
+
+-- the bytes of names
+abbrev pub names_in : List (Name 32) → List (List ℕ)
+names_in names = map (λ n. n.bytes.items) names

@@ -1,12 +1,13 @@
 -- The file ups.conf: the UPSes that a server serves.
-use Rattle.std.specs.Prelude.{◌≡◌, ℕ, List, [], ◌∷◌, map, codes, position, Option}
+use Rattle.std.specs.Prelude.{◌≡◌, ℕ, List, [], ◌∷◌, map, codes, position, slice_get, Option}
 use Rattle.std.specs.Option.{option_map, option_map_or, option_to_list}
-use Rattle.indexmap.specs.IndexMap.{keys}
+use Rattle.std.specs.Str.{bytes_eq}
+use Rattle.indexmap.specs.IndexMap.{keys, values}
 use Rattle.nut_conf.specs.Settings.{Setting, Text, Directive, settings, line_fault, once, name_value, text_value}
 use Rattle.nut_conf.specs.declared.values.Form.TheVariants.{Assigned}
 use Rattle.nut_conf.specs.Values.{Words}
 use Rattle.nut_conf.specs.Files.{LineFault}
-use Rattle.nut_conf.specs.Sections.{AllHold, sections, sectioned_fault, is_named}
+use Rattle.nut_conf.specs.Sections.{AllHold, sections, sectioned_fault, names_in}
 use Rattle.nut_conf.specs.declared.ups.UpsConf.{UpsConf}
 use Rattle.nut_conf.specs.declared.ups.Ups.{Ups}
 use Rattle.nut_conf.specs.declared.ups.UpsDirective.{UpsDirective}
@@ -38,7 +39,7 @@ UpsHolds u lines = (d : UpsDirective) → ups_settings u d ≡ settings (ups_dir
 
 -- the configuration has the sections of the file, in order
 abbrev pub UpsConfHolds : UpsConf → List Words → Type 0
-UpsConfHolds c lines = AllHold UpsHolds c.ups.entries (sections lines)
+UpsConfHolds c lines = AllHold UpsHolds c.ups.by_name.entries (sections lines)
 
 -- the driver of a UPS; where none is set, `dummy-ups`
 abbrev pub driver_of : Ups → List ℕ
@@ -52,6 +53,14 @@ port_of u = option_map_or (λ t. t.bytes.items) u.port []
 abbrev pub desc_of : Ups → List ℕ
 desc_of u = option_map_or (λ t. t.bytes.items) u.desc (codes "Unavailable")
 
+-- the names of the UPSes, in the order of the file
+abbrev pub names_of : UpsConf → List (List ℕ)
+names_of c = names_in (keys c.ups.by_name)
+
 -- the number of the UPS with this name, counted from 0 in the order of the file
 abbrev pub number_of : List ℕ → UpsConf → Option ℕ
-number_of name c = position (is_named name) (keys c.ups)
+number_of name c = position (bytes_eq name) (names_of c)
+
+-- the UPS with this number
+abbrev pub ups_at : UpsConf → ℕ → Option Ups
+ups_at c number = slice_get (values c.ups.by_name) number

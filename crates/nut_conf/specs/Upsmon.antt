@@ -77,7 +77,7 @@ upsmon_directives = map upsmon_directive (directives.Monitor ∷ directives.MinS
 
 -- what the configuration has for each directive
 abbrev pub upsmon_settings : UpsmonConf → UpsmonDirective → List Setting
-upsmon_settings c directives.Monitor = map monitor_setting c.monitors.items
+upsmon_settings c directives.Monitor = map monitor_setting c.monitors.lines.items
 upsmon_settings c directives.MinSupplies = option_to_list (option_map (λ n. Number n.value) c.min_supplies)
 upsmon_settings c directives.ShutdownCmd = option_to_list (option_map (λ t. Text t.bytes.items) c.shutdown_cmd)
 upsmon_settings c directives.NotifyCmd = option_to_list (option_map (λ t. Text t.bytes.items) c.notify_cmd)

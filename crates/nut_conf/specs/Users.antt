@@ -86,11 +86,11 @@ UserHolds u lines = (d : UserDirective) → user_settings u d ≡ settings (user
 
 -- the configuration has the sections of the file, in order
 abbrev pub UsersConfHolds : UsersConf → List Words → Type 0
-UsersConfHolds c lines = AllHold UserHolds c.users.entries (sections lines)
+UsersConfHolds c lines = AllHold UserHolds c.users.by_name.entries (sections lines)
 
 -- the user with this name
 abbrev pub user_named : List ℕ → UsersConf → Option User
-user_named name c = get_by (is_named name) c.users
+user_named name c = get_by (is_named name) c.users.by_name
 
 -- the user's password is this one; a user without a password has none
 abbrev pub has_password : List ℕ → User → Bool

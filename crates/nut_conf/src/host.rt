@@ -56,6 +56,14 @@ impl Host {
             Err(_) => None,
         }
     }
+
+    /// The bytes of the host.
+    pub fn as_bytes(&self) -> &[u8]
+        ensures value { result.now ≡ self.now.bytes.items }
+        ensures valid { IsTrue (is_host result.now) }
+    {
+        self.bytes.as_slice()
+    }
 }
 
 impl Address {
@@ -70,5 +78,13 @@ impl Address {
             Ok(bytes) => Some(Address { bytes }),
             Err(_) => None,
         }
+    }
+
+    /// The bytes of the address.
+    pub fn as_bytes(&self) -> &[u8]
+        ensures value { result.now ≡ self.now.bytes.items }
+        ensures valid { IsTrue (is_address result.now) }
+    {
+        self.bytes.as_slice()
     }
 }

@@ -1,5 +1,5 @@
 //! Files in sections.
-ghost use Rattle.std.specs.Prelude.{◌≡◌, ◌∷◌, ◌++◌, []};
+ghost use Rattle.std.specs.Prelude.{◌≡◌, ◌≤◌, ◌∷◌, ◌++◌, [], length};
 ghost use Rattle.std.specs.Option.{option_map};
 ghost use Rattle.nut_conf.specs.Sections.{section_name as name_in};
 
@@ -15,6 +15,7 @@ use std::alloc::Global;
 pub struct Sections<S, const MOST: usize> {
     pub by_name: IndexMap<Name<32>, S>,
     alloc: Global,
+    pub ghost few: { length by_name.entries ≤ MOST },
 }
 
 /// The name in a section line.
@@ -38,13 +39,6 @@ impl<S: Draft, const MOST: usize> Sections<S, MOST> {
     ghost use Rattle.nut_conf.specs.Settings.{fault_of};
     ghost use Rattle.nut_conf.specs.Sections.{AllHold, Section, opens};
     ghost use Rattle.std.specs.Prelude.{List};
-
-    /// The sections by name.
-    pub fn into_map(self) -> IndexMap<Name<32>, S>
-        ensures { result ≡ self.by_name }
-    {
-        self.by_name
-    }
 
     /// Begins a section.
     fn open(&mut self, bytes: &[u8]) -> Result<(), FaultKind>

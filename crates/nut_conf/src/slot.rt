@@ -1,5 +1,5 @@
 //! Places for what the lines of a directive set.
-ghost use Rattle.std.specs.Prelude.{◌≡◌, ℕ, List, Bool, Option, Result, length, map};
+ghost use Rattle.std.specs.Prelude.{◌≡◌, ◌≤◌, ℕ, List, Bool, Option, Some, Result, length, map};
 ghost use Rattle.std.specs.List.{list_any};
 ghost use Rattle.std.specs.Option.{option_map, option_to_list};
 ghost use Rattle.nut_conf.specs.Faults.{Reads};
@@ -91,7 +91,8 @@ pub fn listed_apart<T: Clashes>(
     line: &Line<'_>,
     most: Option<usize>,
 ) -> Result<(), FaultKind>
-    ensures { Puts (rules.distinct T.clashes most form T.reads) (map T.setting slot.old.items) line.now.words result (map T.setting slot.new.items) }
+    ensures puts { Puts (rules.distinct T.clashes most form T.reads) (map T.setting slot.old.items) line.now.words result (map T.setting slot.new.items) }
+    ensures bounded { (n : ℕ) → most ≡ Some n → length slot.old.items ≤ n → length slot.new.items ≤ n }
 {
     let values = Values::of(form, line)?;
     let value = T::from_values(&values)?;

@@ -1,18 +1,37 @@
-use crate::{FaultKind, read_ups};
+//! What no clause says: rows of the specification, each test in the order of tests, every limit, and the files of `examples`.
+
+mod examples;
+mod faults;
+mod limits;
+mod targets;
+
+use crate::{ConfFault, FaultKind, read_ups, read_upsd, read_upsmon, read_users};
 use std::alloc::Global;
 
-fn ups_fault(alloc: Global, file: &[u8]) -> Option<(u32, FaultKind)> {
-    match read_ups(alloc, file) {
+/// The line and the kind of a fault, or None where a file reads.
+type Outcome = Option<(u32, FaultKind)>;
+
+/// One of the four files.
+#[derive(Clone, Copy)]
+enum File {
+    Ups,
+    Users,
+    Upsd,
+    Upsmon,
+}
+
+fn outcome<C: Drop>(answer: Result<C, ConfFault>) -> Outcome {
+    match answer {
         Ok(_) => None,
         Err(fault) => Some((fault.line, fault.kind)),
     }
 }
 
-#[test]
-fn ups_conf_faults(rt: HostRuntime) {
-    let alloc = rt.alloc();
-    assert_eq!(rt;
-        ups_fault(alloc, b"[a]\n[a]\n"),
-        Some((2, FaultKind::Repeated))
-    );
+fn read(alloc: Global, file: File, bytes: &[u8]) -> Outcome {
+    match file {
+        File::Ups => outcome(read_ups(alloc, bytes)),
+        File::Users => outcome(read_users(alloc, bytes)),
+        File::Upsd => outcome(read_upsd(alloc, bytes)),
+        File::Upsmon => outcome(read_upsmon(alloc, bytes)),
+    }
 }

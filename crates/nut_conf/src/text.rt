@@ -1,6 +1,7 @@
 //! Names, texts and numbers.
 ghost use Rattle.std.specs.Prelude.{◌≡◌, ◌≤◌, IsTrue, true};
 ghost use Rattle.std.specs.List.{list_all};
+ghost use Rattle.nut_words.specs.Quoting.{IsPrintable};
 ghost use Rattle.nut_words.specs.Spelling.{is_printing};
 ghost use Rattle.nut_conf.specs.Faults.{Reads};
 ghost use Rattle.nut_conf.specs.Values.{is_name_byte as name_byte, is_digit as digit, is_numeral as numeral, decimal as decimal_of, is_name, is_text, name, number, text as bounded_text};
@@ -99,6 +100,7 @@ impl<const MOST: usize> Name<MOST> {
     pub fn as_bytes(&self) -> &[u8]
         ensures value { result.now ≡ self.now.bytes.items }
         ensures named { IsTrue (is_name MOST result.now) }
+        ensures printable { IsPrintable result.now }
     {
         self.bytes.as_slice()
     }
@@ -123,6 +125,7 @@ impl<const LEAST: usize, const MOST: usize> Text<LEAST, MOST> {
     pub fn as_bytes(&self) -> &[u8]
         ensures value { result.now ≡ self.now.bytes.items }
         ensures bounded { IsTrue (is_text LEAST MOST result.now) }
+        ensures printable { IsPrintable result.now }
     {
         self.bytes.as_slice()
     }

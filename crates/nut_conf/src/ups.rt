@@ -1,8 +1,10 @@
 //! The file ups.conf.
-ghost use Rattle.std.specs.Prelude.{◌≡◌, IfSome, IsTrue, None, MatchOption, length, ◌<◌};
+ghost use Rattle.std.specs.Prelude.{◌≡◌, ◌==◌, ◌<◌, ◌≤◌, IfSome, IsTrue, None, MatchOption, length, slice_get};
+ghost use Rattle.std.specs.Option.{option_copied, option_map};
+ghost use Rattle.nut_words.specs.Quoting.{IsPrintable};
 ghost use Rattle.nut_conf.specs.Files.{Means, read_file};
 ghost use Rattle.nut_conf.specs.Values.{is_name, is_text};
-ghost use Rattle.nut_conf.specs.Ups.{UpsConfHolds, ups_fault, driver_of, port_of, desc_of, number_of};
+ghost use Rattle.nut_conf.specs.Ups.{UpsConfHolds, ups_fault, driver_of, port_of, desc_of, names_of, number_of, ups_at};
 
 use crate::draft::Draft;
 use crate::fault::{ConfFault, FaultKind};
@@ -12,7 +14,6 @@ use crate::sections::Sections;
 use crate::slot::once;
 use crate::text::{Name, Text};
 use crate::values::Form;
-use indexmap::IndexMap;
 use std::alloc::Global;
 
 /// A UPS: a section of ups.conf. What isn't set has its default.
@@ -23,10 +24,10 @@ pub struct Ups {
     pub desc: Option<Text<0, 128>>,
 }
 
-/// The configuration of ups.conf: at most 32 UPSes by name, in the order of the file.
+/// The configuration of ups.conf: at most 32 UPSes by name, in the order of the file, numbered from 0.
 #[derive(Drop)]
 pub struct UpsConf {
-    pub ups: IndexMap<Name<32>, Ups>,
+    pub ups: Sections<Ups, 32>,
 }
 
 impl Ups {
@@ -34,6 +35,7 @@ impl Ups {
     pub fn driver(&self) -> &[u8]
         ensures value { result.now ≡ driver_of self.now }
         ensures named { IsTrue (is_name 32 result.now) }
+        ensures printable { IsPrintable result.now }
     {
         match &self.driver {
             Some(driver) => driver.as_bytes(),
@@ -45,6 +47,7 @@ impl Ups {
     pub fn port(&self) -> &[u8]
         ensures value { result.now ≡ port_of self.now }
         ensures bounded { IsTrue (is_text 0 128 result.now) }
+        ensures printable { IsPrintable result.now }
     {
         match &self.port {
             Some(port) => port.as_bytes(),
@@ -56,6 +59,7 @@ impl Ups {
     pub fn desc(&self) -> &[u8]
         ensures value { result.now ≡ desc_of self.now }
         ensures bounded { IsTrue (is_text 0 128 result.now) }
+        ensures printable { IsPrintable result.now }
     {
         match &self.desc {
             Some(desc) => desc.as_bytes(),
@@ -65,14 +69,51 @@ impl Ups {
 }
 
 impl UpsConf {
-    /// The number of the UPS with this name, counted from 0 in the order of the file. Takes no memory, and no longer for many UPSes.
+    /// How many UPSes there are, at most 32.
+    pub fn len(&self) -> usize
+        ensures len { result ≡ length (names_of self.now) }
+        ensures few { result ≤ 32 }
+    {
+        self.ups.by_name.len()
+    }
+
+    /// Whether there is no UPS.
+    pub fn is_empty(&self) -> bool
+        ensures { result ≡ (length (names_of self.now) == 0) }
+    {
+        self.ups.by_name.len() == 0
+    }
+
+    /// The number of the UPS with this name, counted from 0 in the order of the file.
+    ///
+    /// Takes no memory, and no longer for many UPSes.
     pub fn find(&self, name: &[u8]) -> Option<usize>
         ensures number { result ≡ number_of name.now self.now }
-        ensures within { IfSome result (λ number. number < length self.now.ups.entries) }
+        ensures within { IfSome result (λ number. number < length (names_of self.now)) }
     {
         match Name::read(name) {
-            Ok(name) => self.ups.get_index_of(&name),
+            Ok(name) => self.ups.by_name.get_index_of(&name),
             Err(_) => None,
+        }
+    }
+
+    /// The name of the UPS with this number.
+    pub fn name(&self, number: usize) -> Option<&Name<32>>
+        ensures { option_map (λ name. name.now.bytes.items) result ≡ slice_get (names_of self.now) number }
+    {
+        match self.ups.by_name.get_index(number) {
+            Some((name, _)) => Some(name),
+            None => None,
+        }
+    }
+
+    /// The UPS with this number.
+    pub fn get(&self, number: usize) -> Option<&Ups>
+        ensures { option_copied result ≡ ups_at self.now number }
+    {
+        match self.ups.by_name.get_index(number) {
+            Some((_, ups)) => Some(ups),
+            None => None,
         }
     }
 }
@@ -133,8 +174,6 @@ impl Draft for Ups {
 pub fn read_ups(alloc: Global, bytes: &[u8]) -> Result<UpsConf, ConfFault>
     ensures { Means (read_file ups_fault bytes.now) UpsConfHolds result }
 {
-    let sections: Sections<Ups, 32> = read_draft(alloc, bytes)?;
-    Ok(UpsConf {
-        ups: sections.into_map(),
-    })
+    let ups = read_draft(alloc, bytes)?;
+    Ok(UpsConf { ups })
 }

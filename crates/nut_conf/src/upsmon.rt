@@ -1,6 +1,7 @@
 //! The file upsmon.conf.
 ghost use Rattle.std.specs.Prelude.{◌≡◌, None, MatchOption, IsTrue, nat_lt, sum_by};
 ghost use Rattle.std.specs.Option.{option_map_or};
+ghost use Rattle.nut_words.specs.Quoting.{IsPrintable};
 ghost use Rattle.nut_conf.specs.Files.{Means};
 ghost use Rattle.nut_conf.specs.Values.{is_text};
 ghost use Rattle.nut_conf.specs.Upsmon.{UpsmonHolds, upsmon_reading, min_supplies_of, poll_freq_of, dead_time_of, rb_warn_time_of, no_comm_warn_time_of, host_sync_of, final_delay_of, message_of, flags_of};
@@ -10,6 +11,7 @@ use crate::fault::{ConfFault, FaultKind};
 use crate::file::read_draft;
 use crate::line::Line;
 use crate::monitor::Monitored;
+use crate::monitors::Monitors;
 use crate::notice::{Notice, NoticeFlags, NoticeHandling, NoticeText, handling_of, text_of};
 use crate::slot::{listed_apart, once};
 use crate::text::{Number, Text};
@@ -20,7 +22,7 @@ use std::alloc::Global;
 #[derive(Drop)]
 pub struct UpsmonConf {
     /// At most 32, in the order of the file.
-    pub monitors: Vec<Monitored>,
+    pub monitors: Monitors,
     pub min_supplies: Option<Number<0, 32000>>,
     pub shutdown_cmd: Option<Text<1, 256>>,
     pub notify_cmd: Option<Text<1, 256>>,
@@ -104,6 +106,7 @@ impl UpsmonConf {
     pub fn message(&self, notice: Notice) -> &[u8]
         ensures value { result.now ≡ message_of notice self.now }
         ensures bounded { IsTrue (is_text 0 128 result.now) }
+        ensures printable { IsPrintable result.now }
     {
         match text_of(self.messages.as_slice(), notice) {
             Some(message) => message.text.as_bytes(),
@@ -190,7 +193,7 @@ impl Draft for UpsmonConf {
 
     fn new(alloc: Global) -> Self {
         UpsmonConf {
-            monitors: Vec::new(alloc),
+            monitors: Monitors::new(alloc),
             min_supplies: None,
             shutdown_cmd: None,
             notify_cmd: None,
@@ -209,9 +212,7 @@ impl Draft for UpsmonConf {
     fn put(&mut self, line: &Line<'_>) -> Result<(), FaultKind> {
         let form = Form::Plain;
         match UpsmonDirective::of(line.directive()) {
-            Some(UpsmonDirective::Monitor) => {
-                listed_apart(&mut self.monitors, form, line, Some(32))
-            }
+            Some(UpsmonDirective::Monitor) => self.monitors.put(line),
             Some(UpsmonDirective::MinSupplies) => once(&mut self.min_supplies, form, line),
             Some(UpsmonDirective::ShutdownCmd) => once(&mut self.shutdown_cmd, form, line),
             Some(UpsmonDirective::NotifyCmd) => once(&mut self.notify_cmd, form, line),
@@ -239,7 +240,7 @@ pub fn read_upsmon(alloc: Global, bytes: &[u8]) -> Result<UpsmonConf, ConfFault>
     ensures { Means (upsmon_reading bytes.now) UpsmonHolds result }
 {
     let conf: UpsmonConf = read_draft(alloc, bytes)?;
-    if lacks_power(conf.monitors.as_slice(), conf.min_supplies()) {
+    if lacks_power(conf.monitors.lines.as_slice(), conf.min_supplies()) {
         return Err(ConfFault {
             line: 0,
             kind: FaultKind::PastLimit,

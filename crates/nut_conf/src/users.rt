@@ -14,7 +14,6 @@ use crate::sections::Sections;
 use crate::slot::{FromValues, listed, once};
 use crate::text::{Name, Text};
 use crate::values::{Form, Values};
-use indexmap::IndexMap;
 use std::alloc::Global;
 
 /// A user: a section of upsd.users.
@@ -29,7 +28,7 @@ pub struct User {
 /// The configuration of upsd.users: at most 64 users by name, in the order of the file.
 #[derive(Drop)]
 pub struct UsersConf {
-    pub users: IndexMap<Name<32>, User>,
+    pub users: Sections<User, 64>,
 }
 
 /// What a user may do.
@@ -111,7 +110,7 @@ impl UsersConf {
         ensures { option_copied result ≡ user_named name.now self.now }
     {
         match Name::read(name) {
-            Ok(name) => self.users.get(&name),
+            Ok(name) => self.users.by_name.get(&name),
             Err(_) => None,
         }
     }
@@ -250,8 +249,6 @@ impl Draft for User {
 pub fn read_users(alloc: Global, bytes: &[u8]) -> Result<UsersConf, ConfFault>
     ensures { Means (read_file users_fault bytes.now) UsersConfHolds result }
 {
-    let sections: Sections<User, 64> = read_draft(alloc, bytes)?;
-    Ok(UsersConf {
-        users: sections.into_map(),
-    })
+    let users = read_draft(alloc, bytes)?;
+    Ok(UsersConf { users })
 }

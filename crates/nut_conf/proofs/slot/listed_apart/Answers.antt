@@ -5,23 +5,23 @@ use Rattle.nut_conf.proofs.SlotLemmas.{accepts-clash, accepts-full, accepts-more
 use Rattle.std.proofs.lemmas.List.{map_push}
 use Rattle.nut_conf.proofs.slot.listed_apart.Goals as goal
 
-pub returns-then-clashes_with_any : goal.returns-then-clashes_with_any
-returns-then-clashes_with_any g c =
+pub returns-then-clashes_with_any-clause-puts : goal.returns-then-clashes_with_any-clause-puts
+returns-then-clashes_with_any-clause-puts g c =
     let view = g.T.FromValues.setting in
     let items = c.args.slot.now.items in
     accepts-clash (distinct g.T.Clashes.clashes c.args.most c.args.form g.T.FromValues.reads) (map view items) c.args.line.now.words c.in_ok-values.values (view c.in_ok-value.value) (c.in_ok-values.ensures {u = tt}) (c.in_ok-value.ensures {u = tt})
     (list_any-map (g.T.Clashes.clashes (view c.in_ok-value.value)) view items ∙ ap (list_any (λ x. g.T.Clashes.clashes (view c.in_ok-value.value) (view x))) (sym c.as_slice.ensures.value) ∙ sym (c.if-clashes_with_any.ensures {u = tt}))
 
-pub returns-then-is_full : goal.returns-then-is_full
-returns-then-is_full g c =
+pub returns-then-is_full-clause-puts : goal.returns-then-is_full-clause-puts
+returns-then-is_full-clause-puts g c =
     let view = g.T.FromValues.setting in
     let items = c.args.slot.now.items in
     accepts-full (distinct g.T.Clashes.clashes c.args.most c.args.form g.T.FromValues.reads) (map view items) c.args.line.now.words c.in_ok-values.values (view c.in_ok-value.value) (c.in_ok-values.ensures {u = tt}) (c.in_ok-value.ensures {u = tt})
     (list_any-map (g.T.Clashes.clashes (view c.in_ok-value.value)) view items ∙ ap (list_any (λ x. g.T.Clashes.clashes (view c.in_ok-value.value) (view x))) (sym c.as_slice.ensures.value) ∙ sym (c.if-clashes_with_any.ensures {u = tt}))
     (ap (is_full c.args.most) (length-map view items ∙ ap length (sym c.as_slice-2.ensures.value)) ∙ sym (c.if-is_full.ensures {u = tt}))
 
-pub returns : goal.returns
-returns g c =
+pub returns-clause-puts : goal.returns-clause-puts
+returns-clause-puts g c =
     let view = g.T.FromValues.setting in
     let items = c.args.slot.now.items in
     accepts-more (distinct g.T.Clashes.clashes c.args.most c.args.form g.T.FromValues.reads) (map view items) c.args.line.now.words c.in_ok-values.values (view c.in_ok-value.value) (c.in_ok-values.ensures {u = tt}) (c.in_ok-value.ensures {u = tt})

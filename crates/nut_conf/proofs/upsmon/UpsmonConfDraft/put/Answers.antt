@@ -7,12 +7,12 @@ use Rattle.nut_conf.proofs.upsmon.UpsmonConfDraft.put.Goals as goal
 pub returns-in-Some-Monitor : goal.returns-in-Some-Monitor
 returns-in-Some-Monitor c =
     let old = c.args.self.now in
-    takes_line upsmon_directive upsmon_directives (upsmon_settings old) (upsmon_settings (record old { monitors = c.listed_apart.new.slot })) Monitor c.args.line.now.words _
+    takes_line upsmon_directive upsmon_directives (upsmon_settings old) (upsmon_settings (record old { monitors = c.put.new.self })) Monitor c.args.line.now.words _
     (record {
       word = sym c.directive.ensures ∙ c.in-Some-Monitor.ensures {u = tt} ∙ ap (λ d. (upsmon_directive d).word) c.in-Some-Monitor.field-0-is;
       found = refl;
       same = refl;
-      puts = c.listed_apart.ensures;
+      puts = c.put.ensures;
       others = elim [ Monitor ↦ inl refl | _ ↦ inr (refl, refl) ];
     })
 
@@ -139,12 +139,12 @@ returns-in-Some-FinalDelay c =
 pub returns-in-Some-NotifyMsg : goal.returns-in-Some-NotifyMsg
 returns-in-Some-NotifyMsg c =
     let old = c.args.self.now in
-    takes_line upsmon_directive upsmon_directives (upsmon_settings old) (upsmon_settings (record old { messages = c.listed_apart-in-Some-NotifyMsg.new.slot })) NotifyMsg c.args.line.now.words _
+    takes_line upsmon_directive upsmon_directives (upsmon_settings old) (upsmon_settings (record old { messages = c.listed_apart.new.slot })) NotifyMsg c.args.line.now.words _
     (record {
       word = sym c.directive.ensures ∙ c.in-Some-NotifyMsg.ensures {u = tt} ∙ ap (λ d. (upsmon_directive d).word) c.in-Some-NotifyMsg.field-0-is;
       found = refl;
       same = refl;
-      puts = c.listed_apart-in-Some-NotifyMsg.ensures;
+      puts = c.listed_apart.ensures.puts;
       others = elim [ NotifyMsg ↦ inl refl | _ ↦ inr (refl, refl) ];
     })
 
@@ -156,6 +156,6 @@ returns-in-Some-NotifyFlag c =
       word = sym c.directive.ensures ∙ c.in-Some-NotifyFlag.ensures {u = tt} ∙ ap (λ d. (upsmon_directive d).word) c.in-Some-NotifyFlag.field-0-is;
       found = refl;
       same = refl;
-      puts = c.listed_apart-in-Some-NotifyFlag.ensures;
+      puts = c.listed_apart-in-Some-NotifyFlag.ensures.puts;
       others = elim [ NotifyFlag ↦ inl refl | _ ↦ inr (refl, refl) ];
     })
