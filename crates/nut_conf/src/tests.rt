@@ -35,3 +35,13 @@ fn read(alloc: Global, file: File, bytes: &[u8]) -> Outcome {
         File::Upsmon => outcome(read_upsmon(alloc, bytes)),
     }
 }
+
+/// The first row whose file doesn't read as the row says.
+fn first_wrong(alloc: Global, file: File, rows: &[(&[u8], Outcome)]) -> Option<usize> {
+    for (index, (bytes, want)) in rows.iter().enumerate() {
+        if read(alloc, file, bytes) != *want {
+            return Some(index);
+        }
+    }
+    None
+}

@@ -1,6 +1,6 @@
 //! Each fault, and which of two comes first.
 
-use super::{File, Outcome, read};
+use super::{File, Outcome, first_wrong};
 use crate::FaultKind::{
     BadForm, BadName, BadNumber, OutsideSection, PastLimit, Repeated, UnknownDirective,
     UnknownWord, Unreadable,
@@ -275,30 +275,22 @@ const UPSMON: [(&[u8], Outcome); 56] = [
 
 #[test]
 fn ups_conf(rt: HostRuntime) {
-    for (bytes, want) in UPS {
-        assert_eq!(rt; read(rt.alloc(), File::Ups, bytes), want);
-    }
+    assert_eq!(rt; first_wrong(rt.alloc(), File::Ups, &UPS), None);
 }
 
 #[test]
 fn upsd_users(rt: HostRuntime) {
-    for (bytes, want) in USERS {
-        assert_eq!(rt; read(rt.alloc(), File::Users, bytes), want);
-    }
+    assert_eq!(rt; first_wrong(rt.alloc(), File::Users, &USERS), None);
 }
 
 #[test]
 fn upsd_conf(rt: HostRuntime) {
-    for (bytes, want) in UPSD {
-        assert_eq!(rt; read(rt.alloc(), File::Upsd, bytes), want);
-    }
+    assert_eq!(rt; first_wrong(rt.alloc(), File::Upsd, &UPSD), None);
 }
 
 #[test]
 fn upsmon_conf(rt: HostRuntime) {
-    for (bytes, want) in UPSMON {
-        assert_eq!(rt; read(rt.alloc(), File::Upsmon, bytes), want);
-    }
+    assert_eq!(rt; first_wrong(rt.alloc(), File::Upsmon, &UPSMON), None);
 }
 
 const KINDS: [(FaultKind, &str); 10] = [

@@ -10,6 +10,20 @@ use std::test::Fail;
 /// Parts of a file, each so many times.
 type Parts = &'static [(&'static [u8], usize)];
 
+/// The first row whose file doesn't read as the row says.
+fn first_wrong(
+    alloc: Global,
+    rows: &[(File, Parts, Outcome)],
+) -> Result<Option<usize>, AllocError> {
+    for (index, (file, parts, want)) in rows.iter().enumerate() {
+        let bytes = joined(alloc, parts)?;
+        if read(alloc, *file, bytes.as_slice()) != *want {
+            return Ok(Some(index));
+        }
+    }
+    Ok(None)
+}
+
 fn joined(alloc: Global, parts: Parts) -> Result<Vec<u8>, AllocError> {
     let mut bytes = Vec::new(alloc);
     for (part, times) in parts {
@@ -252,19 +266,13 @@ const VALUES: [(File, Parts, Outcome); 58] = [
 
 #[test]
 fn files_and_lines(rt: HostRuntime) -> Result<(), Fail> {
-    for (file, parts, want) in FILES_AND_LINES {
-        let bytes = joined(rt.alloc(), parts)?;
-        assert_eq!(rt; read(rt.alloc(), file, bytes.as_slice()), want);
-    }
+    assert_eq!(rt; first_wrong(rt.alloc(), &FILES_AND_LINES)?, None);
     Ok(())
 }
 
 #[test]
 fn values(rt: HostRuntime) -> Result<(), Fail> {
-    for (file, parts, want) in VALUES {
-        let bytes = joined(rt.alloc(), parts)?;
-        assert_eq!(rt; read(rt.alloc(), file, bytes.as_slice()), want);
-    }
+    assert_eq!(rt; first_wrong(rt.alloc(), &VALUES)?, None);
     Ok(())
 }
 
@@ -291,12 +299,22 @@ const SECTIONS: [(File, u32, &str, Outcome); 9] = [
     (File::Users, 64, "[]", Some((65, BadName))),
 ];
 
+fn first_wrong_sections(
+    alloc: Global,
+    rows: &[(File, u32, &str, Outcome)],
+) -> Result<Option<usize>, AllocError> {
+    for (index, (file, count, last, want)) in rows.iter().enumerate() {
+        let text = sections(alloc, *count, last)?;
+        if read(alloc, *file, text.as_bytes()) != *want {
+            return Ok(Some(index));
+        }
+    }
+    Ok(None)
+}
+
 #[test]
 fn counts_of_sections(rt: HostRuntime) -> Result<(), Fail> {
-    for (file, count, last, want) in SECTIONS {
-        let text = sections(rt.alloc(), count, last)?;
-        assert_eq!(rt; read(rt.alloc(), file, text.as_bytes()), want);
-    }
+    assert_eq!(rt; first_wrong_sections(rt.alloc(), &SECTIONS)?, None);
     Ok(())
 }
 
