@@ -1,5 +1,5 @@
 -- The words that a line spells are printing bytes.
-use Rattle.std.proofs.Common.{◌≡◌, ℕ, Bool, true, false, cond, ◌&&◌, nat_le, nat_lt, List, [], ◌∷◌, ◌++◌, length, Result, Ok, Err, refl, ap, ◌∙◌, subst, arith}
+use Rattle.std.proofs.Common.{◌≡◌, ℕ, Bool, true, false, cond, ◌&&◌, ◌==◌, nat_le, nat_lt, List, [], ◌∷◌, ◌++◌, length, Result, Ok, Err, refl, ap, ◌∙◌, subst, arith}
 use Rattle.std.specs.List.{list_all}
 use Rattle.std.proofs.lemmas.List.Folds.{list_all-append}
 use Rattle.std.proofs.lemmas.Bool.Decides.{nat_tests}
@@ -142,6 +142,12 @@ read-keeps (c ∷ cs) s ws h is =
 
 pub printing : (line : List ℕ) (ws : List (List ℕ)) → spelled line ≡ Ok ws → list_all (list_all is_printing) ws ≡ true
 printing line ws is = read-keeps line (Between []) ws refl is
+
+-- a line without bytes has no words
+pub words_of-empty : (line : List ℕ) → (length line == 0) ≡ true → words_of line ≡ Ok []
+unfolding read
+words_of-empty [] h = refl
+words_of-empty (c ∷ cs) h = absurd (grind (arith, nat_tests))
 
 -- so are those of a line that isn't too long
 pub printing_of : (line : List ℕ) (ws : List (List ℕ)) → words_of line ≡ Ok ws → list_all (list_all is_printing) ws ≡ true

@@ -40,6 +40,9 @@ impl<'a> Line<'a> {
     pub fn read(alloc: Global, bytes: &'a [u8]) -> Result<Option<Self>, FaultKind>
         ensures { Gives (λ line. option_map_or (λ l. l.words) line []) result (words_of bytes.now) }
     {
+        if bytes.is_empty() {
+            return Ok(None);
+        }
         let words = words(alloc, bytes)?;
         if words.is_empty() {
             return Ok(None);
