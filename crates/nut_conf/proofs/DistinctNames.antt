@@ -1,0 +1,109 @@
+-- In a file that reads, no section has the name of another.
+use Rattle.std.proofs.Common.{◌≡◌, ℕ, ◌+◌, ◌==◌, Bool, true, false, cond, ◌||◌, nat_lt, nat_le, List, [], ◌∷◌, ◌++◌, length, Option, None, Some, Result, Ok, Err, refl, sym, ap, ◌∙◌, subst}
+use Rattle.std.specs.List.{list_any}
+use Rattle.std.specs.Option.{option_map_or}
+use Rattle.std.specs.Str.{bytes_eq}
+use Rattle.std.proofs.lemmas.List.Folds.{list_any-append}
+use Rattle.std.proofs.lemmas.Slice.Eq.{bytes_eq-Decides}
+use Rattle.nut_conf.specs.Faults.{◌>>=◌}
+use Rattle.nut_conf.specs.Values.{Words, name}
+use Rattle.nut_conf.specs.Settings.{fault_of}
+use Rattle.nut_conf.specs.Files.{LineFault, words_of, unless, with_line, at_line, read_lines, read_file, lines_of}
+use Rattle.nut_conf.specs.Sections.{Section, section_name, sections, last, is_name_of, opens, sectioned_fault}
+use Rattle.nut_conf.specs.Laws.{HasDistinctNames}
+use Rattle.nut_conf.specs.declared.fault.FaultKind.{FaultKind}
+use Rattle.nut_conf.specs.declared.fault.FaultKind.TheVariants.{OutsideSection, Repeated, PastLimit}
+use Rattle.nut_conf.proofs.CutLemmas.{false-from_not_true}
+use Rattle.nut_conf.proofs.SectionLemmas.{sections-opens, sections-more, with_line_in, name-same}
+
+abbrev Taken : List Words → Result (List Words) FaultKind
+Taken lines = Ok lines
+
+-- What holds before the first line and is kept by each line without a fault holds of a file that reads.
+module _ (fault : LineFault) (P : List Words → Type 0) (keeps : (before : List Words) (ws : Words) → fault before ws ≡ None → P before → P (before ++ ws ∷ [])) where
+  keeps_line : (before more : List Words) (line : List ℕ) → P before → with_line fault before line ≡ Ok more → P more
+  keeps_line before more line holds is = by_words (words_of line) is where
+    by_fault : (ws : Words) (o : Option FaultKind) → fault before ws ≡ o → unless o (before ++ ws ∷ []) ≡ Ok more → P more
+    by_fault ws None here is = let e : before ++ ws ∷ [] ≡ more = cc in subst P e (keeps before ws here holds)
+    by_fault ws (Some k) here is = absurd (cc)
+
+    by_test : (ws : Words) (b : Bool) → cond b (Taken before) (unless (fault before ws) (before ++ ws ∷ [])) ≡ Ok more → P more
+    by_test ws true is = let e : before ≡ more = cc in subst P e holds
+    by_test ws false is = by_fault ws (fault before ws) refl is
+
+    by_words : (r : Result Words FaultKind) → (r >>= (λ ws. cond (length ws == 0) (Taken before) (unless (fault before ws) (before ++ ws ∷ [])))) ≡ Ok more → P more
+    by_words (Ok ws) is = by_test ws (length ws == 0) is
+    by_words (Err e) is = absurd (cc)
+
+  keeps_lines : (lines : List (List ℕ)) (before after : List Words) (n : ℕ) → P before → read_lines fault before n lines ≡ Ok after → P after
+  unfolding read_lines
+  keeps_lines [] before after n holds is = let e : before ≡ after = cc in subst P e holds
+  keeps_lines (line ∷ lines) before after n holds is =
+      elim (with_line fault before line) as (λ r. with_line fault before line ≡ r → at_line n r (λ more. read_lines fault more (n + 1) lines) ≡ Ok after → P after) [
+        | Ok more ↦ λ here later. keeps_lines lines more after (n + 1) (keeps_line before more line holds here) later
+        | Err k ↦ λ here later. absurd (cc)
+      ] refl is
+
+  keeps_file : (file : List ℕ) (after : List Words) → P [] → read_file fault file ≡ Ok after → P after
+  keeps_file file after holds is = by_test (nat_lt 1048576 (length file)) is where
+    by_test : (b : Bool) → cond b (Err (0, PastLimit)) (read_lines fault [] 1 (lines_of file)) ≡ Ok after → P after
+    by_test true is = absurd (cc)
+    by_test false is = keeps_lines (lines_of file) [] after 1 holds is
+
+bytes_eq-swap : (a b : List ℕ) → bytes_eq a b ≡ false → bytes_eq b a ≡ false
+bytes_eq-swap a b h = false-from_not_true (bytes_eq b a) (λ t.
+    let again : bytes_eq a b ≡ true = (bytes_eq-Decides a b).1 (sym ((bytes_eq-Decides b a).0 t)) in
+    absurd (cc))
+
+left_false : (a b : Bool) → (a || b) ≡ false → a ≡ false
+left_false true b h = absurd (cc)
+left_false false b h = refl
+
+right_false : (a b : Bool) → (a || b) ≡ false → b ≡ false
+right_false true b h = absurd (cc)
+right_false false b h = h
+
+-- a new name behind the others
+distinct-push : (ss : List Section) (n : List ℕ) → HasDistinctNames ss → list_any (is_name_of n) ss ≡ false → HasDistinctNames (ss ++ (n, []) ∷ [])
+distinct-push [] n all new = (refl, tt)
+distinct-push (s ∷ ss) n all new =
+    let apart : bytes_eq s.0 n ≡ false = bytes_eq-swap n s.0 (left_false (bytes_eq n s.0) (list_any (is_name_of n) ss) new) in
+    (list_any-append (is_name_of s.0) ss ((n, []) ∷ []) ∙ rw (all.0, apart) refl, distinct-push ss n all.1 (right_false (bytes_eq n s.0) (list_any (is_name_of n) ss) new))
+
+any-with_line_in : (n : List ℕ) (ss : List Section) (ws : Words) → list_any (is_name_of n) (with_line_in ss ws) ≡ list_any (is_name_of n) ss
+any-with_line_in n [] ws = refl
+any-with_line_in n (s ∷ []) ws = refl
+any-with_line_in n (s ∷ t ∷ ss) ws = ap (λ b. bytes_eq n s.0 || b) (any-with_line_in n (t ∷ ss) ws)
+
+-- a line more in the last section
+distinct-with_line_in : (ss : List Section) (ws : Words) → HasDistinctNames ss → HasDistinctNames (with_line_in ss ws)
+distinct-with_line_in [] ws all = tt
+distinct-with_line_in (s ∷ []) ws all = (refl, tt)
+distinct-with_line_in (s ∷ t ∷ ss) ws all = (any-with_line_in s.0 (t ∷ ss) ws ∙ all.0, distinct-with_line_in (t ∷ ss) ws all.1)
+
+-- a section that may begin has a new name
+new_name : (most : ℕ) (earlier : List Section) (bytes : List ℕ) → fault_of (opens most earlier bytes) ≡ None → list_any (is_name_of bytes) earlier ≡ false
+new_name most earlier bytes is = by_name (name 32 bytes) refl is where
+  by_test : (n : List ℕ) (b : Bool) → list_any (is_name_of n) earlier ≡ b → fault_of (cond b (Err Repeated) (cond (nat_le most (length earlier)) (Err PastLimit) (Ok n))) ≡ None → list_any (is_name_of n) earlier ≡ false
+  by_test n true here is = absurd (cc)
+  by_test n false here is = here
+
+  by_name : (r : Result (List ℕ) FaultKind) → name 32 bytes ≡ r
+      → fault_of (r >>= (λ n. cond (list_any (is_name_of n) earlier) (Err Repeated) (cond (nat_le most (length earlier)) (Err PastLimit) (Ok n)))) ≡ None
+      → list_any (is_name_of bytes) earlier ≡ false
+  by_name (Ok n) here is =
+      subst (λ (b : List ℕ). list_any (is_name_of b) earlier ≡ false) (name-same 32 bytes n here) (by_test n (list_any (is_name_of n) earlier) refl is)
+  by_name (Err e) here is = absurd (cc)
+
+module _ (fault : List Words → Words → Option FaultKind) (most : ℕ) where
+  distinct_after : (before : List Words) (ws : Words) → sectioned_fault fault most before ws ≡ None → HasDistinctNames (sections before) → HasDistinctNames (sections (before ++ ws ∷ []))
+  distinct_after before ws ok all =
+      elim (section_name ws) as (λ o. section_name ws ≡ o
+      → option_map_or (λ n. fault_of (opens most (sections before) n)) o (option_map_or (λ s. fault s.1 ws) (last (sections before)) (Some OutsideSection)) ≡ None
+      → HasDistinctNames (sections (before ++ ws ∷ []))) [
+        | None ↦ λ here ok. subst HasDistinctNames (sym (sections-more before ws here)) (distinct-with_line_in (sections before) ws all)
+        | Some n ↦ λ here ok. subst HasDistinctNames (sym (sections-opens before ws n here)) (distinct-push (sections before) n all (new_name most (sections before) n ok))
+      ] refl ok
+
+  pub distinct_names : (file : List ℕ) (lines : List Words) → read_file (sectioned_fault fault most) file ≡ Ok lines → HasDistinctNames (sections lines)
+  distinct_names file lines is = keeps_file (sectioned_fault fault most) (λ before. HasDistinctNames (sections before)) distinct_after file lines tt is

@@ -1,0 +1,41 @@
+-- A file that is read line by line.
+use Rattle.std.proofs.Common.{◌≡◌, ℕ, ◌+◌, ◌≤◌, List, [], ◌∷◌, length, Ok, Err, refl, ap, arith}
+use Rattle.nut_conf.specs.Faults.{Fails}
+use Rattle.nut_conf.specs.Values.{Words}
+use Rattle.nut_conf.specs.Files.{LineFault, lines_of, with_line, at_line, read_lines, read_file, IsFaultOf}
+use Rattle.nut_conf.specs.declared.fault.FaultKind.{FaultKind}
+use Rattle.nut_conf.specs.declared.fault.FaultKind.TheVariants as kinds
+
+module _ (fault : LineFault) where
+  -- a line without a fault is behind the others
+  pub read_lines-more : (before after : List Words) (n : ℕ) (line : List ℕ) (lines : List (List ℕ)) → with_line fault before line ≡ Ok after
+      → read_lines fault before n (line ∷ lines) ≡ read_lines fault after (n + 1) lines
+  unfolding read_lines
+  read_lines-more before after n line lines h = ap (λ r. at_line n r (λ more. read_lines fault more (n + 1) lines)) h
+
+  fault_at : (before : List Words) (n : ℕ) (k : FaultKind) (line : List ℕ) (lines : List (List ℕ)) → with_line fault before line ≡ Err k
+      → read_lines fault before n (line ∷ lines) ≡ Err (n, k)
+  unfolding read_lines
+  fault_at before n k line lines h = ap (λ r. at_line n r (λ more. read_lines fault more (n + 1) lines)) h
+
+  -- a fault ends the reading
+  pub read_lines-fault : (before : List Words) (n : ℕ) (k : FaultKind) (line : List ℕ) (lines : List (List ℕ)) → Fails k (with_line fault before line)
+      → IsFaultOf n k (read_lines fault before n (line ∷ lines))
+  read_lines-fault before n kinds.Memory line lines h = tt
+  read_lines-fault before n kinds.Unreadable line lines h = fault_at before n _ line lines h
+  read_lines-fault before n kinds.OutsideSection line lines h = fault_at before n _ line lines h
+  read_lines-fault before n kinds.UnknownDirective line lines h = fault_at before n _ line lines h
+  read_lines-fault before n kinds.BadForm line lines h = fault_at before n _ line lines h
+  read_lines-fault before n kinds.Repeated line lines h = fault_at before n _ line lines h
+  read_lines-fault before n kinds.BadNumber line lines h = fault_at before n _ line lines h
+  read_lines-fault before n kinds.BadName line lines h = fault_at before n _ line lines h
+  read_lines-fault before n kinds.PastLimit line lines h = fault_at before n _ line lines h
+  read_lines-fault before n kinds.UnknownWord line lines h = fault_at before n _ line lines h
+
+  pub read_lines-done : (before : List Words) (n : ℕ) → read_lines fault before n [] ≡ Ok before
+  unfolding read_lines
+  read_lines-done before n = refl
+
+  -- a file that isn't too long is read by its lines
+  pub read_file-lines : (bytes : List ℕ) → length bytes ≤ 1048576 → read_file fault bytes ≡ read_lines fault [] 1 (lines_of bytes)
+  read_file-lines bytes short = grind arith

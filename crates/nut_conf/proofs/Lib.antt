@@ -1,0 +1,14 @@
+pub mod Numbers
+pub mod CutLemmas
+pub mod PrintingWords
+pub mod FileLemmas
+pub mod FirstFaultLemmas
+pub mod BlankLines
+pub mod SlotLemmas
+pub mod DraftLemmas
+pub mod SectionLemmas
+pub mod DistinctNames
+pub mod NameLookup
+pub mod FlagLemmas
+pub mod TargetLemmas
+pub mod UpsmonLemmas

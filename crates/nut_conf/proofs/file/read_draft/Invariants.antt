@@ -1,0 +1,17 @@
+use Rattle.std.proofs.Common.{◌≡◌, ◌+◌, ◌≤◌, List, [], length}
+use Rattle.nut_conf.specs.Values.{Words}
+use Rattle.nut_conf.specs.Files.{lines_of, read_lines}
+use Rattle.nut_conf.proofs.CutLemmas.{pending, left}
+use Rattle.nut_conf.proofs.file.read_draft.Given as goal
+
+-- what the lines so far set, with the lines that are left, completes the file
+abbrev pub invariant-loop-rest : goal.invariant-loop-rest
+invariant-loop-rest g l = (before : List Words) × record {
+  holds : g.D.Draft.Holds l.draft before;
+  completes : read_lines g.D.Draft.fault before (l.number + 1) (pending 10 l.rest) ≡ read_lines g.D.Draft.fault [] 1 (lines_of l.bytes);
+  room : l.number + left l.rest ≤ length l.bytes + 1;
+  short : length l.bytes ≤ 1048576;
+}
+
+abbrev pub decreases-loop-rest : goal.decreases-loop-rest
+decreases-loop-rest g l = left l.rest

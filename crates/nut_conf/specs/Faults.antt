@@ -1,0 +1,25 @@
+-- Reading that stops at the first fault, and what a call owes of it.
+use Rattle.std.specs.Prelude.{◌≡◌, Result, Ok, Err}
+use Rattle.nut_conf.specs.declared.fault.FaultKind.{FaultKind}
+use Rattle.nut_conf.specs.declared.fault.FaultKind.TheVariants as kinds
+
+-- reads on with what was read, or keeps the fault
+infixl 10 ◌>>=◌
+abbrev pub ◌>>=◌ : {A B E : Type 0} → Result A E → (A → Result B E) → Result B E
+(Ok x) >>= f = f x
+(Err e) >>= f = Err e
+
+-- What a call answered, seen by view, is what reading gives.
+abbrev pub Reads : {X Y E : Type 0} → (X → Y) → Result X E → Result Y E → Type 0
+Reads view (Ok x) reading = reading ≡ Ok (view x)
+Reads view (Err e) reading = reading ≡ Err e
+
+-- Reading gives this fault, unless it is want of memory.
+abbrev pub Fails : {Y : Type 0} → FaultKind → Result Y FaultKind → Type 0
+Fails kinds.Memory reading = Unit {0}
+Fails e reading = reading ≡ Err e
+
+-- What a call answered is what reading gives, unless memory ran out.
+abbrev pub Gives : {X Y : Type 0} → (X → Y) → Result X FaultKind → Result Y FaultKind → Type 0
+Gives view (Ok x) reading = reading ≡ Ok (view x)
+Gives view (Err e) reading = Fails e reading

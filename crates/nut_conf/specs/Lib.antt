@@ -1,0 +1,15 @@
+pub mod Faults
+pub mod Values
+pub mod Hosts
+pub mod Settings
+pub mod Drafts
+pub mod Files
+pub mod Sections
+pub mod Ups
+pub mod Users
+pub mod Upsd
+pub mod Target
+pub mod Notices
+pub mod Upsmon
+pub mod FirstFault
+pub mod Laws

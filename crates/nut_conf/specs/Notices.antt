@@ -1,0 +1,114 @@
+-- Types of notices: their words, their texts and what is done with them.
+use Rattle.std.specs.Prelude.{◌≡◌, ℕ, Bool, true, false, ◌||◌, ◌==◌, List, [], ◌∷◌, map, codes, length, if◌then◌else◌, Result, Ok, Err}
+use Rattle.std.specs.List.{list_all, list_any, slice_split}
+use Rattle.std.specs.Str.{bytes_eq}
+use Rattle.nut_conf.specs.Faults.{◌>>=◌}
+use Rattle.nut_conf.specs.Values.{Words, nth, text, one_of}
+use Rattle.nut_conf.specs.Settings.{Setting, Message, Flags}
+use Rattle.nut_conf.specs.declared.fault.FaultKind.{FaultKind}
+use Rattle.nut_conf.specs.declared.fault.FaultKind.TheVariants.{BadForm, UnknownWord}
+use Rattle.nut_conf.specs.declared.notice.Notice.{Notice}
+use Rattle.nut_conf.specs.declared.notice.Notice.TheVariants as notices
+use Rattle.nut_conf.specs.declared.notice.NoticeText.{NoticeText}
+use Rattle.nut_conf.specs.declared.notice.NoticeFlags.{NoticeFlags}
+use Rattle.nut_conf.specs.declared.notice.NoticeHandling.{NoticeHandling}
+
+-- the word of a type of notice
+abbrev pub notice_word : Notice → List ℕ
+notice_word notices.Online = codes "ONLINE"
+notice_word notices.Onbatt = codes "ONBATT"
+notice_word notices.Lowbatt = codes "LOWBATT"
+notice_word notices.Fsd = codes "FSD"
+notice_word notices.Commok = codes "COMMOK"
+notice_word notices.Commbad = codes "COMMBAD"
+notice_word notices.Shutdown = codes "SHUTDOWN"
+notice_word notices.Replbatt = codes "REPLBATT"
+notice_word notices.Nocomm = codes "NOCOMM"
+
+-- the words of all types
+abbrev pub notice_words : Words
+notice_words = map notice_word (notices.Online ∷ notices.Onbatt ∷ notices.Lowbatt ∷ notices.Fsd ∷ notices.Commok ∷ notices.Commbad ∷ notices.Shutdown ∷ notices.Replbatt ∷ notices.Nocomm ∷ [])
+
+-- the text of a notice where none is set; the first `%s` stands for the UPS
+abbrev pub default_text : Notice → List ℕ
+default_text notices.Online = codes "UPS %s on line power"
+default_text notices.Onbatt = codes "UPS %s on battery"
+default_text notices.Lowbatt = codes "UPS %s battery is low"
+default_text notices.Fsd = codes "UPS %s: forced shutdown in progress"
+default_text notices.Commok = codes "Communications with UPS %s established"
+default_text notices.Commbad = codes "Communications with UPS %s lost"
+default_text notices.Shutdown = codes "Auto logout and shutdown proceeding"
+default_text notices.Replbatt = codes "UPS %s battery needs to be replaced"
+default_text notices.Nocomm = codes "UPS %s is unavailable"
+
+-- a type of notice and its text
+abbrev pub message_value : Words → Result Setting FaultKind
+message_value vs =
+    if length vs == 2 then one_of notice_words (nth vs 0) >>= (λ n. text 0 128 (nth vs 1) >>= (λ t. Ok (Message n t)))
+    else Err BadForm
+
+-- the text of a type of notice
+abbrev pub message_setting : NoticeText → Setting
+message_setting m = Message (notice_word m.notice) m.text.bytes.items
+
+-- the words of the flags
+abbrev pub flag_words : Words
+flag_words = codes "SYSLOG" ∷ codes "WALL" ∷ codes "EXEC" ∷ codes "IGNORE" ∷ []
+
+-- what stands between the plus signs
+abbrev pub plus_parts : List ℕ → Words
+plus_parts bytes = slice_split (λ c. c == 43) bytes
+
+-- the flags that are named in these words
+abbrev pub flags_in : Words → NoticeFlags
+flags_in ws = record {
+  syslog = list_any (bytes_eq (codes "SYSLOG")) ws;
+  wall = list_any (bytes_eq (codes "WALL")) ws;
+  exec = list_any (bytes_eq (codes "EXEC")) ws;
+  ignore = list_any (bytes_eq (codes "IGNORE")) ws;
+}
+
+-- flags with that of one word more
+abbrev pub with_flag : List ℕ → NoticeFlags → NoticeFlags
+with_flag w f = record {
+  syslog = f.syslog || bytes_eq (codes "SYSLOG") w;
+  wall = f.wall || bytes_eq (codes "WALL") w;
+  exec = f.exec || bytes_eq (codes "EXEC") w;
+  ignore = f.ignore || bytes_eq (codes "IGNORE") w;
+}
+
+-- the word is that of a flag
+abbrev pub is_flag : List ℕ → Bool
+is_flag w = list_any (bytes_eq w) flag_words
+
+-- flags, with plus signs between them
+abbrev pub flags : List ℕ → Result NoticeFlags FaultKind
+flags bytes = if list_all is_flag (plus_parts bytes) then Ok (flags_in (plus_parts bytes)) else Err UnknownWord
+
+-- a type of notice and its flags
+abbrev pub flags_value : Words → Result Setting FaultKind
+flags_value vs =
+    if length vs == 2 then one_of notice_words (nth vs 0) >>= (λ n. flags (nth vs 1) >>= (λ f. Ok (Flags n f)))
+    else Err BadForm
+
+-- the flags of a type of notice
+abbrev pub handling_setting : NoticeHandling → Setting
+handling_setting h = Flags (notice_word h.notice) h.flags
+
+-- two lines on one type of notice
+abbrev pub same_notice : Setting → Setting → Bool
+same_notice (Message n _) (Message m _) = bytes_eq n m
+same_notice (Flags n _) (Flags m _) = bytes_eq n m
+same_notice _ _ = false
+
+-- the flags of a notice where none are set: `SYSLOG+WALL`
+abbrev pub default_flags : NoticeFlags
+default_flags = record { syslog = true; wall = true; exec = false; ignore = false }
+
+-- the text is that of this type of notice
+abbrev pub is_text_of : Notice → NoticeText → Bool
+is_text_of n m = bytes_eq (notice_word n) (notice_word m.notice)
+
+-- the flags are those of this type of notice
+abbrev pub is_handling_of : Notice → NoticeHandling → Bool
+is_handling_of n h = bytes_eq (notice_word n) (notice_word h.notice)

@@ -1,0 +1,75 @@
+-- How the values on a line are read: names, texts and numbers.
+use Rattle.std.specs.Prelude.{ℕ, ◌+◌, ◌-◌, ◌*◌, ◌==◌, Bool, not, ◌||◌, ◌&&◌, List, [], length, drop, fold, nat_le, nat_lt, if◌then◌else◌, slice_index_or, Result, Ok, Err, codes}
+use Rattle.std.specs.List.{list_all, list_any}
+use Rattle.std.specs.Str.{bytes_eq}
+use Rattle.nut_words.specs.Spelling.{is_printing}
+use Rattle.nut_conf.specs.declared.values.Form.{Form}
+use Rattle.nut_conf.specs.declared.values.Form.TheVariants as forms
+use Rattle.nut_conf.specs.declared.fault.FaultKind.{FaultKind}
+use Rattle.nut_conf.specs.declared.fault.FaultKind.TheVariants.{BadForm, BadNumber, BadName, PastLimit, UnknownWord}
+
+-- the words of a line
+abbrev pub Words : Type 0
+Words = List (List ℕ)
+
+-- the word at a place, counted from 0
+abbrev pub nth : Words → ℕ → List ℕ
+nth ws k = slice_index_or ws k []
+
+-- the values of a line with these words: what follows the directive, or the directive and `=`
+abbrev pub values_of : Form → Words → Result Words FaultKind
+values_of forms.Plain ws = Ok (drop 1 ws)
+values_of forms.Assigned ws =
+    if nat_lt (length ws) 2 || not (bytes_eq (nth ws 1) (codes "=")) then Err BadForm else Ok (drop 2 ws)
+
+-- the only value
+abbrev pub one : Words → Result (List ℕ) FaultKind
+one vs = if length vs == 1 then Ok (nth vs 0) else Err BadForm
+
+-- `0` to `9`
+abbrev pub is_digit : ℕ → Bool
+is_digit c = nat_le 48 c && nat_le c 57
+
+-- `A` to `Z` and `a` to `z`
+abbrev pub is_letter : ℕ → Bool
+is_letter c = (nat_le 65 c && nat_le c 90) || (nat_le 97 c && nat_le c 122)
+
+-- letters, digits, `.`, `_` and `-`
+abbrev pub is_name_byte : ℕ → Bool
+is_name_byte c = is_letter c || is_digit c || (c == 46) || (c == 95) || (c == 45)
+
+-- a name of at most so many bytes
+abbrev pub name : ℕ → List ℕ → Result (List ℕ) FaultKind
+name most bytes =
+    if (length bytes == 0) || not (list_all is_name_byte bytes) then Err BadName
+    else if nat_lt most (length bytes) then Err PastLimit
+    else Ok bytes
+
+-- what every name is that was read: 1 to so many bytes of a name
+abbrev pub is_name : ℕ → List ℕ → Bool
+is_name most bytes = nat_le 1 (length bytes) && nat_le (length bytes) most && list_all is_name_byte bytes
+
+-- a text of so many bytes
+abbrev pub text : ℕ → ℕ → List ℕ → Result (List ℕ) FaultKind
+text least most bytes = if nat_lt (length bytes) least || nat_lt most (length bytes) then Err PastLimit else Ok bytes
+
+-- what every text is that was read: so many printing bytes
+abbrev pub is_text : ℕ → ℕ → List ℕ → Bool
+is_text least most bytes = nat_le least (length bytes) && nat_le (length bytes) most && list_all is_printing bytes
+
+-- the number that these digits write
+abbrev pub decimal : List ℕ → ℕ
+decimal digits = fold (λ n c. n * 10 + (c - 48)) 0 digits
+
+-- one to nine digits
+abbrev pub is_numeral : List ℕ → Bool
+is_numeral bytes = nat_le 1 (length bytes) && nat_le (length bytes) 9 && list_all is_digit bytes
+
+-- a numeral within these bounds
+abbrev pub number : ℕ → ℕ → List ℕ → Result ℕ FaultKind
+number least most bytes =
+    if is_numeral bytes && nat_le least (decimal bytes) && nat_le (decimal bytes) most then Ok (decimal bytes) else Err BadNumber
+
+-- one of these words
+abbrev pub one_of : Words → List ℕ → Result (List ℕ) FaultKind
+one_of words bytes = if list_any (bytes_eq bytes) words then Ok bytes else Err UnknownWord

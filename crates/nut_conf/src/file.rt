@@ -1,0 +1,49 @@
+//! A file by its lines.
+ghost use Rattle.std.specs.Prelude.{◌≡◌, List, Ok, MatchResult};
+ghost use Rattle.nut_conf.specs.Faults.{Fails};
+ghost use Rattle.nut_conf.specs.Values.{Words as LineWords};
+ghost use Rattle.nut_conf.specs.Files.{Means, read_file, with_line};
+
+use crate::cut::cut;
+use crate::draft::Draft;
+use crate::fault::{ConfFault, FaultKind};
+use crate::line::Line;
+use std::alloc::Global;
+
+/// How many bytes a file has at most.
+const FILE_MAX: usize = 1_048_576;
+
+/// Takes in a line.
+fn take_line<D: Draft>(alloc: Global, draft: &mut D, bytes: &[u8]) -> Result<(), FaultKind>
+    ensures { (before : List LineWords) → D.Holds draft.old before
+        → MatchResult result (λ _. (after : List LineWords) × (with_line D.fault before bytes.now ≡ Ok after) × D.Holds draft.new after) (λ k. Fails k (with_line D.fault before bytes.now)) }
+{
+    match Line::read(alloc, bytes)? {
+        Some(line) => draft.put(&line),
+        None => Ok(()),
+    }
+}
+
+/// Reads a file, line by line, to its end or to its first fault.
+pub fn read_draft<D: Draft>(alloc: Global, bytes: &[u8]) -> Result<D, ConfFault>
+    ensures { Means (read_file D.fault bytes.now) D.Holds result }
+{
+    if bytes.len() > FILE_MAX {
+        return Err(ConfFault {
+            line: 0,
+            kind: FaultKind::PastLimit,
+        });
+    }
+    let mut draft = D::new(alloc);
+    let mut rest = Some(bytes);
+    let mut number = 0;
+    while let Some(text) = rest {
+        let (line, behind) = cut(b'\n', text);
+        rest = behind;
+        number += 1;
+        if let Err(kind) = take_line(alloc, &mut draft, line) {
+            return Err(ConfFault { line: number, kind });
+        }
+    }
+    Ok(draft)
+}

@@ -1,0 +1,76 @@
+//! The words of a line.
+ghost use Rattle.std.specs.Prelude.{◌≡◌, ◌<◌, [], IsTrue, length, slice_index_or};
+ghost use Rattle.std.specs.List.{list_all};
+ghost use Rattle.std.specs.Option.{option_map_or};
+ghost use Rattle.nut_words.specs.Spelling.{is_printing};
+ghost use Rattle.nut_conf.specs.Faults.{Gives};
+ghost use Rattle.nut_conf.specs.Files.{words_of};
+
+use crate::fault::FaultKind;
+use nut_words::{WordFault, Words, split};
+use std::alloc::Global;
+
+/// How many bytes a line has at most.
+const LINE_MAX: usize = 512;
+
+/// The words of a line that has some.
+#[derive(Drop)]
+pub struct Line<'a> {
+    pub words: Words<'a>,
+    ghost some: { 0 < length words },
+    ghost printing: { IsTrue (list_all (list_all is_printing) words) },
+}
+
+/// Reads the words of a line.
+fn words(alloc: Global, bytes: &[u8]) -> Result<Words<'_>, FaultKind>
+    ensures { Gives (λ words. words) result (words_of bytes.now) }
+{
+    if bytes.len() > LINE_MAX {
+        return Err(FaultKind::PastLimit);
+    }
+    match split(alloc, bytes) {
+        Ok(words) => Ok(words),
+        Err(WordFault::Memory) => Err(FaultKind::Memory),
+        Err(_) => Err(FaultKind::Unreadable),
+    }
+}
+
+impl<'a> Line<'a> {
+    /// Reads a line, or None where it has no words.
+    pub fn read(alloc: Global, bytes: &'a [u8]) -> Result<Option<Self>, FaultKind>
+        ensures { Gives (λ line. option_map_or (λ l. l.words) line []) result (words_of bytes.now) }
+    {
+        if bytes.is_empty() {
+            return Ok(None);
+        }
+        let words = words(alloc, bytes)?;
+        if words.is_empty() {
+            return Ok(None);
+        }
+        Ok(Some(Line { words }))
+    }
+
+    /// How many words there are, at least one.
+    pub fn len(&self) -> usize
+        ensures len { result ≡ length self.now.words }
+        ensures some { 0 < result }
+    {
+        self.words.len()
+    }
+
+    /// A word, counted from 0.
+    pub fn word(&self, index: usize) -> &[u8]
+        requires { index < length self.now.words }
+        ensures word { result.now ≡ slice_index_or self.now.words index [] }
+        ensures printing { IsTrue (list_all is_printing result.now) }
+    {
+        self.words.get(index)
+    }
+
+    /// The word of the directive.
+    pub fn directive(&self) -> &[u8]
+        ensures { result.now ≡ slice_index_or self.now.words 0 [] }
+    {
+        self.words.get(0)
+    }
+}

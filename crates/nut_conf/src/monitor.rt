@@ -1,0 +1,98 @@
+//! The UPSes that a monitor watches.
+ghost use Rattle.std.specs.Prelude.{◌≡◌, ◌==◌};
+ghost use Rattle.std.specs.List.{list_any};
+ghost use Rattle.nut_conf.specs.Faults.{Reads};
+ghost use Rattle.nut_conf.specs.Target.{target_view};
+ghost use Rattle.nut_conf.specs.Upsmon.{monitored_target, written_target};
+
+use crate::fault::FaultKind;
+use crate::slot::{Clashes, FromValues};
+use crate::target::Target;
+use crate::text::{Name, Number, Text};
+use crate::users::Role;
+use crate::values::Values;
+use arrayvec::ArrayVec;
+
+/// How long a target is at most: a UPS of 32 bytes, a host of 64, a port of 9 digits, `@` and `:`.
+const TARGET_MAX: usize = 107;
+
+/// A UPS that is watched.
+#[derive(Drop)]
+pub struct Monitored {
+    /// The target as it is written in the file, as notices name the UPS.
+    pub written: ArrayVec<u8, TARGET_MAX>,
+    /// What the target names.
+    pub target: Target,
+    /// How many power supplies of this machine the UPS feeds.
+    pub power: Number<0, 1000>,
+    pub user: Name<32>,
+    pub password: Text<1, 128>,
+    pub role: Role,
+}
+
+fn has_at(bytes: &[u8]) -> bool
+    ensures { result ≡ list_any (λ c. c == 64) bytes.now }
+{
+    bytes.iter().any(|b| *b == b'@')
+}
+
+/// A target that names its host.
+fn read_target(bytes: &[u8]) -> Result<Target, FaultKind>
+    ensures { Reads target_view result (monitored_target bytes.now) }
+{
+    if !has_at(bytes) {
+        return Err(FaultKind::BadName);
+    }
+    match Target::read(bytes) {
+        Ok(target) => Ok(target),
+        Err(_) => Err(FaultKind::BadName),
+    }
+}
+
+/// A target as it is written, and what it names.
+fn read_written(bytes: &[u8]) -> Result<(ArrayVec<u8, TARGET_MAX>, Target), FaultKind>
+    ensures { Reads (λ t. (t.0.items, target_view t.1)) result (written_target bytes.now) }
+{
+    let target = read_target(bytes)?;
+    match ArrayVec::try_from(bytes) {
+        Ok(written) => Ok((written, target)),
+        Err(_) => unreachable!(),
+    }
+}
+
+impl FromValues for Monitored {
+    ghost use Rattle.nut_conf.specs.Upsmon.{monitor_setting, monitor_value};
+
+    ghost setting = { monitor_setting };
+
+    ghost reads = { monitor_value };
+
+    fn from_values(values: &Values<'_, '_>) -> Result<Self, FaultKind> {
+        if values.len() != 5 {
+            return Err(FaultKind::BadForm);
+        }
+        let (written, target) = read_written(values.get(0))?;
+        let power = Number::read(values.get(1))?;
+        let user = Name::read(values.get(2))?;
+        let password = Text::read(values.get(3))?;
+        let role = Role::read(values.get(4))?;
+        Ok(Monitored {
+            written,
+            target,
+            power,
+            user,
+            password,
+            role,
+        })
+    }
+}
+
+impl Clashes for Monitored {
+    ghost use Rattle.nut_conf.specs.Upsmon.{same_target};
+
+    ghost clashes = { same_target };
+
+    fn clashes(&self, other: &Self) -> bool {
+        self.target == other.target
+    }
+}

@@ -1,0 +1,39 @@
+//! The lines of upsmon.conf that name a UPS.
+ghost use Rattle.std.specs.Prelude.{◌≤◌, length};
+
+use crate::fault::FaultKind;
+use crate::line::Line;
+use crate::monitor::Monitored;
+use crate::slot::listed_apart;
+use crate::values::Form;
+use std::alloc::Global;
+
+/// At most 32 of them, in the order of the file, no two with the same target.
+#[derive(Drop)]
+pub struct Monitors {
+    pub lines: Vec<Monitored>,
+    pub ghost few: { length lines.items ≤ 32 },
+}
+
+impl Monitors {
+    ghost use Rattle.std.specs.Prelude.{◌≡◌, [], Some, map};
+    ghost use Rattle.nut_conf.specs.Settings.{Puts, distinct};
+    ghost use Rattle.nut_conf.specs.Upsmon.{monitor_setting, monitor_value, same_target};
+    ghost use Rattle.nut_conf.specs.declared.values.Form.TheVariants.{Plain};
+
+    /// No lines.
+    pub(crate) fn new(alloc: Global) -> Self
+        ensures { result.lines.items ≡ [] }
+    {
+        Monitors {
+            lines: Vec::new(alloc),
+        }
+    }
+
+    /// Puts one more line behind the others.
+    pub(crate) fn put(&mut self, line: &Line<'_>) -> Result<(), FaultKind>
+        ensures { Puts (distinct same_target (Some 32) Plain monitor_value) (map monitor_setting self.old.lines.items) line.now.words result (map monitor_setting self.new.lines.items) }
+    {
+        listed_apart(&mut self.lines, Form::Plain, line, Some(32))
+    }
+}

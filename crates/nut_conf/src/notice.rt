@@ -1,0 +1,264 @@
+//! What a monitor tells, and how.
+ghost use Rattle.std.specs.Prelude.{◌≡◌, [], true, false, MatchOption, MatchResult};
+ghost use Rattle.std.specs.List.{find, list_any};
+ghost use Rattle.std.specs.Option.{option_copied};
+ghost use Rattle.std.specs.Str.{bytes_eq};
+ghost use Rattle.nut_conf.specs.Faults.{Reads};
+ghost use Rattle.nut_conf.specs.Values.{one_of};
+ghost use Rattle.nut_conf.specs.Notices.{notice_word, notice_words, default_text as usual_text, flags, flags_in, with_flag, is_flag as flag_word, default_flags as usual_flags, is_text_of, is_handling_of};
+
+use crate::cut::cut;
+use crate::fault::FaultKind;
+use crate::slot::{Clashes, FromValues};
+use crate::text::Text;
+use crate::values::Values;
+
+/// A type of notice.
+#[derive(Clone, Copy, Debug, PartialEq, Eq)]
+pub enum Notice {
+    Online,
+    Onbatt,
+    Lowbatt,
+    Fsd,
+    Commok,
+    Commbad,
+    Shutdown,
+    Replbatt,
+    Nocomm,
+}
+
+impl Notice {
+    fn of(word: &[u8]) -> Option<Self>
+        ensures { MatchOption result (list_any (bytes_eq word.now) notice_words ≡ false) (λ n. word.now ≡ notice_word n) }
+    {
+        match word {
+            b"ONLINE" => Some(Notice::Online),
+            b"ONBATT" => Some(Notice::Onbatt),
+            b"LOWBATT" => Some(Notice::Lowbatt),
+            b"FSD" => Some(Notice::Fsd),
+            b"COMMOK" => Some(Notice::Commok),
+            b"COMMBAD" => Some(Notice::Commbad),
+            b"SHUTDOWN" => Some(Notice::Shutdown),
+            b"REPLBATT" => Some(Notice::Replbatt),
+            b"NOCOMM" => Some(Notice::Nocomm),
+            _ => None,
+        }
+    }
+
+    fn read(word: &[u8]) -> Result<Self, FaultKind>
+        ensures { Reads notice_word result (one_of notice_words word.now) }
+    {
+        match Notice::of(word) {
+            Some(notice) => Ok(notice),
+            None => Err(FaultKind::UnknownWord),
+        }
+    }
+
+    /// The word of the type, as in upsmon.conf.
+    pub fn word(self) -> &'static [u8]
+        ensures { result.now ≡ notice_word self }
+    {
+        match self {
+            Notice::Online => b"ONLINE",
+            Notice::Onbatt => b"ONBATT",
+            Notice::Lowbatt => b"LOWBATT",
+            Notice::Fsd => b"FSD",
+            Notice::Commok => b"COMMOK",
+            Notice::Commbad => b"COMMBAD",
+            Notice::Shutdown => b"SHUTDOWN",
+            Notice::Replbatt => b"REPLBATT",
+            Notice::Nocomm => b"NOCOMM",
+        }
+    }
+
+    /// The text where none is set. Its first `%s` stands for the UPS.
+    pub fn default_text(self) -> &'static [u8]
+        ensures { result.now ≡ usual_text self }
+    {
+        match self {
+            Notice::Online => b"UPS %s on line power",
+            Notice::Onbatt => b"UPS %s on battery",
+            Notice::Lowbatt => b"UPS %s battery is low",
+            Notice::Fsd => b"UPS %s: forced shutdown in progress",
+            Notice::Commok => b"Communications with UPS %s established",
+            Notice::Commbad => b"Communications with UPS %s lost",
+            Notice::Shutdown => b"Auto logout and shutdown proceeding",
+            Notice::Replbatt => b"UPS %s battery needs to be replaced",
+            Notice::Nocomm => b"UPS %s is unavailable",
+        }
+    }
+}
+
+/// The text of a type of notice.
+#[derive(Debug, PartialEq, Eq, Drop)]
+pub struct NoticeText {
+    pub notice: Notice,
+    pub text: Text<0, 128>,
+}
+
+impl NoticeText {
+    fn is_of(&self, notice: Notice) -> bool
+        ensures { result ≡ is_text_of notice self.now }
+    {
+        notice.word() == self.notice.word()
+    }
+}
+
+/// The text of a type of notice, where one is set.
+pub fn text_of(texts: &[NoticeText], notice: Notice) -> Option<&NoticeText>
+    ensures { option_copied result ≡ find (is_text_of notice) texts.now }
+{
+    texts.iter().find(|text| text.is_of(notice))
+}
+
+impl FromValues for NoticeText {
+    ghost use Rattle.nut_conf.specs.Notices.{message_setting, message_value};
+
+    ghost setting = { message_setting };
+
+    ghost reads = { message_value };
+
+    fn from_values(values: &Values<'_, '_>) -> Result<Self, FaultKind> {
+        if values.len() != 2 {
+            return Err(FaultKind::BadForm);
+        }
+        let notice = Notice::read(values.get(0))?;
+        let text = Text::read(values.get(1))?;
+        Ok(NoticeText { notice, text })
+    }
+}
+
+impl Clashes for NoticeText {
+    ghost use Rattle.nut_conf.specs.Notices.{same_notice};
+
+    ghost clashes = { same_notice };
+
+    fn clashes(&self, other: &Self) -> bool {
+        self.notice.word() == other.notice.word()
+    }
+}
+
+fn is_flag(word: &[u8]) -> bool
+    ensures { result ≡ flag_word word.now }
+{
+    word == b"SYSLOG".as_slice()
+        || word == b"WALL".as_slice()
+        || word == b"EXEC".as_slice()
+        || word == b"IGNORE".as_slice()
+}
+
+/// What is done with a notice: each flag that was named.
+#[derive(Clone, Copy, Debug, PartialEq, Eq)]
+pub struct NoticeFlags {
+    /// It is printed.
+    pub syslog: bool,
+    /// It is printed.
+    pub wall: bool,
+    /// NOTIFYCMD is run with it.
+    pub exec: bool,
+    /// It asks for nothing.
+    pub ignore: bool,
+}
+
+impl NoticeFlags {
+    /// What is done where no flags are set: `SYSLOG+WALL`.
+    pub fn default_flags() -> Self
+        ensures { result ≡ usual_flags }
+    {
+        NoticeFlags {
+            syslog: true,
+            wall: true,
+            exec: false,
+            ignore: false,
+        }
+    }
+
+    fn none() -> Self
+        ensures { result ≡ flags_in [] }
+    {
+        NoticeFlags {
+            syslog: false,
+            wall: false,
+            exec: false,
+            ignore: false,
+        }
+    }
+
+    /// Adds the flag with this word; `UnknownWord` where there is none.
+    fn add(&mut self, word: &[u8]) -> Result<(), FaultKind>
+        ensures { MatchResult result (λ _. (flag_word word.now ≡ true) × (self.new ≡ with_flag word.now self.old))
+            (λ fault. (flag_word word.now ≡ false) × (fault ≡ FaultKind.UnknownWord)) }
+    {
+        if !is_flag(word) {
+            return Err(FaultKind::UnknownWord);
+        }
+        self.syslog = self.syslog || b"SYSLOG".as_slice() == word;
+        self.wall = self.wall || b"WALL".as_slice() == word;
+        self.exec = self.exec || b"EXEC".as_slice() == word;
+        self.ignore = self.ignore || b"IGNORE".as_slice() == word;
+        Ok(())
+    }
+
+    /// Reads flags with plus signs between them; `UnknownWord` for anything else.
+    pub fn read(bytes: &[u8]) -> Result<Self, FaultKind>
+        ensures { Reads (λ f. f) result (flags bytes.now) }
+    {
+        let mut flags = NoticeFlags::none();
+        let mut rest = Some(bytes);
+        while let Some(text) = rest {
+            let (word, behind) = cut(b'+', text);
+            rest = behind;
+            flags.add(word)?;
+        }
+        Ok(flags)
+    }
+}
+
+/// The flags of a type of notice.
+#[derive(Clone, Copy, Debug, PartialEq, Eq)]
+pub struct NoticeHandling {
+    pub notice: Notice,
+    pub flags: NoticeFlags,
+}
+
+impl NoticeHandling {
+    fn is_of(&self, notice: Notice) -> bool
+        ensures { result ≡ is_handling_of notice self.now }
+    {
+        notice.word() == self.notice.word()
+    }
+}
+
+/// The flags of a type of notice, where some are set.
+pub fn handling_of(handlings: &[NoticeHandling], notice: Notice) -> Option<&NoticeHandling>
+    ensures { option_copied result ≡ find (is_handling_of notice) handlings.now }
+{
+    handlings.iter().find(|handling| handling.is_of(notice))
+}
+
+impl FromValues for NoticeHandling {
+    ghost use Rattle.nut_conf.specs.Notices.{handling_setting, flags_value};
+
+    ghost setting = { handling_setting };
+
+    ghost reads = { flags_value };
+
+    fn from_values(values: &Values<'_, '_>) -> Result<Self, FaultKind> {
+        if values.len() != 2 {
+            return Err(FaultKind::BadForm);
+        }
+        let notice = Notice::read(values.get(0))?;
+        let flags = NoticeFlags::read(values.get(1))?;
+        Ok(NoticeHandling { notice, flags })
+    }
+}
+
+impl Clashes for NoticeHandling {
+    ghost use Rattle.nut_conf.specs.Notices.{same_notice};
+
+    ghost clashes = { same_notice };
+
+    fn clashes(&self, other: &Self) -> bool {
+        self.notice.word() == other.notice.word()
+    }
+}

@@ -1,0 +1,86 @@
+//! Files in sections.
+ghost use Rattle.std.specs.Prelude.{◌≡◌, ◌≤◌, ◌∷◌, ◌++◌, [], length};
+ghost use Rattle.std.specs.Option.{option_map};
+ghost use Rattle.nut_conf.specs.Sections.{section_name as name_in};
+
+use crate::draft::Draft;
+use crate::fault::FaultKind;
+use crate::line::Line;
+use crate::text::Name;
+use indexmap::IndexMap;
+use std::alloc::Global;
+
+/// At most `MOST` sections, by name, in the order of the file.
+#[derive(Drop)]
+pub struct Sections<S, const MOST: usize> {
+    pub by_name: IndexMap<Name<32>, S>,
+    alloc: Global,
+    pub ghost few: { length by_name.entries ≤ MOST },
+}
+
+/// The name in a section line.
+fn section_name<'a>(line: &'a Line<'_>) -> Option<&'a [u8]>
+    ensures { option_map (λ n. n.now) result ≡ name_in line.now.words }
+{
+    if line.len() != 1 {
+        return None;
+    }
+    let word = line.word(0);
+    let len = word.len();
+    if len >= 2 && word[0] == b'[' && word[len - 1] == b']' {
+        Some(&word[1..len - 1])
+    } else {
+        None
+    }
+}
+
+impl<S: Draft, const MOST: usize> Sections<S, MOST> {
+    ghost use Rattle.nut_conf.specs.Drafts.{Takes};
+    ghost use Rattle.nut_conf.specs.Settings.{fault_of};
+    ghost use Rattle.nut_conf.specs.Sections.{AllHold, Section, opens};
+    ghost use Rattle.std.specs.Prelude.{List};
+
+    /// Begins a section.
+    fn open(&mut self, bytes: &[u8]) -> Result<(), FaultKind>
+        ensures { (earlier : List Section) → AllHold S.Holds self.old.by_name.entries earlier
+            → Takes (fault_of (opens MOST earlier bytes.now)) result (AllHold S.Holds self.new.by_name.entries (earlier ++ (bytes.now, []) ∷ [])) }
+    {
+        let name = Name::read(bytes)?;
+        if self.by_name.contains_key(&name) {
+            return Err(FaultKind::Repeated);
+        }
+        if self.by_name.len() >= MOST {
+            return Err(FaultKind::PastLimit);
+        }
+        self.by_name.insert(name, S::new(self.alloc))?;
+        Ok(())
+    }
+}
+
+impl<S: Draft, const MOST: usize> Draft for Sections<S, MOST> {
+    ghost use Rattle.nut_conf.specs.Sections.{AllHold, sections, sectioned_fault};
+
+    ghost fault = { sectioned_fault S.fault MOST };
+
+    ghost Holds = { λ s lines. AllHold S.Holds s.by_name.entries (sections lines) };
+
+    fn new(alloc: Global) -> Self {
+        Sections {
+            by_name: IndexMap::new(alloc),
+            alloc,
+        }
+    }
+
+    fn put(&mut self, line: &Line<'_>) -> Result<(), FaultKind> {
+        if let Some(name) = section_name(line) {
+            return self.open(name);
+        }
+        let Some(last) = self.by_name.len().checked_sub(1) else {
+            return Err(FaultKind::OutsideSection);
+        };
+        match self.by_name.get_index_mut(last) {
+            Some(section) => section.put(line),
+            None => Err(FaultKind::OutsideSection),
+        }
+    }
+}

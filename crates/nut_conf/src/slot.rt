@@ -1,0 +1,107 @@
+//! Places for what the lines of a directive set.
+ghost use Rattle.std.specs.Prelude.{◌≡◌, ◌≤◌, ℕ, List, Bool, Option, Some, Result, length, map};
+ghost use Rattle.std.specs.List.{list_any};
+ghost use Rattle.std.specs.Option.{option_map, option_to_list};
+ghost use Rattle.nut_conf.specs.Faults.{Reads};
+ghost use Rattle.nut_conf.specs.Settings.{Setting, Puts};
+ghost use Rattle.nut_conf.specs.Settings as rules;
+ghost use Rattle.nut_conf.specs.declared.fault.FaultKind.{FaultKind};
+
+use crate::fault::FaultKind;
+use crate::line::Line;
+use crate::values::{Form, Values};
+
+/// What a line of a directive sets.
+pub trait FromValues: Drop + Sized {
+    /// What it is without where it lies in memory.
+    ghost setting: { Self → Setting };
+
+    /// How the values are read, from left to right.
+    ghost reads: { List (List ℕ) → Result Setting FaultKind };
+
+    /// Reads the values of a line.
+    fn from_values(values: &Values<'_, '_>) -> Result<Self, FaultKind>
+        ensures { Reads setting result (reads values.now) };
+}
+
+/// Sets what may be set once.
+pub fn once<T: FromValues>(
+    slot: &mut Option<T>,
+    form: Form,
+    line: &Line<'_>,
+) -> Result<(), FaultKind>
+    ensures { Puts (rules.once form T.reads) (option_to_list (option_map T.setting slot.old)) line.now.words result (option_to_list (option_map T.setting slot.new)) }
+{
+    let values = Values::of(form, line)?;
+    let value = T::from_values(&values)?;
+    if slot.is_some() {
+        return Err(FaultKind::Repeated);
+    }
+    *slot = Some(value);
+    Ok(())
+}
+
+fn is_full<T>(most: Option<usize>, items: &[T]) -> bool
+    ensures { result ≡ rules.is_full most (length items.now) }
+{
+    match most {
+        Some(most) => items.len() >= most,
+        None => false,
+    }
+}
+
+/// Puts one more setting behind the others, of which there may be `most`.
+pub fn listed<T: FromValues>(
+    slot: &mut Vec<T>,
+    form: Form,
+    line: &Line<'_>,
+    most: Option<usize>,
+) -> Result<(), FaultKind>
+    ensures { Puts (rules.listed most form T.reads) (map T.setting slot.old.items) line.now.words result (map T.setting slot.new.items) }
+{
+    let values = Values::of(form, line)?;
+    let value = T::from_values(&values)?;
+    if is_full(most, slot.as_slice()) {
+        return Err(FaultKind::PastLimit);
+    }
+    slot.push(value)?;
+    Ok(())
+}
+
+/// A setting that may not stand beside one like it.
+pub trait Clashes: FromValues {
+    /// Whether two settings may not stand beside each other.
+    ghost clashes: { Setting → Setting → Bool };
+
+    /// Whether the two may not stand beside each other.
+    fn clashes(&self, other: &Self) -> bool
+        ensures { result ≡ clashes (Self.setting self.now) (Self.setting other.now) };
+}
+
+fn clashes_with_any<T: Clashes>(value: &T, others: &[T]) -> bool
+    ensures { result ≡ list_any (λ other. T.clashes (T.setting value.now) (T.setting other)) others.now }
+{
+    others.iter().any(|other| value.clashes(other))
+}
+
+/// Puts one more setting behind the others, of which there may be `most`, no two alike.
+pub fn listed_apart<T: Clashes>(
+    slot: &mut Vec<T>,
+    form: Form,
+    line: &Line<'_>,
+    most: Option<usize>,
+) -> Result<(), FaultKind>
+    ensures puts { Puts (rules.distinct T.clashes most form T.reads) (map T.setting slot.old.items) line.now.words result (map T.setting slot.new.items) }
+    ensures bounded { (n : ℕ) → most ≡ Some n → length slot.old.items ≤ n → length slot.new.items ≤ n }
+{
+    let values = Values::of(form, line)?;
+    let value = T::from_values(&values)?;
+    if clashes_with_any(&value, slot.as_slice()) {
+        return Err(FaultKind::Repeated);
+    }
+    if is_full(most, slot.as_slice()) {
+        return Err(FaultKind::PastLimit);
+    }
+    slot.push(value)?;
+    Ok(())
+}

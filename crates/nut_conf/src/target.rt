@@ -1,0 +1,141 @@
+//! The name of a UPS at a host.
+ghost use Rattle.std.specs.Prelude.{◌≡◌, ◌==◌, ◌<◌, IfSome, codes, length, position};
+ghost use Rattle.std.specs.Option.{option_map};
+ghost use Rattle.nut_conf.specs.Faults.{Reads};
+ghost use Rattle.nut_conf.specs.Values.{name, number};
+ghost use Rattle.nut_conf.specs.Target.{host as host_of, located as located_of, or_fault, parted as parted_at, target, target_view};
+ghost use Rattle.nut_conf.specs.declared.target.NameFault.TheVariants.{BadPort, BadUps};
+
+use crate::host::Host;
+use crate::text::{Name, Port};
+use thiserror::Error;
+
+/// Why a name of a UPS at a host doesn't read.
+#[derive(Clone, Copy, Debug, PartialEq, Eq, Error)]
+pub enum NameFault {
+    /// The name of the UPS isn't 1 to 32 letters, digits, `.`, `_` and `-`.
+    #[error("BadUps")]
+    BadUps,
+    /// The host isn't 1 to 64 letters, digits, `.` and `-`.
+    #[error("BadHost")]
+    BadHost,
+    /// The port isn't a number from 1 to 65,535.
+    #[error("BadPort")]
+    BadPort,
+}
+
+/// A UPS at a host.
+#[derive(Debug, PartialEq, Eq, Drop)]
+pub struct Target {
+    /// The name of the UPS.
+    pub ups: Name<32>,
+    /// The host of its server.
+    pub host: Host,
+    /// The port of its server.
+    pub port: Port,
+}
+
+/// Where the first such byte stands.
+fn place_of(byte: u8, bytes: &[u8]) -> Option<usize>
+    ensures place { result ≡ position (λ b. b == byte) bytes.now }
+    ensures within { IfSome result (λ at. at < length bytes.now) }
+{
+    bytes.iter().position(|b| *b == byte)
+}
+
+/// What stands before and after the first such byte.
+fn parted(byte: u8, bytes: &[u8]) -> Option<(&[u8], &[u8])>
+    ensures { option_map (λ p. (p.0.now, p.1.now)) result ≡ parted_at byte bytes.now }
+{
+    match place_of(byte, bytes) {
+        Some(at) => Some((&bytes[..at], &bytes[at + 1..])),
+        None => None,
+    }
+}
+
+fn host(bytes: &[u8]) -> Result<Host, NameFault>
+    ensures { Reads (λ h. h.bytes.items) result (host_of bytes.now) }
+{
+    match Host::read(bytes) {
+        Some(host) => Ok(host),
+        None => Err(NameFault::BadHost),
+    }
+}
+
+fn port(bytes: &[u8]) -> Result<Port, NameFault>
+    ensures { Reads (λ p. p.number) result (or_fault BadPort (number 1 65535 bytes.now)) }
+{
+    match Port::read(bytes) {
+        Ok(port) => Ok(port),
+        Err(_) => Err(NameFault::BadPort),
+    }
+}
+
+fn ups(bytes: &[u8]) -> Result<Name<32>, NameFault>
+    ensures { Reads (λ n. n.bytes.items) result (or_fault BadUps (name 32 bytes.now)) }
+{
+    match Name::read(bytes) {
+        Ok(name) => Ok(name),
+        Err(_) => Err(NameFault::BadUps),
+    }
+}
+
+/// Reads `host[:port]`.
+fn located(bytes: &[u8]) -> Result<(Host, Port), NameFault>
+    ensures { Reads (λ l. (l.0.bytes.items, l.1.number)) result (located_of bytes.now) }
+{
+    match parted(b':', bytes) {
+        Some((name, number)) => {
+            let host = host(name)?;
+            let port = port(number)?;
+            Ok((host, port))
+        }
+        None => {
+            let host = host(bytes)?;
+            Ok((host, Port { number: 3493 }))
+        }
+    }
+}
+
+/// The host that is meant where none is named.
+fn local_host() -> Host
+    ensures { result.bytes.items ≡ codes "localhost" }
+{
+    match Host::read(b"localhost") {
+        Some(host) => host,
+        None => unreachable!(),
+    }
+}
+
+impl Target {
+    /// Reads `ups[@host[:port]]`, parted at its first `@` and after that at the first `:`.
+    pub fn read(bytes: &[u8]) -> Result<Self, NameFault>
+        ensures { Reads target_view result (target bytes.now) }
+    {
+        match parted(b'@', bytes) {
+            Some((name, place)) => {
+                let ups = ups(name)?;
+                let (host, port) = located(place)?;
+                Ok(Target { ups, host, port })
+            }
+            None => {
+                let ups = ups(bytes)?;
+                Ok(Target {
+                    ups,
+                    host: local_host(),
+                    port: Port { number: 3493 },
+                })
+            }
+        }
+    }
+}
+
+/// Reads `ups[@host[:port]]`, parted at its first `@` and after that at the first `:`.
+///
+/// Without a host it is `localhost`, without a port 3493. The parts are tested in this order: `BadUps`, `BadHost`, `BadPort`.
+/// Takes no memory.
+pub fn split_name(name: &str) -> Result<Target, NameFault>
+    ensures { Reads target_view result (target name.now) }
+{
+    Target::read(name.as_bytes())
+}

@@ -1,0 +1,197 @@
+//! Names, texts and numbers.
+ghost use Rattle.std.specs.Prelude.{◌≡◌, ◌≤◌, IsTrue, true};
+ghost use Rattle.std.specs.List.{list_all};
+ghost use Rattle.nut_words.specs.Quoting.{IsPrintable};
+ghost use Rattle.nut_words.specs.Spelling.{is_printing};
+ghost use Rattle.nut_conf.specs.Faults.{Reads};
+ghost use Rattle.nut_conf.specs.Values.{is_name_byte as name_byte, is_digit as digit, is_numeral as numeral, decimal as decimal_of, is_name, is_text, name, number, text as bounded_text};
+
+use crate::fault::FaultKind;
+use crate::slot::FromValues;
+use crate::values::Values;
+use arrayvec::ArrayVec;
+
+/// A name of 1 to `MOST` bytes: letters, digits, `.`, `_` and `-`.
+#[derive(Debug, PartialEq, Eq, Hash, Drop)]
+pub struct Name<const MOST: usize> {
+    pub bytes: ArrayVec<u8, MOST>,
+    pub ghost named: { IsTrue (is_name MOST bytes.items) },
+}
+
+/// A text of `LEAST` to `MOST` printing bytes.
+#[derive(Debug, PartialEq, Eq, Drop)]
+pub struct Text<const LEAST: usize, const MOST: usize> {
+    pub bytes: ArrayVec<u8, MOST>,
+    pub ghost bounded: { IsTrue (is_text LEAST MOST bytes.items) },
+}
+
+/// A number from `LEAST` to `MOST`.
+#[derive(Clone, Copy, Debug, PartialEq, Eq)]
+pub struct Number<const LEAST: u32, const MOST: u32> {
+    pub value: u32,
+    pub ghost least: { LEAST ≤ value },
+    pub ghost most: { value ≤ MOST },
+}
+
+/// A TCP port, from 1 on.
+#[derive(Clone, Copy, Debug, PartialEq, Eq)]
+pub struct Port {
+    pub number: u16,
+    pub ghost least: { 1 ≤ number },
+}
+
+fn is_name_byte(byte: u8) -> bool
+    ensures { result ≡ name_byte byte }
+{
+    matches!(byte, b'A'..=b'Z' | b'a'..=b'z' | b'0'..=b'9' | b'.' | b'_' | b'-')
+}
+
+fn is_digit(byte: u8) -> bool
+    ensures { result ≡ digit byte }
+{
+    matches!(byte, b'0'..=b'9')
+}
+
+fn are_digits(bytes: &[u8]) -> bool
+    ensures { result ≡ list_all digit bytes.now }
+{
+    bytes.iter().all(|byte| is_digit(*byte))
+}
+
+fn are_name_bytes(bytes: &[u8]) -> bool
+    ensures { result ≡ list_all name_byte bytes.now }
+{
+    bytes.iter().all(|byte| is_name_byte(*byte))
+}
+
+fn is_numeral(bytes: &[u8]) -> bool
+    ensures { result ≡ numeral bytes.now }
+{
+    1 <= bytes.len() && bytes.len() <= 9 && are_digits(bytes)
+}
+
+/// The number that these digits write.
+fn decimal(digits: &[u8]) -> u32
+    requires { numeral digits.now ≡ true }
+    ensures { result ≡ decimal_of digits.now }
+{
+    let mut number = 0;
+    for digit in digits {
+        number = number * 10 + u32::from(*digit - b'0');
+    }
+    number
+}
+
+impl<const MOST: usize> Name<MOST> {
+    /// Reads a name: `BadName` where it is empty or has a byte that may not stand there, `PastLimit` past `MOST` bytes.
+    pub fn read(bytes: &[u8]) -> Result<Self, FaultKind>
+        ensures { Reads (λ n. n.bytes.items) result (name MOST bytes.now) }
+    {
+        if bytes.is_empty() || !are_name_bytes(bytes) {
+            return Err(FaultKind::BadName);
+        }
+        match ArrayVec::try_from(bytes) {
+            Ok(bytes) => Ok(Name { bytes }),
+            Err(_) => Err(FaultKind::PastLimit),
+        }
+    }
+
+    /// The bytes of the name.
+    pub fn as_bytes(&self) -> &[u8]
+        ensures value { result.now ≡ self.now.bytes.items }
+        ensures named { IsTrue (is_name MOST result.now) }
+        ensures printable { IsPrintable result.now }
+    {
+        self.bytes.as_slice()
+    }
+}
+
+impl<const LEAST: usize, const MOST: usize> Text<LEAST, MOST> {
+    /// Takes printing bytes: `PastLimit` where they are fewer than `LEAST` or more than `MOST`.
+    pub fn read(bytes: &[u8]) -> Result<Self, FaultKind>
+        requires { IsTrue (list_all is_printing bytes.now) }
+        ensures { Reads (λ t. t.bytes.items) result (bounded_text LEAST MOST bytes.now) }
+    {
+        if bytes.len() < LEAST {
+            return Err(FaultKind::PastLimit);
+        }
+        match ArrayVec::try_from(bytes) {
+            Ok(bytes) => Ok(Text { bytes }),
+            Err(_) => Err(FaultKind::PastLimit),
+        }
+    }
+
+    /// The bytes of the text.
+    pub fn as_bytes(&self) -> &[u8]
+        ensures value { result.now ≡ self.now.bytes.items }
+        ensures bounded { IsTrue (is_text LEAST MOST result.now) }
+        ensures printable { IsPrintable result.now }
+    {
+        self.bytes.as_slice()
+    }
+}
+
+impl<const LEAST: u32, const MOST: u32> Number<LEAST, MOST> {
+    /// Reads one to nine digits: `BadNumber` for anything else, and out of range.
+    pub fn read(bytes: &[u8]) -> Result<Self, FaultKind>
+        ensures { Reads (λ n. n.value) result (number LEAST MOST bytes.now) }
+    {
+        if !is_numeral(bytes) {
+            return Err(FaultKind::BadNumber);
+        }
+        let value = decimal(bytes);
+        if LEAST <= value && value <= MOST {
+            Ok(Number { value })
+        } else {
+            Err(FaultKind::BadNumber)
+        }
+    }
+}
+
+impl Port {
+    /// Reads a port: `BadNumber` where it isn't a number from 1 to 65,535.
+    pub fn read(bytes: &[u8]) -> Result<Self, FaultKind>
+        ensures { Reads (λ p. p.number) result (number 1 65535 bytes.now) }
+    {
+        let number: Number<1, 65535> = Number::read(bytes)?;
+        Ok(Port {
+            number: number.value as u16,
+        })
+    }
+}
+
+impl<const MOST: usize> FromValues for Name<MOST> {
+    ghost use Rattle.nut_conf.specs.Settings.{Text, name_value};
+
+    ghost setting = { λ n. Text n.bytes.items };
+
+    ghost reads = { name_value MOST };
+
+    fn from_values(values: &Values<'_, '_>) -> Result<Self, FaultKind> {
+        Name::read(values.one()?)
+    }
+}
+
+impl<const LEAST: usize, const MOST: usize> FromValues for Text<LEAST, MOST> {
+    ghost use Rattle.nut_conf.specs.Settings.{Text as TextSetting, text_value};
+
+    ghost setting = { λ t. TextSetting t.bytes.items };
+
+    ghost reads = { text_value LEAST MOST };
+
+    fn from_values(values: &Values<'_, '_>) -> Result<Self, FaultKind> {
+        Text::read(values.one()?)
+    }
+}
+
+impl<const LEAST: u32, const MOST: u32> FromValues for Number<LEAST, MOST> {
+    ghost use Rattle.nut_conf.specs.Settings.{Number as NumberSetting, number_value};
+
+    ghost setting = { λ n. NumberSetting n.value };
+
+    ghost reads = { number_value LEAST MOST };
+
+    fn from_values(values: &Values<'_, '_>) -> Result<Self, FaultKind> {
+        Number::read(values.one()?)
+    }
+}

@@ -1,0 +1,179 @@
+//! The file ups.conf.
+ghost use Rattle.std.specs.Prelude.{◌≡◌, ◌==◌, ◌<◌, ◌≤◌, IfSome, IsTrue, None, MatchOption, length, slice_get};
+ghost use Rattle.std.specs.Option.{option_copied, option_map};
+ghost use Rattle.nut_words.specs.Quoting.{IsPrintable};
+ghost use Rattle.nut_conf.specs.Files.{Means, read_file};
+ghost use Rattle.nut_conf.specs.Values.{is_name, is_text};
+ghost use Rattle.nut_conf.specs.Ups.{UpsConfHolds, ups_fault, driver_of, port_of, desc_of, names_of, number_of, ups_at};
+
+use crate::draft::Draft;
+use crate::fault::{ConfFault, FaultKind};
+use crate::file::read_draft;
+use crate::line::Line;
+use crate::sections::Sections;
+use crate::slot::once;
+use crate::text::{Name, Text};
+use crate::values::Form;
+use std::alloc::Global;
+
+/// A UPS: a section of ups.conf. What isn't set has its default.
+#[derive(Debug, Drop)]
+pub struct Ups {
+    pub driver: Option<Name<32>>,
+    pub port: Option<Text<0, 128>>,
+    pub desc: Option<Text<0, 128>>,
+}
+
+/// The configuration of ups.conf: at most 32 UPSes by name, in the order of the file, numbered from 0.
+#[derive(Drop)]
+pub struct UpsConf {
+    pub ups: Sections<Ups, 32>,
+}
+
+impl Ups {
+    /// The name of the driver's program; where none is set, `dummy-ups`.
+    pub fn driver(&self) -> &[u8]
+        ensures value { result.now ≡ driver_of self.now }
+        ensures named { IsTrue (is_name 32 result.now) }
+        ensures printable { IsPrintable result.now }
+    {
+        match &self.driver {
+            Some(driver) => driver.as_bytes(),
+            None => b"dummy-ups",
+        }
+    }
+
+    /// What the driver is to open; where none is set, empty.
+    pub fn port(&self) -> &[u8]
+        ensures value { result.now ≡ port_of self.now }
+        ensures bounded { IsTrue (is_text 0 128 result.now) }
+        ensures printable { IsPrintable result.now }
+    {
+        match &self.port {
+            Some(port) => port.as_bytes(),
+            None => b"",
+        }
+    }
+
+    /// What people call the UPS; where none is set, `Unavailable`.
+    pub fn desc(&self) -> &[u8]
+        ensures value { result.now ≡ desc_of self.now }
+        ensures bounded { IsTrue (is_text 0 128 result.now) }
+        ensures printable { IsPrintable result.now }
+    {
+        match &self.desc {
+            Some(desc) => desc.as_bytes(),
+            None => b"Unavailable",
+        }
+    }
+}
+
+impl UpsConf {
+    /// How many UPSes there are, at most 32.
+    pub fn len(&self) -> usize
+        ensures len { result ≡ length (names_of self.now) }
+        ensures few { result ≤ 32 }
+    {
+        self.ups.by_name.len()
+    }
+
+    /// Whether there is no UPS.
+    pub fn is_empty(&self) -> bool
+        ensures { result ≡ (length (names_of self.now) == 0) }
+    {
+        self.ups.by_name.len() == 0
+    }
+
+    /// The number of the UPS with this name, counted from 0 in the order of the file.
+    ///
+    /// Takes no memory, and no longer for many UPSes.
+    pub fn find(&self, name: &[u8]) -> Option<usize>
+        ensures number { result ≡ number_of name.now self.now }
+        ensures within { IfSome result (λ number. number < length (names_of self.now)) }
+    {
+        match Name::read(name) {
+            Ok(name) => self.ups.by_name.get_index_of(&name),
+            Err(_) => None,
+        }
+    }
+
+    /// The name of the UPS with this number.
+    pub fn name(&self, number: usize) -> Option<&Name<32>>
+        ensures { option_map (λ name. name.now.bytes.items) result ≡ slice_get (names_of self.now) number }
+    {
+        match self.ups.by_name.get_index(number) {
+            Some((name, _)) => Some(name),
+            None => None,
+        }
+    }
+
+    /// The UPS with this number.
+    pub fn get(&self, number: usize) -> Option<&Ups>
+        ensures { option_copied result ≡ ups_at self.now number }
+    {
+        match self.ups.by_name.get_index(number) {
+            Some((_, ups)) => Some(ups),
+            None => None,
+        }
+    }
+}
+
+/// What may stand in a section.
+#[derive(Clone, Copy)]
+pub enum UpsDirective {
+    Driver,
+    Port,
+    Desc,
+}
+
+impl UpsDirective {
+    ghost use Rattle.nut_conf.specs.Settings.{directive_of};
+    ghost use Rattle.nut_conf.specs.Ups.{ups_directive, ups_directives};
+
+    fn of(word: &[u8]) -> Option<Self>
+        ensures { MatchOption result (directive_of word.now ups_directives ≡ None) (λ d. word.now ≡ (ups_directive d).word) }
+    {
+        match word {
+            b"driver" => Some(UpsDirective::Driver),
+            b"port" => Some(UpsDirective::Port),
+            b"desc" => Some(UpsDirective::Desc),
+            _ => None,
+        }
+    }
+}
+
+impl Draft for Ups {
+    ghost use Rattle.nut_conf.specs.Settings.{line_fault};
+    ghost use Rattle.nut_conf.specs.Ups.{UpsHolds, ups_directives};
+
+    ghost fault = { line_fault ups_directives };
+
+    ghost Holds = { UpsHolds };
+
+    fn new(_: Global) -> Self {
+        Ups {
+            driver: None,
+            port: None,
+            desc: None,
+        }
+    }
+
+    fn put(&mut self, line: &Line<'_>) -> Result<(), FaultKind> {
+        match UpsDirective::of(line.directive()) {
+            Some(UpsDirective::Driver) => once(&mut self.driver, Form::Assigned, line),
+            Some(UpsDirective::Port) => once(&mut self.port, Form::Assigned, line),
+            Some(UpsDirective::Desc) => once(&mut self.desc, Form::Assigned, line),
+            None => Err(FaultKind::UnknownDirective),
+        }
+    }
+}
+
+/// Reads ups.conf (NUT man page ups.conf(5), the directives `driver`, `port` and `desc`).
+///
+/// Gives the configuration that its lines set, or the first line with a fault and the first fault in it.
+pub fn read_ups(alloc: Global, bytes: &[u8]) -> Result<UpsConf, ConfFault>
+    ensures { Means (read_file ups_fault bytes.now) UpsConfHolds result }
+{
+    let ups = read_draft(alloc, bytes)?;
+    Ok(UpsConf { ups })
+}

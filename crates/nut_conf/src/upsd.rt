@@ -1,0 +1,167 @@
+//! The file upsd.conf.
+ghost use Rattle.std.specs.Prelude.{◌≡◌, ◌≤◌, None, MatchOption, length, slice_get};
+ghost use Rattle.std.specs.Option.{option_map};
+ghost use Rattle.nut_conf.specs.Faults.{Reads};
+ghost use Rattle.nut_conf.specs.Files.{Means, read_file};
+ghost use Rattle.nut_conf.specs.Upsd.{UpsdHolds, upsd_fault, address as address_of, max_age_of, max_conn_of, endpoints_of};
+
+use crate::draft::Draft;
+use crate::fault::{ConfFault, FaultKind};
+use crate::file::read_draft;
+use crate::host::Address;
+use crate::line::Line;
+use crate::slot::{FromValues, listed, once};
+use crate::text::{Number, Port};
+use crate::values::{Form, Values};
+use std::alloc::Global;
+
+/// Where a server listens.
+#[derive(Debug, PartialEq, Eq, Drop)]
+pub struct Endpoint {
+    pub address: Address,
+    pub port: Port,
+}
+
+/// The configuration of upsd.conf. What isn't set has its default.
+#[derive(Drop)]
+pub struct UpsdConf {
+    /// At most 16.
+    pub listen: Vec<Endpoint>,
+    pub max_age: Option<Number<1, 86400>>,
+    pub max_conn: Option<Number<1, 256>>,
+}
+
+impl UpsdConf {
+    /// After how many seconds without a word from its driver the data of a UPS is stale; where none is set, 15.
+    pub fn max_age(&self) -> u32
+        ensures value { result ≡ max_age_of self.now }
+        ensures least { 1 ≤ result }
+        ensures most { result ≤ 86400 }
+    {
+        match &self.max_age {
+            Some(number) => number.value,
+            None => 15,
+        }
+    }
+
+    /// How many connections may be open; where none is set, 256.
+    pub fn max_conn(&self) -> u32
+        ensures value { result ≡ max_conn_of self.now }
+        ensures least { 1 ≤ result }
+        ensures most { result ≤ 256 }
+    {
+        match &self.max_conn {
+            Some(number) => number.value,
+            None => 256,
+        }
+    }
+
+    /// On how many endpoints the server listens, at least one.
+    pub fn endpoints(&self) -> usize
+        ensures { result ≡ length (endpoints_of self.now) }
+    {
+        self.listen.len().max(1)
+    }
+
+    /// An address and a port on which the server listens, counted from 0 in the order of the file; where none is set, 127.0.0.1 and 3493.
+    pub fn endpoint(&self, index: usize) -> Option<(&[u8], u16)>
+        ensures { option_map (λ e. (e.0.now, e.1)) result ≡ slice_get (endpoints_of self.now) index }
+    {
+        if self.listen.is_empty() && index == 0 {
+            return Some((b"127.0.0.1", 3493));
+        }
+        match self.listen.as_slice().get(index) {
+            Some(endpoint) => Some((endpoint.address.bytes.as_slice(), endpoint.port.number)),
+            None => None,
+        }
+    }
+}
+
+/// What may stand in the file.
+#[derive(Clone, Copy)]
+pub enum UpsdDirective {
+    Listen,
+    MaxAge,
+    MaxConn,
+}
+
+impl UpsdDirective {
+    ghost use Rattle.nut_conf.specs.Settings.{directive_of};
+    ghost use Rattle.nut_conf.specs.Upsd.{upsd_directive, upsd_directives};
+
+    fn of(word: &[u8]) -> Option<Self>
+        ensures { MatchOption result (directive_of word.now upsd_directives ≡ None) (λ d. word.now ≡ (upsd_directive d).word) }
+    {
+        match word {
+            b"LISTEN" => Some(UpsdDirective::Listen),
+            b"MAXAGE" => Some(UpsdDirective::MaxAge),
+            b"MAXCONN" => Some(UpsdDirective::MaxConn),
+            _ => None,
+        }
+    }
+}
+
+fn address(bytes: &[u8]) -> Result<Address, FaultKind>
+    ensures { Reads (λ a. a.bytes.items) result (address_of bytes.now) }
+{
+    match Address::read(bytes) {
+        Some(address) => Ok(address),
+        None => Err(FaultKind::BadName),
+    }
+}
+
+impl FromValues for Endpoint {
+    ghost use Rattle.nut_conf.specs.Upsd.{endpoint_setting, listen_value};
+
+    ghost setting = { endpoint_setting };
+
+    ghost reads = { listen_value };
+
+    fn from_values(values: &Values<'_, '_>) -> Result<Self, FaultKind> {
+        match values.len() {
+            1 => Ok(Endpoint {
+                address: address(values.get(0))?,
+                port: Port { number: 3493 },
+            }),
+            2 => Ok(Endpoint {
+                address: address(values.get(0))?,
+                port: Port::read(values.get(1))?,
+            }),
+            _ => Err(FaultKind::BadForm),
+        }
+    }
+}
+
+impl Draft for UpsdConf {
+    ghost use Rattle.nut_conf.specs.Upsd.{UpsdHolds, upsd_fault};
+
+    ghost fault = { upsd_fault };
+
+    ghost Holds = { UpsdHolds };
+
+    fn new(alloc: Global) -> Self {
+        UpsdConf {
+            listen: Vec::new(alloc),
+            max_age: None,
+            max_conn: None,
+        }
+    }
+
+    fn put(&mut self, line: &Line<'_>) -> Result<(), FaultKind> {
+        match UpsdDirective::of(line.directive()) {
+            Some(UpsdDirective::Listen) => listed(&mut self.listen, Form::Plain, line, Some(16)),
+            Some(UpsdDirective::MaxAge) => once(&mut self.max_age, Form::Plain, line),
+            Some(UpsdDirective::MaxConn) => once(&mut self.max_conn, Form::Plain, line),
+            None => Err(FaultKind::UnknownDirective),
+        }
+    }
+}
+
+/// Reads upsd.conf (NUT man page upsd.conf(5), the directives `LISTEN`, `MAXAGE` and `MAXCONN`).
+///
+/// Gives the configuration that its lines set, or the first line with a fault and the first fault in it.
+pub fn read_upsd(alloc: Global, bytes: &[u8]) -> Result<UpsdConf, ConfFault>
+    ensures { Means (read_file upsd_fault bytes.now) UpsdHolds result }
+{
+    read_draft(alloc, bytes)
+}

@@ -1,0 +1,250 @@
+//! The file upsmon.conf.
+ghost use Rattle.std.specs.Prelude.{◌≡◌, None, MatchOption, IsTrue, nat_lt, sum_by};
+ghost use Rattle.std.specs.Option.{option_map_or};
+ghost use Rattle.nut_words.specs.Quoting.{IsPrintable};
+ghost use Rattle.nut_conf.specs.Files.{Means};
+ghost use Rattle.nut_conf.specs.Values.{is_text};
+ghost use Rattle.nut_conf.specs.Upsmon.{UpsmonHolds, upsmon_reading, min_supplies_of, poll_freq_of, dead_time_of, rb_warn_time_of, no_comm_warn_time_of, host_sync_of, final_delay_of, message_of, flags_of};
+
+use crate::draft::Draft;
+use crate::fault::{ConfFault, FaultKind};
+use crate::file::read_draft;
+use crate::line::Line;
+use crate::monitor::Monitored;
+use crate::monitors::Monitors;
+use crate::notice::{Notice, NoticeFlags, NoticeHandling, NoticeText, handling_of, text_of};
+use crate::slot::{listed_apart, once};
+use crate::text::{Number, Text};
+use crate::values::Form;
+use std::alloc::Global;
+
+/// The configuration of upsmon.conf. What isn't set has its default.
+#[derive(Drop)]
+pub struct UpsmonConf {
+    /// At most 32, in the order of the file.
+    pub monitors: Monitors,
+    pub min_supplies: Option<Number<0, 32000>>,
+    pub shutdown_cmd: Option<Text<1, 256>>,
+    pub notify_cmd: Option<Text<1, 256>>,
+    pub power_down_flag: Option<Text<1, 256>>,
+    pub poll_freq: Option<Number<1, 1000000>>,
+    pub dead_time: Option<Number<1, 1000000>>,
+    pub rb_warn_time: Option<Number<1, 1000000>>,
+    pub no_comm_warn_time: Option<Number<1, 1000000>>,
+    pub host_sync: Option<Number<0, 1000000>>,
+    pub final_delay: Option<Number<0, 1000000>>,
+    /// The texts that are set, at most one a type of notice.
+    pub messages: Vec<NoticeText>,
+    /// The flags that are set, at most one line a type of notice.
+    pub handlings: Vec<NoticeHandling>,
+}
+
+/// The number that is set, or else this one.
+fn number_or<const LEAST: u32, const MOST: u32>(
+    number: &Option<Number<LEAST, MOST>>,
+    default: u32,
+) -> u32
+    ensures { result ≡ option_map_or (λ n. n.value) number.now default }
+{
+    match number {
+        Some(number) => number.value,
+        None => default,
+    }
+}
+
+impl UpsmonConf {
+    /// The sum of power values below which a shutdown begins; where none is set, 1.
+    pub fn min_supplies(&self) -> u32
+        ensures { result ≡ min_supplies_of self.now }
+    {
+        number_or(&self.min_supplies, 1)
+    }
+
+    /// Seconds between two questions for the status of a UPS; where none are set, 5.
+    pub fn poll_freq(&self) -> u32
+        ensures { result ≡ poll_freq_of self.now }
+    {
+        number_or(&self.poll_freq, 5)
+    }
+
+    /// Seconds without a status after which a UPS on battery is critical; where none are set, 15.
+    pub fn dead_time(&self) -> u32
+        ensures { result ≡ dead_time_of self.now }
+    {
+        number_or(&self.dead_time, 15)
+    }
+
+    /// Seconds between two notices that a battery needs to be replaced; where none are set, 43,200.
+    pub fn rb_warn_time(&self) -> u32
+        ensures { result ≡ rb_warn_time_of self.now }
+    {
+        number_or(&self.rb_warn_time, 43_200)
+    }
+
+    /// Seconds between two notices that a UPS is unavailable; where none are set, 300.
+    pub fn no_comm_warn_time(&self) -> u32
+        ensures { result ≡ no_comm_warn_time_of self.now }
+    {
+        number_or(&self.no_comm_warn_time, 300)
+    }
+
+    /// Seconds that the machines of a UPS wait for each other; where none are set, 15.
+    pub fn host_sync(&self) -> u32
+        ensures { result ≡ host_sync_of self.now }
+    {
+        number_or(&self.host_sync, 15)
+    }
+
+    /// Seconds between the last notice and the halt; where none are set, 5.
+    pub fn final_delay(&self) -> u32
+        ensures { result ≡ final_delay_of self.now }
+    {
+        number_or(&self.final_delay, 5)
+    }
+
+    /// The text of a type of notice. Its first `%s` stands for the UPS.
+    pub fn message(&self, notice: Notice) -> &[u8]
+        ensures value { result.now ≡ message_of notice self.now }
+        ensures bounded { IsTrue (is_text 0 128 result.now) }
+        ensures printable { IsPrintable result.now }
+    {
+        match text_of(self.messages.as_slice(), notice) {
+            Some(message) => message.text.as_bytes(),
+            None => notice.default_text(),
+        }
+    }
+
+    /// What is done with a type of notice.
+    pub fn flags(&self, notice: Notice) -> NoticeFlags
+        ensures { result ≡ flags_of notice self.now }
+    {
+        match handling_of(self.handlings.as_slice(), notice) {
+            Some(handling) => handling.flags,
+            None => NoticeFlags::default_flags(),
+        }
+    }
+}
+
+/// What may stand in the file.
+#[derive(Clone, Copy)]
+pub enum UpsmonDirective {
+    Monitor,
+    MinSupplies,
+    ShutdownCmd,
+    NotifyCmd,
+    PowerDownFlag,
+    PollFreq,
+    DeadTime,
+    RbWarnTime,
+    NoCommWarnTime,
+    HostSync,
+    FinalDelay,
+    NotifyMsg,
+    NotifyFlag,
+}
+
+impl UpsmonDirective {
+    ghost use Rattle.nut_conf.specs.Settings.{directive_of};
+    ghost use Rattle.nut_conf.specs.Upsmon.{upsmon_directive, upsmon_directives};
+
+    fn of(word: &[u8]) -> Option<Self>
+        ensures { MatchOption result (directive_of word.now upsmon_directives ≡ None) (λ d. word.now ≡ (upsmon_directive d).word) }
+    {
+        if word == b"POWERDOWNFLAG".as_slice() {
+            return Some(UpsmonDirective::PowerDownFlag);
+        }
+        if word == b"NOCOMMWARNTIME".as_slice() {
+            return Some(UpsmonDirective::NoCommWarnTime);
+        }
+        match word {
+            b"MONITOR" => Some(UpsmonDirective::Monitor),
+            b"MINSUPPLIES" => Some(UpsmonDirective::MinSupplies),
+            b"SHUTDOWNCMD" => Some(UpsmonDirective::ShutdownCmd),
+            b"NOTIFYCMD" => Some(UpsmonDirective::NotifyCmd),
+            b"POLLFREQ" => Some(UpsmonDirective::PollFreq),
+            b"DEADTIME" => Some(UpsmonDirective::DeadTime),
+            b"RBWARNTIME" => Some(UpsmonDirective::RbWarnTime),
+            b"HOSTSYNC" => Some(UpsmonDirective::HostSync),
+            b"FINALDELAY" => Some(UpsmonDirective::FinalDelay),
+            b"NOTIFYMSG" => Some(UpsmonDirective::NotifyMsg),
+            b"NOTIFYFLAG" => Some(UpsmonDirective::NotifyFlag),
+            _ => None,
+        }
+    }
+}
+
+/// Whether the power values of the lines are less than what is needed.
+fn lacks_power(monitors: &[Monitored], needed: u32) -> bool
+    ensures { result ≡ nat_lt (sum_by (λ m. m.power.value) monitors.now) needed }
+{
+    let mut missing = needed;
+    for monitor in monitors {
+        missing = missing.saturating_sub(monitor.power.value);
+    }
+    missing > 0
+}
+
+impl Draft for UpsmonConf {
+    ghost use Rattle.nut_conf.specs.Upsmon.{UpsmonHolds, upsmon_fault};
+
+    ghost fault = { upsmon_fault };
+
+    ghost Holds = { UpsmonHolds };
+
+    fn new(alloc: Global) -> Self {
+        UpsmonConf {
+            monitors: Monitors::new(alloc),
+            min_supplies: None,
+            shutdown_cmd: None,
+            notify_cmd: None,
+            power_down_flag: None,
+            poll_freq: None,
+            dead_time: None,
+            rb_warn_time: None,
+            no_comm_warn_time: None,
+            host_sync: None,
+            final_delay: None,
+            messages: Vec::new(alloc),
+            handlings: Vec::new(alloc),
+        }
+    }
+
+    fn put(&mut self, line: &Line<'_>) -> Result<(), FaultKind> {
+        let form = Form::Plain;
+        match UpsmonDirective::of(line.directive()) {
+            Some(UpsmonDirective::Monitor) => self.monitors.put(line),
+            Some(UpsmonDirective::MinSupplies) => once(&mut self.min_supplies, form, line),
+            Some(UpsmonDirective::ShutdownCmd) => once(&mut self.shutdown_cmd, form, line),
+            Some(UpsmonDirective::NotifyCmd) => once(&mut self.notify_cmd, form, line),
+            Some(UpsmonDirective::PowerDownFlag) => once(&mut self.power_down_flag, form, line),
+            Some(UpsmonDirective::PollFreq) => once(&mut self.poll_freq, form, line),
+            Some(UpsmonDirective::DeadTime) => once(&mut self.dead_time, form, line),
+            Some(UpsmonDirective::RbWarnTime) => once(&mut self.rb_warn_time, form, line),
+            Some(UpsmonDirective::NoCommWarnTime) => once(&mut self.no_comm_warn_time, form, line),
+            Some(UpsmonDirective::HostSync) => once(&mut self.host_sync, form, line),
+            Some(UpsmonDirective::FinalDelay) => once(&mut self.final_delay, form, line),
+            Some(UpsmonDirective::NotifyMsg) => listed_apart(&mut self.messages, form, line, None),
+            Some(UpsmonDirective::NotifyFlag) => {
+                listed_apart(&mut self.handlings, form, line, None)
+            }
+            None => Err(FaultKind::UnknownDirective),
+        }
+    }
+}
+
+/// Reads upsmon.conf (NUT man page upsmon.conf(5)).
+///
+/// Gives the configuration that its lines set, or the first line with a fault and the first fault in it. Where no line has a
+/// fault and the power values sum to less than `MINSUPPLIES`, the file as a whole is past a limit.
+pub fn read_upsmon(alloc: Global, bytes: &[u8]) -> Result<UpsmonConf, ConfFault>
+    ensures { Means (upsmon_reading bytes.now) UpsmonHolds result }
+{
+    let conf: UpsmonConf = read_draft(alloc, bytes)?;
+    if lacks_power(conf.monitors.lines.as_slice(), conf.min_supplies()) {
+        return Err(ConfFault {
+            line: 0,
+            kind: FaultKind::PastLimit,
+        });
+    }
+    Ok(conf)
+}

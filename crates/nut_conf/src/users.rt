@@ -1,0 +1,254 @@
+//! The file upsd.users.
+ghost use Rattle.std.specs.Prelude.{◌≡◌, None, MatchOption, map, codes};
+ghost use Rattle.std.specs.Str.{bytes_eq};
+ghost use Rattle.std.specs.Char.{to_ascii_lowercase};
+ghost use Rattle.std.specs.Option.{option_copied};
+ghost use Rattle.nut_conf.specs.Files.{Means, read_file};
+ghost use Rattle.nut_conf.specs.Users.{UsersConfHolds, users_fault, user_named, has_password as password_is, may_act as may_take, may_command as may_give, covers as covers_name, action_word};
+
+use crate::draft::Draft;
+use crate::fault::{ConfFault, FaultKind};
+use crate::file::read_draft;
+use crate::line::Line;
+use crate::sections::Sections;
+use crate::slot::{FromValues, listed, once};
+use crate::text::{Name, Text};
+use crate::values::{Form, Values};
+use std::alloc::Global;
+
+/// A user: a section of upsd.users.
+#[derive(Drop)]
+pub struct User {
+    pub password: Option<Text<1, 128>>,
+    pub actions: Vec<Action>,
+    pub instcmds: Vec<Commands>,
+    pub upsmon: Option<Role>,
+}
+
+/// The configuration of upsd.users: at most 64 users by name, in the order of the file.
+#[derive(Drop)]
+pub struct UsersConf {
+    pub users: Sections<User, 64>,
+}
+
+/// What a user may do.
+#[derive(Clone, Copy, Debug, PartialEq, Eq)]
+pub enum Action {
+    /// Set variables.
+    Set,
+    /// Begin a forced shutdown.
+    Fsd,
+}
+
+/// Which commands a user may give.
+#[derive(Debug, PartialEq, Eq, Drop)]
+pub enum Commands {
+    All,
+    Named(Name<64>),
+}
+
+/// What a monitor is to a UPS.
+#[derive(Clone, Copy, Debug, PartialEq, Eq)]
+pub enum Role {
+    /// It shuts the UPS down, last of all.
+    Primary,
+    /// It is only fed by the UPS.
+    Secondary,
+}
+
+impl Action {
+    fn word(self) -> &'static [u8]
+        ensures { result.now ≡ action_word self }
+    {
+        match self {
+            Action::Set => b"SET",
+            Action::Fsd => b"FSD",
+        }
+    }
+}
+
+impl Commands {
+    fn covers(&self, name: &[u8]) -> bool
+        ensures { result ≡ covers_name name.now self.now }
+    {
+        match self {
+            Commands::All => true,
+            Commands::Named(command) => name == command.as_bytes(),
+        }
+    }
+}
+
+impl User {
+    /// Whether the user's password is this one. A user without a password has none.
+    pub fn has_password(&self, password: &[u8]) -> bool
+        ensures { result ≡ password_is password.now self.now }
+    {
+        match &self.password {
+            Some(own) => password == own.as_bytes(),
+            None => false,
+        }
+    }
+
+    /// Whether the user may take the action.
+    pub fn may_act(&self, action: Action) -> bool
+        ensures { result ≡ may_take action self.now }
+    {
+        self.actions.iter().any(|own| action.word() == own.word())
+    }
+
+    /// Whether the user may give the command with this name.
+    pub fn may_command(&self, name: &[u8]) -> bool
+        ensures { result ≡ may_give name.now self.now }
+    {
+        self.instcmds.iter().any(|commands| commands.covers(name))
+    }
+}
+
+impl UsersConf {
+    /// The user with this name. Takes no memory, and no longer for many users.
+    pub fn find(&self, name: &[u8]) -> Option<&User>
+        ensures { option_copied result ≡ user_named name.now self.now }
+    {
+        match Name::read(name) {
+            Ok(name) => self.users.by_name.get(&name),
+            Err(_) => None,
+        }
+    }
+}
+
+/// What may stand in a section.
+#[derive(Clone, Copy)]
+pub enum UserDirective {
+    Password,
+    Actions,
+    Instcmds,
+    Upsmon,
+}
+
+impl UserDirective {
+    ghost use Rattle.nut_conf.specs.Settings.{directive_of};
+    ghost use Rattle.nut_conf.specs.Users.{user_directive, user_directives};
+
+    fn of(word: &[u8]) -> Option<Self>
+        ensures { MatchOption result (directive_of word.now user_directives ≡ None) (λ d. word.now ≡ (user_directive d).word) }
+    {
+        match word {
+            b"password" => Some(UserDirective::Password),
+            b"actions" => Some(UserDirective::Actions),
+            b"instcmds" => Some(UserDirective::Instcmds),
+            b"upsmon" => Some(UserDirective::Upsmon),
+            _ => None,
+        }
+    }
+}
+
+impl FromValues for Action {
+    ghost use Rattle.nut_conf.specs.Users.{action_setting, action_value};
+
+    ghost setting = { action_setting };
+
+    ghost reads = { action_value };
+
+    fn from_values(values: &Values<'_, '_>) -> Result<Self, FaultKind> {
+        match values.one()? {
+            b"SET" => Ok(Action::Set),
+            b"FSD" => Ok(Action::Fsd),
+            _ => Err(FaultKind::UnknownWord),
+        }
+    }
+}
+
+fn is_all(word: &[u8]) -> bool
+    ensures { result ≡ bytes_eq (map to_ascii_lowercase word.now) (codes "all") }
+{
+    word.eq_ignore_ascii_case(b"all")
+}
+
+impl FromValues for Commands {
+    ghost use Rattle.nut_conf.specs.Users.{commands_setting, commands_value};
+
+    ghost setting = { commands_setting };
+
+    ghost reads = { commands_value };
+
+    fn from_values(values: &Values<'_, '_>) -> Result<Self, FaultKind> {
+        let word = values.one()?;
+        if is_all(word) {
+            Ok(Commands::All)
+        } else {
+            Ok(Commands::Named(Name::read(word)?))
+        }
+    }
+}
+
+impl Role {
+    ghost use Rattle.std.specs.Prelude.{[], ◌∷◌};
+    ghost use Rattle.nut_conf.specs.Faults.{Reads};
+    ghost use Rattle.nut_conf.specs.Values.{one_of};
+    ghost use Rattle.nut_conf.specs.Users.{role_word};
+
+    /// Reads `primary` or `secondary`; `UnknownWord` for anything else.
+    pub fn read(word: &[u8]) -> Result<Self, FaultKind>
+        ensures { Reads role_word result (one_of (codes "primary" ∷ codes "secondary" ∷ []) word.now) }
+    {
+        if word == b"primary".as_slice() {
+            Ok(Role::Primary)
+        } else if word == b"secondary".as_slice() {
+            Ok(Role::Secondary)
+        } else {
+            Err(FaultKind::UnknownWord)
+        }
+    }
+}
+
+impl FromValues for Role {
+    ghost use Rattle.nut_conf.specs.Users.{role_setting, role_value};
+
+    ghost setting = { role_setting };
+
+    ghost reads = { role_value };
+
+    fn from_values(values: &Values<'_, '_>) -> Result<Self, FaultKind> {
+        Role::read(values.one()?)
+    }
+}
+
+impl Draft for User {
+    ghost use Rattle.nut_conf.specs.Settings.{line_fault};
+    ghost use Rattle.nut_conf.specs.Users.{UserHolds, user_directives};
+
+    ghost fault = { line_fault user_directives };
+
+    ghost Holds = { UserHolds };
+
+    fn new(alloc: Global) -> Self {
+        User {
+            password: None,
+            actions: Vec::new(alloc),
+            instcmds: Vec::new(alloc),
+            upsmon: None,
+        }
+    }
+
+    fn put(&mut self, line: &Line<'_>) -> Result<(), FaultKind> {
+        match UserDirective::of(line.directive()) {
+            Some(UserDirective::Password) => once(&mut self.password, Form::Assigned, line),
+            Some(UserDirective::Actions) => listed(&mut self.actions, Form::Assigned, line, None),
+            Some(UserDirective::Instcmds) => {
+                listed(&mut self.instcmds, Form::Assigned, line, Some(128))
+            }
+            Some(UserDirective::Upsmon) => once(&mut self.upsmon, Form::Plain, line),
+            None => Err(FaultKind::UnknownDirective),
+        }
+    }
+}
+
+/// Reads upsd.users (NUT man page upsd.users(5)).
+///
+/// Gives the configuration that its lines set, or the first line with a fault and the first fault in it.
+pub fn read_users(alloc: Global, bytes: &[u8]) -> Result<UsersConf, ConfFault>
+    ensures { Means (read_file users_fault bytes.now) UsersConfHolds result }
+{
+    let users = read_draft(alloc, bytes)?;
+    Ok(UsersConf { users })
+}

@@ -1,0 +1,82 @@
+//! The values on a directive's line.
+ghost use Rattle.std.specs.Prelude.{◌≡◌, ◌<◌, [], IfOk, IsTrue, length, slice_index_or};
+ghost use Rattle.std.specs.List.{list_all};
+ghost use Rattle.nut_words.specs.Spelling.{is_printing};
+ghost use Rattle.nut_conf.specs.Faults.{Reads};
+ghost use Rattle.nut_conf.specs.Values.{one, values_of};
+
+use crate::fault::FaultKind;
+use crate::line::Line;
+use std::marker::Model;
+
+/// How the values follow their directive.
+#[derive(Clone, Copy)]
+pub enum Form {
+    /// As in `word = value`.
+    Assigned,
+    /// As in `WORD value ..`.
+    Plain,
+}
+
+/// The values of a line, which are its last words.
+#[derive(Drop)]
+pub struct Values<'a, 'b> {
+    line: &'a Line<'b>,
+    first: usize,
+}
+
+impl<'a, 'b> Model for Values<'a, 'b> {
+    ghost use Rattle.std.specs.Prelude.{List, ℕ, ◌≤◌, drop, length};
+
+    ghost Value = { List (List ℕ) };
+
+    ghost view = { λ v. drop v.first v.line.now.words };
+
+    ghost invariant = { λ v. v.first ≤ length v.line.now.words };
+}
+
+impl<'a, 'b> Values<'a, 'b> {
+    /// The values of a line with this form.
+    pub fn of(form: Form, line: &'a Line<'b>) -> Result<Self, FaultKind>
+        ensures { Reads (λ values. values) result (values_of form line.now.words) }
+    {
+        match form {
+            Form::Plain => Ok(Values { line, first: 1 }),
+            Form::Assigned => {
+                if line.len() < 2 || line.word(1) != b"=".as_slice() {
+                    return Err(FaultKind::BadForm);
+                }
+                Ok(Values { line, first: 2 })
+            }
+        }
+    }
+
+    /// How many values there are.
+    pub fn len(&self) -> usize
+        ensures { result ≡ length self.now }
+    {
+        self.line.len() - self.first
+    }
+
+    /// A value, counted from 0.
+    pub fn get(&self, index: usize) -> &'a [u8]
+        requires { index < length self.now }
+        ensures value { result.now ≡ slice_index_or self.now index [] }
+        ensures printing { IsTrue (list_all is_printing result.now) }
+    {
+        let behind = self.len() - index;
+        self.line.word(self.line.len() - behind)
+    }
+
+    /// The only value.
+    pub fn one(&self) -> Result<&'a [u8], FaultKind>
+        ensures value { Reads (λ value. value.now) result (one self.now) }
+        ensures printing { IfOk result (λ value. IsTrue (list_all is_printing value.now)) }
+    {
+        if self.len() == 1 {
+            Ok(self.get(0))
+        } else {
+            Err(FaultKind::BadForm)
+        }
+    }
+}
