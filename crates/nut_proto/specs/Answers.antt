@@ -1,4 +1,4 @@
--- What a line of the server's is to a client, by its first words (RFC 9271, sections 4.2 and 4.3).
+-- What a line of the server's is to a client, by its first words (RFC 9271).
 use Rattle.std.specs.Prelude.{ℕ, Bool, ◌&&◌, List, [], ◌∷◌, length, drop, nat_lt, Result, Ok, Err, codes, if◌then◌else◌}
 use Rattle.std.specs.Str.{bytes_eq}
 use Rattle.nut_words.specs.declared.words.WordFault.{WordFault}

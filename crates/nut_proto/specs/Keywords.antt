@@ -1,4 +1,4 @@
--- The command words of the network protocol (RFC 9271, section 4.2).
+-- The command words of the network protocol (RFC 9271).
 use Rattle.std.specs.Prelude.{ℕ, Bool, List, [], ◌∷◌, Option, Some, None, codes, find}
 use Rattle.std.specs.Str.{bytes_eq, str_eq_ignore_ascii_case}
 use Rattle.nut_proto.specs.declared.keyword.Command.{Command}

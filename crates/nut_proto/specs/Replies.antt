@@ -1,4 +1,4 @@
--- What the server answers, line by line (RFC 9271, section 4.2).
+-- What the server answers, line by line (RFC 9271).
 use Rattle.std.specs.Prelude.{ℕ, Bool, List, [], ◌∷◌, codes, if◌then◌else◌}
 use Rattle.nut_proto.specs.declared.reply.Reply.{Reply}
 use Rattle.nut_proto.specs.declared.reply.Reply.TheVariants as replies

@@ -1,4 +1,4 @@
--- How requests, and the lines round a list, are written (RFC 9271, section 4.2).
+-- How requests, and the lines round a list, are written (RFC 9271).
 use Rattle.std.specs.Prelude.{ℕ, List, [], ◌∷◌, codes}
 use Rattle.nut_proto.specs.declared.request.Request.{Request}
 use Rattle.nut_proto.specs.declared.request.Request.TheVariants as requests

@@ -9,7 +9,7 @@ use crate::refusal::Refusal;
 use crate::request::{ListQuery, Request};
 use nut_words::Words;
 
-/// The request that the words of a client's line make (RFC 9271, section 4.2). Takes no memory.
+/// The request that the words of a client's line make (RFC 9271). Takes no memory.
 ///
 /// Command words are compared without ASCII case, and the number of words is exact.
 /// `UnknownCommand` is for a first word that is no command, `InvalidArgument` for every other line that is no request,

@@ -2,7 +2,7 @@
 ghost use Rattle.std.specs.Prelude.{◌≡◌};
 ghost use Rattle.nut_proto.specs.Refusals.{refusal_name};
 
-/// Why the server refuses a request (RFC 9271, section 4.3).
+/// Why the server refuses a request (RFC 9271).
 #[derive(Clone, Copy, Debug, PartialEq, Eq)]
 pub enum Refusal {
     /// The user, password or right does not suffice.

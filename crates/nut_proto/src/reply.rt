@@ -21,7 +21,7 @@ pub enum VariableKind {
     Number,
 }
 
-/// A line of the server's (RFC 9271, section 4.2). It borrows its words.
+/// A line of the server's (RFC 9271). It borrows its words.
 ///
 /// The reply to a LIST is its query's `put_begin`, a row for each entry, and its query's `put_end`.
 #[derive(Debug, Drop)]

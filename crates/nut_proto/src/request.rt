@@ -9,7 +9,7 @@ use crate::word::Word;
 use arrayvec::ArrayVec;
 use std::alloc::AllocError;
 
-/// What a client asks of the server (RFC 9271, section 4.2). It borrows its words.
+/// What a client asks of the server (RFC 9271). It borrows its words.
 ///
 /// Names and values are the client's, of any bytes: nothing says that a UPS, a variable or a command bears them.
 #[derive(Debug, Drop)]
