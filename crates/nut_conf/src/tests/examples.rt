@@ -1,6 +1,9 @@
 //! The files of `examples`, word for word, and what they set.
 
-use crate::{Action, Notice, NoticeFlags, Role, read_ups, read_upsd, read_upsmon, read_users};
+use crate::{
+    Action, Monitored, Notice, NoticeFlags, Role, Ups, UpsConf, UpsdConf, UpsmonConf, User,
+    UsersConf, read_ups, read_upsd, read_upsmon, read_users,
+};
 use std::test::Fail;
 
 /// examples/ups.conf
@@ -19,153 +22,186 @@ const UPSD_CONF: &[u8] =
 const UPSMON_CONF: &[u8] =
     b"# upsmon.conf, of the machine that shuts the UPS down.\n# The other machine has its own file: its MONITOR line names the user guest\n# and the server's address, and ends with secondary.\n\n# UPS@host, how many supplies it feeds, user, password, role\nMONITOR su700@localhost 1 monuser m1 primary\n\n# shut down as soon as no supply is left\nMINSUPPLIES 1\nSHUTDOWNCMD \"/sbin/shutdown -h +0\"\nPOWERDOWNFLAG /etc/killpower\n\n# run for the notices below that have EXEC\nNOTIFYCMD /usr/local/bin/tell-admin\nNOTIFYMSG ONBATT \"UPS %s: mains lost\"\nNOTIFYFLAG ONBATT SYSLOG+EXEC\nNOTIFYFLAG LOWBATT SYSLOG+WALL+EXEC\nNOTIFYFLAG ONLINE IGNORE\n\nPOLLFREQ 5\nDEADTIME 15\nHOSTSYNC 20\nFINALDELAY 5\nRBWARNTIME 43200\nNOCOMMWARNTIME 300\n";
 
+fn has(ups: Option<&Ups>, driver: &[u8], port: &[u8], desc: &[u8]) -> bool {
+    match ups {
+        Some(ups) => ups.driver() == driver && ups.port() == port && ups.desc() == desc,
+        None => false,
+    }
+}
+
+fn is_named(conf: &UpsConf, number: usize, name: &[u8]) -> bool {
+    match conf.name(number) {
+        Some(own) => own.as_bytes() == name && conf.find(name) == Some(number),
+        None => false,
+    }
+}
+
 #[test]
 fn ups_conf(rt: HostRuntime) -> Result<(), Fail> {
     let conf = read_ups(rt.alloc(), UPS_CONF)?;
-    assert_eq!(rt; conf.len(), 1);
-    assert!(rt; !conf.is_empty());
-    assert_eq!(rt; conf.find(b"su700"), Some(0));
-    assert_eq!(rt; conf.find(b"su7000"), None);
-    assert_eq!(rt; conf.find(b"su 700"), None);
-    assert_eq!(rt; conf.find(b"a name that is longer than 32 bytes"), None);
-    let name = conf.name(0).ok_or("no name")?;
-    assert!(rt; conf.name(1).is_none());
-    assert!(rt; conf.get(1).is_none());
-    let ups = conf.get(0).ok_or("no UPS")?;
-    assert_eq!(rt; name.as_bytes(), b"su700".as_slice());
-    assert_eq!(rt; ups.driver(), b"dummy-ups".as_slice());
-    assert_eq!(rt; ups.port(), b"su700.dev".as_slice());
-    assert_eq!(rt; ups.desc(), b"Server room".as_slice());
+    assert!(rt; conf.len() == 1 && !conf.is_empty());
+    assert!(rt; is_named(&conf, 0, b"su700"));
+    assert!(rt; has(conf.get(0), b"dummy-ups", b"su700.dev", b"Server room"));
+    assert!(rt; conf.get(1).is_none() && conf.name(1).is_none());
     Ok(())
 }
 
 #[test]
-fn ups_conf_order_and_defaults(rt: HostRuntime) -> Result<(), Fail> {
-    let conf = read_ups(rt.alloc(), b"[b]\n[a]\ndesc = \"\"\ndriver = x\n[c]\n")?;
-    assert_eq!(rt; conf.find(b"b"), Some(0));
-    assert_eq!(rt; conf.find(b"a"), Some(1));
-    assert_eq!(rt; conf.find(b"c"), Some(2));
-    let first = conf.get(0).ok_or("no UPS")?;
-    assert_eq!(rt; first.driver(), b"dummy-ups".as_slice());
-    assert_eq!(rt; first.port(), b"".as_slice());
-    assert_eq!(rt; first.desc(), b"Unavailable".as_slice());
-    let second = conf.get(1).ok_or("no UPS")?;
-    assert_eq!(rt; second.driver(), b"x".as_slice());
-    assert_eq!(rt; second.desc(), b"".as_slice());
+fn no_such_ups(rt: HostRuntime) -> Result<(), Fail> {
+    let conf = read_ups(rt.alloc(), UPS_CONF)?;
+    assert!(rt; conf.find(b"su7000").is_none());
+    assert!(rt; conf.find(b"su 700").is_none());
+    assert!(rt; conf.find(b"a name that is longer than 32 bytes").is_none());
     Ok(())
+}
+
+#[test]
+fn order_and_defaults_of_ups_conf(rt: HostRuntime) -> Result<(), Fail> {
+    let conf = read_ups(rt.alloc(), b"[b]\n[a]\ndesc = \"\"\ndriver = x\n[c]\n")?;
+    assert!(rt; is_named(&conf, 0, b"b") && is_named(&conf, 1, b"a") && is_named(&conf, 2, b"c"));
+    assert!(rt; has(conf.get(0), b"dummy-ups", b"", b"Unavailable"));
+    assert!(rt; has(conf.get(1), b"x", b"", b""));
+    Ok(())
+}
+
+fn is_admin(user: &User) -> bool {
+    user.has_password(b"pw")
+        && !user.has_password(b"p")
+        && user.may_act(Action::Set)
+        && !user.may_act(Action::Fsd)
+        && user.may_command(b"load.off")
+        && user.upsmon.is_none()
+}
+
+fn is_monitor(conf: &UsersConf, name: &[u8], password: &[u8], role: Role) -> bool {
+    match conf.find(name) {
+        Some(user) => {
+            user.has_password(password)
+                && user.upsmon == Some(role)
+                && !user.may_act(Action::Set)
+                && !user.may_command(b"load.off")
+        }
+        None => false,
+    }
 }
 
 #[test]
 fn upsd_users(rt: HostRuntime) -> Result<(), Fail> {
     let conf = read_users(rt.alloc(), UPSD_USERS)?;
-    assert_eq!(rt; conf.users.by_name.len(), 3);
-    let admin = conf.find(b"admin").ok_or("no admin")?;
-    assert!(rt; admin.has_password(b"pw"));
-    assert!(rt; !admin.has_password(b"p"));
-    assert!(rt; admin.may_act(Action::Set));
-    assert!(rt; !admin.may_act(Action::Fsd));
-    assert!(rt; admin.may_command(b"load.off"));
-    assert!(rt; admin.upsmon.is_none());
-    let primary = conf.find(b"monuser").ok_or("no monuser")?;
-    assert_eq!(rt; primary.upsmon, Some(Role::Primary));
-    assert!(rt; !primary.may_command(b"load.off"));
-    let guest = conf.find(b"guest").ok_or("no guest")?;
-    assert!(rt; guest.has_password(b"m 2"));
-    assert_eq!(rt; guest.upsmon, Some(Role::Secondary));
-    assert!(rt; conf.find(b"nobody").is_none());
-    assert!(rt; conf.find(b"").is_none());
+    assert!(rt; conf.find(b"admin").is_some_and(is_admin));
+    assert!(rt; is_monitor(&conf, b"monuser", b"m1", Role::Primary));
+    assert!(rt; is_monitor(&conf, b"guest", b"m 2", Role::Secondary));
+    assert!(rt; conf.find(b"nobody").is_none() && conf.find(b"").is_none());
     Ok(())
+}
+
+fn has_rights(user: &User) -> bool {
+    !user.has_password(b"")
+        && user.may_act(Action::Fsd)
+        && !user.may_act(Action::Set)
+        && user.may_command(b"load.off")
+        && !user.may_command(b"LOAD.OFF")
+        && !user.may_command(b"all")
 }
 
 #[test]
 fn rights_of_users(rt: HostRuntime) -> Result<(), Fail> {
     let file = b"[a]\nactions = FSD\ninstcmds = load.on\ninstcmds = load.off\n";
     let conf = read_users(rt.alloc(), file)?;
-    let user = conf.find(b"a").ok_or("no user")?;
-    assert!(rt; !user.has_password(b""));
-    assert!(rt; user.may_act(Action::Fsd));
-    assert!(rt; !user.may_act(Action::Set));
-    assert!(rt; user.may_command(b"load.off"));
-    assert!(rt; !user.may_command(b"LOAD.OFF"));
-    assert!(rt; !user.may_command(b"all"));
+    assert!(rt; conf.find(b"a").is_some_and(has_rights));
     Ok(())
+}
+
+fn listens(conf: &UpsdConf, index: usize, address: &[u8], port: u16) -> bool {
+    match conf.endpoint(index) {
+        Some((own, number)) => own == address && number == port,
+        None => false,
+    }
 }
 
 #[test]
 fn upsd_conf(rt: HostRuntime) -> Result<(), Fail> {
     let conf = read_upsd(rt.alloc(), UPSD_CONF)?;
-    assert_eq!(rt; conf.max_age(), 15);
-    assert_eq!(rt; conf.max_conn(), 16);
-    assert_eq!(rt; conf.endpoints(), 2);
-    assert_eq!(rt; conf.endpoint(0), Some((b"127.0.0.1".as_slice(), 3493)));
-    assert_eq!(rt; conf.endpoint(1), Some((b"192.168.1.10".as_slice(), 3493)));
-    assert_eq!(rt; conf.endpoint(2), None);
-    let conf = read_upsd(rt.alloc(), b"MAXCONN 2\n")?;
-    assert_eq!(rt; conf.max_age(), 15);
-    assert_eq!(rt; conf.endpoints(), 1);
-    assert_eq!(rt; conf.endpoint(0), Some((b"127.0.0.1".as_slice(), 3493)));
-    assert_eq!(rt; conf.endpoint(1), None);
-    assert_eq!(rt; read_upsd(rt.alloc(), b"MAXAGE 1\n")?.max_conn(), 256);
+    assert!(rt; conf.max_age() == 15 && conf.max_conn() == 16 && conf.endpoints() == 2);
+    assert!(rt; listens(&conf, 0, b"127.0.0.1", 3493));
+    assert!(rt; listens(&conf, 1, b"192.168.1.10", 3493));
+    assert!(rt; conf.endpoint(2).is_none());
     Ok(())
 }
 
 #[test]
-fn upsmon_conf(rt: HostRuntime) -> Result<(), Fail> {
+fn defaults_of_upsd_conf(rt: HostRuntime) -> Result<(), Fail> {
+    let conf = read_upsd(rt.alloc(), b"")?;
+    assert!(rt; conf.max_age() == 15 && conf.max_conn() == 256 && conf.endpoints() == 1);
+    assert!(rt; listens(&conf, 0, b"127.0.0.1", 3493));
+    assert!(rt; conf.endpoint(1).is_none());
+    Ok(())
+}
+
+fn watches(monitor: &Monitored, written: &[u8], ups: &[u8], host: &[u8], port: u16) -> bool {
+    monitor.written.as_slice() == written
+        && monitor.target.ups.as_bytes() == ups
+        && monitor.target.host.as_bytes() == host
+        && monitor.target.port.number == port
+}
+
+fn logs_in(monitor: &Monitored, power: u32, user: &[u8], password: &[u8], role: Role) -> bool {
+    monitor.power.value == power
+        && monitor.user.as_bytes() == user
+        && monitor.password.as_bytes() == password
+        && monitor.role == role
+}
+
+fn first(conf: &UpsmonConf) -> Option<&Monitored> {
+    conf.monitors.lines.as_slice().get(0)
+}
+
+#[test]
+fn monitors(rt: HostRuntime) -> Result<(), Fail> {
     let conf = read_upsmon(rt.alloc(), UPSMON_CONF)?;
-    assert_eq!(rt; conf.monitors.lines.len(), 1);
-    let monitor = conf
-        .monitors
-        .lines
-        .as_slice()
-        .get(0)
-        .ok_or("no MONITOR line")?;
-    assert_eq!(rt; monitor.written.as_slice(), b"su700@localhost".as_slice());
-    assert_eq!(rt; monitor.target.ups.as_bytes(), b"su700".as_slice());
-    assert_eq!(rt; monitor.target.host.as_bytes(), b"localhost".as_slice());
-    assert_eq!(rt; monitor.target.port.number, 3493);
-    assert_eq!(rt; monitor.power.value, 1);
-    assert_eq!(rt; monitor.user.as_bytes(), b"monuser".as_slice());
-    assert_eq!(rt; monitor.password.as_bytes(), b"m1".as_slice());
-    assert_eq!(rt; monitor.role, Role::Primary);
-    let command = conf.shutdown_cmd.as_ref().ok_or("no SHUTDOWNCMD")?;
-    assert_eq!(rt; command.as_bytes(), b"/sbin/shutdown -h +0".as_slice());
-    assert_eq!(rt; conf.min_supplies(), 1);
-    assert_eq!(rt; conf.host_sync(), 20);
-    assert_eq!(rt;
-        conf.message(Notice::Onbatt),
-        b"UPS %s: mains lost".as_slice()
-    );
-    assert_eq!(rt;
-        conf.message(Notice::Online),
-        b"UPS %s on line power".as_slice()
-    );
-    let flags = conf.flags(Notice::Onbatt);
-    assert!(rt; flags.syslog && flags.exec && !flags.wall && !flags.ignore);
-    assert!(rt; conf.flags(Notice::Lowbatt).wall);
-    assert!(rt; conf.flags(Notice::Online).ignore);
-    assert_eq!(rt; conf.flags(Notice::Fsd), NoticeFlags::default_flags());
+    let monitor = first(&conf).ok_or("no MONITOR line")?;
+    assert!(rt; watches(monitor, b"su700@localhost", b"su700", b"localhost", 3493));
+    assert!(rt; logs_in(monitor, 1, b"monuser", b"m1", Role::Primary));
     Ok(())
 }
 
 #[test]
-fn upsmon_conf_defaults(rt: HostRuntime) -> Result<(), Fail> {
-    let conf = read_upsmon(rt.alloc(), b"MONITOR u@h:0005 1 m p secondary")?;
-    let monitor = conf
-        .monitors
-        .lines
-        .as_slice()
-        .get(0)
-        .ok_or("no MONITOR line")?;
-    assert_eq!(rt; monitor.written.as_slice(), b"u@h:0005".as_slice());
-    assert_eq!(rt; monitor.target.port.number, 5);
-    assert_eq!(rt; monitor.role, Role::Secondary);
-    assert_eq!(rt; (conf.min_supplies(), conf.poll_freq()), (1, 5));
-    assert_eq!(rt; (conf.dead_time(), conf.rb_warn_time()), (15, 43_200));
-    assert_eq!(rt; (conf.no_comm_warn_time(), conf.host_sync()), (300, 15));
-    assert_eq!(rt; conf.final_delay(), 5);
-    assert!(rt; conf.shutdown_cmd.is_none());
-    assert!(rt; conf.notify_cmd.is_none());
-    assert!(rt; conf.power_down_flag.is_none());
+fn targets_as_written(rt: HostRuntime) -> Result<(), Fail> {
+    let conf = read_upsmon(rt.alloc(), b"MONITOR u@h:0005 2 m p secondary")?;
+    let monitor = first(&conf).ok_or("no MONITOR line")?;
+    assert!(rt; watches(monitor, b"u@h:0005", b"u", b"h", 5));
+    assert!(rt; logs_in(monitor, 2, b"m", b"p", Role::Secondary));
+    Ok(())
+}
+
+fn notices_are_set(conf: &UpsmonConf) -> bool {
+    let flags = conf.flags(Notice::Onbatt);
+    conf.message(Notice::Onbatt) == b"UPS %s: mains lost".as_slice()
+        && conf.message(Notice::Online) == b"UPS %s on line power".as_slice()
+        && flags.syslog
+        && flags.exec
+        && !flags.wall
+        && conf.flags(Notice::Online).ignore
+        && conf.flags(Notice::Fsd) == NoticeFlags::default_flags()
+}
+
+#[test]
+fn notices(rt: HostRuntime) -> Result<(), Fail> {
+    let conf = read_upsmon(rt.alloc(), UPSMON_CONF)?;
+    assert!(rt; notices_are_set(&conf));
+    assert!(rt; conf.host_sync() == 20);
+    let command = conf.shutdown_cmd.as_ref().ok_or("no SHUTDOWNCMD")?;
+    assert!(rt; command.as_bytes() == b"/sbin/shutdown -h +0".as_slice());
+    Ok(())
+}
+
+#[test]
+fn defaults_of_upsmon_conf(rt: HostRuntime) -> Result<(), Fail> {
+    let conf = read_upsmon(rt.alloc(), b"MONITOR u@h 1 m p primary")?;
+    assert!(rt; conf.min_supplies() == 1 && conf.poll_freq() == 5 && conf.dead_time() == 15);
+    assert!(rt; conf.rb_warn_time() == 43_200 && conf.no_comm_warn_time() == 300);
+    assert!(rt; conf.host_sync() == 15 && conf.final_delay() == 5);
+    assert!(rt; conf.shutdown_cmd.is_none() && conf.power_down_flag.is_none());
     Ok(())
 }
 
@@ -197,10 +233,16 @@ const TEXTS: [(Notice, &[u8], &[u8]); 9] = [
     (Notice::Nocomm, b"NOCOMM", b"UPS %s is unavailable"),
 ];
 
+fn all_have_their_texts(rows: &[(Notice, &[u8], &[u8])]) -> bool {
+    for (notice, word, text) in rows {
+        if notice.word() != *word || notice.default_text() != *text {
+            return false;
+        }
+    }
+    true
+}
+
 #[test]
 fn texts_of_notices(rt: HostRuntime) {
-    for (notice, word, text) in TEXTS {
-        assert_eq!(rt; notice.word(), word);
-        assert_eq!(rt; notice.default_text(), text);
-    }
+    assert!(rt; all_have_their_texts(&TEXTS));
 }

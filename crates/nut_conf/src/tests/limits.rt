@@ -13,11 +13,12 @@ type Parts = &'static [(&'static [u8], usize)];
 /// The first row whose file doesn't read as the row says.
 fn first_wrong(
     alloc: Global,
-    rows: &[(File, Parts, Outcome)],
+    file: File,
+    rows: &[(Parts, Outcome)],
 ) -> Result<Option<usize>, AllocError> {
-    for (index, (file, parts, want)) in rows.iter().enumerate() {
+    for (index, (parts, want)) in rows.iter().enumerate() {
         let bytes = joined(alloc, parts)?;
-        if read(alloc, *file, bytes.as_slice()) != *want {
+        if read(alloc, file, bytes.as_slice()) != *want {
             return Ok(Some(index));
         }
     }
@@ -34,206 +35,133 @@ fn joined(alloc: Global, parts: Parts) -> Result<Vec<u8>, AllocError> {
     Ok(bytes)
 }
 
-const FILES_AND_LINES: [(File, Parts, Outcome); 11] = [
-    (File::Ups, &[(b"\n", 1_048_576)], None),
-    (File::Ups, &[(b"\n", 1_048_577)], Some((0, PastLimit))),
-    (File::Ups, &[(b"x", 1_048_577)], Some((0, PastLimit))),
-    (File::Ups, &[(b"x", 1_048_576)], Some((1, PastLimit))),
-    (File::Ups, &[(b"#", 512), (b"\n[a]", 1)], None),
-    (
-        File::Ups,
-        &[(b"#", 513), (b"\n[a]", 1)],
-        Some((1, PastLimit)),
-    ),
-    (File::Ups, &[(b"#", 511), (b"\r\n", 1)], None),
-    (
-        File::Ups,
-        &[(b"#", 512), (b"\r\n", 1)],
-        Some((1, PastLimit)),
-    ),
-    (File::Ups, &[(b"\"", 513)], Some((1, PastLimit))),
-    (File::Ups, &[(b"a ", 32)], Some((1, OutsideSection))),
-    (File::Ups, &[(b"a ", 33)], Some((1, Unreadable))),
+const FILES_AND_LINES: [(Parts, Outcome); 11] = [
+    (&[(b"\n", 1_048_576)], None),
+    (&[(b"\n", 1_048_577)], Some((0, PastLimit))),
+    (&[(b"x", 1_048_577)], Some((0, PastLimit))),
+    (&[(b"x", 1_048_576)], Some((1, PastLimit))),
+    (&[(b"#", 512), (b"\n[a]", 1)], None),
+    (&[(b"#", 513), (b"\n[a]", 1)], Some((1, PastLimit))),
+    (&[(b"#", 511), (b"\r\n", 1)], None),
+    (&[(b"#", 512), (b"\r\n", 1)], Some((1, PastLimit))),
+    (&[(b"\"", 513)], Some((1, PastLimit))),
+    (&[(b"a ", 32)], Some((1, OutsideSection))),
+    (&[(b"a ", 33)], Some((1, Unreadable))),
 ];
 
-const VALUES: [(File, Parts, Outcome); 58] = [
-    (File::Ups, &[(b"[", 1), (b"a", 32), (b"]", 1)], None),
+const UPS: [(Parts, Outcome); 11] = [
+    (&[(b"[", 1), (b"a", 32), (b"]", 1)], None),
+    (&[(b"[", 1), (b"a", 33), (b"]", 1)], Some((1, PastLimit))),
+    (&[(b"[", 1), (b"a", 33), (b"/]", 1)], Some((1, BadName))),
+    (&[(b"[a]\ndriver=", 1), (b"d", 32)], None),
+    (&[(b"[a]\ndriver=", 1), (b"d", 33)], Some((2, PastLimit))),
     (
-        File::Ups,
-        &[(b"[", 1), (b"a", 33), (b"]", 1)],
-        Some((1, PastLimit)),
-    ),
-    (
-        File::Ups,
-        &[(b"[", 1), (b"a", 33), (b"/]", 1)],
-        Some((1, BadName)),
-    ),
-    (File::Ups, &[(b"[a]\ndriver=", 1), (b"d", 32)], None),
-    (
-        File::Ups,
-        &[(b"[a]\ndriver=", 1), (b"d", 33)],
-        Some((2, PastLimit)),
-    ),
-    (
-        File::Ups,
         &[(b"[a]\ndriver=", 1), (b"d", 33), (b"/", 1)],
         Some((2, BadName)),
     ),
-    (File::Ups, &[(b"[a]\nport=", 1), (b"d", 128)], None),
+    (&[(b"[a]\nport=", 1), (b"d", 128)], None),
+    (&[(b"[a]\nport=", 1), (b"d", 129)], Some((2, PastLimit))),
+    (&[(b"[a]\ndesc=", 1), (b"d", 128)], None),
+    (&[(b"[a]\ndesc=", 1), (b"d", 129)], Some((2, PastLimit))),
     (
-        File::Ups,
-        &[(b"[a]\nport=", 1), (b"d", 129)],
-        Some((2, PastLimit)),
-    ),
-    (File::Ups, &[(b"[a]\ndesc=", 1), (b"d", 128)], None),
-    (
-        File::Ups,
-        &[(b"[a]\ndesc=", 1), (b"d", 129)],
-        Some((2, PastLimit)),
-    ),
-    (
-        File::Ups,
         &[(b"[a]\ndesc=x\ndesc=", 1), (b"d", 129)],
         Some((3, PastLimit)),
     ),
-    (File::Users, &[(b"[a]\npassword=", 1), (b"d", 128)], None),
+];
+
+const USERS: [(Parts, Outcome); 9] = [
+    (&[(b"[a]\npassword=", 1), (b"d", 128)], None),
+    (&[(b"[a]\npassword=", 1), (b"d", 129)], Some((2, PastLimit))),
+    (&[(b"[a]\ninstcmds=", 1), (b"d", 64)], None),
+    (&[(b"[a]\ninstcmds=", 1), (b"d", 65)], Some((2, PastLimit))),
+    (&[(b"[a]\n", 1), (b"instcmds=x\n", 128)], None),
     (
-        File::Users,
-        &[(b"[a]\npassword=", 1), (b"d", 129)],
-        Some((2, PastLimit)),
-    ),
-    (File::Users, &[(b"[a]\ninstcmds=", 1), (b"d", 64)], None),
-    (
-        File::Users,
-        &[(b"[a]\ninstcmds=", 1), (b"d", 65)],
-        Some((2, PastLimit)),
-    ),
-    (File::Users, &[(b"[a]\n", 1), (b"instcmds=x\n", 128)], None),
-    (
-        File::Users,
         &[(b"[a]\n", 1), (b"instcmds=x\n", 129)],
         Some((130, PastLimit)),
     ),
     (
-        File::Users,
         &[(b"[a]\n", 1), (b"instcmds=x\n", 128), (b"instcmds=/", 1)],
         Some((130, BadName)),
     ),
     (
-        File::Users,
         &[(b"[a]\n", 1), (b"instcmds=ALL\n", 129)],
         Some((130, PastLimit)),
     ),
+    (&[(b"[a]\n", 1), (b"actions=SET\n", 1000)], None),
+];
+
+const UPSD: [(Parts, Outcome); 15] = [
+    (&[(b"LISTEN ", 1), (b"a", 64)], None),
+    (&[(b"LISTEN ", 1), (b"a", 65)], Some((1, BadName))),
+    (&[(b"LISTEN a 1\nLISTEN a 65535", 1)], None),
+    (&[(b"LISTEN a 65536", 1)], Some((1, BadNumber))),
+    (&[(b"LISTEN a\n", 16)], None),
+    (&[(b"LISTEN a\n", 17)], Some((17, PastLimit))),
     (
-        File::Users,
-        &[(b"[a]\n", 1), (b"actions=SET\n", 1000)],
-        None,
-    ),
-    (File::Upsd, &[(b"LISTEN ", 1), (b"a", 64)], None),
-    (
-        File::Upsd,
-        &[(b"LISTEN ", 1), (b"a", 65)],
-        Some((1, BadName)),
-    ),
-    (File::Upsd, &[(b"LISTEN a 1\nLISTEN a 65535", 1)], None),
-    (File::Upsd, &[(b"LISTEN a 65536", 1)], Some((1, BadNumber))),
-    (File::Upsd, &[(b"LISTEN a\n", 16)], None),
-    (File::Upsd, &[(b"LISTEN a\n", 17)], Some((17, PastLimit))),
-    (
-        File::Upsd,
         &[(b"LISTEN a\n", 16), (b"LISTEN a 0", 1)],
         Some((17, BadNumber)),
     ),
-    (File::Upsd, &[(b"MAXAGE 1\nMAXCONN 1", 1)], None),
-    (File::Upsd, &[(b"MAXAGE 86400\nMAXCONN 256", 1)], None),
-    (File::Upsd, &[(b"MAXAGE 0", 1)], Some((1, BadNumber))),
-    (File::Upsd, &[(b"MAXAGE 86401", 1)], Some((1, BadNumber))),
-    (File::Upsd, &[(b"MAXCONN 0", 1)], Some((1, BadNumber))),
-    (File::Upsd, &[(b"MAXCONN 257", 1)], Some((1, BadNumber))),
-    (File::Upsd, &[(b"MAXAGE 000000015", 1)], None),
+    (&[(b"MAXAGE 1\nMAXCONN 1", 1)], None),
+    (&[(b"MAXAGE 86400\nMAXCONN 256", 1)], None),
+    (&[(b"MAXAGE 0", 1)], Some((1, BadNumber))),
+    (&[(b"MAXAGE 86401", 1)], Some((1, BadNumber))),
+    (&[(b"MAXCONN 0", 1)], Some((1, BadNumber))),
+    (&[(b"MAXCONN 257", 1)], Some((1, BadNumber))),
+    (&[(b"MAXAGE 000000015", 1)], None),
+    (&[(b"MAXAGE 0000000015", 1)], Some((1, BadNumber))),
+];
+
+const UPSMON: [(Parts, Outcome); 23] = [
+    (&[(b"MONITOR u@h 1000 m p primary", 1)], None),
     (
-        File::Upsd,
-        &[(b"MAXAGE 0000000015", 1)],
-        Some((1, BadNumber)),
-    ),
-    (File::Upsmon, &[(b"MONITOR u@h 1000 m p primary", 1)], None),
-    (
-        File::Upsmon,
         &[(b"MONITOR u@h 1001 m p primary", 1)],
         Some((1, BadNumber)),
     ),
     (
-        File::Upsmon,
         &[(b"MONITOR ", 1), (b"u", 33), (b"@h 1 m p primary", 1)],
         Some((1, BadName)),
     ),
     (
-        File::Upsmon,
         &[(b"MONITOR u@h 1 ", 1), (b"m", 32), (b" p primary", 1)],
         None,
     ),
     (
-        File::Upsmon,
         &[(b"MONITOR u@h 1 ", 1), (b"m", 33), (b" p primary", 1)],
         Some((1, PastLimit)),
     ),
     (
-        File::Upsmon,
         &[(b"MONITOR u@h 1 m ", 1), (b"p", 128), (b" primary", 1)],
         None,
     ),
     (
-        File::Upsmon,
         &[(b"MONITOR u@h 1 m ", 1), (b"p", 129), (b" primary", 1)],
         Some((1, PastLimit)),
     ),
+    (&[(b"MINSUPPLIES 32000", 1)], Some((0, PastLimit))),
+    (&[(b"MINSUPPLIES 32001", 1)], Some((1, BadNumber))),
+    (&[(b"MINSUPPLIES 0\nSHUTDOWNCMD ", 1), (b"c", 256)], None),
     (
-        File::Upsmon,
-        &[(b"MINSUPPLIES 32000", 1)],
-        Some((0, PastLimit)),
-    ),
-    (
-        File::Upsmon,
-        &[(b"MINSUPPLIES 32001", 1)],
-        Some((1, BadNumber)),
-    ),
-    (
-        File::Upsmon,
-        &[(b"MINSUPPLIES 0\nSHUTDOWNCMD ", 1), (b"c", 256)],
-        None,
-    ),
-    (
-        File::Upsmon,
         &[(b"MINSUPPLIES 0\nSHUTDOWNCMD ", 1), (b"c", 257)],
         Some((2, PastLimit)),
     ),
     (
-        File::Upsmon,
         &[(b"MINSUPPLIES 0\nNOTIFYCMD ", 1), (b"c", 257)],
         Some((2, PastLimit)),
     ),
     (
-        File::Upsmon,
         &[(b"MINSUPPLIES 0\nPOWERDOWNFLAG ", 1), (b"c", 257)],
         Some((2, PastLimit)),
     ),
+    (&[(b"MINSUPPLIES 0\nNOTIFYMSG FSD ", 1), (b"c", 128)], None),
     (
-        File::Upsmon,
-        &[(b"MINSUPPLIES 0\nNOTIFYMSG FSD ", 1), (b"c", 128)],
-        None,
-    ),
-    (
-        File::Upsmon,
         &[(b"MINSUPPLIES 0\nNOTIFYMSG FSD ", 1), (b"c", 129)],
         Some((2, PastLimit)),
     ),
     (
-        File::Upsmon,
         &[(b"MINSUPPLIES 0\nNOTIFYMSG X ", 1), (b"c", 129)],
         Some((2, UnknownWord)),
     ),
     (
-        File::Upsmon,
         &[(
             b"MINSUPPLIES 0\nPOLLFREQ 1\nDEADTIME 1\nRBWARNTIME 1\nNOCOMMWARNTIME 1\nHOSTSYNC 0\nFINALDELAY 0",
             1,
@@ -241,38 +169,43 @@ const VALUES: [(File, Parts, Outcome); 58] = [
         None,
     ),
     (
-        File::Upsmon,
         &[(b"MINSUPPLIES 0\nPOLLFREQ 1000000\nHOSTSYNC 1000000", 1)],
         None,
     ),
-    (File::Upsmon, &[(b"POLLFREQ 0", 1)], Some((1, BadNumber))),
-    (File::Upsmon, &[(b"DEADTIME 0", 1)], Some((1, BadNumber))),
-    (
-        File::Upsmon,
-        &[(b"RBWARNTIME 1000001", 1)],
-        Some((1, BadNumber)),
-    ),
-    (
-        File::Upsmon,
-        &[(b"NOCOMMWARNTIME 0", 1)],
-        Some((1, BadNumber)),
-    ),
-    (
-        File::Upsmon,
-        &[(b"HOSTSYNC 1000001", 1)],
-        Some((1, BadNumber)),
-    ),
+    (&[(b"POLLFREQ 0", 1)], Some((1, BadNumber))),
+    (&[(b"DEADTIME 0", 1)], Some((1, BadNumber))),
+    (&[(b"RBWARNTIME 1000001", 1)], Some((1, BadNumber))),
+    (&[(b"NOCOMMWARNTIME 0", 1)], Some((1, BadNumber))),
+    (&[(b"HOSTSYNC 1000001", 1)], Some((1, BadNumber))),
 ];
 
 #[test]
 fn files_and_lines(rt: HostRuntime) -> Result<(), Fail> {
-    assert_eq!(rt; first_wrong(rt.alloc(), &FILES_AND_LINES)?, None);
+    assert_eq!(rt; first_wrong(rt.alloc(), File::Ups, &FILES_AND_LINES)?, None);
     Ok(())
 }
 
 #[test]
-fn values(rt: HostRuntime) -> Result<(), Fail> {
-    assert_eq!(rt; first_wrong(rt.alloc(), &VALUES)?, None);
+fn ups_conf(rt: HostRuntime) -> Result<(), Fail> {
+    assert_eq!(rt; first_wrong(rt.alloc(), File::Ups, &UPS)?, None);
+    Ok(())
+}
+
+#[test]
+fn upsd_users(rt: HostRuntime) -> Result<(), Fail> {
+    assert_eq!(rt; first_wrong(rt.alloc(), File::Users, &USERS)?, None);
+    Ok(())
+}
+
+#[test]
+fn upsd_conf(rt: HostRuntime) -> Result<(), Fail> {
+    assert_eq!(rt; first_wrong(rt.alloc(), File::Upsd, &UPSD)?, None);
+    Ok(())
+}
+
+#[test]
+fn upsmon_conf(rt: HostRuntime) -> Result<(), Fail> {
+    assert_eq!(rt; first_wrong(rt.alloc(), File::Upsmon, &UPSMON)?, None);
     Ok(())
 }
 
@@ -337,11 +270,21 @@ const MONITORS: [(u32, &str, Outcome); 5] = [
     (32, "MONITOR v@h 1 m p x", Some((33, UnknownWord))),
 ];
 
+fn first_wrong_monitors(
+    alloc: Global,
+    rows: &[(u32, &str, Outcome)],
+) -> Result<Option<usize>, AllocError> {
+    for (index, (count, last, want)) in rows.iter().enumerate() {
+        let text = monitors(alloc, *count, last)?;
+        if read(alloc, File::Upsmon, text.as_bytes()) != *want {
+            return Ok(Some(index));
+        }
+    }
+    Ok(None)
+}
+
 #[test]
 fn counts_of_monitors(rt: HostRuntime) -> Result<(), Fail> {
-    for (count, last, want) in MONITORS {
-        let text = monitors(rt.alloc(), count, last)?;
-        assert_eq!(rt; read(rt.alloc(), File::Upsmon, text.as_bytes()), want);
-    }
+    assert_eq!(rt; first_wrong_monitors(rt.alloc(), &MONITORS)?, None);
     Ok(())
 }
