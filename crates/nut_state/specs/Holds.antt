@@ -1,5 +1,5 @@
 -- When a table is the one that a driver's lines tell of.
-use Rattle.std.specs.Prelude.{◌≡◌, ℕ, ◌≤◌, true, List, Option, Some, map, length, IsTrue}
+use Rattle.std.specs.Prelude.{◌≡◌, ℕ, ◌≤◌, true, List, Some, map, length}
 use Rattle.std.specs.List.{All, Contains}
 use Rattle.nut_state.specs.declared.limits.TheConstants.{VALUE_BYTES, MAX_VARIABLES, MAX_COMMANDS, MAX_ENUMS, MAX_RANGES}
 use Rattle.nut_state.specs.Change.{Change}
