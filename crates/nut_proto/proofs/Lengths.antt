@@ -1,5 +1,5 @@
 -- The lengths of messages.
-use Rattle.std.proofs.Common.{◌≡◌, ℕ, ◌+◌, ◌*◌, ◌≤◌, Bool, true, false, cond, List, [], ◌∷◌, ◌++◌, length, refl, ap, sym, ◌∙◌, arith, length-append, codes, IsTrue}
+use Rattle.std.proofs.Common.{◌≡◌, ℕ, ◌+◌, ◌*◌, ◌≤◌, Bool, true, false, cond, List, [], ◌∷◌, ◌++◌, length, refl, arith, length-append, codes, IsTrue}
 use Rattle.std.specs.Prelude.{◌==◌, ◌||◌}
 use Rattle.std.specs.List.{flat_map, AllByRecursion}
 use Rattle.nut_words.specs.Quoting.{escaped, quoted, stands_bare, word_text}
@@ -8,8 +8,8 @@ use Rattle.nut_proto.specs.declared.part.Part.TheVariants.{Word, Quoted}
 use Rattle.nut_proto.specs.declared.reply.Reply.TheVariants as replies
 use Rattle.nut_proto.specs.declared.request.ListQuery.TheVariants as queries
 use Rattle.nut_proto.specs.Lines.{line, part_text}
-use Rattle.nut_proto.specs.Requests.{begin_line, end_line, begin_parts, end_parts}
-use Rattle.nut_proto.specs.Replies.{reply_line, reply_parts}
+use Rattle.nut_proto.specs.Requests.{begin_line, end_line}
+use Rattle.nut_proto.specs.Replies.{reply_line}
 use Rattle.nut_proto.specs.Bounds.{IsName, IsVariable, variable_rows, variable_list, RowsAreBounded, ListsAreBounded, ForcedListsAreBounded}
 
 -- the bytes of parts, each with a blank before it

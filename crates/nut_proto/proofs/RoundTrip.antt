@@ -1,8 +1,7 @@
 -- The words that a message is written in are read as what was meant.
-use Rattle.std.proofs.Common.{◌≡◌, ℕ, ◌≤◌, Bool, true, false, List, [], ◌∷◌, length, IsTrue, refl, ◌∙◌, cond, ap, arith, Option, Some, None, Result, Ok, codes}
+use Rattle.std.proofs.Common.{◌≡◌, ℕ, ◌≤◌, Bool, true, false, List, length, IsTrue, refl, ◌∙◌, cond, ap, arith, Some, None, Ok, codes}
 use Rattle.std.specs.Option.{option_map, option_or, ok_or}
 use Rattle.nut_words.specs.Quoting.{IsPrintable}
-use Rattle.nut_words.specs.Reader.{spelled}
 use Rattle.nut_proto.specs.declared.refusal.Refusal.{Refusal}
 use Rattle.nut_proto.specs.declared.request.Request.{Request}
 use Rattle.nut_proto.specs.declared.request.Request.TheVariants as requests
@@ -13,15 +12,14 @@ use Rattle.nut_proto.specs.declared.reply.Reply.TheVariants as replies
 use Rattle.nut_proto.specs.declared.answer.Answer.TheVariants as answers
 use Rattle.nut_proto.specs.declared.driver_ask.DriverAsk.{DriverAsk}
 use Rattle.nut_proto.specs.declared.driver_ask.DriverAsk.TheVariants as asks
-use Rattle.nut_proto.specs.Lines.{AreWritable, message, message_words}
+use Rattle.nut_proto.specs.Lines.{message_words}
 use Rattle.nut_proto.specs.Keywords.{command_of, subject_of}
 use Rattle.nut_proto.specs.Rules.{is_credential}
 use Rattle.nut_proto.specs.Forms.{meaning}
-use Rattle.nut_proto.specs.Refusals.{refusal_name}
 use Rattle.nut_proto.specs.Requests.{request_parts, query_parts, begin_parts, end_parts}
 use Rattle.nut_proto.specs.Replies.{reply_parts}
 use Rattle.nut_proto.specs.DriverAsks.{ask_parts, ask_of}
-use Rattle.nut_proto.specs.Answers.{answer_of, answer_in, answer_for}
+use Rattle.nut_proto.specs.Answers.{answer_of, answer_for}
 use Rattle.nut_proto.specs.ReadBack.{IsReadable, RequestsAreRead, RepliesAreRead, ListsAreRead, AsksAreRead, answer_to}
 use Rattle.nut_proto.proofs.Spelling.{message_spelled}
 

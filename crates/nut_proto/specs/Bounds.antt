@@ -1,7 +1,7 @@
 -- How long messages are where names and values are within their limits.
-use Rattle.std.specs.Prelude.{◌≡◌, ℕ, ◌+◌, ◌*◌, ◌≤◌, List, [], ◌∷◌, ◌++◌, length, codes, IsTrue}
+use Rattle.std.specs.Prelude.{ℕ, ◌+◌, ◌≤◌, List, ◌∷◌, ◌++◌, length, codes, IsTrue}
 use Rattle.std.specs.List.{flat_map, AllByRecursion}
-use Rattle.nut_words.specs.Quoting.{quoted, stands_bare}
+use Rattle.nut_words.specs.Quoting.{stands_bare}
 use Rattle.nut_proto.specs.declared.reply.Reply.TheVariants as replies
 use Rattle.nut_proto.specs.declared.request.ListQuery.TheVariants as queries
 use Rattle.nut_proto.specs.Requests.{begin_line, end_line}

@@ -1,5 +1,5 @@
 -- What the server asks of a driver, line by line (NUT developer guide, driver and server on one machine).
-use Rattle.std.specs.Prelude.{ℕ, List, [], ◌∷◌, Option, Some, None, codes, if◌then◌else◌}
+use Rattle.std.specs.Prelude.{ℕ, List, [], ◌∷◌, Option, None, codes, if◌then◌else◌}
 use Rattle.nut_proto.specs.declared.driver_ask.DriverAsk.{DriverAsk}
 use Rattle.nut_proto.specs.declared.driver_ask.DriverAsk.TheVariants as asks
 use Rattle.nut_proto.specs.declared.part.Part.{Part}

@@ -1,5 +1,5 @@
 -- What the words of a client's line mean: the table of forms (RFC 9271).
-use Rattle.std.specs.Prelude.{ℕ, List, [], ◌∷◌, Option, Some, None, Result, Ok, Err, if◌then◌else◌}
+use Rattle.std.specs.Prelude.{ℕ, List, [], ◌∷◌, Option, Some, None, Result, Err, if◌then◌else◌}
 use Rattle.std.specs.Option.{option_or, ok_or}
 use Rattle.nut_proto.specs.declared.refusal.Refusal.{Refusal}
 use Rattle.nut_proto.specs.declared.refusal.Refusal.TheVariants.{InvalidArgument, UnknownCommand}

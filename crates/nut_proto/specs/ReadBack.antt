@@ -1,5 +1,5 @@
 -- What is written is read back as it was meant.
-use Rattle.std.specs.Prelude.{◌≡◌, ℕ, ◌≤◌, List, [], ◌∷◌, length, Ok, Some, codes, IsTrue}
+use Rattle.std.specs.Prelude.{◌≡◌, ◌≤◌, List, [], ◌∷◌, length, Ok, Some, codes, IsTrue}
 use Rattle.nut_words.specs.Reader.{spelled}
 use Rattle.nut_proto.specs.declared.part.Part.{Part}
 use Rattle.nut_proto.specs.declared.request.Request.{Request}
