@@ -1,5 +1,5 @@
 -- How long a target is at most.
-use Rattle.std.proofs.Common.{◌≡◌, ℕ, ◌+◌, ◌-◌, ◌<◌, ◌≤◌, Bool, true, false, cond, not, ◌||◌, ◌&&◌, ◌==◌, nat_lt, nat_le, List, length, take, drop, Option, None, Some, Result, Ok, Err, refl, sym, ap, ◌∙◌, arith, length-drop}
+use Rattle.std.proofs.Common.{◌≡◌, ℕ, ◌+◌, ◌-◌, ◌<◌, ◌≤◌, Bool, true, false, cond, not, ◌||◌, ◌==◌, nat_lt, List, length, take, drop, Option, None, Some, Result, Ok, Err, refl, ap, arith, length-drop}
 use Rattle.std.specs.List.{list_all, list_any, position}
 use Rattle.std.specs.Option.{option_map, option_map_or}
 use Rattle.std.specs.Prelude.{codes}
@@ -8,13 +8,10 @@ use Rattle.std.proofs.lemmas.List.Quantifiers.{position-Some}
 use Rattle.std.proofs.lemmas.Bool.Decides.{nat_tests}
 use Rattle.nut_conf.specs.Faults.{◌>>=◌}
 use Rattle.nut_conf.specs.Values.{name, number, is_name_byte}
-use Rattle.nut_conf.specs.Hosts.{is_host}
-use Rattle.nut_conf.specs.Target.{parted, or_fault, host, located, target}
+use Rattle.nut_conf.specs.Target.{or_fault, host, located, target}
 use Rattle.nut_conf.specs.Upsmon.{monitored_target}
-use Rattle.nut_conf.specs.declared.fault.FaultKind.{FaultKind}
-use Rattle.nut_conf.specs.declared.fault.FaultKind.TheVariants.{BadName, BadNumber, PastLimit}
-use Rattle.nut_conf.specs.declared.target.NameFault.{NameFault}
-use Rattle.nut_conf.specs.declared.target.NameFault.TheVariants.{BadUps, BadHost, BadPort}
+use Rattle.nut_conf.specs.declared.fault.FaultKind.TheVariants.{BadName, PastLimit}
+use Rattle.nut_conf.specs.declared.target.NameFault.TheVariants.{BadUps, BadPort}
 
 -- what was read after a first part, and that part
 first_part : {A B E : Type 0} (r : Result A E) (f : A → Result B E) (y : B) → (r >>= f) ≡ Ok y → (x : A) × (r ≡ Ok x) × (f x ≡ Ok y)

@@ -1,7 +1,6 @@
 -- Laws of every file: lines without words change nothing, and the names of sections are distinct.
 use Rattle.std.specs.Prelude.{◌≡◌, ℕ, false, List, [], ◌∷◌, ◌++◌, Result, Ok, Err}
 use Rattle.std.specs.List.{list_any}
-use Rattle.nut_conf.specs.Values.{Words}
 use Rattle.nut_conf.specs.Files.{LineFault, read_lines, words_of}
 use Rattle.nut_conf.specs.Sections.{Section, is_name_of}
 use Rattle.nut_conf.specs.declared.fault.FaultKind.{FaultKind}

@@ -5,7 +5,7 @@ use Rattle.std.specs.Option.{option_map, option_map_or, option_to_list}
 use Rattle.std.specs.Str.{bytes_eq}
 use Rattle.nut_conf.specs.Faults.{◌>>=◌}
 use Rattle.nut_conf.specs.Values.{Words, nth, name, text, number, one_of}
-use Rattle.nut_conf.specs.Settings.{MonitorLine, Setting, Text, Number, Monitor, Directive, settings, line_fault, once, distinct, number_value, text_value}
+use Rattle.nut_conf.specs.Settings.{Setting, Text, Number, Monitor, Directive, settings, line_fault, once, distinct, number_value, text_value}
 use Rattle.nut_conf.specs.Files.{LineFault, read_file}
 use Rattle.nut_conf.specs.Target.{or_fault, target}
 use Rattle.nut_conf.specs.declared.fault.FaultKind.{FaultKind}

@@ -1,4 +1,3 @@
-use Rattle.std.proofs.Common.{◌≡◌, true, subst, sym}
 use Rattle.nut_conf.proofs.PrintingWords.{name_printable}
 use Rattle.nut_conf.proofs.text.Name.as_bytes.Goals as goal
 
