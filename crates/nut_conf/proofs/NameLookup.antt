@@ -7,7 +7,8 @@ use Rattle.std.specs.Prelude.{slice_get}
 use Rattle.std.proofs.lemmas.Option.{slice_get-map}
 use Rattle.std.proofs.lemmas.Bool.Decides.{nat_tests}
 use Rattle.std.proofs.lemmas.Slice.Eq.{bytes_eq-Decides}
-use Rattle.nut_conf.specs.Values.{name, is_name}
+use Rattle.nut_words.specs.Name.{is_name}
+use Rattle.nut_conf.specs.Values.{name}
 use Rattle.nut_conf.specs.Sections.{is_named, names_in}
 use Rattle.nut_conf.specs.declared.text.Name.{Name}
 use Rattle.nut_conf.specs.declared.fault.FaultKind.{FaultKind}

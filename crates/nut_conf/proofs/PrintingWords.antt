@@ -12,7 +12,8 @@ use Rattle.nut_words.specs.Reader.{State, Between, Bare, BareEscape, Quoted, Quo
 use Rattle.nut_words.proofs.ByteKinds.{KindMeans, kind_means}
 use Rattle.nut_words.specs.Quoting.{IsPrintable}
 use Rattle.nut_conf.specs.Files.{words_of, readable}
-use Rattle.nut_conf.specs.Values.{is_name_byte, is_name, is_text}
+use Rattle.nut_words.specs.Name.{is_name_byte, is_name}
+use Rattle.nut_conf.specs.Values.{is_text}
 use Rattle.nut_conf.specs.declared.fault.FaultKind.TheVariants.{PastLimit}
 
 abbrev is_word : List ℕ → Bool

@@ -7,7 +7,8 @@ use Rattle.std.proofs.lemmas.List.{length-take}
 use Rattle.std.proofs.lemmas.List.Quantifiers.{position-Some}
 use Rattle.std.proofs.lemmas.Bool.Decides.{nat_tests}
 use Rattle.nut_conf.specs.Faults.{◌>>=◌}
-use Rattle.nut_conf.specs.Values.{name, number, is_name_byte}
+use Rattle.nut_words.specs.Name.{is_name_byte}
+use Rattle.nut_conf.specs.Values.{name, number}
 use Rattle.nut_conf.specs.Target.{or_fault, host, located, target}
 use Rattle.nut_conf.specs.Upsmon.{monitored_target}
 use Rattle.nut_conf.specs.declared.fault.FaultKind.TheVariants.{BadName, PastLimit}

@@ -2,6 +2,7 @@
 use Rattle.std.specs.Prelude.{ℕ, ◌+◌, ◌-◌, ◌*◌, ◌==◌, Bool, not, ◌||◌, ◌&&◌, List, [], length, drop, fold, nat_le, nat_lt, if◌then◌else◌, slice_index_or, Result, Ok, Err, codes}
 use Rattle.std.specs.List.{list_all, list_any}
 use Rattle.std.specs.Str.{bytes_eq}
+use Rattle.nut_words.specs.Name.{is_name_byte}
 use Rattle.nut_words.specs.Spelling.{is_printing}
 use Rattle.nut_conf.specs.declared.values.Form.{Form}
 use Rattle.nut_conf.specs.declared.values.Form.TheVariants as forms
@@ -34,20 +35,12 @@ is_digit c = nat_le 48 c && nat_le c 57
 abbrev pub is_letter : ℕ → Bool
 is_letter c = (nat_le 65 c && nat_le c 90) || (nat_le 97 c && nat_le c 122)
 
--- letters, digits, `.`, `_` and `-`
-abbrev pub is_name_byte : ℕ → Bool
-is_name_byte c = is_letter c || is_digit c || (c == 46) || (c == 95) || (c == 45)
-
 -- a name of at most so many bytes
 abbrev pub name : ℕ → List ℕ → Result (List ℕ) FaultKind
 name most bytes =
     if (length bytes == 0) || not (list_all is_name_byte bytes) then Err BadName
     else if nat_lt most (length bytes) then Err PastLimit
     else Ok bytes
-
--- what every name is that was read: 1 to so many bytes of a name
-abbrev pub is_name : ℕ → List ℕ → Bool
-is_name most bytes = nat_le 1 (length bytes) && nat_le (length bytes) most && list_all is_name_byte bytes
 
 -- a text of so many bytes
 abbrev pub text : ℕ → ℕ → List ℕ → Result (List ℕ) FaultKind

@@ -4,12 +4,14 @@ ghost use Rattle.std.specs.List.{list_all};
 ghost use Rattle.nut_words.specs.Quoting.{IsPrintable};
 ghost use Rattle.nut_words.specs.Spelling.{is_printing};
 ghost use Rattle.nut_conf.specs.Faults.{Reads};
-ghost use Rattle.nut_conf.specs.Values.{is_name_byte as name_byte, is_digit as digit, is_numeral as numeral, decimal as decimal_of, is_name, is_text, name, number, text as bounded_text};
+ghost use Rattle.nut_words.specs.Name.{is_name};
+ghost use Rattle.nut_conf.specs.Values.{is_digit as digit, is_numeral as numeral, decimal as decimal_of, is_text, name, number, text as bounded_text};
 
 use crate::fault::FaultKind;
 use crate::slot::FromValues;
 use crate::values::Values;
 use arrayvec::ArrayVec;
+use nut_words::are_name_bytes;
 
 /// A name of 1 to `MOST` bytes: letters, digits, `.`, `_` and `-`.
 #[derive(Debug, PartialEq, Eq, Hash, Drop)]
@@ -40,12 +42,6 @@ pub struct Port {
     pub ghost least: { 1 ≤ number },
 }
 
-fn is_name_byte(byte: u8) -> bool
-    ensures { result ≡ name_byte byte }
-{
-    matches!(byte, b'A'..=b'Z' | b'a'..=b'z' | b'0'..=b'9' | b'.' | b'_' | b'-')
-}
-
 fn is_digit(byte: u8) -> bool
     ensures { result ≡ digit byte }
 {
@@ -56,12 +52,6 @@ fn are_digits(bytes: &[u8]) -> bool
     ensures { result ≡ list_all digit bytes.now }
 {
     bytes.iter().all(|byte| is_digit(*byte))
-}
-
-fn are_name_bytes(bytes: &[u8]) -> bool
-    ensures { result ≡ list_all name_byte bytes.now }
-{
-    bytes.iter().all(|byte| is_name_byte(*byte))
 }
 
 fn is_numeral(bytes: &[u8]) -> bool

@@ -3,7 +3,8 @@ ghost use Rattle.std.specs.Prelude.{◌≡◌, ◌==◌, ◌<◌, ◌≤◌, IfS
 ghost use Rattle.std.specs.Option.{option_copied, option_map};
 ghost use Rattle.nut_words.specs.Quoting.{IsPrintable};
 ghost use Rattle.nut_conf.specs.Files.{Means, read_file};
-ghost use Rattle.nut_conf.specs.Values.{is_name, is_text};
+ghost use Rattle.nut_words.specs.Name.{is_name};
+ghost use Rattle.nut_conf.specs.Values.{is_text};
 ghost use Rattle.nut_conf.specs.Ups.{UpsConfHolds, ups_fault, driver_of, port_of, desc_of, names_of, number_of, ups_at};
 
 use crate::draft::Draft;

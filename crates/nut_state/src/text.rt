@@ -1,7 +1,6 @@
 //! Names and values, which stand in place and take no memory of their own.
 ghost use Rattle.std.specs.Prelude.{◌≡◌, ◌≤◌, List, ℕ, length};
-ghost use Rattle.nut_state.specs.Text.{is_name_byte, is_name};
-ghost use Rattle.std.specs.List.{list_all};
+ghost use Rattle.nut_state.specs.Text.{is_name};
 
 use crate::limits::{NAME_BYTES, VALUE_BYTES};
 use arrayvec::ArrayVec;
@@ -78,21 +77,9 @@ impl Text {
     }
 }
 
-fn is_name_byte(byte: u8) -> bool
-    ensures { result ≡ is_name_byte byte }
-{
-    byte.is_ascii_alphanumeric() || byte == b'.' || byte == b'_' || byte == b'-'
-}
-
-fn all_name_bytes(text: &[u8]) -> bool
-    ensures { result ≡ list_all is_name_byte text.now }
-{
-    text.iter().all(|byte| is_name_byte(*byte))
-}
-
 /// Whether a variable or a command may have this name.
 pub(crate) fn is_name(text: &[u8]) -> bool
     ensures { result ≡ is_name text.now }
 {
-    !text.is_empty() && text.len() <= NAME_BYTES && all_name_bytes(text)
+    nut_words::is_name(text, NAME_BYTES)
 }
