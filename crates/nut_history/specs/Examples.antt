@@ -9,7 +9,12 @@ use Rattle.nut_history.specs.Acceptance.{refusal, IsAccepted}
 
 -- one UPS, and one connection at a time
 abbrev pub su700 : Configuration
-su700 = record { upses = record { name = codes "su700"; description = codes "Server room" } ∷ []; most_connections = 1 }
+su700 = record {
+  upses = record { name = codes "su700"; driver = codes "dummy-ups"; description = codes "Server room" } ∷ [];
+  users = [];
+  max_age = 15;
+  most_connections = 1;
+}
 
 -- the first connection is open
 abbrev pub one_open : List Event

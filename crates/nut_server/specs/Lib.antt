@@ -4,3 +4,4 @@ pub mod Values
 pub mod Dialogs
 pub mod Place
 pub mod Inside
+pub mod Configured

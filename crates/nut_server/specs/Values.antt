@@ -45,6 +45,6 @@ abbrev pub given : Answer → A.Answer
 given answer.Silence = A.Silence
 given answer.VersionText = A.VersionText
 given answer.Goodbye = A.Goodbye
-given (answer.UpsList upses) = A.UpsList upses.now
-given (answer.UpsDescription ups) = A.UpsDescription ups.now
+given (answer.UpsList config) = A.UpsList config.now.upses
+given (answer.UpsDescription ups) = A.UpsDescription ups
 given (answer.Refused refusal) = A.Refused (reason refusal)

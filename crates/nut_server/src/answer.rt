@@ -8,13 +8,13 @@ use crate::config::{Config, Ups};
 use crate::request::{Command, Refusal, Request};
 
 /// An answer to a command.
-#[derive(Clone, Copy)]
+#[derive(Drop)]
 pub enum Answer<'a> {
     Silence,
     VersionText,
     Goodbye,
-    UpsList(&'a [Ups]),
-    UpsDescription(&'a Ups),
+    UpsList(&'a Config),
+    UpsDescription(Ups<'a>),
     Refused(Refusal),
 }
 
@@ -25,7 +25,7 @@ fn answer_request<'a>(config: &'a Config, request: Request<'_>) -> Answer<'a>
     match request {
         Request::Version => Answer::VersionText,
         Request::Logout => Answer::Goodbye,
-        Request::ListUps => Answer::UpsList(config.upses()),
+        Request::ListUps => Answer::UpsList(config),
         Request::GetUpsDesc(name) => match config.ups_named(name) {
             Some(ups) => Answer::UpsDescription(ups),
             None => Answer::Refused(Refusal::UnknownUps),

@@ -28,8 +28,8 @@ pub struct Dialog {
 }
 
 /// Whether a client is logged out after an answer.
-fn logged_out_after(answer: Answer<'_>, before: bool) -> bool
-    ensures { (command : definitions.Command) → result ≡ logged_out_then command (given answer.entry) before }
+fn logged_out_after(answer: &Answer<'_>, before: bool) -> bool
+    ensures { (command : definitions.Command) → result ≡ logged_out_then command (given answer.now) before }
 {
     match answer {
         Answer::Goodbye => true,
@@ -54,9 +54,9 @@ impl Dialog {
     {
         let answer = answer_to(config, command);
         scratch.clear();
-        put_answer(scratch, answer)?;
+        put_answer(scratch, &answer)?;
         self.outbox.push(scratch.as_slice())?;
-        self.logged_out = logged_out_after(answer, self.logged_out);
+        self.logged_out = logged_out_after(&answer, self.logged_out);
         Ok(())
     }
 

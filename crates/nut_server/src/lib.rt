@@ -15,6 +15,6 @@ mod tests;
 mod text;
 
 pub use arrival::{Arrival, PIECE_MAX};
-pub use config::{Config, Ups};
+pub use config::{Config, Ups, User};
 pub use nut_history::{Place, Refused};
 pub use server::{Server, ServerFault};

@@ -1,4 +1,5 @@
 use super::*;
+use nut_conf::{Action, Role, UpsConf, UpsdConf, UsersConf, read_upsd, read_users};
 use std::test::Fail;
 
 const VERSION: &[u8] = b"Network UPS Tools upsd profile 1.2\n";
@@ -6,18 +7,14 @@ const VERSION: &[u8] = b"Network UPS Tools upsd profile 1.2\n";
 const UPSES: &[u8] =
     b"BEGIN LIST UPS\nUPS su700 \"Server room\"\nUPS attic \"A \\\"small\\\" one \\\\ \\#2\"\nEND LIST UPS\n";
 
-fn ups(rt: &HostRuntime, name: &[u8], description: &[u8]) -> Result<Ups, Fail> {
-    let name = Vec::from_slice(rt.alloc(), name)?;
-    let description = Vec::from_slice(rt.alloc(), description)?;
-    Ok(Ups::new(name, description))
-}
-
-/// A server of two UPSes, with room for so many connections.
-fn server(rt: &HostRuntime, most_connections: usize) -> Result<Server, Fail> {
-    let mut upses = Vec::new(rt.alloc());
-    upses.push(ups(rt, b"su700", b"Server room")?)?;
-    upses.push(ups(rt, b"attic", b"A \"small\" one \\ #2")?)?;
-    let server = Server::new(rt.alloc(), Config::new(upses, most_connections))?;
+/// A server of two UPSes, where upsd.conf has this text.
+fn server(rt: &HostRuntime, upsd: &[u8]) -> Result<Server, Fail> {
+    let mut ups = UpsConf::new(rt.alloc());
+    ups.add(b"su700", b"Server room")?;
+    ups.add(b"attic", b"A \"small\" one \\ #2")?;
+    let upsd = read_upsd(rt.alloc(), upsd)?;
+    let users = UsersConf::new(rt.alloc());
+    let server = Server::new(rt.alloc(), Config::new(ups, users, upsd))?;
     Ok(server)
 }
 
@@ -48,7 +45,7 @@ fn ask(rt: &HostRuntime, server: &mut Server, c: u64, piece: &[u8]) -> Result<Ve
 
 /// What the first connection of a new server is answered to bytes that come in pieces of this length.
 fn answers(rt: &HostRuntime, bytes: &[u8], length: usize) -> Result<Vec<u8>, Fail> {
-    let mut server = server(rt, 1)?;
+    let mut server = server(rt, b"MAXCONN 1")?;
     let mut answers = Vec::new(rt.alloc());
     tell(&mut server, Arrival::Open(b"10.0.0.1"))?;
     for piece in bytes.chunks(length.max(1)) {
@@ -152,7 +149,7 @@ fn long_lines(rt: HostRuntime) -> Result<(), Fail> {
 
 #[test]
 fn nothing_is_answered_behind_a_logout(rt: HostRuntime) -> Result<(), Fail> {
-    let mut server = server(&rt, 1)?;
+    let mut server = server(&rt, b"MAXCONN 1")?;
     tell(&mut server, Arrival::Open(b"10.0.0.1"))?;
     assert!(rt; server.may_read(1));
     tell(&mut server, Arrival::Bytes(1, b"LOGOUT\nVER\n"))?;
@@ -169,7 +166,7 @@ fn nothing_is_answered_behind_a_logout(rt: HostRuntime) -> Result<(), Fail> {
 
 #[test]
 fn a_connection_is_busy_until_it_took_all(rt: HostRuntime) -> Result<(), Fail> {
-    let mut server = server(&rt, 1)?;
+    let mut server = server(&rt, b"MAXCONN 1")?;
     tell(&mut server, Arrival::Open(b"10.0.0.1"))?;
     tell(&mut server, Arrival::Bytes(1, b"FOO\nVE"))?;
     assert_eq!(rt; server.kept(1), 2);
@@ -196,11 +193,47 @@ fn a_connection_is_busy_until_it_took_all(rt: HostRuntime) -> Result<(), Fail> {
     Ok(())
 }
 
+/// Whether there is this user, with this password and this role.
+fn is_user(config: &Config, name: &[u8], password: &[u8], role: Option<Role>) -> bool {
+    match config.find_user(name) {
+        Some(user) => user.has_password(password) && user.role() == role,
+        None => false,
+    }
+}
+
+/// Whether a user may take the action, and give the command.
+fn may(config: &Config, name: &[u8], action: Action, command: &[u8]) -> (bool, bool) {
+    match config.find_user(name) {
+        Some(user) => (user.may_act(action), user.may_command(command)),
+        None => (false, false),
+    }
+}
+
+/// Who may do what, as upsd.users says.
+#[test]
+fn users(rt: HostRuntime) -> Result<(), Fail> {
+    let text =
+        b"[admin]\npassword = pw\nactions = SET\n[mon]\ninstcmds = load.off\nupsmon primary\n[m2]\npassword = m2\nupsmon primary\n";
+    let users = read_users(rt.alloc(), text)?;
+    let config = Config::new(UpsConf::new(rt.alloc()), users, UpsdConf::new(rt.alloc()));
+    assert!(rt; config.max_age() == 15 && config.most_connections() == 256);
+    assert!(rt; is_user(&config, b"admin", b"pw", None));
+    assert!(rt; is_user(&config, b"m2", b"m2", Some(Role::Primary)));
+    assert!(rt; !is_user(&config, b"admin", b"p", None));
+    assert!(rt; !is_user(&config, b"mon", b"", Some(Role::Primary)));
+    assert!(rt; !is_user(&config, b"root", b"pw", None));
+    assert!(rt; may(&config, b"admin", Action::Set, b"load.off") == (true, false));
+    assert!(rt; may(&config, b"admin", Action::Fsd, b"load.off") == (false, false));
+    assert!(rt; may(&config, b"mon", Action::Set, b"load.off") == (false, true));
+    assert!(rt; may(&config, b"mon", Action::Set, b"load.on") == (false, false));
+    Ok(())
+}
+
 /// Each refusal, in the order of the tests.
 #[test]
 fn refusals(rt: HostRuntime) -> Result<(), Fail> {
     let long = [b' '; 513];
-    let mut server = server(&rt, 1)?;
+    let mut server = server(&rt, b"MAXCONN 1")?;
     for address in [b"".as_slice(), b"a b", b"a\"b", &[b'1'; 65]] {
         assert_eq!(rt;
             server.arrive(Arrival::Open(address)),
@@ -233,7 +266,7 @@ fn refusals(rt: HostRuntime) -> Result<(), Fail> {
 
 #[test]
 fn numbers_are_not_used_again(rt: HostRuntime) -> Result<(), Fail> {
-    let mut server = server(&rt, 2)?;
+    let mut server = server(&rt, b"MAXCONN 2")?;
     tell(&mut server, Arrival::Open(b"10.0.0.1"))?;
     tell(&mut server, Arrival::Open(b"10.0.0.2"))?;
     tell(&mut server, Arrival::Close(2))?;
@@ -253,7 +286,7 @@ fn numbers_are_not_used_again(rt: HostRuntime) -> Result<(), Fail> {
 /// Lines of two connections that come in turns don't mix, and each unsettled one is found.
 #[test]
 fn connections_side_by_side(rt: HostRuntime) -> Result<(), Fail> {
-    let mut server = server(&rt, 2)?;
+    let mut server = server(&rt, b"MAXCONN 2")?;
     tell(&mut server, Arrival::Open(b"10.0.0.1"))?;
     tell(&mut server, Arrival::Open(b"10.0.0.2"))?;
     assert_eq!(rt; server.next_unsettled(0), None);
