@@ -6,6 +6,7 @@ pub mod FirstFaultLemmas
 pub mod BlankLines
 pub mod SlotLemmas
 pub mod DraftLemmas
+pub mod Rows
 pub mod SectionLemmas
 pub mod DistinctNames
 pub mod NameLookup

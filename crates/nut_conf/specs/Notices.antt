@@ -25,9 +25,13 @@ notice_word notices.Shutdown = codes "SHUTDOWN"
 notice_word notices.Replbatt = codes "REPLBATT"
 notice_word notices.Nocomm = codes "NOCOMM"
 
+-- all types
+abbrev pub all_notices : List Notice
+all_notices = notices.Online ∷ notices.Onbatt ∷ notices.Lowbatt ∷ notices.Fsd ∷ notices.Commok ∷ notices.Commbad ∷ notices.Shutdown ∷ notices.Replbatt ∷ notices.Nocomm ∷ []
+
 -- the words of all types
 abbrev pub notice_words : Words
-notice_words = map notice_word (notices.Online ∷ notices.Onbatt ∷ notices.Lowbatt ∷ notices.Fsd ∷ notices.Commok ∷ notices.Commbad ∷ notices.Shutdown ∷ notices.Replbatt ∷ notices.Nocomm ∷ [])
+notice_words = map notice_word all_notices
 
 -- the text of a notice where none is set; the first `%s` stands for the UPS
 abbrev pub default_text : Notice → List ℕ

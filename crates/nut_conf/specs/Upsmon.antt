@@ -72,8 +72,12 @@ upsmon_directive directives.NotifyMsg = record { word = codes "NOTIFYMSG"; rule 
 upsmon_directive directives.NotifyFlag = record { word = codes "NOTIFYFLAG"; rule = distinct same_notice None Plain flags_value }
 
 -- the rows of the table
+abbrev pub upsmon_rows : List UpsmonDirective
+upsmon_rows = directives.Monitor ∷ directives.MinSupplies ∷ directives.ShutdownCmd ∷ directives.NotifyCmd ∷ directives.PowerDownFlag ∷ directives.PollFreq ∷ directives.DeadTime ∷ directives.RbWarnTime ∷ directives.NoCommWarnTime ∷ directives.HostSync ∷ directives.FinalDelay ∷ directives.NotifyMsg ∷ directives.NotifyFlag ∷ []
+
+-- the table
 abbrev pub upsmon_directives : List Directive
-upsmon_directives = map upsmon_directive (directives.Monitor ∷ directives.MinSupplies ∷ directives.ShutdownCmd ∷ directives.NotifyCmd ∷ directives.PowerDownFlag ∷ directives.PollFreq ∷ directives.DeadTime ∷ directives.RbWarnTime ∷ directives.NoCommWarnTime ∷ directives.HostSync ∷ directives.FinalDelay ∷ directives.NotifyMsg ∷ directives.NotifyFlag ∷ [])
+upsmon_directives = map upsmon_directive upsmon_rows
 
 -- what the configuration has for each directive
 abbrev pub upsmon_settings : UpsmonConf → UpsmonDirective → List Setting

@@ -5,7 +5,7 @@ ghost use Rattle.std.specs.Option.{option_copied};
 ghost use Rattle.std.specs.Str.{bytes_eq};
 ghost use Rattle.nut_conf.specs.Faults.{Reads};
 ghost use Rattle.nut_conf.specs.Values.{one_of};
-ghost use Rattle.nut_conf.specs.Notices.{notice_word, notice_words, default_text as usual_text, flags, flags_in, with_flag, is_flag as flag_word, default_flags as usual_flags, is_text_of, is_handling_of};
+ghost use Rattle.nut_conf.specs.Notices.{all_notices, notice_word, notice_words, default_text as usual_text, flags, flags_in, with_flag, is_flag as flag_word, default_flags as usual_flags, is_text_of, is_handling_of};
 
 use crate::cut::cut;
 use crate::fault::FaultKind;
@@ -27,22 +27,30 @@ pub enum Notice {
     Nocomm,
 }
 
+const NOTICES: [Notice; 9] = [
+    Notice::Online,
+    Notice::Onbatt,
+    Notice::Lowbatt,
+    Notice::Fsd,
+    Notice::Commok,
+    Notice::Commbad,
+    Notice::Shutdown,
+    Notice::Replbatt,
+    Notice::Nocomm,
+];
+
 impl Notice {
+    #[tactic(auto, using(crate::proofs::Rows::row_of_word))]
     fn of(word: &[u8]) -> Option<Self>
         ensures { MatchOption result (list_any (bytes_eq word.now) notice_words ≡ false) (λ n. word.now ≡ notice_word n) }
     {
-        match word {
-            b"ONLINE" => Some(Notice::Online),
-            b"ONBATT" => Some(Notice::Onbatt),
-            b"LOWBATT" => Some(Notice::Lowbatt),
-            b"FSD" => Some(Notice::Fsd),
-            b"COMMOK" => Some(Notice::Commok),
-            b"COMMBAD" => Some(Notice::Commbad),
-            b"SHUTDOWN" => Some(Notice::Shutdown),
-            b"REPLBATT" => Some(Notice::Replbatt),
-            b"NOCOMM" => Some(Notice::Nocomm),
-            _ => None,
-        }
+        Notice::row(word)
+    }
+
+    fn row(word: &[u8]) -> Option<Self>
+        ensures { result ≡ find (λ n. bytes_eq word.now (notice_word n)) all_notices }
+    {
+        NOTICES.iter().copied().find(|notice| word == notice.word())
     }
 
     fn read(word: &[u8]) -> Result<Self, FaultKind>

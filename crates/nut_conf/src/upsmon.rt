@@ -1,6 +1,8 @@
 //! The file upsmon.conf.
 ghost use Rattle.std.specs.Prelude.{◌≡◌, None, MatchOption, IsTrue, nat_lt, sum_by};
+ghost use Rattle.std.specs.List.{find};
 ghost use Rattle.std.specs.Option.{option_map_or};
+ghost use Rattle.std.specs.Str.{bytes_eq};
 ghost use Rattle.nut_words.specs.Quoting.{IsPrintable};
 ghost use Rattle.nut_conf.specs.Files.{Means};
 ghost use Rattle.nut_conf.specs.Values.{is_text};
@@ -143,32 +145,61 @@ pub enum UpsmonDirective {
     NotifyFlag,
 }
 
+/// The rows of the table of directives.
+const DIRECTIVES: [UpsmonDirective; 13] = [
+    UpsmonDirective::Monitor,
+    UpsmonDirective::MinSupplies,
+    UpsmonDirective::ShutdownCmd,
+    UpsmonDirective::NotifyCmd,
+    UpsmonDirective::PowerDownFlag,
+    UpsmonDirective::PollFreq,
+    UpsmonDirective::DeadTime,
+    UpsmonDirective::RbWarnTime,
+    UpsmonDirective::NoCommWarnTime,
+    UpsmonDirective::HostSync,
+    UpsmonDirective::FinalDelay,
+    UpsmonDirective::NotifyMsg,
+    UpsmonDirective::NotifyFlag,
+];
+
 impl UpsmonDirective {
     ghost use Rattle.nut_conf.specs.Settings.{directive_of};
-    ghost use Rattle.nut_conf.specs.Upsmon.{upsmon_directive, upsmon_directives};
+    ghost use Rattle.nut_conf.specs.Upsmon.{upsmon_directive, upsmon_directives, upsmon_rows};
 
+    /// The directive with this word.
+    #[tactic(auto, using(crate::proofs::Rows::row_of_directive))]
     fn of(word: &[u8]) -> Option<Self>
         ensures { MatchOption result (directive_of word.now upsmon_directives ≡ None) (λ d. word.now ≡ (upsmon_directive d).word) }
     {
-        if word == b"POWERDOWNFLAG".as_slice() {
-            return Some(UpsmonDirective::PowerDownFlag);
-        }
-        if word == b"NOCOMMWARNTIME".as_slice() {
-            return Some(UpsmonDirective::NoCommWarnTime);
-        }
-        match word {
-            b"MONITOR" => Some(UpsmonDirective::Monitor),
-            b"MINSUPPLIES" => Some(UpsmonDirective::MinSupplies),
-            b"SHUTDOWNCMD" => Some(UpsmonDirective::ShutdownCmd),
-            b"NOTIFYCMD" => Some(UpsmonDirective::NotifyCmd),
-            b"POLLFREQ" => Some(UpsmonDirective::PollFreq),
-            b"DEADTIME" => Some(UpsmonDirective::DeadTime),
-            b"RBWARNTIME" => Some(UpsmonDirective::RbWarnTime),
-            b"HOSTSYNC" => Some(UpsmonDirective::HostSync),
-            b"FINALDELAY" => Some(UpsmonDirective::FinalDelay),
-            b"NOTIFYMSG" => Some(UpsmonDirective::NotifyMsg),
-            b"NOTIFYFLAG" => Some(UpsmonDirective::NotifyFlag),
-            _ => None,
+        UpsmonDirective::row(word)
+    }
+
+    fn row(word: &[u8]) -> Option<Self>
+        ensures { result ≡ find (λ d. bytes_eq word.now (upsmon_directive d).word) upsmon_rows }
+    {
+        DIRECTIVES
+            .iter()
+            .copied()
+            .find(|directive| word == directive.word())
+    }
+
+    fn word(self) -> &'static [u8]
+        ensures { result.now ≡ (upsmon_directive self).word }
+    {
+        match self {
+            UpsmonDirective::Monitor => b"MONITOR",
+            UpsmonDirective::MinSupplies => b"MINSUPPLIES",
+            UpsmonDirective::ShutdownCmd => b"SHUTDOWNCMD",
+            UpsmonDirective::NotifyCmd => b"NOTIFYCMD",
+            UpsmonDirective::PowerDownFlag => b"POWERDOWNFLAG",
+            UpsmonDirective::PollFreq => b"POLLFREQ",
+            UpsmonDirective::DeadTime => b"DEADTIME",
+            UpsmonDirective::RbWarnTime => b"RBWARNTIME",
+            UpsmonDirective::NoCommWarnTime => b"NOCOMMWARNTIME",
+            UpsmonDirective::HostSync => b"HOSTSYNC",
+            UpsmonDirective::FinalDelay => b"FINALDELAY",
+            UpsmonDirective::NotifyMsg => b"NOTIFYMSG",
+            UpsmonDirective::NotifyFlag => b"NOTIFYFLAG",
         }
     }
 }

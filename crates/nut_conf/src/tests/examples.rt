@@ -2,9 +2,9 @@
 
 use crate::{
     Action, Monitored, Notice, NoticeFlags, Role, Ups, UpsConf, UpsdConf, UpsmonConf, User,
-    UsersConf, read_ups, read_upsd, read_upsmon, read_users,
+    read_ups, read_upsd, read_upsmon, read_users,
 };
-use std::test::Fail;
+use std::alloc::Global;
 
 /// examples/ups.conf
 const UPS_CONF: &[u8] =
@@ -22,9 +22,12 @@ const UPSD_CONF: &[u8] =
 const UPSMON_CONF: &[u8] =
     b"# upsmon.conf, of the machine that shuts the UPS down.\n# The other machine has its own file: its MONITOR line names the user guest\n# and the server's address, and ends with secondary.\n\n# UPS@host, how many supplies it feeds, user, password, role\nMONITOR su700@localhost 1 monuser m1 primary\n\n# shut down as soon as no supply is left\nMINSUPPLIES 1\nSHUTDOWNCMD \"/sbin/shutdown -h +0\"\nPOWERDOWNFLAG /etc/killpower\n\n# run for the notices below that have EXEC\nNOTIFYCMD /usr/local/bin/tell-admin\nNOTIFYMSG ONBATT \"UPS %s: mains lost\"\nNOTIFYFLAG ONBATT SYSLOG+EXEC\nNOTIFYFLAG LOWBATT SYSLOG+WALL+EXEC\nNOTIFYFLAG ONLINE IGNORE\n\nPOLLFREQ 5\nDEADTIME 15\nHOSTSYNC 20\nFINALDELAY 5\nRBWARNTIME 43200\nNOCOMMWARNTIME 300\n";
 
-fn has(ups: Option<&Ups>, driver: &[u8], port: &[u8], desc: &[u8]) -> bool {
+/// A UPS's name, driver, port and description.
+type UpsRow = (&'static [u8], &'static [u8], &'static [u8], &'static [u8]);
+
+fn has(ups: Option<&Ups>, row: &UpsRow) -> bool {
     match ups {
-        Some(ups) => ups.driver() == driver && ups.port() == port && ups.desc() == desc,
+        Some(ups) => ups.driver() == row.1 && ups.port() == row.2 && ups.desc() == row.3,
         None => false,
     }
 }
@@ -36,142 +39,216 @@ fn is_named(conf: &UpsConf, number: usize, name: &[u8]) -> bool {
     }
 }
 
-#[test]
-fn ups_conf(rt: HostRuntime) -> Result<(), Fail> {
-    let conf = read_ups(rt.alloc(), UPS_CONF)?;
-    assert!(rt; conf.len() == 1 && !conf.is_empty());
-    assert!(rt; is_named(&conf, 0, b"su700"));
-    assert!(rt; has(conf.get(0), b"dummy-ups", b"su700.dev", b"Server room"));
-    assert!(rt; conf.get(1).is_none() && conf.name(1).is_none());
-    Ok(())
-}
-
-#[test]
-fn no_such_ups(rt: HostRuntime) -> Result<(), Fail> {
-    let conf = read_ups(rt.alloc(), UPS_CONF)?;
-    assert!(rt; conf.find(b"su7000").is_none());
-    assert!(rt; conf.find(b"su 700").is_none());
-    assert!(rt; conf.find(b"a name that is longer than 32 bytes").is_none());
-    Ok(())
-}
-
-#[test]
-fn order_and_defaults_of_ups_conf(rt: HostRuntime) -> Result<(), Fail> {
-    let conf = read_ups(rt.alloc(), b"[b]\n[a]\ndesc = \"\"\ndriver = x\n[c]\n")?;
-    assert!(rt; is_named(&conf, 0, b"b") && is_named(&conf, 1, b"a") && is_named(&conf, 2, b"c"));
-    assert!(rt; has(conf.get(0), b"dummy-ups", b"", b"Unavailable"));
-    assert!(rt; has(conf.get(1), b"x", b"", b""));
-    Ok(())
-}
-
-fn is_admin(user: &User) -> bool {
-    user.has_password(b"pw")
-        && !user.has_password(b"p")
-        && user.may_act(Action::Set)
-        && !user.may_act(Action::Fsd)
-        && user.may_command(b"load.off")
-        && user.upsmon.is_none()
-}
-
-fn is_monitor(conf: &UsersConf, name: &[u8], password: &[u8], role: Role) -> bool {
-    match conf.find(name) {
-        Some(user) => {
-            user.has_password(password)
-                && user.upsmon == Some(role)
-                && !user.may_act(Action::Set)
-                && !user.may_command(b"load.off")
+/// Whether ups.conf has these UPSes in this order and no others.
+fn has_all(conf: &UpsConf, rows: &[UpsRow]) -> bool {
+    for (number, row) in rows.iter().enumerate() {
+        if !is_named(conf, number, row.0) || !has(conf.get(number), row) {
+            return false;
         }
-        None => false,
+    }
+    conf.len() == rows.len() && conf.get(rows.len()).is_none() && conf.name(rows.len()).is_none()
+}
+
+/// Whether ups.conf finds none of these names.
+fn lacks(conf: &UpsConf, names: &[&[u8]]) -> bool {
+    for name in names {
+        if conf.find(name).is_some() {
+            return false;
+        }
+    }
+    true
+}
+
+fn ups_conf_has(alloc: Global, file: &[u8], rows: &[UpsRow], absent: &[&[u8]]) -> bool {
+    match read_ups(alloc, file) {
+        Ok(conf) => !conf.is_empty() && has_all(&conf, rows) && lacks(&conf, absent),
+        Err(_) => false,
     }
 }
 
 #[test]
-fn upsd_users(rt: HostRuntime) -> Result<(), Fail> {
-    let conf = read_users(rt.alloc(), UPSD_USERS)?;
-    assert!(rt; conf.find(b"admin").is_some_and(is_admin));
-    assert!(rt; is_monitor(&conf, b"monuser", b"m1", Role::Primary));
-    assert!(rt; is_monitor(&conf, b"guest", b"m 2", Role::Secondary));
-    assert!(rt; conf.find(b"nobody").is_none() && conf.find(b"").is_none());
-    Ok(())
-}
-
-fn has_rights(user: &User) -> bool {
-    !user.has_password(b"")
-        && user.may_act(Action::Fsd)
-        && !user.may_act(Action::Set)
-        && user.may_command(b"load.off")
-        && !user.may_command(b"LOAD.OFF")
-        && !user.may_command(b"all")
+fn ups_conf(rt: HostRuntime) {
+    let rows: [UpsRow; 1] = [(b"su700", b"dummy-ups", b"su700.dev", b"Server room")];
+    let absent: [&[u8]; 3] = [b"su7000", b"su 700", b"a name that is longer than 32 bytes"];
+    assert!(rt; ups_conf_has(rt.alloc(), UPS_CONF, &rows, &absent));
 }
 
 #[test]
-fn rights_of_users(rt: HostRuntime) -> Result<(), Fail> {
+fn order_and_defaults_of_ups_conf(rt: HostRuntime) {
+    let rows: [UpsRow; 3] = [
+        (b"b", b"dummy-ups", b"", b"Unavailable"),
+        (b"a", b"x", b"", b""),
+        (b"c", b"dummy-ups", b"", b"Unavailable"),
+    ];
+    let file = b"[b]\n[a]\ndesc = \"\"\ndriver = x\n[c]\n";
+    assert!(rt; ups_conf_has(rt.alloc(), file, &rows, &[b"d"]));
+}
+
+/// A user's name, a password and whether it is the user's, the role, whether the user may SET and FSD, a command and
+/// whether the user may give it.
+type UserRow = (
+    &'static [u8],
+    &'static [u8],
+    bool,
+    Option<Role>,
+    bool,
+    bool,
+    &'static [u8],
+    bool,
+);
+
+fn is_allowed(user: &User, row: &UserRow) -> bool {
+    user.has_password(row.1) == row.2
+        && user.upsmon == row.3
+        && user.may_act(Action::Set) == row.4
+        && user.may_act(Action::Fsd) == row.5
+        && user.may_command(row.6) == row.7
+}
+
+/// Whether upsd.users has all these users.
+fn upsd_users_has(alloc: Global, file: &[u8], rows: &[UserRow]) -> bool {
+    let Ok(conf) = read_users(alloc, file) else {
+        return false;
+    };
+    for row in rows {
+        match conf.find(row.0) {
+            Some(user) if is_allowed(user, row) => {}
+            _ => return false,
+        }
+    }
+    conf.find(b"nobody").is_none() && conf.find(b"").is_none()
+}
+
+const USERS: [UserRow; 4] = [
+    (b"admin", b"pw", true, None, true, false, b"load.off", true),
+    (b"admin", b"p", false, None, true, false, b"load.off", true),
+    (
+        b"monuser",
+        b"m1",
+        true,
+        Some(Role::Primary),
+        false,
+        false,
+        b"load.off",
+        false,
+    ),
+    (
+        b"guest",
+        b"m 2",
+        true,
+        Some(Role::Secondary),
+        false,
+        false,
+        b"load.off",
+        false,
+    ),
+];
+
+#[test]
+fn upsd_users(rt: HostRuntime) {
+    assert!(rt; upsd_users_has(rt.alloc(), UPSD_USERS, &USERS));
+}
+
+const RIGHTS: [UserRow; 3] = [
+    (b"a", b"", false, None, false, true, b"load.off", true),
+    (b"a", b"", false, None, false, true, b"LOAD.OFF", false),
+    (b"a", b"", false, None, false, true, b"all", false),
+];
+
+#[test]
+fn rights_of_users(rt: HostRuntime) {
     let file = b"[a]\nactions = FSD\ninstcmds = load.on\ninstcmds = load.off\n";
-    let conf = read_users(rt.alloc(), file)?;
-    assert!(rt; conf.find(b"a").is_some_and(has_rights));
-    Ok(())
+    assert!(rt; upsd_users_has(rt.alloc(), file, &RIGHTS));
 }
 
-fn listens(conf: &UpsdConf, index: usize, address: &[u8], port: u16) -> bool {
-    match conf.endpoint(index) {
-        Some((own, number)) => own == address && number == port,
+/// Whether upsd.conf has these endpoints and no others.
+fn listens(conf: &UpsdConf, endpoints: &[(&[u8], u16)]) -> bool {
+    for (index, (address, port)) in endpoints.iter().enumerate() {
+        match conf.endpoint(index) {
+            Some((own, number)) if own == *address && number == *port => {}
+            _ => return false,
+        }
+    }
+    conf.endpoints() == endpoints.len() && conf.endpoint(endpoints.len()).is_none()
+}
+
+fn upsd_conf_has(alloc: Global, file: &[u8], max_conn: u32, endpoints: &[(&[u8], u16)]) -> bool {
+    match read_upsd(alloc, file) {
+        Ok(conf) => {
+            conf.max_age() == 15 && conf.max_conn() == max_conn && listens(&conf, endpoints)
+        }
+        Err(_) => false,
+    }
+}
+
+#[test]
+fn upsd_conf(rt: HostRuntime) {
+    let endpoints: [(&[u8], u16); 2] = [(b"127.0.0.1", 3493), (b"192.168.1.10", 3493)];
+    assert!(rt; upsd_conf_has(rt.alloc(), UPSD_CONF, 16, &endpoints));
+}
+
+#[test]
+fn defaults_of_upsd_conf(rt: HostRuntime) {
+    assert!(rt; upsd_conf_has(rt.alloc(), b"", 256, &[(b"127.0.0.1", 3493)]));
+}
+
+/// A target as it is written, its UPS, host and port, the power value, the user, the password and the role.
+type MonitorRow = (
+    &'static [u8],
+    &'static [u8],
+    &'static [u8],
+    u16,
+    u32,
+    &'static [u8],
+    &'static [u8],
+    Role,
+);
+
+fn watches(monitor: &Monitored, row: &MonitorRow) -> bool {
+    monitor.written.as_slice() == row.0
+        && monitor.target.ups.as_bytes() == row.1
+        && monitor.target.host.as_bytes() == row.2
+        && monitor.target.port.number == row.3
+}
+
+fn logs_in(monitor: &Monitored, row: &MonitorRow) -> bool {
+    monitor.power.value == row.4
+        && monitor.user.as_bytes() == row.5
+        && monitor.password.as_bytes() == row.6
+        && monitor.role == row.7
+}
+
+/// Whether the first MONITOR line of upsmon.conf is this one.
+fn upsmon_conf_begins(alloc: Global, file: &[u8], row: &MonitorRow) -> bool {
+    let Ok(conf) = read_upsmon(alloc, file) else {
+        return false;
+    };
+    match conf.monitors.lines.as_slice().first() {
+        Some(monitor) => watches(monitor, row) && logs_in(monitor, row),
         None => false,
     }
 }
 
 #[test]
-fn upsd_conf(rt: HostRuntime) -> Result<(), Fail> {
-    let conf = read_upsd(rt.alloc(), UPSD_CONF)?;
-    assert!(rt; conf.max_age() == 15 && conf.max_conn() == 16 && conf.endpoints() == 2);
-    assert!(rt; listens(&conf, 0, b"127.0.0.1", 3493));
-    assert!(rt; listens(&conf, 1, b"192.168.1.10", 3493));
-    assert!(rt; conf.endpoint(2).is_none());
-    Ok(())
+fn monitors(rt: HostRuntime) {
+    let row: MonitorRow = (
+        b"su700@localhost",
+        b"su700",
+        b"localhost",
+        3493,
+        1,
+        b"monuser",
+        b"m1",
+        Role::Primary,
+    );
+    assert!(rt; upsmon_conf_begins(rt.alloc(), UPSMON_CONF, &row));
 }
 
 #[test]
-fn defaults_of_upsd_conf(rt: HostRuntime) -> Result<(), Fail> {
-    let conf = read_upsd(rt.alloc(), b"")?;
-    assert!(rt; conf.max_age() == 15 && conf.max_conn() == 256 && conf.endpoints() == 1);
-    assert!(rt; listens(&conf, 0, b"127.0.0.1", 3493));
-    assert!(rt; conf.endpoint(1).is_none());
-    Ok(())
-}
-
-fn watches(monitor: &Monitored, written: &[u8], ups: &[u8], host: &[u8], port: u16) -> bool {
-    monitor.written.as_slice() == written
-        && monitor.target.ups.as_bytes() == ups
-        && monitor.target.host.as_bytes() == host
-        && monitor.target.port.number == port
-}
-
-fn logs_in(monitor: &Monitored, power: u32, user: &[u8], password: &[u8], role: Role) -> bool {
-    monitor.power.value == power
-        && monitor.user.as_bytes() == user
-        && monitor.password.as_bytes() == password
-        && monitor.role == role
-}
-
-fn first(conf: &UpsmonConf) -> Option<&Monitored> {
-    conf.monitors.lines.as_slice().get(0)
-}
-
-#[test]
-fn monitors(rt: HostRuntime) -> Result<(), Fail> {
-    let conf = read_upsmon(rt.alloc(), UPSMON_CONF)?;
-    let monitor = first(&conf).ok_or("no MONITOR line")?;
-    assert!(rt; watches(monitor, b"su700@localhost", b"su700", b"localhost", 3493));
-    assert!(rt; logs_in(monitor, 1, b"monuser", b"m1", Role::Primary));
-    Ok(())
-}
-
-#[test]
-fn targets_as_written(rt: HostRuntime) -> Result<(), Fail> {
-    let conf = read_upsmon(rt.alloc(), b"MONITOR u@h:0005 2 m p secondary")?;
-    let monitor = first(&conf).ok_or("no MONITOR line")?;
-    assert!(rt; watches(monitor, b"u@h:0005", b"u", b"h", 5));
-    assert!(rt; logs_in(monitor, 2, b"m", b"p", Role::Secondary));
-    Ok(())
+fn targets_as_written(rt: HostRuntime) {
+    let row: MonitorRow = (b"u@h:0005", b"u", b"h", 5, 2, b"m", b"p", Role::Secondary);
+    let file = b"MONITOR u@h:0005 2 m p secondary";
+    assert!(rt; upsmon_conf_begins(rt.alloc(), file, &row));
 }
 
 fn notices_are_set(conf: &UpsmonConf) -> bool {
@@ -185,24 +262,51 @@ fn notices_are_set(conf: &UpsmonConf) -> bool {
         && conf.flags(Notice::Fsd) == NoticeFlags::default_flags()
 }
 
-#[test]
-fn notices(rt: HostRuntime) -> Result<(), Fail> {
-    let conf = read_upsmon(rt.alloc(), UPSMON_CONF)?;
-    assert!(rt; notices_are_set(&conf));
-    assert!(rt; conf.host_sync() == 20);
-    let command = conf.shutdown_cmd.as_ref().ok_or("no SHUTDOWNCMD")?;
-    assert!(rt; command.as_bytes() == b"/sbin/shutdown -h +0".as_slice());
-    Ok(())
+fn halts_by(conf: &UpsmonConf, command: &[u8]) -> bool {
+    match &conf.shutdown_cmd {
+        Some(own) => own.as_bytes() == command,
+        None => false,
+    }
+}
+
+fn notices_are_read(alloc: Global) -> bool {
+    match read_upsmon(alloc, UPSMON_CONF) {
+        Ok(conf) => {
+            notices_are_set(&conf)
+                && conf.host_sync() == 20
+                && halts_by(&conf, b"/sbin/shutdown -h +0")
+        }
+        Err(_) => false,
+    }
 }
 
 #[test]
-fn defaults_of_upsmon_conf(rt: HostRuntime) -> Result<(), Fail> {
-    let conf = read_upsmon(rt.alloc(), b"MONITOR u@h 1 m p primary")?;
-    assert!(rt; conf.min_supplies() == 1 && conf.poll_freq() == 5 && conf.dead_time() == 15);
-    assert!(rt; conf.rb_warn_time() == 43_200 && conf.no_comm_warn_time() == 300);
-    assert!(rt; conf.host_sync() == 15 && conf.final_delay() == 5);
-    assert!(rt; conf.shutdown_cmd.is_none() && conf.power_down_flag.is_none());
-    Ok(())
+fn notices(rt: HostRuntime) {
+    assert!(rt; notices_are_read(rt.alloc()));
+}
+
+fn has_defaults(conf: &UpsmonConf) -> bool {
+    conf.min_supplies() == 1
+        && conf.poll_freq() == 5
+        && conf.dead_time() == 15
+        && conf.rb_warn_time() == 43_200
+        && conf.no_comm_warn_time() == 300
+        && conf.host_sync() == 15
+        && conf.final_delay() == 5
+        && conf.shutdown_cmd.is_none()
+        && conf.power_down_flag.is_none()
+}
+
+fn defaults_are_read(alloc: Global) -> bool {
+    match read_upsmon(alloc, b"MONITOR u@h 1 m p primary") {
+        Ok(conf) => has_defaults(&conf),
+        Err(_) => false,
+    }
+}
+
+#[test]
+fn defaults_of_upsmon_conf(rt: HostRuntime) {
+    assert!(rt; defaults_are_read(rt.alloc()));
 }
 
 const TEXTS: [(Notice, &[u8], &[u8]); 9] = [

@@ -1,184 +1,272 @@
 //! Lines at each limit of the table and one past it. Such a line is heard and changes nothing.
-use super::{holds, told};
-use crate::{UpsState, natural, whole_number};
-use std::alloc::Global;
-use std::test::Fail;
+use super::shown;
+use crate::{Heard, UpsState, natural, whole_number};
+use std::alloc::{AllocError, Global};
 
-/// Tells the table the lines that `line` makes of the numbers below `count`.
-fn told_each(
+/// Lines for the table: between two parts stands nothing, each number below a bound, or so many letters.
+#[derive(Clone, Copy)]
+enum Step {
+    Line(&'static str),
+    Each(&'static str, u32, &'static str),
+    Letters(&'static str, usize, &'static str),
+}
+
+fn hears(state: &mut UpsState, line: &str) -> bool {
+    state.apply(line.as_bytes()) == Ok(Heard::Heard)
+}
+
+fn hears_each(
     alloc: Global,
     state: &mut UpsState,
-    before: &str,
-    after: &str,
+    front: &str,
     count: u32,
-) -> Result<(), Fail> {
-    for n in 0..count {
-        let line = format!(in alloc; "{before}{n}{after}")?;
-        state.apply(line.as_bytes())?;
+    back: &str,
+) -> Result<bool, AllocError> {
+    for number in 0..count {
+        let line = format!(in alloc; "{front}{number}{back}")?;
+        if !hears(state, line.as_str()) {
+            return Ok(false);
+        }
     }
-    Ok(())
+    Ok(true)
 }
 
-#[test]
-fn variables(rt: HostRuntime) -> Result<(), Fail> {
-    let alloc = rt.alloc();
-    let mut state = UpsState::new(alloc);
-    told_each(alloc, &mut state, "SETINFO v", " x", 511)?;
-    assert_eq!(rt; state.variables().len(), 511);
-    told(&mut state, &["SETINFO w x", "SETINFO u x"])?;
-    assert_eq!(rt; state.variables().len(), 512);
-    assert!(rt; holds(&state, b"w", b"x"));
-    assert!(rt; state.value(b"u").is_none());
-    told(&mut state, &["SETINFO v7 y", "DELINFO v8", "SETINFO u z"])?;
-    assert!(rt; holds(&state, b"v7", b"y"));
-    assert!(rt; state.value(b"v8").is_none());
-    assert!(rt; holds(&state, b"u", b"z"));
-    assert_eq!(rt; state.variables().len(), 512);
-    Ok(())
-}
-
-#[test]
-fn commands(rt: HostRuntime) -> Result<(), Fail> {
-    let alloc = rt.alloc();
-    let mut state = UpsState::new(alloc);
-    told_each(alloc, &mut state, "ADDCMD load.off.", "", 127)?;
-    told(&mut state, &["ADDCMD load.off", "ADDCMD load.on"])?;
-    assert_eq!(rt; state.commands().len(), 128);
-    assert_eq!(rt; state.has_cmd(b"load.off"), true);
-    assert_eq!(rt; state.has_cmd(b"load.on"), false);
-    told(&mut state, &["DELCMD load.off.126", "ADDCMD load.on"])?;
-    assert_eq!(rt; state.has_cmd(b"load.on"), true);
-    assert_eq!(rt; state.commands().len(), 128);
-    Ok(())
-}
-
-#[test]
-fn enum_values(rt: HostRuntime) -> Result<(), Fail> {
-    let alloc = rt.alloc();
-    let mut state = UpsState::new(alloc);
-    told(&mut state, &["SETINFO a x"])?;
-    told_each(alloc, &mut state, "ADDENUM a ", "", 64)?;
-    assert_eq!(rt; state.enums(b"a").len(), 64);
-    told(&mut state, &["ADDENUM a 64"])?;
-    assert_eq!(rt; state.enums(b"a").len(), 64);
-    told(&mut state, &["DELENUM a 5", "ADDENUM a 64"])?;
-    let enums = state.enums(b"a");
-    assert_eq!(rt; enums.len(), 64);
-    assert_eq!(rt; enums[5].as_bytes(), b"6".as_slice());
-    assert_eq!(rt; enums[63].as_bytes(), b"64".as_slice());
-    Ok(())
-}
-
-#[test]
-fn ranges(rt: HostRuntime) -> Result<(), Fail> {
-    let alloc = rt.alloc();
-    let mut state = UpsState::new(alloc);
-    told(&mut state, &["SETINFO a x"])?;
-    told_each(alloc, &mut state, "ADDRANGE a ", " 999999999", 17)?;
-    assert_eq!(rt; state.ranges(b"a").len(), 16);
-    told(
-        &mut state,
-        &["DELRANGE a 0 999999999", "ADDRANGE a 16 999999999"],
-    )?;
-    let ranges = state.ranges(b"a");
-    assert_eq!(rt; ranges.len(), 16);
-    assert_eq!(rt; ranges[0].minimum, 1);
-    assert_eq!(rt; ranges[15].minimum, 16);
-    Ok(())
-}
-
-/// The text of so many letters.
-fn letters(alloc: Global, count: usize) -> Result<String, Fail> {
-    let mut text = String::new(alloc);
-    for _ in 0..count {
-        text.push('a')?;
-    }
-    Ok(text)
-}
-
-/// Tells the table a line with a text of so many letters in it.
-fn told_letters(
+fn hears_letters(
     alloc: Global,
     state: &mut UpsState,
-    before: &str,
+    front: &str,
     count: usize,
-    after: &str,
-) -> Result<(), Fail> {
-    let text = letters(alloc, count)?;
-    let line = format!(in alloc; "{before}{text}{after}")?;
-    state.apply(line.as_bytes())?;
-    Ok(())
+    back: &str,
+) -> Result<bool, AllocError> {
+    let mut line = String::new(alloc);
+    line.push_str(front)?;
+    for _ in 0..count {
+        line.push('a')?;
+    }
+    line.push_str(back)?;
+    Ok(hears(state, line.as_str()))
 }
 
-#[test]
-fn lengths_of_names(rt: HostRuntime) -> Result<(), Fail> {
-    let alloc = rt.alloc();
+fn takes_step(alloc: Global, state: &mut UpsState, step: Step) -> Result<bool, AllocError> {
+    match step {
+        Step::Line(line) => Ok(hears(state, line)),
+        Step::Each(front, count, back) => hears_each(alloc, state, front, count, back),
+        Step::Letters(front, count, back) => hears_letters(alloc, state, front, count, back),
+    }
+}
+
+fn takes_all(alloc: Global, state: &mut UpsState, steps: &[Step]) -> Result<bool, AllocError> {
+    for step in steps {
+        if !takes_step(alloc, state, *step)? {
+            return Ok(false);
+        }
+    }
+    Ok(true)
+}
+
+fn contains(text: &[u8], part: &[u8]) -> bool {
+    for start in 0..text.len() {
+        if text[start..].starts_with(part) {
+            return true;
+        }
+    }
+    false
+}
+
+/// How many variables, commands, and of the variable `a` enum values and ranges there are.
+type Counts = [usize; 4];
+
+fn counts(state: &UpsState) -> Counts {
+    [
+        state.variables().len(),
+        state.commands().len(),
+        state.enums(b"a").len(),
+        state.ranges(b"a").len(),
+    ]
+}
+
+/// Steps, how much there is after them, a part of what is then shown, and one that isn't.
+type Row = (&'static [Step], Counts, &'static [u8], &'static [u8]);
+
+fn holds(alloc: Global, row: &Row) -> Result<bool, AllocError> {
+    let (steps, wanted, part, other) = *row;
     let mut state = UpsState::new(alloc);
-    told_letters(alloc, &mut state, "SETINFO ", 64, " x")?;
-    told_letters(alloc, &mut state, "SETINFO ", 65, " x")?;
-    told_letters(alloc, &mut state, "ADDCMD ", 64, "")?;
-    told_letters(alloc, &mut state, "ADDCMD ", 65, "")?;
-    told(&mut state, &["SETINFO \"\" x", "ADDCMD \"\""])?;
-    assert_eq!(rt; state.variables().len(), 1);
-    assert_eq!(rt; state.variables()[0].name().len(), 64);
-    assert_eq!(rt; state.commands().len(), 1);
-    assert_eq!(rt; state.commands()[0].as_bytes().len(), 64);
-    Ok(())
+    if !takes_all(alloc, &mut state, steps)? {
+        return Ok(false);
+    }
+    let text = shown(alloc, &state)?;
+    Ok(
+        counts(&state) == wanted
+            && contains(text.as_slice(), part)
+            && !contains(text.as_slice(), other),
+    )
 }
 
-#[test]
-fn lengths_of_values(rt: HostRuntime) -> Result<(), Fail> {
-    let alloc = rt.alloc();
-    let mut state = UpsState::new(alloc);
-    told_letters(alloc, &mut state, "SETINFO a ", 128, "")?;
-    told_letters(alloc, &mut state, "SETINFO a ", 129, "")?;
-    told_letters(alloc, &mut state, "SETINFO b ", 129, "")?;
-    told_letters(alloc, &mut state, "ADDENUM a ", 128, "")?;
-    told_letters(alloc, &mut state, "ADDENUM a ", 129, "")?;
-    assert_eq!(rt; state.variables().len(), 1);
-    assert_eq!(rt; state.variables()[0].value().len(), 128);
-    assert_eq!(rt; state.enums(b"a").len(), 1);
-    assert_eq!(rt; state.enums(b"a")[0].as_bytes().len(), 128);
-    Ok(())
+fn first_wrong(alloc: Global, rows: &[Row]) -> Option<usize> {
+    for (index, row) in rows.iter().enumerate() {
+        if holds(alloc, row) != Ok(true) {
+            return Some(index);
+        }
+    }
+    None
 }
 
-#[test]
-fn aux(rt: HostRuntime) -> Result<(), Fail> {
-    let mut state = UpsState::new(rt.alloc());
-    told(&mut state, &["SETAUX a 5", "SETINFO a x"])?;
-    assert_eq!(rt; state.aux(b"a"), 0);
-    told(&mut state, &["SETAUX a 000000128"])?;
-    assert_eq!(rt; state.aux(b"a"), 128);
-    told(
-        &mut state,
+const LIMITS: [Row; 9] = [
+    // variables
+    (
+        &[Step::Each("SETINFO v", 511, " x")],
+        [511, 0, 0, 0],
+        b"SETINFO v510 x\n",
+        b"SETINFO v511 x\n",
+    ),
+    (
         &[
-            "SETAUX a 129",
-            "SETAUX a 0000000001",
-            "SETAUX a -1",
-            "SETAUX a \"\"",
-            "SETAUX a 1x",
+            Step::Each("SETINFO v", 511, " x"),
+            Step::Line("SETINFO w x"),
+            Step::Line("SETINFO u x"),
         ],
-    )?;
-    assert_eq!(rt; state.aux(b"a"), 128);
-    told(&mut state, &["SETAUX a 0"])?;
-    assert_eq!(rt; state.aux(b"a"), 0);
-    Ok(())
+        [512, 0, 0, 0],
+        b"SETINFO w x\n",
+        b"SETINFO u x\n",
+    ),
+    (
+        &[
+            Step::Each("SETINFO v", 512, " x"),
+            Step::Line("SETINFO v7 y"),
+            Step::Line("DELINFO v8"),
+            Step::Line("SETINFO u z"),
+        ],
+        [512, 0, 0, 0],
+        b"SETINFO v7 y\nSETINFO v70 x\n",
+        b"SETINFO v8 x\n",
+    ),
+    // commands
+    (
+        &[
+            Step::Each("ADDCMD load.off.", 127, ""),
+            Step::Line("ADDCMD load.off"),
+            Step::Line("ADDCMD load.on"),
+        ],
+        [0, 128, 0, 0],
+        b"ADDCMD load.off\n",
+        b"ADDCMD load.on\n",
+    ),
+    (
+        &[
+            Step::Each("ADDCMD load.off.", 128, ""),
+            Step::Line("DELCMD load.off.126"),
+            Step::Line("ADDCMD load.on"),
+        ],
+        [0, 128, 0, 0],
+        b"ADDCMD load.on\n",
+        b"ADDCMD load.off.126\n",
+    ),
+    // enum values
+    (
+        &[Step::Line("SETINFO a x"), Step::Each("ADDENUM a ", 65, "")],
+        [1, 0, 64, 0],
+        b"ADDENUM a 62\nADDENUM a 63\n",
+        b"ADDENUM a 64\n",
+    ),
+    (
+        &[
+            Step::Line("SETINFO a x"),
+            Step::Each("ADDENUM a ", 65, ""),
+            Step::Line("DELENUM a 5"),
+            Step::Line("ADDENUM a 64"),
+        ],
+        [1, 0, 64, 0],
+        b"ADDENUM a 63\nADDENUM a 64\n",
+        b"ADDENUM a 5\n",
+    ),
+    // ranges
+    (
+        &[
+            Step::Line("SETINFO a x"),
+            Step::Each("ADDRANGE a ", 17, " 999999999"),
+        ],
+        [1, 0, 0, 16],
+        b"SETINFO a x\nADDRANGE a 0 999999999\n",
+        b"ADDRANGE a 16 999999999\n",
+    ),
+    (
+        &[
+            Step::Line("SETINFO a x"),
+            Step::Each("ADDRANGE a ", 17, " 999999999"),
+            Step::Line("DELRANGE a 0 999999999"),
+            Step::Line("ADDRANGE a 16 999999999"),
+        ],
+        [1, 0, 0, 16],
+        b"ADDRANGE a 15 999999999\nADDRANGE a 16 999999999\n",
+        b"ADDRANGE a 0 999999999\n",
+    ),
+];
+
+#[test]
+fn counts_at_their_limits(rt: HostRuntime) {
+    assert_eq!(rt; first_wrong(rt.alloc(), &LIMITS), None);
+}
+
+const LENGTHS: [Row; 2] = [
+    // names
+    (
+        &[
+            Step::Letters("SETINFO ", 64, " x"),
+            Step::Letters("SETINFO ", 65, " x"),
+            Step::Letters("ADDCMD ", 64, ""),
+            Step::Letters("ADDCMD ", 65, ""),
+            Step::Line("SETINFO \"\" x"),
+            Step::Line("ADDCMD \"\""),
+        ],
+        [1, 1, 0, 0],
+        b"SETINFO aaaaaaaaaaaaaaaaaaaaaaaaaaaaaaaaaaaaaaaaaaaaaaaaaaaaaaaaaaaaaaaa x\nADDCMD aaaaaaaaaaaaaaaaaaaaaaaaaaaaaaaaaaaaaaaaaaaaaaaaaaaaaaaaaaaaaaaa\n",
+        b"aaaaaaaaaaaaaaaaaaaaaaaaaaaaaaaaaaaaaaaaaaaaaaaaaaaaaaaaaaaaaaaaa",
+    ),
+    // values
+    (
+        &[
+            Step::Letters("SETINFO a ", 128, ""),
+            Step::Letters("SETINFO a ", 129, ""),
+            Step::Letters("SETINFO b ", 129, ""),
+            Step::Letters("ADDENUM a ", 128, ""),
+            Step::Letters("ADDENUM a ", 129, ""),
+        ],
+        [1, 0, 1, 0],
+        b"SETINFO a aaaaaaaaaaaaaaaaaaaaaaaaaaaaaaaaaaaaaaaaaaaaaaaaaaaaaaaaaaaaaaaaaaaaaaaaaaaaaaaaaaaaaaaaaaaaaaaaaaaaaaaaaaaaaaaaaaaaaaaaaaaaaaaa\nADDENUM a aaaaaaaaaaaaaaaaaaaaaaaaaaaaaaaaaaaaaaaaaaaaaaaaaaaaaaaaaaaaaaaaaaaaaaaaaaaaaaaaaaaaaaaaaaaaaaaaaaaaaaaaaaaaaaaaaaaaaaaaaaaaaaaa\n",
+        b"aaaaaaaaaaaaaaaaaaaaaaaaaaaaaaaaaaaaaaaaaaaaaaaaaaaaaaaaaaaaaaaaaaaaaaaaaaaaaaaaaaaaaaaaaaaaaaaaaaaaaaaaaaaaaaaaaaaaaaaaaaaaaaaaa",
+    ),
+];
+
+#[test]
+fn lengths_at_their_limits(rt: HostRuntime) {
+    assert_eq!(rt; first_wrong(rt.alloc(), &LENGTHS), None);
+}
+
+const NUMBERS: [(&[u8], Option<u32>, Option<i32>); 12] = [
+    (b"0", Some(0), Some(0)),
+    (b"007", Some(7), Some(7)),
+    (b"12", Some(12), Some(12)),
+    (b"999999999", Some(999_999_999), Some(999_999_999)),
+    (b"1000000000", None, None),
+    (b"", None, None),
+    (b"+1", None, None),
+    (b"-0", None, Some(0)),
+    (b"-999999999", None, Some(-999_999_999)),
+    (b"-", None, None),
+    (b"--1", None, None),
+    (b"1.5", None, None),
+];
+
+fn first_other_number(rows: &[(&[u8], Option<u32>, Option<i32>)]) -> Option<usize> {
+    for (index, (text, number, whole)) in rows.iter().enumerate() {
+        if natural(text) != *number || whole_number(text) != *whole {
+            return Some(index);
+        }
+    }
+    None
 }
 
 #[test]
-fn numbers(rt: HostRuntime) -> Result<(), Fail> {
-    assert_eq!(rt; natural(b"0"), Some(0));
-    assert_eq!(rt; natural(b"007"), Some(7));
-    assert_eq!(rt; natural(b"999999999"), Some(999_999_999));
-    assert_eq!(rt; natural(b"1000000000"), None);
-    assert_eq!(rt; natural(b""), None);
-    assert_eq!(rt; natural(b"+1"), None);
-    assert_eq!(rt; whole_number(b"-0"), Some(0));
-    assert_eq!(rt; whole_number(b"-999999999"), Some(-999_999_999));
-    assert_eq!(rt; whole_number(b"12"), Some(12));
-    assert_eq!(rt; whole_number(b"-"), None);
-    assert_eq!(rt; whole_number(b"--1"), None);
-    assert_eq!(rt; whole_number(b""), None);
-    assert_eq!(rt; whole_number(b"1.5"), None);
-    Ok(())
+fn numbers(rt: HostRuntime) {
+    assert_eq!(rt; first_other_number(&NUMBERS), None);
 }
