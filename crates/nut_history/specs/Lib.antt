@@ -1,11 +1,12 @@
 pub mod Configuration
 pub mod Command
-pub mod Answer
 pub mod Event
+pub mod Device
+pub mod Answer
+pub mod Effect
 pub mod Trace
 pub mod Content
 pub mod Acceptance
 pub mod Machine
 pub mod Outcome
 pub mod Laws
-pub mod Examples
