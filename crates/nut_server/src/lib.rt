@@ -2,19 +2,12 @@
 #![tactic(auto)]
 
 mod address;
-mod answer;
 mod arrival;
-mod config;
 mod connection;
-mod dialog;
-mod request;
-mod server;
-mod table;
-#[cfg(test)]
-mod tests;
-mod text;
+mod connections;
+mod credential;
+mod device;
+mod verdict;
 
 pub use arrival::{Arrival, PIECE_MAX};
-pub use config::{Config, Ups};
 pub use nut_history::{Place, Refused};
-pub use server::{Server, ServerFault};

@@ -1,4 +1,0 @@
-pub mod Hearing
-pub mod Places
-pub mod Orderly
-pub mod Arrives
