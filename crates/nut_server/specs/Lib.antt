@@ -3,3 +3,8 @@ pub mod Settling
 pub mod Place
 pub mod Inside
 pub mod Verdicts
+pub mod Configured
+pub mod Asking
+pub mod Answers
+pub mod Access
+pub mod Rows
