@@ -1,5 +1,5 @@
 -- The UPSes and users that the files set are found in the configuration as they are in the files.
-use Rattle.std.proofs.Common.{◌≡◌, ℕ, ◌+◌, ◌≤◌, Bool, true, false, not, cond, ◌||◌, List, [], ◌∷◌, length, map, Option, None, Some, nat_lt, refl, sym, ap, ◌∙◌, subst, arith}
+use Rattle.std.proofs.Common.{◌≡◌, ℕ, ◌+◌, ◌≤◌, Bool, true, false, not, cond, ◌||◌, List, [], ◌∷◌, length, map, Option, None, Some, nat_lt, refl, sym, ap, ◌∙◌, arith}
 use Rattle.std.specs.List.{find, list_any, position, position_or_len, prefix_len}
 use Rattle.std.specs.Map.{keys_of, values_of, lookup}
 use Rattle.std.specs.Option.{option_map}
