@@ -19,7 +19,11 @@ use crate::setting::{has_room, misfit};
 use nut_proto::{DriverAsk, Refusal, Reply, Word};
 
 /// `OK`, where what is asked of the driver fits behind what waits for it.
-fn hand_on<'a>(refusal: Refusal, ask: &DriverAsk<'_>, device: &Device) -> Result<Answer<'a>, Refusal>
+fn hand_on<'a>(
+    refusal: Refusal,
+    ask: &DriverAsk<'_>,
+    device: &Device,
+) -> Result<Answer<'a>, Refusal>
     ensures { outcome result ≡ handed_on refusal (ask_line ask.now) device.now.device }
 {
     if !has_room(device, ask) {

@@ -15,7 +15,9 @@ fn list_variables<'a>(scene: &'a Scene<'_>, ups: &'a [u8]) -> Result<Answer<'a>,
     ensures { outcome result ≡ list_answer scene.now (queries.Var ups.now) }
 {
     let device = scene.data_of(scene.number_of(ups)?)?;
-    let query = ListQuery::Var { ups: Word::new(ups) };
+    let query = ListQuery::Var {
+        ups: Word::new(ups),
+    };
     Ok(Answer::Listing(query, Rows::Variables(ups, device)))
 }
 
@@ -24,7 +26,9 @@ fn list_writable<'a>(scene: &'a Scene<'_>, ups: &'a [u8]) -> Result<Answer<'a>, 
     ensures { outcome result ≡ list_answer scene.now (queries.Rw ups.now) }
 {
     let device = scene.data_of(scene.number_of(ups)?)?;
-    let query = ListQuery::Rw { ups: Word::new(ups) };
+    let query = ListQuery::Rw {
+        ups: Word::new(ups),
+    };
     Ok(Answer::Listing(query, Rows::Writable(ups, device)))
 }
 
@@ -33,7 +37,9 @@ fn list_commands<'a>(scene: &'a Scene<'_>, ups: &'a [u8]) -> Result<Answer<'a>, 
     ensures { outcome result ≡ list_answer scene.now (queries.Cmd ups.now) }
 {
     let device = scene.data_of(scene.number_of(ups)?)?;
-    let query = ListQuery::Cmd { ups: Word::new(ups) };
+    let query = ListQuery::Cmd {
+        ups: Word::new(ups),
+    };
     Ok(Answer::Listing(query, Rows::Commands(ups, device)))
 }
 
@@ -77,7 +83,9 @@ fn list_clients<'a>(scene: &'a Scene<'_>, ups: &'a [u8]) -> Result<Answer<'a>, R
 {
     let u = scene.number_of(ups)?;
     scene.data_of(u)?;
-    let query = ListQuery::Client { ups: Word::new(ups) };
+    let query = ListQuery::Client {
+        ups: Word::new(ups),
+    };
     Ok(Answer::Listing(query, Rows::Clients(ups, u, scene.connections)))
 }
 

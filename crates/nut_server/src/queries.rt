@@ -14,9 +14,7 @@ use crate::answer::{Answer, Rows};
 use crate::device::Device;
 use crate::scene::Scene;
 use crate::setting::kind_of;
-use nut_proto::{
-    ListQuery, Refusal, Reply, Word, command_description, variable_description,
-};
+use nut_proto::{ListQuery, Refusal, Reply, Word, command_description, variable_description};
 use nut_state::Variable;
 
 /// The variable of this name, where the UPS has it.

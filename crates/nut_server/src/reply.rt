@@ -74,11 +74,7 @@ fn answer_request<'a>(
 }
 
 /// The answer to a command.
-fn answer_to<'a>(
-    scene: &'a Scene<'_>,
-    caller: &Connection,
-    command: &'a Command<'_>,
-) -> Answer<'a>
+fn answer_to<'a>(scene: &'a Scene<'_>, caller: &Connection, command: &'a Command<'_>) -> Answer<'a>
     requires few { length scene.now.guests < 2 ^ 32 }
     ensures { given result ≡ answer scene.now (caller_of caller.now) (meant command.now) }
 {

@@ -49,7 +49,7 @@ impl<'a> Scene<'a> {
     pub fn data_of(&self, u: usize) -> Result<&'a Device, Refusal>
         ensures { MatchResult result
             (λ d. (device_at self.now u ≡ d.now.device)
-                × (trouble self.now.configuration.max_age self.now.clock (device_at self.now u) ≡ None))
+            × (trouble self.now.configuration.max_age self.now.clock (device_at self.now u) ≡ None))
             (λ refusal. trouble self.now.configuration.max_age self.now.clock (device_at self.now u) ≡ Some refusal) }
     {
         let Some(device) = self.devices.get(u) else {
