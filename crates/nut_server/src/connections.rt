@@ -47,12 +47,16 @@ impl Connections {
     }
 
     /// How many of them are logged in to a UPS.
+    #[tactic(auto, using(crate::proofs::Logins::logins_more))]
     pub fn logged_in(&self, u: usize) -> usize
         ensures { result ≡ length (guests_of u (map guest_of self.now)) }
     {
-        self.entries
-            .iter()
-            .filter(|connection| connection.is_logged_in(u))
-            .count()
+        let mut count = 0;
+        for connection in &self.entries {
+            if connection.is_logged_in(u) {
+                count += 1;
+            }
+        }
+        count
     }
 }

@@ -1,0 +1,5 @@
+pub mod Asks
+pub mod Logins
+pub mod Feeds
+pub mod Reports
+pub mod Results
