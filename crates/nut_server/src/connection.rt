@@ -5,15 +5,20 @@ ghost use Rattle.nut_words.specs.Cutter.{kept_of};
 ghost use Rattle.nut_queue.specs.Front.{IsFrontPart};
 ghost use Rattle.nut_history.specs.Acceptance.{may_read, leaves};
 ghost use Rattle.nut_history.specs.Answer.{is_logged_in};
-ghost use Rattle.nut_history.specs.Machine.{fresh};
+ghost use Rattle.nut_words.specs.Lines.{Text};
+ghost use Rattle.nut_history.specs.Machine.{fresh, with_rest};
+ghost use Rattle.nut_server.specs.Changes.{changed, said};
+ghost use Rattle.nut_server.specs.Inside.{IsRest};
 ghost use Rattle.nut_server.specs.Settling.{is_unsettled};
 
 use crate::address::Address;
+use crate::change::Change;
 use crate::credential::Credential;
 use nut_queue::Outbox;
 use nut_words::LineCutter;
 use std::alloc::{AllocError, Global};
 use std::marker::Model;
+use std::mem;
 
 /// A connection: its number, where it comes from, what the client said of itself, its unfinished line, and the answers
 /// that wait.
@@ -163,41 +168,47 @@ impl Connection {
         self.cutter.kept()
     }
 
-    /// Puts an answer behind those that wait.
-    pub fn say(&mut self, text: &[u8]) -> Result<(), AllocError>
-        ensures ok { OnOk result (self.new ≡ record self.old { waits = self.old.waits ++ text.now }) }
+    /// Puts an answer behind those that wait, and changes what its line does. At an `Err` nothing changed.
+    pub fn answer(&mut self, text: &[u8], change: Change) -> Result<(), AllocError>
+        ensures ok { OnOk result (self.new ≡ changed change (said text.now self.old)) }
         ensures err { OnErr result (self.new ≡ self.old) }
     {
-        self.outbox.push(text)
+        self.outbox.push(text)?;
+        self.apply(change);
+        Ok(())
     }
 
-    /// The client gave its user name.
-    pub fn set_user(&mut self, user: Credential)
-        ensures { self.new ≡ record self.old { user = Some user } }
+    /// Changes what an answered line does.
+    fn apply(&mut self, change: Change)
+        ensures { self.new ≡ changed change self.old }
     {
-        self.user = Some(user);
+        match change {
+            Change::Nothing => {}
+            Change::User(user) => self.user = Some(user),
+            Change::Password(password) => self.password = Some(password),
+            Change::Login(login) => self.login = login,
+            Change::Logout => {
+                self.login = None;
+                self.logged_out = true;
+            }
+        }
     }
 
-    /// The client gave its password.
-    pub fn set_password(&mut self, password: Credential)
-        ensures { self.new ≡ record self.old { password = Some password } }
+    /// Takes the cutter of its lines out, which leaves an empty one.
+    pub fn take_cutter(&mut self) -> LineCutter
+        ensures taken { result ≡ self.old.rest }
+        ensures rest { IsRest result }
+        ensures left { self.new ≡ with_rest (Text []) self.old }
     {
-        self.password = Some(password);
+        mem::take(&mut self.cutter)
     }
 
-    /// The client logged in to a UPS.
-    pub fn log_in(&mut self, u: usize)
-        ensures { self.new ≡ record self.old { login = Some u } }
+    /// Puts the cutter of its lines back.
+    pub fn put_cutter(&mut self, cutter: LineCutter)
+        requires { IsRest cutter }
+        ensures { self.new ≡ with_rest cutter self.old }
     {
-        self.login = Some(u);
-    }
-
-    /// The client logged out.
-    pub fn log_out(&mut self)
-        ensures { self.new ≡ record self.old { login = None; logged_out = true } }
-    {
-        self.login = None;
-        self.logged_out = true;
+        self.cutter = cutter;
     }
 
     /// The client took the first `n` of the bytes that wait.

@@ -3,6 +3,7 @@
 
 mod address;
 mod arrival;
+mod change;
 mod connection;
 mod connections;
 mod credential;
