@@ -10,3 +10,4 @@ pub mod Acceptance
 pub mod Machine
 pub mod Outcome
 pub mod Laws
+pub mod Examples

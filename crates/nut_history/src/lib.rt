@@ -3,6 +3,7 @@
 #![tactic(auto)]
 
 ghost use Rattle.nut_history.specs.Machine.{KeepsContent};
+ghost use Rattle.nut_history.specs.Examples.{ConnectionExamples};
 ghost use Rattle.nut_history.specs.Laws.{AnswersKeepContent, BoundsHold, ClosedStaysClosed, CutsDoNotMatter, DriverCutsDoNotMatter, DriverSentAndWaitingIsDue, DriverSentIsReceived, NumbersRise, OpenedIsFresh, OtherDriversStay, OthersStay, SentAndWaitingIsDue, SentIsFrontOfDue, SentIsReceived};
 
 use thiserror::Error;
@@ -120,4 +121,9 @@ pub fn closed_stays_closed()
 /// What is kept of a line, and what waits for a driver, have their bounds.
 pub fn bounds_hold()
     ensures { BoundsHold }
+{}
+
+/// What is answered in some histories, computed from the definitions.
+pub fn worked_examples()
+    ensures connections { ConnectionExamples }
 {}
