@@ -11,3 +11,4 @@ pub mod Machine
 pub mod Outcome
 pub mod Laws
 pub mod Examples
+pub mod DriverExamples

@@ -4,6 +4,7 @@
 
 ghost use Rattle.nut_history.specs.Machine.{KeepsContent};
 ghost use Rattle.nut_history.specs.Examples.{ConnectionExamples};
+ghost use Rattle.nut_history.specs.DriverExamples.{DriverExamples, UserExamples};
 ghost use Rattle.nut_history.specs.Laws.{AnswersKeepContent, BoundsHold, ClosedStaysClosed, CutsDoNotMatter, DriverCutsDoNotMatter, DriverSentAndWaitingIsDue, DriverSentIsReceived, NumbersRise, OpenedIsFresh, OtherDriversStay, OthersStay, SentAndWaitingIsDue, SentIsFrontOfDue, SentIsReceived};
 
 use thiserror::Error;
@@ -126,4 +127,6 @@ pub fn bounds_hold()
 /// What is answered in some histories, computed from the definitions.
 pub fn worked_examples()
     ensures connections { ConnectionExamples }
+    ensures drivers { DriverExamples }
+    ensures users { UserExamples }
 {}
