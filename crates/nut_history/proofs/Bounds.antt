@@ -1,5 +1,5 @@
 -- What is kept of a line, and what waits for a driver, have their bounds.
-use Rattle.std.proofs.Common.{◌≡◌, ℕ, ◌+◌, ◌-◌, ◌<◌, ◌≤◌, Bool, true, false, eqb, leb, List, [], ◌∷◌, ◌++◌, drop, length, refl, sym, ◌∙◌, ap, arith, inl, inr, Option, Some, None, length-append, length-drop, subst}
+use Rattle.std.proofs.Common.{◌≡◌, ℕ, ◌+◌, ◌<◌, ◌≤◌, Bool, true, false, eqb, leb, List, [], ◌∷◌, ◌++◌, drop, length, refl, sym, ◌∙◌, ap, arith, inl, inr, Option, Some, None, length-append, length-drop, subst}
 use Rattle.std.specs.Prelude.{if◌then◌else◌, max, ◌&&◌, ◌/◌}
 use Rattle.std.specs.Option.{option_map_or}
 use Rattle.std.proofs.lemmas.Bool.{cases_Bool, eqb-true, leb-true}
@@ -16,11 +16,9 @@ use Rattle.nut_history.specs.Effect.{target, request_of}
 use Rattle.nut_history.specs.Event.{Event, Moment, Open, Bytes, Took, Close, WriteFailed, DriverUp, DriverBytes, DriverTook, DriverDown, Step, Clock, Said, Reported, input, driver_input, steps, with_lines, with_reports, brought}
 use Rattle.nut_history.specs.Answer.{device_at}
 use Rattle.nut_history.specs.Trace.{Entry, configuration, clock, device, connected, logged_out, driver_due, driver_taken, driver_waits, scene, caller, with_request, request_for, ping, trace, answer_to, asks_at}
-use Rattle.nut_history.specs.Content.{Session, Supply, past, content, supply}
-use Rattle.nut_history.specs.Acceptance.{session_of, supply_of}
+use Rattle.nut_history.specs.Content.{Session, Supply, past, supply}
 use Rattle.nut_history.specs.Laws.{IsBoundedSession, IsBoundedSupply, BoundsHold}
 use Rattle.nut_history.proofs.Kept.{session_is, supply_is}
-use Rattle.nut_history.proofs.Others.{configuration_lines, configuration_reports}
 use Rattle.nut_history.proofs.Places.{get_below, found_below}
 use Rattle.nut_history.proofs.Requests.{asked-fits}
 
@@ -129,10 +127,11 @@ waits-bound first (DriverDown v ∷ h) u less =
     elim (cases_Bool (eqb v u)) [ inl e ↦ rw e (omega arith) | inr e ↦ rw e (waits-bound first h u less) ]
 
 pub bounds-hold : BoundsHold
-bounds-hold first h accepted =
-    ((λ c k found.
+bounds-hold first h accepted = (
+  (λ c k found.
       let P : Session → Type 0 = λ x. IsBoundedSession x in
       subst P (sym (session_is first h c k found)) (line-bound (last_of (parts (input c h))))),
-    (λ u d found.
+  (λ u d found.
       let P : Supply → Type 0 = λ x. IsBoundedSupply x in
-      subst P (sym (supply_is first h u d found)) (waits-bound first h u (found_below u (length (configuration first (past first h)).upses) (supply first h) d found))))
+      subst P (sym (supply_is first h u d found)) (waits-bound first h u (found_below u (length (configuration first (past first h)).upses) (supply first h) d found))),
+)

@@ -11,12 +11,11 @@ use Rattle.nut_history.specs.declared.Refused.{Refused}
 use Rattle.nut_history.specs.declared.Refused.TheVariants.{NoSuchConnection, NotConnected, PieceTooLong, Busy, TooMuchTaken, BadAddress, Full, Memory}
 use Rattle.nut_history.specs.Configuration.{Configuration}
 use Rattle.nut_history.specs.Event.{Event, Moment, Open, Bytes, Took, Close, WriteFailed, DriverUp, DriverBytes, DriverTook, DriverDown, Step, Clock, Said, Reported, input, driver_input, steps, with_lines, with_reports, brought}
-use Rattle.nut_history.specs.Trace.{Entry, connected, driver_due, driver_taken, driver_sent, driver_waits, with_request, asks_at, trace}
+use Rattle.nut_history.specs.Trace.{connected, driver_due, driver_taken, driver_sent, driver_waits, with_request, asks_at, trace}
 use Rattle.nut_history.specs.Content.{Supply, Content, past, content}
 use Rattle.nut_history.specs.Acceptance.{refusal, IsAccepted, Tells, supply_of, drain_refusal, asks_in, asks_of, front, lost, lost_report}
 use Rattle.nut_history.specs.Outcome.{after_refusal}
 use Rattle.nut_history.specs.Laws.{driver_received, DriverSentIsReceived, DriverSentAndWaitingIsDue}
-use Rattle.nut_history.proofs.Law.{IsDriverCovered}
 use Rattle.nut_history.proofs.Kept.{supply_is, drivers_covered}
 
 -- how many bytes the driver of u takes by an event, and whether an event connects it anew

@@ -7,7 +7,7 @@ use Rattle.nut_words.specs.Lines.{LineText}
 use Rattle.nut_history.specs.declared.Refused.TheVariants.{TooMuchTaken}
 use Rattle.nut_history.specs.Configuration.{Configuration}
 use Rattle.nut_history.specs.Event.{Event, Moment, Open, Bytes, Took, Close, WriteFailed, DriverUp, DriverBytes, DriverTook, DriverDown, Step, Clock, Opened, Said, Gone, Up, Reported, Drained, Down, input, taken, driver_input, steps, with_lines, with_reports, brought}
-use Rattle.nut_history.specs.Trace.{Entry, configuration, opened, open_numbers, user, password, login, logged_out, due, connected, driver_due, driver_taken, driver_waits, ups_numbers, with_request, asks_at, trace}
+use Rattle.nut_history.specs.Trace.{Entry, configuration, opened, open_numbers, user, password, login, logged_out, due, connected, driver_due, driver_taken, driver_waits, ups_numbers, asks_at, trace}
 use Rattle.nut_history.specs.Content.{Session, Supply, past, content, session, supply}
 use Rattle.nut_history.specs.Acceptance.{refusal, IsAccepted, session_of, supply_of, bytes_refusal, took_refusal, drain_refusal}
 use Rattle.nut_history.specs.Machine.{advance, fresh, KeepsContent}

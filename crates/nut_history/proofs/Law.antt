@@ -11,12 +11,12 @@ use Rattle.nut_history.specs.Device.{Device, needs_ping}
 use Rattle.nut_proto.specs.declared.driver_ask.DriverAsk.TheVariants.{Ping}
 use Rattle.nut_proto.specs.DriverAsks.{ask_line}
 use Rattle.nut_history.specs.Effect.{target, forced_then, request_of, at_target}
-use Rattle.nut_history.specs.Event.{Event, Moment, Took, Close, WriteFailed, DriverUp, DriverTook, DriverDown, Step, Clock, Said, Reported, input, taken, driver_input, steps}
-use Rattle.nut_history.specs.Answer.{Answer, Scene, text_of}
-use Rattle.nut_history.specs.Trace.{Entry, configuration, clock, opened, open_numbers, address, user, password, login, logged_out, due, device, connected, forced, driver_due, driver_taken, driver_waits, ups_numbers, scene, guest, with_request, request_for, ping, pinged_then, pinged_at, trace, answer_to, asks_at}
+use Rattle.nut_history.specs.Event.{Event, Moment, Took, Close, WriteFailed, DriverUp, DriverTook, DriverDown, Said, Reported, input, taken, driver_input}
+use Rattle.nut_history.specs.Answer.{Answer, text_of}
+use Rattle.nut_history.specs.Trace.{Entry, configuration, clock, opened, open_numbers, address, user, password, login, logged_out, due, device, connected, forced, driver_due, driver_taken, driver_waits, ups_numbers, scene, with_request, request_for, ping, pinged_then, pinged_at}
 use Rattle.nut_history.specs.Content.{Session, Supply, Content, past, content, session, supply}
 use Rattle.nut_history.specs.Laws.{IsBelow, IsRising}
-use Rattle.nut_history.specs.Machine.{advance, update, update_at, with_rest, with_sessions, with_supplies, without, answered, acted, act_on, after_answer, requested, reported_by, ticked, up, down, drained, guest_of, scene_of}
+use Rattle.nut_history.specs.Machine.{advance, update, with_rest, with_sessions, with_supplies, without, answered, acted, act_on, reported_by, ticked, up, down, drained, guest_of, scene_of}
 use Rattle.nut_history.proofs.Numbers.{open_numbers_rise}
 use Rattle.nut_history.proofs.Places.{update-below, map-twice, map-same}
 
@@ -73,7 +73,8 @@ same-map : (c : ℕ) (f g : ℕ → Session) (ns : List ℕ) → IsBelow c ns �
 same-map c f g [] below other = refl
 same-map c f g (n ∷ ns) below other = rw (other n (ne_eqb n c (λ e. omega (arith, below.0))), same-map c f g ns below.1 other) refl
 
-update-map : (c : ℕ) (f g : ℕ → Session) (change : Session → Session) (ns : List ℕ) → IsRising ns → ((d : ℕ) → (f d).number ≡ d) → ((d : ℕ) → eqb d c ≡ false → g d ≡ f d) → g c ≡ change (f c) → map g ns ≡ update c change (map f ns)
+update-map : (c : ℕ) (f g : ℕ → Session) (change : Session → Session) (ns : List ℕ) → IsRising ns → ((d : ℕ) → (f d).number ≡ d)
+    → ((d : ℕ) → eqb d c ≡ false → g d ≡ f d) → g c ≡ change (f c) → map g ns ≡ update c change (map f ns)
 update-map c f g change [] rising numbered other this = refl
 update-map c f g change (n ∷ ns) rising numbered other this =
     elim (cases_Bool (eqb n c)) [

@@ -1,13 +1,13 @@
 -- Which connections and which UPSes an event changes.
-use Rattle.std.proofs.Common.{◌≡◌, ℕ, ◌+◌, ◌≤◌, ◌<◌, true, false, eqb, List, [], ◌∷◌, drop, map, refl, sym, ◌∙◌, ap, arith, inl, inr, Option, Some, None, subst}
+use Rattle.std.proofs.Common.{◌≡◌, ℕ, ◌+◌, ◌≤◌, ◌<◌, false, eqb, List, [], ◌∷◌, drop, map, refl, sym, ◌∙◌, ap, arith, inl, inr, Option, Some, None, subst}
 use Rattle.std.specs.Prelude.{option_map}
 use Rattle.std.proofs.lemmas.Bool.{cases_Bool, eqb-true, ne_eqb}
 use Rattle.nut_words.specs.Lines.{LineText}
 use Rattle.nut_history.specs.Configuration.{Configuration}
 use Rattle.nut_history.specs.Event.{Event, Moment, Open, Bytes, Took, Close, WriteFailed, DriverUp, DriverBytes, DriverTook, DriverDown, Step, Said, Reported, with_lines, with_reports}
 use Rattle.nut_history.specs.Trace.{configuration, opened, open_numbers, trace}
-use Rattle.nut_history.specs.Content.{Session, Supply, Content, past, content, session}
-use Rattle.nut_history.specs.Acceptance.{refusal, IsAccepted, Tells, session_of, supply_of, bytes_refusal, took_refusal, close_refusal, waiting_of, asks_of}
+use Rattle.nut_history.specs.Content.{Session, Content, past, content, session}
+use Rattle.nut_history.specs.Acceptance.{refusal, Tells, session_of, supply_of, bytes_refusal, took_refusal, close_refusal, waiting_of, asks_of}
 use Rattle.nut_history.specs.Machine.{advance, bytes_reported, up, down, drained, fresh}
 use Rattle.nut_history.specs.Laws.{IsUpTo, IsOther, connection_of, driver_of, OthersStay, OtherDriversStay, OpenedIsFresh, ClosedStaysClosed}
 use Rattle.nut_history.proofs.Law.{eqb_turn}
@@ -130,6 +130,7 @@ pub closed-stays : ClosedStaysClosed
 closed-stays first h e d accepted le none = stays (connection_of (content first h) e) refl where
   P : Option ℕ → Type 0
   P o = IsOther d o
+
   stays : (o : Option ℕ) → connection_of (content first h) e ≡ o → session_of d (content first (e ∷ h)).sessions ≡ None
   stays None is = others-stay first h e d accepted (subst P (sym is) tt) ∙ none
   stays (Some c) is =

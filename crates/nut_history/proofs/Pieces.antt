@@ -2,20 +2,20 @@
 use Rattle.std.proofs.Common.{◌≡◌, ℕ, ◌≤◌, true, false, eqb, List, [], ◌∷◌, ◌++◌, map, length, refl, sym, ◌∙◌, ap, arith, inl, inr, length-append, Option, Some, None, subst}
 use Rattle.std.specs.Prelude.{if◌then◌else◌}
 use Rattle.std.proofs.lemmas.Bool.{cases_Bool, eqb-true, eqb-false, eq-eqb}
-use Rattle.nut_words.specs.Lines.{LineText, Text, rest}
+use Rattle.nut_words.specs.Lines.{LineText, Text, joined, rest}
 use Rattle.nut_words.proofs.StreamGrowth.{rest_at_line_feed, rest_within}
 use Rattle.nut_history.specs.Configuration.{Configuration}
 use Rattle.nut_history.specs.Command.{command_of}
 use Rattle.nut_history.specs.Effect.{target, request_of}
 use Rattle.nut_history.specs.Event.{Event, Bytes, DriverBytes, Step, Said, Reported, input, driver_input, steps, with_lines, with_reports, brought}
-use Rattle.nut_history.specs.Answer.{Answer, Silence, answer, text_of}
-use Rattle.nut_history.specs.Trace.{Entry, configuration, clock, open_numbers, logged_out, due, device, driver_due, ups_numbers, caller, with_request, request_for, trace, answer_to, asks_at}
-use Rattle.nut_history.specs.Content.{Session, Supply, Content, past, content, session, supply}
+use Rattle.nut_history.specs.Answer.{Silence, answer, text_of}
+use Rattle.nut_history.specs.Trace.{configuration, clock, open_numbers, logged_out, due, driver_due, ups_numbers, caller, with_request, request_for, trace, answer_to, asks_at}
+use Rattle.nut_history.specs.Content.{Session, Content, past, content, session, supply}
 use Rattle.nut_history.specs.Acceptance.{session_of}
-use Rattle.nut_history.specs.Machine.{advance, update, update_at, with_rest, with_sessions, with_supplies, answered, after_answer, after_command, byte_heard, bytes_heard, byte_reported, bytes_reported}
+use Rattle.nut_history.specs.Machine.{advance, answer_in, line_heard, update, update_at, with_rest, with_sessions, with_supplies, answered, after_answer, after_command, byte_heard, bytes_heard, byte_reported, bytes_reported}
 use Rattle.nut_history.proofs.LineLaws.{brought_line_feed, brought_within}
 use Rattle.nut_history.proofs.Places.{update-below, update_at-none, update_at-twice}
-use Rattle.nut_history.proofs.Law.{content_from, session_from, supply_from, rests_of, takes_of, reports_of, scene_is, eqb_turn, rest-law, said_sessions, said_supplies, answered_past, reported_self, IsDriverCovered}
+use Rattle.nut_history.proofs.Law.{content_from, supply_from, rests_of, takes_of, reports_of, scene_is, eqb_turn, rest-law, said_sessions, said_supplies, answered_past, reported_self, IsDriverCovered}
 use Rattle.nut_history.proofs.Cuts.{cut-law, driver_cut-law, law-no_bytes, law-no_report}
 
 -- the client takes no more than is due
@@ -39,7 +39,7 @@ rests_self h c piece = rw (eq-eqb c c refl) refl
 
 -- what the machine answers is what the history says
 answer_is : (first : Configuration) (h : List Event) (c : ℕ) (line : LineText)
-    → answer_to first (past first h) c line ≡ Rattle.nut_history.specs.Machine.answer_in (content first h) (command_of line) (session first h c)
+    → answer_to first (past first h) c line ≡ answer_in (content first h) (command_of line) (session first h c)
 answer_is first h c line =
     sym (ap (λ s. if logged_out c (past first h) then Silence else answer s (caller first (past first h) c) (command_of line)) (scene_is first h))
 
@@ -58,13 +58,13 @@ law-feed first h c covered drivers there =
     (rests_of h) rests' (takes_of h) covered (rests_other h c (10 ∷ [])) (rests_self h c (10 ∷ []) ∙ rest_at_line_feed (input c h)))
     ∙ ap (λ supplies. record (after_answer c (command_of line) reply s) { supplies = supplies }) (said_supplies first p c line reply (reports_of h) drivers)
     ∙ ap (λ r. after_answer c (command_of line) r s) (answer_is first h c line)
-    ∙ sym (ap (λ o. Rattle.nut_history.specs.Machine.line_heard c o s) there)
+    ∙ sym (ap (λ o. line_heard c o s) there)
 
 law-other_byte : (first : Configuration) (h : List Event) (c b : ℕ) → eqb b 10 ≡ false → content first (Bytes c (b ∷ []) ∷ h) ≡ byte_heard c b (content first h)
 law-other_byte first h c b other =
     ap (λ ls. content_from first (trace first (with_lines c ls (steps h))) (rests_of (Bytes c (b ∷ []) ∷ h)) (takes_of h) (reports_of h)) (brought_within (input c h) b other)
     ∙ rw other (rest-law first (past first h) c (rests_of h) (rests_of (Bytes c (b ∷ []) ∷ h)) (takes_of h) (reports_of h)
-    (λ k. with_rest (Rattle.nut_words.specs.Lines.joined k.rest (b ∷ [])) k) (rests_other h c (b ∷ []))
+    (λ k. with_rest (joined k.rest (b ∷ [])) k) (rests_other h c (b ∷ []))
     (ap (λ r. with_rest r (session first h c)) (sym (rests_self h c (b ∷ []) ∙ rest_within (input c h) b (eqb-false b 10 other)))))
 
 law-byte : (first : Configuration) (h : List Event) (c b : ℕ) → IsCovered first h c → AreDriversCovered first h → IsThere first h c
@@ -109,7 +109,8 @@ pub open_numbers_lines : (first : Configuration) (d : ℕ) (ls : List LineText) 
 open_numbers_lines first d [] s = refl
 open_numbers_lines first d (l ∷ ls) s = open_numbers_lines first d ls (Said d l ∷ s)
 
-there_same : (c : ℕ) (f g : ℕ → Session) (ns : List ℕ) → ((d : ℕ) → (f d).number ≡ d) → ((d : ℕ) → (g d).number ≡ d) → session_of c (map f ns) ≡ Some (f c) → session_of c (map g ns) ≡ Some (g c)
+there_same : (c : ℕ) (f g : ℕ → Session) (ns : List ℕ) → ((d : ℕ) → (f d).number ≡ d) → ((d : ℕ) → (g d).number ≡ d)
+    → session_of c (map f ns) ≡ Some (f c) → session_of c (map g ns) ≡ Some (g c)
 there_same c f g [] nf ng there = cc
 there_same c f g (n ∷ ns) nf ng there =
     elim (cases_Bool (eqb n c)) [

@@ -1,5 +1,5 @@
 -- What is asked of a driver for a client fits behind what waits for it.
-use Rattle.std.proofs.Common.{◌≡◌, ℕ, Bool, true, false, List, refl, sym, ◌∙◌, ap, Option, Some, None, subst}
+use Rattle.std.proofs.Common.{◌≡◌, ℕ, Bool, true, false, List, refl, sym, ◌∙◌, ap, Option, Some, None}
 use Rattle.std.specs.Prelude.{if◌then◌else◌}
 use Rattle.nut_proto.specs.declared.refusal.Refusal.{Refusal}
 use Rattle.nut_proto.specs.declared.refusal.Refusal.TheVariants as refusals
@@ -10,7 +10,7 @@ use Rattle.nut_proto.specs.DriverAsks.{ask_line}
 use Rattle.nut_state.specs.Table.{variable, has_command}
 use Rattle.nut_history.specs.Configuration.{User, number_of_ups, user_named, may_command}
 use Rattle.nut_history.specs.Command.{Command, Blank, Malformed, Asks}
-use Rattle.nut_history.specs.Device.{Device, trouble, fits}
+use Rattle.nut_history.specs.Device.{trouble, fits}
 use Rattle.nut_history.specs.Answer.{Answer, Silence, Line, Scene, Caller, refused, require, check, unless, with_right, on_data, device_at, has_right, may_set, misfit, set_answer, command_answer, answer}
 use Rattle.nut_history.specs.Effect.{target, request_of}
 

@@ -9,7 +9,7 @@ use Rattle.nut_history.specs.Command.{Command, command_of}
 use Rattle.nut_history.specs.Answer.{Answer}
 use Rattle.nut_history.specs.Content.{Session, Content}
 use Rattle.nut_history.specs.Acceptance.{session_of, waiting_in, waiting_of}
-use Rattle.nut_history.specs.Machine.{update, without, with_rest, with_sessions, answered, answer_in, after_answer, after_command, line_heard, byte_heard, bytes_heard}
+use Rattle.nut_history.specs.Machine.{update, without, with_rest, with_sessions, answered, answer_in, after_answer, line_heard, byte_heard, bytes_heard}
 use Rattle.nut_history.proofs.Law.{eqb_turn}
 
 -- a change that leaves a session its number

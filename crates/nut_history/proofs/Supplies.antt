@@ -1,6 +1,6 @@
 -- What is found of a UPS after one of them is changed.
-use Rattle.std.proofs.Common.{◌≡◌, ℕ, zero, suc, true, false, eqb, List, [], ◌∷◌, drop, refl, sym, ◌∙◌, ap, inl, inr, Option, Some, None}
-use Rattle.std.specs.Prelude.{option_map, slice_get}
+use Rattle.std.proofs.Common.{◌≡◌, ℕ, zero, suc, false, eqb, List, [], ◌∷◌, drop, refl, sym, ◌∙◌, ap, inl, inr, Option, Some, None}
+use Rattle.std.specs.Prelude.{option_map}
 use Rattle.std.proofs.Math.Seq.{drop-nil}
 use Rattle.std.proofs.lemmas.Bool.{cases_Bool, eqb-false, ne_eqb}
 use Rattle.nut_history.specs.Content.{Supply}

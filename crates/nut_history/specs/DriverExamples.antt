@@ -4,7 +4,7 @@ use Rattle.nut_conf.specs.declared.users.Action.TheVariants as actions
 use Rattle.nut_conf.specs.declared.users.Role.TheVariants as roles
 use Rattle.nut_history.specs.declared.Refused.TheVariants.{NotConnected, PieceTooLong, TooMuchTaken}
 use Rattle.nut_history.specs.Configuration.{Configuration}
-use Rattle.nut_history.specs.Event.{Event, Moment, Open, Bytes, Took, Close, DriverUp, DriverBytes, DriverTook, DriverDown}
+use Rattle.nut_history.specs.Event.{Event, Moment, Open, Bytes, Close, DriverUp, DriverBytes, DriverTook, DriverDown}
 use Rattle.nut_history.specs.Trace.{due, driver_sent, driver_waits}
 use Rattle.nut_history.specs.Content.{content, past}
 use Rattle.nut_history.specs.Acceptance.{refusal, IsAccepted}
@@ -15,10 +15,10 @@ abbrev pub room : Configuration
 room = record {
   upses = record { name = codes "su700"; driver = codes "dummy-ups"; description = codes "Server room" } ∷ [];
   users =
-    record { name = codes "admin"; password = Some (codes "x"); actions = actions.Set ∷ actions.Fsd ∷ []; commands = None ∷ []; role = Some roles.Primary }
-    ∷ record { name = codes "guard"; password = Some (codes "y"); actions = []; commands = []; role = Some roles.Secondary }
-    ∷ record { name = codes "guest"; password = None; actions = []; commands = []; role = None }
-    ∷ [];
+      record { name = codes "admin"; password = Some (codes "x"); actions = actions.Set ∷ actions.Fsd ∷ []; commands = None ∷ []; role = Some roles.Primary }
+      ∷ record { name = codes "guard"; password = Some (codes "y"); actions = []; commands = []; role = Some roles.Secondary }
+      ∷ record { name = codes "guest"; password = None; actions = []; commands = []; role = None }
+      ∷ [];
   max_age = 15;
   most_connections = 3;
 }
