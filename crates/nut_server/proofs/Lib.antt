@@ -6,3 +6,4 @@ pub mod Reports
 pub mod Places
 pub mod Orderly
 pub mod Searching
+pub mod Entries

@@ -53,7 +53,7 @@ stands c ks at found =
     let place = place_is c ks at found in
     record { place = place; within = place_within c ks at place; session = place_session c ks at place }
 
-get_is : (ks : List Session) (at : ℕ) (k : Session) → at < length ks → k ≡ slice_index_or ks at k → slice_get ks at ≡ Some k
+pub get_is : (ks : List Session) (at : ℕ) (k : Session) → at < length ks → k ≡ slice_index_or ks at k → slice_get ks at ≡ Some k
 get_is [] at k lt e = absurd (omega arith)
 get_is (x ∷ ks) zero k lt e = ap (λ y. Some y) (sym e)
 get_is (x ∷ ks) (suc at) k lt e = get_is ks at k (omega arith) e

@@ -3,5 +3,5 @@ pub mod Settling
 pub mod Place
 pub mod Inside
 pub mod Verdicts
-pub mod Changes
+pub mod Effects
 pub mod Entries

@@ -7,13 +7,13 @@ ghost use Rattle.nut_history.specs.Acceptance.{may_read, leaves};
 ghost use Rattle.nut_history.specs.Answer.{is_logged_in};
 ghost use Rattle.nut_words.specs.Lines.{Text};
 ghost use Rattle.nut_history.specs.Machine.{fresh, with_rest};
-ghost use Rattle.nut_server.specs.Changes.{changed, said};
+ghost use Rattle.nut_server.specs.Effects.{affected, said};
 ghost use Rattle.nut_server.specs.Inside.{IsRest};
 ghost use Rattle.nut_server.specs.Settling.{is_unsettled};
 
 use crate::address::Address;
-use crate::change::Change;
 use crate::credential::Credential;
+use crate::effect::Effect;
 use nut_queue::Outbox;
 use nut_words::LineCutter;
 use std::alloc::{AllocError, Global};
@@ -168,26 +168,27 @@ impl Connection {
         self.cutter.kept()
     }
 
-    /// Puts an answer behind those that wait, and changes what its line does. At an `Err` nothing changed.
-    pub fn answer(&mut self, text: &[u8], change: Change) -> Result<(), AllocError>
-        ensures ok { OnOk result (self.new ≡ changed change (said text.now self.old)) }
+    /// Puts an answer behind those that wait, and does what its line does to the connection. At an `Err` nothing changed.
+    pub fn answer(&mut self, text: &[u8], effect: Effect) -> Result<(), AllocError>
+        ensures number { self.new.number ≡ self.old.number }
+        ensures ok { OnOk result (self.new ≡ affected effect (said text.now self.old)) }
         ensures err { OnErr result (self.new ≡ self.old) }
     {
         self.outbox.push(text)?;
-        self.apply(change);
+        self.apply(effect);
         Ok(())
     }
 
-    /// Changes what an answered line does.
-    fn apply(&mut self, change: Change)
-        ensures { self.new ≡ changed change self.old }
+    fn apply(&mut self, effect: Effect)
+        ensures number { self.new.number ≡ self.old.number }
+        ensures value { self.new ≡ affected effect self.old }
     {
-        match change {
-            Change::Nothing => {}
-            Change::User(user) => self.user = Some(user),
-            Change::Password(password) => self.password = Some(password),
-            Change::Login(login) => self.login = login,
-            Change::Logout => {
+        match effect {
+            Effect::Nothing => {}
+            Effect::User(user) => self.user = Some(user),
+            Effect::Password(password) => self.password = Some(password),
+            Effect::Login(login) => self.login = login,
+            Effect::Logout => {
                 self.login = None;
                 self.logged_out = true;
             }

@@ -7,13 +7,13 @@ ghost use Rattle.nut_history.specs.Acceptance.{session_of};
 ghost use Rattle.nut_history.specs.Answer.{guests_of};
 ghost use Rattle.nut_history.specs.Laws.{IsUpTo};
 ghost use Rattle.nut_history.specs.Machine.{guest_of, update, with_rest, without};
-ghost use Rattle.nut_server.specs.Changes.{changed, said};
+ghost use Rattle.nut_server.specs.Effects.{affected, said};
 ghost use Rattle.nut_server.specs.Inside.{IsRest, numbers_of};
 ghost use Rattle.nut_server.specs.Place.{Stands};
 ghost use Rattle.nut_server.specs.Settling.{IsNextUnsettled};
 
-use crate::change::Change;
 use crate::connection::Connection;
+use crate::effect::Effect;
 use nut_words::LineCutter;
 use std::alloc::{AllocError, Global};
 use std::marker::Model;
@@ -50,7 +50,8 @@ impl Connections {
 
     /// How many are open.
     pub fn len(&self) -> usize
-        ensures { result ≡ length self.now }
+        ensures length { result ≡ length self.now }
+        ensures within { result ≤ MOST_OPEN }
     {
         self.entries.len()
     }
@@ -68,11 +69,12 @@ impl Connections {
         ensures none { IfNone result (session_of c self.now ≡ None) }
         ensures some { IfSome result (Stands c self.now) }
     {
+        let entries = self.entries.as_slice();
         let mut low = 0;
-        let mut high = self.len();
+        let mut high = entries.len();
         while low < high {
             let middle = low + (high - low) / 2;
-            let number = self.at(middle).number();
+            let number = entries[middle].number();
             if number == c {
                 return Some(middle);
             }
@@ -140,14 +142,14 @@ impl Connections {
     }
 
     /// The connection at this place is answered, and changes as its line does. At an `Err` nothing changed.
-    pub fn answer(&mut self, at: usize, text: &[u8], change: Change) -> Result<(), AllocError>
+    pub fn answer(&mut self, at: usize, text: &[u8], effect: Effect) -> Result<(), AllocError>
         requires { at < length self.old }
         ensures ok { (c : ℕ) → Stands c self.old at → OnOk result (self.new
-            ≡ update c (λ k. changed change (said text.now k)) self.old) }
+            ≡ update c (λ k. affected effect (said text.now k)) self.old) }
         ensures err { OnErr result (self.new ≡ self.old) }
     {
         let connection = &mut self.entries[at];
-        connection.answer(text, change)
+        connection.answer(text, effect)
     }
 
     /// The connection at this place took the first `n` of the bytes that wait for it.

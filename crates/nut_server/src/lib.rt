@@ -3,11 +3,11 @@
 
 mod address;
 mod arrival;
-mod change;
 mod connection;
 mod connections;
 mod credential;
 mod device;
+mod effect;
 mod verdict;
 
 pub use arrival::{Arrival, PIECE_MAX};

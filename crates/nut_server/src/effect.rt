@@ -1,10 +1,10 @@
-//! What an answered line changes of its connection.
+//! What an answered line does to its connection.
 
 use crate::credential::Credential;
 
-/// What a line changes of its connection besides the answer that waits.
+/// What a line does to its connection besides the answer that waits.
 #[derive(Drop)]
-pub enum Change {
+pub enum Effect {
     Nothing,
     /// The client gave its user name.
     User(Credential),
