@@ -1,14 +1,13 @@
 -- What a client is answered (RFC 9271; NUT developer guide, chapter 9).
 use Rattle.std.specs.Prelude.{ℕ, ℤ, ◌==◌, Bool, true, false, not, ◌&&◌, ◌||◌, nat_lt, int_le, if◌then◌else◌, List, [], ◌∷◌, ◌++◌, codes, length, map, filter, flat_map, slice_index_or, Option, Some, None, is_some, is_none}
 use Rattle.std.specs.List.{list_any}
-use Rattle.std.specs.Option.{option_map_or}
 use Rattle.std.specs.Str.{bytes_eq}
 use Rattle.nut_conf.specs.declared.users.Action.TheVariants as actions
 use Rattle.nut_conf.specs.declared.users.Role.{Role}
 use Rattle.nut_conf.specs.declared.users.Role.TheVariants as roles
 use Rattle.nut_state.specs.Attribute.{lists_enum}
 use Rattle.nut_state.specs.Number.{whole_number}
-use Rattle.nut_state.specs.Table.{Table, Entry, variable, has_command}
+use Rattle.nut_state.specs.Table.{Entry, variable, has_command}
 use Rattle.nut_state.specs.declared.limits.TheConstants.{VALUE_BYTES}
 use Rattle.nut_state.specs.declared.number.Range.{Range}
 use Rattle.nut_proto.specs.declared.refusal.Refusal.{Refusal}

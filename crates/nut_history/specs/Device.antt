@@ -1,5 +1,5 @@
 -- A UPS as its driver has told it, and how far that can be relied on (NUT developer guide, chapter 5).
-use Rattle.std.specs.Prelude.{ℕ, ◌+◌, ◌-◌, ◌/◌, Bool, true, false, not, ◌&&◌, ◌||◌, nat_lt, nat_le, if◌then◌else◌, List, [], ◌++◌, length, codes, Option, Some, None}
+use Rattle.std.specs.Prelude.{ℕ, ◌+◌, ◌/◌, Bool, true, false, not, ◌&&◌, ◌||◌, nat_lt, nat_le, if◌then◌else◌, List, [], length, Option, Some, None}
 use Rattle.std.specs.Option.{option_map_or}
 use Rattle.nut_state.specs.Table.{Table, empty}
 use Rattle.nut_proto.specs.declared.refusal.Refusal.{Refusal}

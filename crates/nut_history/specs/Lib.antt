@@ -10,3 +10,5 @@ pub mod Acceptance
 pub mod Machine
 pub mod Outcome
 pub mod Laws
+pub mod Examples
+pub mod DriverExamples

@@ -9,7 +9,7 @@ use Rattle.nut_proto.specs.DriverAsks.{ask_line}
 use Rattle.nut_history.specs.Configuration.{Configuration}
 use Rattle.nut_history.specs.Command.{Command, command_of}
 use Rattle.nut_history.specs.Event.{Step, Clock, Opened, Said, Gone, Up, Reported, Drained, Down}
-use Rattle.nut_history.specs.Device.{Device, absent, needs_ping}
+use Rattle.nut_history.specs.Device.{Device, needs_ping}
 use Rattle.nut_history.specs.Answer.{Answer, Silence, Scene, Caller, Guest, answer}
 use Rattle.nut_history.specs.Effect.{user_then, password_then, login_then, logged_out_then, due_then, target, forced_then, request_of, at_target}
 

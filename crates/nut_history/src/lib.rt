@@ -2,6 +2,10 @@
 //! to the histories that it was told.
 #![tactic(auto)]
 
+ghost use Rattle.nut_history.specs.Machine.{KeepsContent};
+ghost use Rattle.nut_history.specs.Examples.{ConnectionExamples};
+ghost use Rattle.nut_history.specs.DriverExamples.{DriverExamples, UserExamples};
+ghost use Rattle.nut_history.specs.Laws.{AnswersKeepContent, BoundsHold, ClosedStaysClosed, CutsDoNotMatter, DriverCutsDoNotMatter, DriverSentAndWaitingIsDue, DriverSentIsReceived, NumbersRise, OpenedIsFresh, OtherDriversStay, OthersStay, SentAndWaitingIsDue, SentIsFrontOfDue, SentIsReceived};
 
 use thiserror::Error;
 
@@ -45,3 +49,84 @@ pub enum Refused {
     Memory(Place),
 }
 
+/// The machine that a server runs keeps what its answers depend on, for every history of accepted events.
+pub fn machine_keeps_content()
+    ensures { KeepsContent }
+{}
+
+/// However a connection's bytes are cut into pieces, the content is the same.
+pub fn cuts_do_not_matter()
+    ensures { CutsDoNotMatter }
+{}
+
+/// However a driver's bytes are cut into pieces, the content is the same.
+pub fn driver_cuts_do_not_matter()
+    ensures { DriverCutsDoNotMatter }
+{}
+
+/// Whatever a server may answer to an event, what it has then is the content of the history after it.
+pub fn answers_keep_content()
+    ensures { AnswersKeepContent }
+{}
+
+/// The numbers of the open connections rise from 1 on, and none is greater than how many connections were opened.
+pub fn numbers_rise()
+    ensures { NumbersRise }
+{}
+
+/// What a connection was sent is what it took, in turn, of the bytes that waited for it.
+pub fn sent_is_received()
+    ensures { SentIsReceived }
+{}
+
+/// What an open connection was sent, and then what waits for it, is the answers to its lines, joined.
+pub fn sent_and_waiting_is_due()
+    ensures { SentAndWaitingIsDue }
+{}
+
+/// What a connection was sent is a front of the answers to its lines, also after it is closed.
+pub fn sent_is_front_of_due()
+    ensures { SentIsFrontOfDue }
+{}
+
+/// What a driver was sent since it was connected is what it took, in turn, of the bytes that waited for it.
+pub fn driver_sent_is_received()
+    ensures { DriverSentIsReceived }
+{}
+
+/// What a connected driver was sent, and then what waits for it, is what it was asked, joined.
+pub fn driver_sent_and_waiting_is_due()
+    ensures { DriverSentAndWaitingIsDue }
+{}
+
+/// An accepted event changes no connection but its own.
+pub fn others_stay()
+    ensures { OthersStay }
+{}
+
+/// An accepted event of a driver changes no UPS but its own.
+pub fn other_drivers_stay()
+    ensures { OtherDriversStay }
+{}
+
+/// A new connection has said nothing, and nothing waits for it.
+pub fn opened_is_fresh()
+    ensures { OpenedIsFresh }
+{}
+
+/// A connection that was opened and is closed is never open again.
+pub fn closed_stays_closed()
+    ensures { ClosedStaysClosed }
+{}
+
+/// What is kept of a line, and what waits for a driver, have their bounds.
+pub fn bounds_hold()
+    ensures { BoundsHold }
+{}
+
+/// What is answered in some histories, computed from the definitions.
+pub fn worked_examples()
+    ensures connections { ConnectionExamples }
+    ensures drivers { DriverExamples }
+    ensures users { UserExamples }
+{}

@@ -1,8 +1,7 @@
 -- What always holds inside a server.
-use Rattle.std.specs.Prelude.{◌≡◌, ℕ, ◌≤◌, List, map, vec_len, vec_capacity}
+use Rattle.std.specs.Prelude.{◌≡◌, ℕ, List, map}
 use Rattle.nut_words.specs.Lines.{LineText, rest}
 use Rattle.nut_history.specs.Content.{Session}
-use Rattle.nut_history.specs.Laws.{IsRising, IsUpTo}
 
 -- it is the unfinished line of some stream
 abbrev pub IsRest : LineText → Type 0

@@ -8,3 +8,5 @@ pub mod Asking
 pub mod Answers
 pub mod Access
 pub mod Rows
+pub mod Effects
+pub mod Entries

@@ -5,15 +5,20 @@ ghost use Rattle.nut_words.specs.Cutter.{kept_of};
 ghost use Rattle.nut_queue.specs.Front.{IsFrontPart};
 ghost use Rattle.nut_history.specs.Acceptance.{may_read, leaves};
 ghost use Rattle.nut_history.specs.Answer.{is_logged_in};
-ghost use Rattle.nut_history.specs.Machine.{fresh};
+ghost use Rattle.nut_words.specs.Lines.{Text};
+ghost use Rattle.nut_history.specs.Machine.{fresh, with_rest};
+ghost use Rattle.nut_server.specs.Effects.{affected, said};
+ghost use Rattle.nut_server.specs.Inside.{IsRest};
 ghost use Rattle.nut_server.specs.Settling.{is_unsettled};
 
 use crate::address::Address;
 use crate::credential::Credential;
+use crate::effect::Effect;
 use nut_queue::Outbox;
 use nut_words::LineCutter;
 use std::alloc::{AllocError, Global};
 use std::marker::Model;
+use std::mem;
 
 /// A connection: its number, where it comes from, what the client said of itself, its unfinished line, and the answers
 /// that wait.
@@ -163,41 +168,48 @@ impl Connection {
         self.cutter.kept()
     }
 
-    /// Puts an answer behind those that wait.
-    pub fn say(&mut self, text: &[u8]) -> Result<(), AllocError>
-        ensures ok { OnOk result (self.new ≡ record self.old { waits = self.old.waits ++ text.now }) }
+    /// Puts an answer behind those that wait, and does what its line does to the connection. At an `Err` nothing changed.
+    pub fn answer(&mut self, text: &[u8], effect: Effect) -> Result<(), AllocError>
+        ensures number { self.new.number ≡ self.old.number }
+        ensures ok { OnOk result (self.new ≡ affected effect (said text.now self.old)) }
         ensures err { OnErr result (self.new ≡ self.old) }
     {
-        self.outbox.push(text)
+        self.outbox.push(text)?;
+        self.apply(effect);
+        Ok(())
     }
 
-    /// The client gave its user name.
-    pub fn set_user(&mut self, user: Credential)
-        ensures { self.new ≡ record self.old { user = Some user } }
+    fn apply(&mut self, effect: Effect)
+        ensures number { self.new.number ≡ self.old.number }
+        ensures value { self.new ≡ affected effect self.old }
     {
-        self.user = Some(user);
+        match effect {
+            Effect::Nothing => {}
+            Effect::User(user) => self.user = Some(user),
+            Effect::Password(password) => self.password = Some(password),
+            Effect::Login(login) => self.login = login,
+            Effect::Logout => {
+                self.login = None;
+                self.logged_out = true;
+            }
+        }
     }
 
-    /// The client gave its password.
-    pub fn set_password(&mut self, password: Credential)
-        ensures { self.new ≡ record self.old { password = Some password } }
+    /// Takes the cutter of its lines out, which leaves an empty one.
+    pub fn take_cutter(&mut self) -> LineCutter
+        ensures taken { result ≡ self.old.rest }
+        ensures rest { IsRest result }
+        ensures left { self.new ≡ with_rest (Text []) self.old }
     {
-        self.password = Some(password);
+        mem::take(&mut self.cutter)
     }
 
-    /// The client logged in to a UPS.
-    pub fn log_in(&mut self, u: usize)
-        ensures { self.new ≡ record self.old { login = Some u } }
+    /// Puts the cutter of its lines back.
+    pub fn put_cutter(&mut self, cutter: LineCutter)
+        requires { IsRest cutter }
+        ensures { self.new ≡ with_rest cutter self.old }
     {
-        self.login = Some(u);
-    }
-
-    /// The client logged out.
-    pub fn log_out(&mut self)
-        ensures { self.new ≡ record self.old { login = None; logged_out = true } }
-    {
-        self.login = None;
-        self.logged_out = true;
+        self.cutter = cutter;
     }
 
     /// The client took the first `n` of the bytes that wait.

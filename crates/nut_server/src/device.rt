@@ -1,17 +1,28 @@
 //! A UPS and its driver.
 
-ghost use Rattle.std.specs.Prelude.{◌≡◌, ◌≤◌, [], Some, None, IfOk, length};
+ghost use Rattle.std.specs.Prelude.{◌≡◌, ◌≤◌, ◌<◌, [], ◌++◌, Some, None, IfOk, IfErr, IsTrue, OnOk, OnErr, length, true};
+ghost use Rattle.std.specs.Option.{option_map_or};
 ghost use Rattle.nut_queue.specs.Front.{IsFrontPart};
 ghost use Rattle.nut_words.specs.Lines.{Text};
-ghost use Rattle.nut_history.specs.Device.{absent, fits, is_past, trouble};
-ghost use Rattle.nut_history.specs.Machine.{up, down, drained, ticked};
+ghost use Rattle.nut_words.specs.Cutter.{line_of};
+ghost use Rattle.nut_history.specs.Acceptance.{front, line_feeds};
+ghost use Rattle.nut_history.specs.Device.{absent, fits, is_past, needs_ping, trouble};
+ghost use Rattle.nut_history.specs.Machine.{up, down, drained, ticked, reported_by, bytes_reported};
+ghost use Rattle.nut_history.specs.Outcome.{report_takes, MayRunOutOf};
 
 use nut_proto::Refusal;
 use nut_queue::AskRing;
-use nut_state::UpsState;
-use nut_words::LineCutter;
+use nut_state::{Heard, StateFault, UpsState};
+use nut_words::{Line, LineCutter};
 use std::alloc::{AllocError, Global};
 use std::marker::Model;
+use std::mem;
+
+/// The line that asks a driver for all that it knows.
+const DUMP_ALL: &[u8] = b"DUMPALL\n";
+
+/// The line that asks a driver whether it is there.
+const PING: &[u8] = b"PING\n";
 
 /// A UPS: what its driver told of it, that one's unfinished line, and what the driver still has to take.
 #[derive(Drop)]
@@ -127,5 +138,131 @@ impl Device {
             return Some(Refusal::DataStale);
         }
         None
+    }
+
+    /// Whether more than `seconds` have passed at `time` since the last PING, if there was one.
+    fn is_unpinged_for(&self, seconds: u64, time: u64) -> bool
+        ensures { result ≡ option_map_or (is_past seconds time) self.now.device.pinged_at true }
+    {
+        match self.pinged_at {
+            Some(moment) => time.saturating_sub(moment) > seconds,
+            None => true,
+        }
+    }
+
+    /// Whether a request is due at this time that asks the driver whether it is there.
+    #[tactic(auto, using(crate::proofs::Asks::ping_is))]
+    fn needs_ping(&self, max_age: u64, time: u64) -> bool
+        ensures { result ≡ needs_ping max_age time self.now.device }
+    {
+        let seconds = max_age / 3;
+        if !self.connected
+            || !self.is_silent_for(seconds, time)
+            || !self.is_unpinged_for(seconds, time)
+        {
+            return false;
+        }
+        self.fits(PING)
+    }
+
+    /// It is this time: the driver is asked whether it is there, where that is due.
+    #[tactic(auto, using(crate::proofs::Asks::ping_is))]
+    pub fn tick(&mut self, max_age: u64, time: u64)
+        ensures { self.new ≡ ticked max_age time self.old }
+    {
+        if self.needs_ping(max_age, time) {
+            self.ask(PING);
+            self.pinged_at = Some(time);
+        }
+    }
+
+    /// The driver is connected at this time: what it told before is over, and it is asked for all that it knows.
+    #[tactic(auto, using(crate::proofs::Asks::dump_all_is))]
+    pub fn up(&mut self, time: u64)
+        ensures { self.new ≡ up time self.old }
+    {
+        self.connected = true;
+        self.table.clear();
+        self.heard_at = time;
+        self.pinged_at = None;
+        self.asks.clear();
+        self.cutter = LineCutter::new();
+        self.ask(DUMP_ALL);
+    }
+
+    /// The driver is gone.
+    pub fn down(&mut self)
+        ensures { self.new ≡ down self.old }
+    {
+        self.connected = false;
+        self.asks.clear();
+        self.cutter = LineCutter::new();
+    }
+
+    /// The driver took the first `n` of the bytes that wait.
+    pub fn took(&mut self, n: usize)
+        requires { n ≤ length self.old.device.waits }
+        ensures { self.new ≡ drained n self.old }
+    {
+        self.asks.took(n);
+    }
+
+    /// A shutdown was forced.
+    pub fn force(&mut self)
+        ensures { self.new ≡ record self.old { device = record self.old.device { forced = true } } }
+    {
+        self.forced = true;
+    }
+
+    /// The driver is asked this, which fits behind what waits.
+    pub fn ask(&mut self, line: &[u8])
+        requires { IsTrue (fits line.now self.old.device) }
+        ensures { self.new ≡ record self.old { device = record self.old.device { waits = self.old.device.waits ++ line.now } } }
+    {
+        self.asks.push(line);
+    }
+
+    /// Takes a line of the driver. At an `Err` it left no trace.
+    fn hear_line(&mut self, time: u64, line: Line<'_>) -> Result<(), StateFault>
+        ensures ok { OnOk result (self.new ≡ reported_by time (line_of line.entry) self.old) }
+        ensures err { OnErr result (self.new ≡ self.old) }
+        ensures memory { OnErr result (IsTrue (report_takes (line_of line.entry) (Some self.old))) }
+    {
+        let heard = match line {
+            Line::Text(text) => self.table.apply(text)?,
+            Line::TooLong => Heard::Ignored,
+        };
+        if heard == Heard::Heard {
+            self.heard_at = time;
+        }
+        self.cutter = LineCutter::new();
+        Ok(())
+    }
+
+    /// Takes a piece of what the driver sends, line by line. An `Err` tells how many lines were done when memory ran
+    /// out; the driver then counts as gone.
+    pub fn hear(&mut self, time: u64, piece: &[u8]) -> Result<(), usize>
+        ensures ok { OnOk result (self.new ≡ bytes_reported time piece.now self.old) }
+        ensures lost { IfErr result (λ done. self.new ≡ down (bytes_reported time (front done piece.now) self.old)) }
+        ensures few { IfErr result (λ done. done < line_feeds piece.now) }
+        ensures memory { IfErr result (λ done. MayRunOutOf piece.now done
+            (Some (bytes_reported time (front done piece.now) self.old))) }
+    {
+        let mut cutter = mem::take(&mut self.cutter);
+        let mut left = piece;
+        let mut done = 0usize;
+        loop {
+            let (line, used) = cutter.feed(left);
+            let Some(line) = line else {
+                self.cutter = cutter;
+                return Ok(());
+            };
+            if self.hear_line(time, line).is_err() {
+                self.down();
+                return Err(done);
+            }
+            done += 1;
+            left = &left[used..];
+        }
     }
 }

@@ -12,6 +12,7 @@ mod connection;
 mod connections;
 mod credential;
 mod device;
+mod effect;
 mod lists;
 mod queries;
 mod reply;

@@ -1,6 +1,6 @@
 //! What GET and LIST are answered (RFC 9271).
 
-ghost use Rattle.std.specs.Prelude.{◌≡◌, ◌<◌, ◌^◌, None, Some, MatchResult, length, map, filter};
+ghost use Rattle.std.specs.Prelude.{◌≡◌, None, Some, MatchResult, length, map, filter};
 ghost use Rattle.nut_proto.specs.declared.refusal.Refusal.TheVariants as refusals;
 ghost use Rattle.nut_proto.specs.declared.reply.Reply.TheVariants as replies;
 ghost use Rattle.nut_proto.specs.declared.request.ListQuery.TheVariants as queries;
@@ -31,7 +31,6 @@ pub fn variable_of<'a>(device: &'a Device, name: &[u8]) -> Result<&'a Variable, 
 
 /// How many clients are logged in to a UPS.
 pub fn count_logins<'a>(scene: &'a Scene<'_>, ups: &'a [u8]) -> Result<Answer<'a>, Refusal>
-    requires few { length scene.now.guests < 2 ^ 32 }
     ensures { outcome result ≡ on_ups scene.now ups.now (λ u. on_data scene.now u (λ d. Line (replies.NumLogins ups.now (length (guests_of u scene.now.guests))))) }
 {
     let u = scene.number_of(ups)?;

@@ -1,6 +1,6 @@
 //! What each command is answered.
 
-ghost use Rattle.std.specs.Prelude.{◌≡◌, ◌++◌, ◌<◌, ◌^◌, IfOk, OnOk, length};
+ghost use Rattle.std.specs.Prelude.{◌≡◌, ◌++◌, IfOk, OnOk};
 ghost use Rattle.nut_history.specs.Answer.{answer, answer_request, text_of};
 ghost use Rattle.nut_history.specs.Machine.{caller_of};
 ghost use Rattle.nut_server.specs.Answers.{given, outcome};
@@ -27,7 +27,6 @@ fn answer_request<'a>(
     caller: &Connection,
     request: &'a Request<'_>,
 ) -> Result<Answer<'a>, Refusal>
-    requires few { length scene.now.guests < 2 ^ 32 }
     ensures { outcome result ≡ answer_request scene.now (caller_of caller.now) request.now }
 {
     match request {
@@ -75,7 +74,6 @@ fn answer_request<'a>(
 
 /// The answer to a command.
 fn answer_to<'a>(scene: &'a Scene<'_>, caller: &Connection, command: &'a Command<'_>) -> Answer<'a>
-    requires few { length scene.now.guests < 2 ^ 32 }
     ensures { given result ≡ answer scene.now (caller_of caller.now) (meant command.now) }
 {
     match command {
@@ -96,7 +94,6 @@ pub fn reply(
     command: &Command<'_>,
     out: &mut Vec<u8>,
 ) -> Result<Verdict, AllocError>
-    requires few { length scene.now.guests < 2 ^ 32 }
     ensures text { OnOk result (out.new.items ≡ out.old.items ++ text_of (answer scene.now (caller_of caller.now) (meant command.now))) }
     ensures verdict { IfOk result (λ v. v ≡ verdict_of (answer scene.now (caller_of caller.now) (meant command.now))) }
 {
