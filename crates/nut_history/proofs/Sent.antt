@@ -6,19 +6,19 @@ use Rattle.std.proofs.lemmas.List.{take-append-le, take-append-drop}
 use Rattle.std.proofs.Math.Seq.{take-add}
 use Rattle.nut_words.specs.Lines.{LineText}
 use Rattle.nut_words.specs.Quoting.{Begins}
-use Rattle.nut_history.specs.declared.Place.TheVariants.{Line}
+use Rattle.nut_history.specs.declared.Place.TheVariants.{Line, Report}
 use Rattle.nut_history.specs.declared.Refused.{Refused}
-use Rattle.nut_history.specs.declared.Refused.TheVariants.{NoSuchConnection, PieceTooLong, Busy, TooMuchTaken, BadAddress, Full, Memory}
+use Rattle.nut_history.specs.declared.Refused.TheVariants.{NoSuchConnection, NotConnected, PieceTooLong, Busy, TooMuchTaken, BadAddress, Full, Memory}
 use Rattle.nut_history.specs.Configuration.{Configuration}
-use Rattle.nut_history.specs.Event.{Event, Open, Bytes, Took, Close, WriteFailed, Step, Said, input, taken, steps, with_lines, brought}
+use Rattle.nut_history.specs.Event.{Event, Moment, Open, Bytes, Took, Close, WriteFailed, DriverUp, DriverBytes, DriverTook, DriverDown, Step, Said, input, taken, driver_input, steps, with_lines, brought}
 use Rattle.nut_history.specs.Answer.{text_of}
 use Rattle.nut_history.specs.Trace.{due, trace, answer_to}
 use Rattle.nut_history.specs.Content.{Session, Content, past, content, sent, waits}
-use Rattle.nut_history.specs.Acceptance.{refusal, IsAccepted, Tells, session_of, took_refusal, waiting_in, waiting_of, front, lost}
+use Rattle.nut_history.specs.Acceptance.{refusal, IsAccepted, Tells, session_of, took_refusal, waiting_in, waiting_of, front, lost, lost_report}
 use Rattle.nut_history.specs.Outcome.{after_refusal}
 use Rattle.nut_history.specs.Laws.{received, SentIsReceived, SentAndWaitingIsDue, SentIsFrontOfDue}
-use Rattle.nut_history.proofs.Law.{IsCovered}
-use Rattle.nut_history.proofs.Kept.{session_is, all_covered}
+use Rattle.nut_history.proofs.Pieces.{IsCovered}
+use Rattle.nut_history.proofs.Kept.{session_is, all_covered, due_reports}
 
 -- how many bytes c takes by an event
 abbrev pub taken_by : ℕ → Event → ℕ
@@ -45,6 +45,10 @@ sent-bytes first h c d piece covered =
     let more = due_begins first c d (brought (input c h) piece) (steps h) in
     ap (take (taken d h)) more.1 ∙ take-append-le (taken d h) (due d (past first h)) more.0 covered
 
+-- what a driver says sends a client nothing
+pub sent-reports : (first : Configuration) (h : List Event) (u c : ℕ) (piece : List ℕ) → sent first c (DriverBytes u piece ∷ h) ≡ sent first c h
+sent-reports first h u c piece = ap (take (taken c h)) (due_reports first c u (brought (driver_input u h) piece) (steps h))
+
 pub sent-took : (first : Configuration) (h : List Event) (c n : ℕ) → sent first c (Took c n ∷ h) ≡ sent first c h ++ take n (waits first c h)
 sent-took first h c n = ap (λ m. take m (due c (past first h))) (here (taken c h) n) ∙ take-add (taken c h) n (due c (past first h)) where
   here : (m n : ℕ) → (if c == c then m + n else m) ≡ m + n
@@ -55,6 +59,7 @@ sent-took_other first h c d n differ = rw differ refl
 
 -- An accepted event adds to what c was sent what it takes of what waits.
 pub sent-step : (first : Configuration) (h : List Event) (c : ℕ) (e : Event) → IsAccepted first h → sent first c (e ∷ h) ≡ sent first c h ++ take (taken_by c e) (waits first c h)
+sent-step first h c (Moment t) accepted = sym (append-nil (sent first c h))
 sent-step first h c (Open a) accepted = sym (append-nil (sent first c h))
 sent-step first h c (Bytes d piece) accepted = sent-bytes first h d c piece (all_covered first h c accepted) ∙ sym (append-nil (sent first c h))
 sent-step first h c (Took d n) accepted =
@@ -64,6 +69,10 @@ sent-step first h c (Took d n) accepted =
     ]
 sent-step first h c (Close d) accepted = sym (append-nil (sent first c h))
 sent-step first h c (WriteFailed d) accepted = sym (append-nil (sent first c h))
+sent-step first h c (DriverUp u) accepted = sym (append-nil (sent first c h))
+sent-step first h c (DriverBytes u piece) accepted = sent-reports first h u c piece ∙ sym (append-nil (sent first c h))
+sent-step first h c (DriverTook u n) accepted = sym (append-nil (sent first c h))
+sent-step first h c (DriverDown u) accepted = sym (append-nil (sent first c h))
 
 -- An event by which c takes nothing changes nothing of what it was sent.
 pub sent-other : (first : Configuration) (h : List Event) (c : ℕ) (e : Event) → IsAccepted first h → taken_by c e ≡ 0 → sent first c (e ∷ h) ≡ sent first c h
@@ -74,14 +83,34 @@ pub sent-lost : (first : Configuration) (h : List Event) (c d : ℕ) (piece : Li
 sent-lost first h c d piece zero accepted = refl
 sent-lost first h c d piece (suc k) accepted = sent-bytes first h c d (front (suc k) piece) (all_covered first h d accepted)
 
+pub sent-lost_report : (first : Configuration) (h : List Event) (u d : ℕ) (piece : List ℕ) (k : ℕ) → sent first d (lost_report u piece k h) ≡ sent first d h
+sent-lost_report first h u d piece zero = refl
+sent-lost_report first h u d piece (suc k) = sent-reports first h u d (front (suc k) piece)
+
 -- nor any refusal
 pub sent-refused : (first : Configuration) (h : List Event) (d : ℕ) (r : Refused) (e : Event) → IsAccepted first h → sent first d (after_refusal r e h) ≡ sent first d h
+sent-refused first h d (Memory (Line c k)) (Moment t) accepted = refl
+sent-refused first h d (Memory (Report v k)) (Moment t) accepted = refl
 sent-refused first h d (Memory (Line c k)) (Open a) accepted = refl
+sent-refused first h d (Memory (Report v k)) (Open a) accepted = refl
 sent-refused first h d (Memory (Line c k)) (Bytes b piece) accepted = sent-lost first h b d piece k accepted
+sent-refused first h d (Memory (Report v k)) (Bytes b piece) accepted = refl
 sent-refused first h d (Memory (Line c k)) (Took b n) accepted = refl
+sent-refused first h d (Memory (Report v k)) (Took b n) accepted = refl
 sent-refused first h d (Memory (Line c k)) (Close b) accepted = refl
+sent-refused first h d (Memory (Report v k)) (Close b) accepted = refl
 sent-refused first h d (Memory (Line c k)) (WriteFailed b) accepted = refl
+sent-refused first h d (Memory (Report v k)) (WriteFailed b) accepted = refl
+sent-refused first h d (Memory (Line c k)) (DriverUp u) accepted = refl
+sent-refused first h d (Memory (Report v k)) (DriverUp u) accepted = refl
+sent-refused first h d (Memory (Line c k)) (DriverBytes u piece) accepted = refl
+sent-refused first h d (Memory (Report v k)) (DriverBytes u piece) accepted = sent-lost_report first h u d piece k
+sent-refused first h d (Memory (Line c k)) (DriverTook u n) accepted = refl
+sent-refused first h d (Memory (Report v k)) (DriverTook u n) accepted = refl
+sent-refused first h d (Memory (Line c k)) (DriverDown u) accepted = refl
+sent-refused first h d (Memory (Report v k)) (DriverDown u) accepted = refl
 sent-refused first h d NoSuchConnection e accepted = refl
+sent-refused first h d NotConnected e accepted = refl
 sent-refused first h d PieceTooLong e accepted = refl
 sent-refused first h d Busy e accepted = refl
 sent-refused first h d TooMuchTaken e accepted = refl
@@ -110,6 +139,7 @@ sent-took_told first h s c n told accepted =
 
 pub sent-received : SentIsReceived
 sent-received first [] c accepted = refl
+sent-received first (Moment t ∷ h) c accepted = sent-received first h c accepted.0
 sent-received first (Open a ∷ h) c accepted = sent-received first h c accepted.0
 sent-received first (Bytes d piece ∷ h) c accepted = sent-bytes first h d c piece (all_covered first h c accepted.0) ∙ sent-received first h c accepted.0
 sent-received first (Took d n ∷ h) c accepted =
@@ -125,6 +155,10 @@ sent-received first (Took d n ∷ h) c accepted =
     ]
 sent-received first (Close d ∷ h) c accepted = sent-received first h c accepted.0
 sent-received first (WriteFailed d ∷ h) c accepted = sent-received first h c accepted.0
+sent-received first (DriverUp u ∷ h) c accepted = sent-received first h c accepted.0
+sent-received first (DriverBytes u piece ∷ h) c accepted = sent-reports first h u c piece ∙ sent-received first h c accepted.0
+sent-received first (DriverTook u n ∷ h) c accepted = sent-received first h c accepted.0
+sent-received first (DriverDown u ∷ h) c accepted = sent-received first h c accepted.0
 
 pub sent-waits : (first : Configuration) (h : List Event) (c : ℕ) → sent first c h ++ waits first c h ≡ due c (past first h)
 sent-waits first h c = take-append-drop (taken c h) (due c (past first h))

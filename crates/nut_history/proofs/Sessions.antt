@@ -1,22 +1,20 @@
--- What is found of a session after one of them is changed or gone.
+-- What is found of a session after one of them is changed or gone, and after bytes of one.
 use Rattle.std.proofs.Common.{◌≡◌, ℕ, true, false, eqb, List, [], ◌∷◌, ◌++◌, drop, refl, ◌∙◌, ap, inl, inr, Option, Some, None}
 use Rattle.std.specs.Prelude.{option_map}
 use Rattle.std.proofs.Common.{sym}
 use Rattle.std.proofs.Math.Seq.{drop-nil}
 use Rattle.std.proofs.lemmas.Bool.{cases_Bool, eqb-true, eq-eqb}
-use Rattle.nut_history.specs.Configuration.{Configuration}
-use Rattle.nut_history.specs.Content.{Session}
+use Rattle.nut_words.specs.Lines.{Text, joined}
+use Rattle.nut_history.specs.Command.{Command, command_of}
+use Rattle.nut_history.specs.Answer.{Answer}
+use Rattle.nut_history.specs.Content.{Session, Content}
 use Rattle.nut_history.specs.Acceptance.{session_of, waiting_in, waiting_of}
-use Rattle.nut_history.specs.Machine.{update, without, bytes_heard, byte_heard}
-use Rattle.nut_history.proofs.Law.{eqb_turn, byte_heard-number}
+use Rattle.nut_history.specs.Machine.{update, without, with_rest, with_sessions, answered, answer_in, after_answer, line_heard, byte_heard, bytes_heard}
+use Rattle.nut_history.proofs.Law.{eqb_turn}
 
 -- a change that leaves a session its number
 abbrev pub KeepsNumber : (Session → Session) → Type 0
 KeepsNumber change = (k : Session) → (change k).number ≡ k.number
-
-pub bytes_heard-number : (first : Configuration) (piece : List ℕ) → KeepsNumber (bytes_heard first piece)
-bytes_heard-number first [] k = refl
-bytes_heard-number first (b ∷ piece) k = bytes_heard-number first piece (byte_heard first b k) ∙ byte_heard-number first b k
 
 not_both : (n c d : ℕ) → eqb d c ≡ false → eqb n c ≡ true → eqb n d ≡ false
 not_both n c d differ is = ap (λ m. eqb m d) (eqb-true n c is) ∙ eqb_turn d c differ
@@ -98,3 +96,49 @@ waiting_of-took c n sessions =
       found : (o : Option Session) → waiting_in (option_map (after_took n) o) ≡ drop n (waiting_in o)
       found None = sym (drop-nil n)
       found (Some k) = refl
+
+-- ---- bytes of a connection
+
+-- what a line of c leaves of another connection
+after_answer-other : (c d : ℕ) (command : Command) (reply : Answer) (s : Content) → eqb d c ≡ false → session_of d (after_answer c command reply s).sessions ≡ session_of d s.sessions
+after_answer-other c d command reply s differ =
+    session_of-update_other c d (λ k. with_rest (Text []) (answered s.configuration command reply k)) s.sessions (λ k. refl) differ
+
+line_heard-other : (c d : ℕ) (o : Option Session) (s : Content) → eqb d c ≡ false → session_of d (line_heard c o s).sessions ≡ session_of d s.sessions
+line_heard-other c d None s differ = refl
+line_heard-other c d (Some k) s differ = after_answer-other c d (command_of k.rest) (answer_in s (command_of k.rest) k) s differ
+
+byte_heard-other : (c d b : ℕ) (s : Content) → eqb d c ≡ false → session_of d (byte_heard c b s).sessions ≡ session_of d s.sessions
+byte_heard-other c d b s differ =
+    elim (cases_Bool (eqb b 10)) [
+      | inl e ↦ rw e (line_heard-other c d (session_of c s.sessions) s differ)
+      | inr e ↦ rw e (session_of-update_other c d (λ k. with_rest (joined k.rest (b ∷ [])) k) s.sessions (λ k. refl) differ)
+    ]
+
+pub bytes_heard-other : (c d : ℕ) (piece : List ℕ) (s : Content) → eqb d c ≡ false → session_of d (bytes_heard c piece s).sessions ≡ session_of d s.sessions
+bytes_heard-other c d [] s differ = refl
+bytes_heard-other c d (b ∷ piece) s differ = bytes_heard-other c d piece (byte_heard c b s) differ ∙ byte_heard-other c d b s differ
+
+-- and of its own: it stays open
+abbrev pub IsOpen : ℕ → Content → Type 0
+IsOpen c s = (k : Session) × (session_of c s.sessions ≡ Some k)
+
+update-open : (c : ℕ) (change : Session → Session) (s : Content) → KeepsNumber change → IsOpen c s → IsOpen c (with_sessions (update c change s.sessions) s)
+update-open c change s keeps is = (change is.0, session_of-update c change s.sessions keeps ∙ ap (option_map change) is.1)
+
+line_heard-open : (c : ℕ) (o : Option Session) (s : Content) → IsOpen c s → IsOpen c (line_heard c o s)
+line_heard-open c None s is = is
+line_heard-open c (Some k) s is =
+    let command = command_of k.rest in
+    update-open c (λ j. with_rest (Text []) (answered s.configuration command (answer_in s command k) j)) s (λ j. refl) is
+
+byte_heard-open : (c b : ℕ) (s : Content) → IsOpen c s → IsOpen c (byte_heard c b s)
+byte_heard-open c b s is =
+    elim (cases_Bool (eqb b 10)) [
+      | inl e ↦ rw e (line_heard-open c (session_of c s.sessions) s is)
+      | inr e ↦ rw e (update-open c (λ k. with_rest (joined k.rest (b ∷ [])) k) s (λ k. refl) is)
+    ]
+
+pub bytes_heard-open : (c : ℕ) (piece : List ℕ) (s : Content) → IsOpen c s → IsOpen c (bytes_heard c piece s)
+bytes_heard-open c [] s is = is
+bytes_heard-open c (b ∷ piece) s is = bytes_heard-open c piece (byte_heard c b s) (byte_heard-open c b s is)

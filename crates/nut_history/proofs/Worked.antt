@@ -1,12 +1,18 @@
--- The examples, computed.
+-- The examples of connections, computed.
 use Rattle.std.proofs.Common.{refl}
 use Rattle.nut_words.specs.Reader.{read}
-use Rattle.nut_history.specs.Answer.{text_of, ups_row}
-use Rattle.nut_history.specs.Examples.{WorkedExamples}
+use Rattle.nut_proto.specs.Forms.{meaning}
+use Rattle.nut_proto.specs.Keywords.{command_of, subject_of}
+use Rattle.nut_proto.specs.Lines.{line}
+use Rattle.nut_proto.specs.Refusals.{refusal_name}
+use Rattle.nut_proto.specs.Replies.{reply_line}
+use Rattle.nut_proto.specs.Requests.{begin_line, end_line}
+use Rattle.nut_history.specs.Answer.{text_of}
+use Rattle.nut_history.specs.Examples.{ConnectionExamples}
 
-pub examples : WorkedExamples
-unfolding read text_of ups_row
-examples = record {
+pub connections : ConnectionExamples
+unfolding read meaning command_of subject_of line refusal_name reply_line begin_line end_line text_of
+connections = record {
   list_ups = refl;
   small_letters = refl;
   quoted_words = refl;

@@ -1,17 +1,21 @@
 -- Which events a server refuses, in the order of the tests, and the histories of events that it didn't refuse.
-use Rattle.std.specs.Prelude.{ℕ, zero, suc, ◌≡◌, ◌==◌, nat_lt, nat_le, Bool, false, not, ◌&&◌, if◌then◌else◌, List, [], ◌∷◌, length, find, Option, Some, None}
+use Rattle.std.specs.Prelude.{ℕ, zero, suc, ◌≡◌, ◌==◌, nat_lt, nat_le, Bool, false, not, ◌&&◌, if◌then◌else◌, List, [], ◌∷◌, length, find, slice_get, Option, Some, None}
 use Rattle.std.specs.List.{list_all}
 use Rattle.nut_words.specs.Spelling.{is_bare}
 use Rattle.nut_words.specs.Cutter.{kept_of}
 use Rattle.nut_history.specs.declared.Refused.{Refused}
-use Rattle.nut_history.specs.declared.Refused.TheVariants.{NoSuchConnection, PieceTooLong, Busy, TooMuchTaken, BadAddress, Full}
+use Rattle.nut_history.specs.declared.Refused.TheVariants.{NoSuchConnection, NotConnected, PieceTooLong, Busy, TooMuchTaken, BadAddress, Full}
 use Rattle.nut_history.specs.Configuration.{Configuration}
-use Rattle.nut_history.specs.Event.{Event, Open, Bytes, Took, Close, WriteFailed}
-use Rattle.nut_history.specs.Content.{Session, Content, content}
+use Rattle.nut_history.specs.Event.{Event, Moment, Open, Bytes, Took, Close, WriteFailed, DriverUp, DriverBytes, DriverTook, DriverDown}
+use Rattle.nut_history.specs.Content.{Session, Supply, Content, content}
 
 -- the session of the connection c, where it is open
 abbrev pub session_of : ℕ → List Session → Option Session
 session_of c sessions = find (λ k. k.number == c) sessions
+
+-- the UPS with the number u, where there is one
+abbrev pub supply_of : ℕ → List Supply → Option Supply
+supply_of u supplies = slice_get supplies u
 
 -- 1 to 64 bytes, each of which may stand in a bare word
 abbrev pub is_address : List ℕ → Bool
@@ -40,13 +44,42 @@ abbrev pub close_refusal : Option Session → Option Refused
 close_refusal None = Some NoSuchConnection
 close_refusal (Some k) = None
 
--- the first test that refuses the event, want of memory aside
+-- A driver is connected to a UPS that there is.
+abbrev pub up_refusal : Option Supply → Option Refused
+up_refusal None = Some NotConnected
+up_refusal (Some d) = None
+
+-- Of a connected driver come pieces of at most 512 bytes.
+abbrev pub report_refusal : List ℕ → Option Supply → Option Refused
+report_refusal piece None = Some NotConnected
+report_refusal piece (Some d) =
+    if not d.device.connected then Some NotConnected else
+    if nat_lt 512 (length piece) then Some PieceTooLong else None
+
+-- A connected driver takes no more than waits for it.
+abbrev pub drain_refusal : ℕ → Option Supply → Option Refused
+drain_refusal n None = Some NotConnected
+drain_refusal n (Some d) =
+    if not d.device.connected then Some NotConnected else
+    if nat_lt (length d.device.waits) n then Some TooMuchTaken else None
+
+-- Only a connected driver goes.
+abbrev pub down_refusal : Option Supply → Option Refused
+down_refusal None = Some NotConnected
+down_refusal (Some d) = if d.device.connected then None else Some NotConnected
+
+-- the first test that refuses the event, want of memory aside; no moment is refused
 abbrev pub refusal : Content → Event → Option Refused
+refusal s (Moment t) = None
 refusal s (Open address) = open_refusal s address
 refusal s (Bytes c piece) = bytes_refusal piece (session_of c s.sessions)
 refusal s (Took c n) = took_refusal n (session_of c s.sessions)
 refusal s (Close c) = close_refusal (session_of c s.sessions)
 refusal s (WriteFailed c) = close_refusal (session_of c s.sessions)
+refusal s (DriverUp u) = up_refusal (supply_of u s.supplies)
+refusal s (DriverBytes u piece) = report_refusal piece (supply_of u s.supplies)
+refusal s (DriverTook u n) = drain_refusal n (supply_of u s.supplies)
+refusal s (DriverDown u) = down_refusal (supply_of u s.supplies)
 
 -- no event of the history was refused
 abbrev pub IsAccepted : Configuration → List Event → Type 0
@@ -67,6 +100,11 @@ front (suc k) (b ∷ piece) = b ∷ (if b == 10 then front k piece else front (s
 abbrev pub lost : ℕ → List ℕ → ℕ → List Event → List Event
 lost c piece zero h = Close c ∷ h
 lost c piece (suc k) h = Close c ∷ Bytes c (front (suc k) piece) ∷ h
+
+-- the same for a piece of the driver of u
+abbrev pub lost_report : ℕ → List ℕ → ℕ → List Event → List Event
+lost_report u piece zero h = DriverDown u ∷ h
+lost_report u piece (suc k) h = DriverDown u ∷ DriverBytes u (front (suc k) piece) ∷ h
 
 -- how many lines a piece completes
 abbrev pub line_feeds : List ℕ → ℕ
@@ -96,3 +134,17 @@ leaves (Some k) = (length k.waits == 0) && k.logged_out
 abbrev pub kept : Option Session → ℕ
 kept None = 0
 kept (Some k) = kept_of k.rest
+
+-- what the driver of a UPS still has to take, nothing where there is no such UPS
+abbrev pub asks_in : Option Supply → List ℕ
+asks_in None = []
+asks_in (Some d) = d.device.waits
+
+-- what the driver of the UPS u still has to take
+abbrev pub asks_of : ℕ → List Supply → List ℕ
+asks_of u supplies = asks_in (supply_of u supplies)
+
+-- whether the driver of a UPS is connected
+abbrev pub is_connected : Option Supply → Bool
+is_connected None = false
+is_connected (Some d) = d.device.connected

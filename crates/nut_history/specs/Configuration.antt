@@ -1,20 +1,19 @@
--- What a server is made with: the UPSes that it serves, who may do what, and its limits.
+-- What a server is made with (ups.conf(5), upsd.users(5), upsd.conf(5)).
 use Rattle.std.specs.Prelude.{ℕ, Bool, true, false, List, Option, Some, None, find, position}
 use Rattle.std.specs.List.{list_any}
 use Rattle.std.specs.Option.{option_map_or}
 use Rattle.std.specs.Str.{bytes_eq}
 use Rattle.nut_conf.specs.declared.users.Action.{Action}
-use Rattle.nut_conf.specs.declared.users.Action.TheVariants.{Set, Fsd}
 use Rattle.nut_conf.specs.declared.users.Role.{Role}
+use Rattle.nut_conf.specs.Users.{action_word}
 
--- a UPS: its name, the program of its driver, and what people call it, as LIST UPS and GET UPSDESC say
+-- a UPS, by its name, the name of its driver's program, and what LIST UPS and GET UPSDESC say of it
 pub record Ups : Type 0 where
   pub name : List ℕ
   pub driver : List ℕ
   pub description : List ℕ
 
--- a user: its name, its password if it has one, what it may do, which commands it may give (None stands for all of
--- them), and what its monitor is to a UPS if it may be a monitor
+-- A user: what may be done, which commands may be given, where None stands for all, and what the user's monitor is.
 pub record User : Type 0 where
   pub name : List ℕ
   pub password : Option (List ℕ)
@@ -22,8 +21,8 @@ pub record User : Type 0 where
   pub commands : List (Option (List ℕ))
   pub role : Option Role
 
--- The UPSes and the users in the order of their files; for how many seconds the data of a UPS holds without a word
--- from its driver; and how many connections may be open at once.
+-- The UPSes and the users in the order of their files, after how many seconds without a word from its driver the
+-- data of a UPS are stale, and how many connections may be open at once.
 pub record Configuration : Type 0 where
   pub upses : List Ups
   pub users : List User
@@ -34,29 +33,23 @@ pub record Configuration : Type 0 where
 abbrev pub ups_named : List ℕ → List Ups → Option Ups
 ups_named name upses = find (λ u. bytes_eq u.name name) upses
 
--- the number of the first UPS of this name, counted from 0
+-- its number, counted from 0 in the order of the file
 abbrev pub number_of_ups : List ℕ → List Ups → Option ℕ
 number_of_ups name upses = position (λ u. bytes_eq u.name name) upses
 
--- the first user of this name; the case of letters counts
+-- the first user of this name
 abbrev pub user_named : List ℕ → List User → Option User
 user_named name users = find (λ u. bytes_eq u.name name) users
 
 -- the user's password is this one; a user without a password has none
 abbrev pub has_password : List ℕ → User → Bool
-has_password password u = option_map_or (bytes_eq password) u.password false
-
--- two actions are the same
-abbrev pub same_action : Action → Action → Bool
-same_action Set Set = true
-same_action Fsd Fsd = true
-same_action a b = false
+has_password password u = option_map_or (λ own. bytes_eq password own) u.password false
 
 -- the user may take the action
 abbrev pub may_act : Action → User → Bool
-may_act action u = list_any (same_action action) u.actions
+may_act action u = list_any (λ a. bytes_eq (action_word action) (action_word a)) u.actions
 
--- all commands, or the one of this name, are the one of that name
+-- all commands, or this one
 abbrev pub covers : List ℕ → Option (List ℕ) → Bool
 covers name None = true
 covers name (Some command) = bytes_eq name command

@@ -1,25 +1,37 @@
 -- What a server has to know of a history: its content. Two histories of the same content are answered alike.
-use Rattle.std.specs.Prelude.{ℕ, Bool, List, map, take, drop}
+use Rattle.std.specs.Prelude.{ℕ, Bool, List, map, take, drop, Option}
 use Rattle.nut_words.specs.Lines.{LineText, rest}
 use Rattle.nut_history.specs.Configuration.{Configuration}
-use Rattle.nut_history.specs.Event.{Event, input, taken, steps}
-use Rattle.nut_history.specs.Trace.{Entry, configuration, opened, open_numbers, address, logged_out, due, trace}
+use Rattle.nut_history.specs.Device.{Device}
+use Rattle.nut_history.specs.Event.{Event, input, taken, driver_input, steps}
+use Rattle.nut_history.specs.Trace.{Entry, configuration, clock, opened, open_numbers, address, user, password, login, logged_out, due, device, ups_numbers, trace}
 
--- An open connection: `rest` is its unfinished line, and `waits` the bytes that it still has to take.
+-- An open connection: what it said of itself, its unfinished line, and the bytes that it still has to take.
 pub record Session : Type 0 where
   pub number : ℕ
   pub address : List ℕ
+  pub user : Option (List ℕ)
+  pub password : Option (List ℕ)
+  pub login : Option ℕ
   pub logged_out : Bool
   pub rest : LineText
   pub waits : List ℕ
 
--- `opened` is how many connections were opened so far, and `sessions` those that are open, by rising number.
+-- A UPS: what its driver told, and that one's unfinished line.
+pub record Supply : Type 0 where
+  pub device : Device
+  pub rest : LineText
+
+-- `opened` is how many connections were opened so far, `sessions` those that are open, by rising number, and `supplies`
+-- the UPSes in the order of their numbers.
 pub record Content : Type 0 where
   pub configuration : Configuration
+  pub clock : ℕ
   pub opened : ℕ
   pub sessions : List Session
+  pub supplies : List Supply
 
--- the past of a history: its steps, each with its answer
+-- the past of a history: its steps, each with its answer and what it asks
 abbrev pub past : Configuration → List Event → List Entry
 past first h = trace first (steps h)
 
@@ -36,15 +48,24 @@ abbrev pub session : Configuration → List Event → ℕ → Session
 session first h c = record {
   number = c;
   address = address c (past first h);
+  user = user c (past first h);
+  password = password c (past first h);
+  login = login first c (past first h);
   logged_out = logged_out c (past first h);
   rest = rest (input c h);
   waits = waits first c h;
 }
 
+-- what the history h says of the UPS u
+abbrev pub supply : Configuration → List Event → ℕ → Supply
+supply first h u = record { device = device first (past first h) u; rest = rest (driver_input u h) }
+
 -- the content of a server that was made with `first` and told the history h
 abbrev pub content : Configuration → List Event → Content
 content first h = record {
   configuration = configuration first (past first h);
+  clock = clock (past first h);
   opened = opened (past first h);
   sessions = map (session first h) (open_numbers (past first h));
+  supplies = map (supply first h) (ups_numbers first (past first h));
 }

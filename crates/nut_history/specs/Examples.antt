@@ -1,4 +1,4 @@
--- Histories, and what is answered in them: each of these is computed from the definitions.
+-- Histories of connections, and what is answered in them: each of these is computed from the definitions.
 use Rattle.std.specs.Prelude.{◌≡◌, ℕ, zero, suc, List, [], ◌∷◌, codes, Some}
 use Rattle.nut_history.specs.declared.Refused.TheVariants.{NoSuchConnection, PieceTooLong, Busy, TooMuchTaken, BadAddress, Full}
 use Rattle.nut_history.specs.Configuration.{Configuration}
@@ -43,7 +43,7 @@ abbrev pub list_and_logout : List ℕ
 list_and_logout = codes "BEGIN LIST UPS\nUPS su700 \"Server room\"\nEND LIST UPS\nOK Goodbye\n"
 
 -- what is answered, what was sent and waits, and what is refused
-pub record WorkedExamples : Type 0 where
+pub record ConnectionExamples : Type 0 where
   pub list_ups : answers_to (codes "LIST UPS\nLOGOUT\n") ≡ list_and_logout
   pub small_letters : answers_to (codes "list ups\nLogout\n") ≡ list_and_logout
   pub quoted_words : answers_to (codes "\"LIST\"  \"UPS\" # a comment\r\nLOGOUT\n") ≡ list_and_logout

@@ -1,12 +1,14 @@
 -- What holds of every history of accepted events. Each of these is the contract of a function of the crate.
-use Rattle.std.specs.Prelude.{◌≡◌, ℕ, ◌<◌, ◌≤◌, ◌==◌, ◌+◌, false, if◌then◌else◌, List, [], ◌∷◌, ◌++◌, map, take, Some, None, Result}
+use Rattle.std.specs.Prelude.{◌≡◌, ℕ, ◌<◌, ◌≤◌, ◌==◌, ◌+◌, false, true, if◌then◌else◌, List, [], ◌∷◌, ◌++◌, length, map, take, Option, Some, None, Result}
 use Rattle.nut_words.specs.Quoting.{Begins}
+use Rattle.nut_words.specs.Cutter.{kept_of}
 use Rattle.nut_history.specs.Configuration.{Configuration}
-use Rattle.nut_history.specs.Event.{Event, Open, Bytes, Took, Close, WriteFailed}
-use Rattle.nut_history.specs.Trace.{due}
-use Rattle.nut_history.specs.Content.{Session, Content, content, past, sent}
+use Rattle.nut_history.specs.Device.{most_waiting}
+use Rattle.nut_history.specs.Event.{Event, Moment, Open, Bytes, Took, Close, WriteFailed, DriverUp, DriverBytes, DriverTook, DriverDown}
+use Rattle.nut_history.specs.Trace.{due, driver_due, driver_sent}
+use Rattle.nut_history.specs.Content.{Session, Supply, Content, content, past, sent}
 use Rattle.nut_history.specs.declared.Refused.{Refused}
-use Rattle.nut_history.specs.Acceptance.{IsAccepted, Tells, session_of, waiting_of}
+use Rattle.nut_history.specs.Acceptance.{IsAccepted, Tells, session_of, waiting_of, supply_of, asks_of}
 use Rattle.nut_history.specs.Machine.{fresh}
 use Rattle.nut_history.specs.Outcome.{IsAnswer, after, content_after}
 
@@ -15,6 +17,14 @@ abbrev pub CutsDoNotMatter : Type 0
 CutsDoNotMatter =
     (first : Configuration) (h : List Event) (c : ℕ) (x y : List ℕ) →
     content first (Bytes c (x ++ y) ∷ h) ≡ content first (Bytes c y ∷ Bytes c x ∷ h)
+
+-- However a driver's bytes are cut into pieces, the content is the same.
+abbrev pub DriverCutsDoNotMatter : Type 0
+DriverCutsDoNotMatter =
+    (first : Configuration) (h : List Event) (u : ℕ) (x y : List ℕ) →
+    content first (DriverBytes u (x ++ y) ∷ h) ≡ content first (DriverBytes u y ∷ DriverBytes u x ∷ h)
+
+-- ---- what is sent
 
 -- what c took, in turn, of the bytes that waited for it
 abbrev pub received : Configuration → ℕ → List Event → List ℕ
@@ -35,6 +45,28 @@ SentAndWaitingIsDue =
 -- What a connection was sent is a front of the answers to its lines, also after it is closed.
 abbrev pub SentIsFrontOfDue : Type 0
 SentIsFrontOfDue = (first : Configuration) (h : List Event) (c : ℕ) → IsAccepted first h → Begins (sent first c h) (due c (past first h))
+
+-- what the driver of u took since it was connected, in turn, of the bytes that waited for it
+abbrev pub driver_received : Configuration → ℕ → List Event → List ℕ
+driver_received first u [] = []
+driver_received first u (DriverTook v n ∷ h) =
+    if v == u then driver_received first u h ++ take n (asks_of u (content first h).supplies) else driver_received first u h
+driver_received first u (DriverUp v ∷ h) = if v == u then [] else driver_received first u h
+driver_received first u (e ∷ h) = driver_received first u h
+
+-- What a driver was sent since it was connected is what it took, in turn, of the bytes that waited for it.
+abbrev pub DriverSentIsReceived : Type 0
+DriverSentIsReceived =
+    (first : Configuration) (h : List Event) (u : ℕ) → IsAccepted first h → driver_sent u (past first h) ≡ driver_received first u h
+
+-- What a connected driver was sent, and then what waits for it, is what it was asked since it was connected, joined.
+abbrev pub DriverSentAndWaitingIsDue : Type 0
+DriverSentAndWaitingIsDue =
+    (first : Configuration) (h : List Event) (u : ℕ) (d : Supply) → IsAccepted first h →
+    supply_of u (content first h).supplies ≡ Some d → d.device.connected ≡ true →
+    driver_sent u (past first h) ++ d.device.waits ≡ driver_due u (past first h)
+
+-- ---- numbers
 
 -- n is less than each of these
 abbrev pub IsBelow : ℕ → List ℕ → Type 0
@@ -61,6 +93,8 @@ NumbersRise =
     (first : Configuration) (h : List Event) →
     IsBelow 0 (numbers (content first h)) × IsRising (numbers (content first h)) × IsUpTo (content first h).opened (numbers (content first h))
 
+-- ---- answers and contents
+
 -- What a server has after any answer that it may give to an event is the content of the history after it.
 abbrev pub AnswersKeepContent : Type 0
 AnswersKeepContent =
@@ -68,18 +102,41 @@ AnswersKeepContent =
     Tells first h s → IsAnswer s e r → Tells first (after r e h) (content_after r s e)
 
 -- the connection that an event is of; an Open is of the one that it opens
-abbrev pub connection_of : Content → Event → ℕ
-connection_of s (Open address) = s.opened + 1
-connection_of s (Bytes c piece) = c
-connection_of s (Took c n) = c
-connection_of s (Close c) = c
-connection_of s (WriteFailed c) = c
+abbrev pub connection_of : Content → Event → Option ℕ
+connection_of s (Moment t) = None
+connection_of s (Open address) = Some (s.opened + 1)
+connection_of s (Bytes c piece) = Some c
+connection_of s (Took c n) = Some c
+connection_of s (Close c) = Some c
+connection_of s (WriteFailed c) = Some c
+connection_of s (DriverUp u) = None
+connection_of s (DriverBytes u piece) = None
+connection_of s (DriverTook u n) = None
+connection_of s (DriverDown u) = None
+
+-- the driver that an event is of
+abbrev pub driver_of : Event → Option ℕ
+driver_of (DriverUp u) = Some u
+driver_of (DriverBytes u piece) = Some u
+driver_of (DriverTook u n) = Some u
+driver_of (DriverDown u) = Some u
+driver_of e = None
+
+abbrev pub IsOther : ℕ → Option ℕ → Type 0
+IsOther d None = Unit {0}
+IsOther d (Some c) = (c == d) ≡ false
 
 -- An accepted event changes no connection but its own.
 abbrev pub OthersStay : Type 0
 OthersStay =
-    (first : Configuration) (h : List Event) (e : Event) (d : ℕ) → IsAccepted first (e ∷ h) → (connection_of (content first h) e == d) ≡ false →
+    (first : Configuration) (h : List Event) (e : Event) (d : ℕ) → IsAccepted first (e ∷ h) → IsOther d (connection_of (content first h) e) →
     session_of d (content first (e ∷ h)).sessions ≡ session_of d (content first h).sessions
+
+-- An accepted event of a driver changes no UPS but its own.
+abbrev pub OtherDriversStay : Type 0
+OtherDriversStay =
+    (first : Configuration) (h : List Event) (e : Event) (u v : ℕ) → IsAccepted first (e ∷ h) → driver_of e ≡ Some v → (v == u) ≡ false →
+    supply_of u (content first (e ∷ h)).supplies ≡ supply_of u (content first h).supplies
 
 -- A new connection has said nothing, and nothing waits for it.
 abbrev pub OpenedIsFresh : Type 0
@@ -93,3 +150,20 @@ abbrev pub ClosedStaysClosed : Type 0
 ClosedStaysClosed =
     (first : Configuration) (h : List Event) (e : Event) (d : ℕ) → IsAccepted first (e ∷ h) → d ≤ (content first h).opened →
     session_of d (content first h).sessions ≡ None → session_of d (content first (e ∷ h)).sessions ≡ None
+
+-- ---- bounds
+
+-- no more than 4,096 bytes wait for a driver
+abbrev pub IsBoundedSupply : Supply → Type 0
+IsBoundedSupply d = length d.device.waits ≤ most_waiting
+
+-- no more than 512 bytes of an unfinished line are kept
+abbrev pub IsBoundedSession : Session → Type 0
+IsBoundedSession k = kept_of k.rest ≤ 512
+
+-- What is kept of a line, and what waits for a driver, have their bounds in every history of accepted events.
+abbrev pub BoundsHold : Type 0
+BoundsHold =
+    (first : Configuration) (h : List Event) → IsAccepted first h →
+    ((c : ℕ) (k : Session) → session_of c (content first h).sessions ≡ Some k → IsBoundedSession k)
+    × ((u : ℕ) (d : Supply) → supply_of u (content first h).supplies ≡ Some d → IsBoundedSupply d)

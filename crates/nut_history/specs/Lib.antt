@@ -1,7 +1,9 @@
 pub mod Configuration
 pub mod Command
-pub mod Answer
 pub mod Event
+pub mod Device
+pub mod Answer
+pub mod Effect
 pub mod Trace
 pub mod Content
 pub mod Acceptance
@@ -9,3 +11,4 @@ pub mod Machine
 pub mod Outcome
 pub mod Laws
 pub mod Examples
+pub mod DriverExamples

@@ -1,24 +1,96 @@
 -- How a server may answer an event, and the history that stands after it.
-use Rattle.std.specs.Prelude.{◌≡◌, ◌<◌, List, ◌∷◌, Some, None, Result, Ok, Err}
+use Rattle.std.specs.Prelude.{◌≡◌, ◌<◌, ℕ, zero, suc, ◌==◌, Bool, true, false, not, ◌&&◌, ◌||◌, IsTrue, if◌then◌else◌, List, [], ◌∷◌, Option, Some, None, Result, Ok, Err}
+use Rattle.nut_words.specs.Lines.{LineText, Text, TooLong, joined}
+use Rattle.nut_words.specs.Reader.{has_backslash}
+use Rattle.nut_state.specs.Table.{Table}
+use Rattle.nut_state.specs.Step.{line_adds}
 use Rattle.nut_history.specs.declared.Place.{Place}
-use Rattle.nut_history.specs.declared.Place.TheVariants.{Line}
+use Rattle.nut_history.specs.declared.Place.TheVariants.{Line, Report}
 use Rattle.nut_history.specs.declared.Refused.{Refused}
-use Rattle.nut_history.specs.declared.Refused.TheVariants.{NoSuchConnection, PieceTooLong, Busy, TooMuchTaken, BadAddress, Full, Memory}
-use Rattle.nut_history.specs.Event.{Event, Bytes}
-use Rattle.nut_history.specs.Content.{Content}
-use Rattle.nut_history.specs.Acceptance.{refusal, lost, line_feeds}
-use Rattle.nut_history.specs.Machine.{advance, with_sessions, without}
+use Rattle.nut_history.specs.declared.Refused.TheVariants.{NoSuchConnection, NotConnected, PieceTooLong, Busy, TooMuchTaken, BadAddress, Full, Memory}
+use Rattle.nut_history.specs.Command.{Command, Blank, Malformed, Asks, command_of}
+use Rattle.nut_history.specs.Event.{Event, Bytes, Close, DriverBytes, DriverDown}
+use Rattle.nut_history.specs.Content.{Session, Supply, Content}
+use Rattle.nut_history.specs.Acceptance.{refusal, front, lost, lost_report, line_feeds, session_of, supply_of}
+use Rattle.nut_history.specs.Machine.{advance, bytes_heard, bytes_reported}
 
--- Memory may run out in a piece alone, at a line that it completes, behind the k lines that were done.
-abbrev pub MayLack : Place → Event → Type 0
-MayLack (Line c k) (Bytes d piece) = (c ≡ d) × (k < line_feeds piece)
-MayLack (Line c k) e = ⊥
+-- ---- where memory may be lacking
+
+-- the rest of a piece behind its k-th line feed, and the bytes of a text before its first line feed
+abbrev pub behind : ℕ → List ℕ → List ℕ
+behind zero piece = piece
+behind (suc k) [] = []
+behind (suc k) (b ∷ piece) = if b == 10 then behind k piece else behind (suc k) piece
+
+abbrev pub until_feed : List ℕ → List ℕ
+until_feed [] = []
+until_feed (b ∷ bytes) = if b == 10 then [] else b ∷ until_feed bytes
+
+-- the first line that a text completes behind an unfinished line
+abbrev pub first_line : LineText → List ℕ → LineText
+first_line rest text = joined rest (until_feed text)
+
+abbrev pub is_blank : Command → Bool
+is_blank Blank = true
+is_blank (Malformed refusal) = false
+is_blank (Asks request) = false
+
+abbrev pub with_backslash : LineText → Bool
+with_backslash (Text line) = has_backslash line
+with_backslash TooLong = false
+
+-- A line of a client may take memory where the client hasn't logged out, and it says something or has a backslash.
+abbrev pub line_takes : LineText → Option Session → Bool
+line_takes line None = false
+line_takes line (Some k) = not k.logged_out && (not (is_blank (command_of line)) || with_backslash line)
+
+-- A line of a driver may take memory where it adds a variable, an enum value, a range or a command, or has a backslash.
+abbrev pub text_takes : LineText → Table → Bool
+text_takes (Text line) table = has_backslash line || line_adds table line
+text_takes TooLong table = false
+
+abbrev pub report_takes : LineText → Option Supply → Bool
+report_takes line None = false
+report_takes line (Some d) = text_takes line d.device.table
+
+abbrev pub unfinished_of : Option Session → LineText
+unfinished_of None = Text []
+unfinished_of (Some k) = k.rest
+
+abbrev pub unfinished_report : Option Supply → LineText
+unfinished_report None = Text []
+unfinished_report (Some d) = d.rest
+
+-- the session of c, and the UPS u, after the first k lines that a piece completes
+abbrev pub session_after : ℕ → List ℕ → ℕ → Content → Option Session
+session_after c piece k s = session_of c (bytes_heard c (front k piece) s).sessions
+
+abbrev pub supply_after : ℕ → List ℕ → Option Supply → Option Supply
+supply_after time front None = None
+supply_after time front (Some d) = Some (bytes_reported time front d)
+
+-- the line that a piece completes behind its first k may take memory
+abbrev pub MayRunOut : ℕ → List ℕ → ℕ → Content → Type 0
+MayRunOut c piece k s =
+    IsTrue (line_takes (first_line (unfinished_of (session_after c piece k s)) (behind k piece)) (session_after c piece k s))
+
+abbrev pub MayRunOutOf : List ℕ → ℕ → Option Supply → Type 0
+MayRunOutOf piece k o = IsTrue (report_takes (first_line (unfinished_report o) (behind k piece)) o)
+
+-- Memory may run out in a piece alone, behind k lines of it that were done, at one that it completes and that may take
+-- memory. All other events take none.
+abbrev pub MayLack : Content → Place → Event → Type 0
+MayLack s (Line c k) (Bytes d piece) = (c ≡ d) × (k < line_feeds piece) × MayRunOut d piece k s
+MayLack s (Report u k) (DriverBytes v piece) =
+    (u ≡ v) × (k < line_feeds piece) × MayRunOutOf piece k (supply_after s.clock (front k piece) (supply_of v s.supplies))
+MayLack s place e = ⊥
 
 -- A server with this content may answer so: a refusal names the first test that refuses the event, and memory
 -- is lacking only where no test does.
 abbrev pub IsRefusal : Content → Event → Refused → Type 0
-IsRefusal s e (Memory place) = (refusal s e ≡ None) × MayLack place e
+IsRefusal s e (Memory place) = (refusal s e ≡ None) × MayLack s place e
 IsRefusal s e NoSuchConnection = refusal s e ≡ Some NoSuchConnection
+IsRefusal s e NotConnected = refusal s e ≡ Some NotConnected
 IsRefusal s e PieceTooLong = refusal s e ≡ Some PieceTooLong
 IsRefusal s e Busy = refusal s e ≡ Some Busy
 IsRefusal s e TooMuchTaken = refusal s e ≡ Some TooMuchTaken
@@ -30,10 +102,14 @@ abbrev pub IsAnswer : {U : Type 0} → Content → Event → Result U Refused �
 IsAnswer s e (Ok u) = refusal s e ≡ None
 IsAnswer s e (Err r) = IsRefusal s e r
 
--- the history after a lack of memory in a piece: the lines that were done stand, and the connection is closed
+-- ---- what stands after an answer
+
+-- The history after a lack of memory in a piece: the lines that were done stand, and then the connection is closed, or
+-- the driver is gone.
 abbrev pub after_lack : Place → Event → List Event → List Event
 after_lack (Line c k) (Bytes d piece) h = lost d piece k h
-after_lack (Line c k) e h = h
+after_lack (Report u k) (DriverBytes v piece) h = lost_report v piece k h
+after_lack place e h = h
 
 -- the history after a refusal: no other than a lack of memory changes it
 abbrev pub after_refusal : Refused → Event → List Event → List Event
@@ -45,16 +121,26 @@ abbrev pub after : {U : Type 0} → Result U Refused → Event → List Event �
 after (Ok u) e h = e ∷ h
 after (Err r) e h = after_refusal r e h
 
--- the content after a lack of memory in a piece: the connection is gone, whatever was done of the piece
-abbrev pub content_after_lack : Place → Content → Content
-content_after_lack (Line c k) s = with_sessions (without c s.sessions) s
+-- the content after k lines of a piece of c were done and it was closed, or after k lines of a piece of the driver of u
+-- were done and it went
+abbrev pub content_lost : ℕ → List ℕ → ℕ → Content → Content
+content_lost c piece k s = advance (bytes_heard c (front k piece) s) (Close c)
+
+abbrev pub content_lost_report : ℕ → List ℕ → ℕ → Content → Content
+content_lost_report u piece k s = advance (advance s (DriverBytes u (front k piece))) (DriverDown u)
+
+-- the content after a lack of memory
+abbrev pub content_after_lack : Place → Event → Content → Content
+content_after_lack (Line c k) (Bytes d piece) s = content_lost d piece k s
+content_after_lack (Report u k) (DriverBytes v piece) s = content_lost_report v piece k s
+content_after_lack place e s = s
 
 -- the content after a refusal
-abbrev pub content_after_refusal : Refused → Content → Content
-content_after_refusal (Memory place) s = content_after_lack place s
-content_after_refusal r s = s
+abbrev pub content_after_refusal : Refused → Event → Content → Content
+content_after_refusal (Memory place) e s = content_after_lack place e s
+content_after_refusal r e s = s
 
 -- the content after an event and the answer to it: that of the history after it
 abbrev pub content_after : {U : Type 0} → Result U Refused → Content → Event → Content
 content_after (Ok u) s e = advance s e
-content_after (Err r) s e = content_after_refusal r s
+content_after (Err r) s e = content_after_refusal r e s

@@ -3,8 +3,9 @@
 #![tactic(auto)]
 
 ghost use Rattle.nut_history.specs.Machine.{KeepsContent};
-ghost use Rattle.nut_history.specs.Examples.{WorkedExamples};
-ghost use Rattle.nut_history.specs.Laws.{AnswersKeepContent, ClosedStaysClosed, CutsDoNotMatter, NumbersRise, OpenedIsFresh, OthersStay, SentAndWaitingIsDue, SentIsFrontOfDue, SentIsReceived};
+ghost use Rattle.nut_history.specs.Examples.{ConnectionExamples};
+ghost use Rattle.nut_history.specs.DriverExamples.{DriverExamples, UserExamples};
+ghost use Rattle.nut_history.specs.Laws.{AnswersKeepContent, BoundsHold, ClosedStaysClosed, CutsDoNotMatter, DriverCutsDoNotMatter, DriverSentAndWaitingIsDue, DriverSentIsReceived, NumbersRise, OpenedIsFresh, OtherDriversStay, OthersStay, SentAndWaitingIsDue, SentIsFrontOfDue, SentIsReceived};
 
 use thiserror::Error;
 
@@ -14,6 +15,9 @@ pub enum Place {
     /// In a piece of the connection with this number, at the line behind so many that were done. Those stand, the
     /// line left no trace, and the connection is closed.
     Line(u64, usize),
+    /// In a piece of the driver of the UPS with this number, at the line behind so many that were done. Those stand,
+    /// the line left no trace, and the driver counts as gone.
+    Report(usize, usize),
 }
 
 /// Why an arrival isn't accepted. All but `Memory` change nothing.
@@ -22,6 +26,9 @@ pub enum Refused {
     /// No connection with this number is open.
     #[error("no such connection")]
     NoSuchConnection,
+    /// No UPS has this number, or its driver isn't connected.
+    #[error("the driver isn't connected")]
+    NotConnected,
     /// The piece has more than 512 bytes.
     #[error("the piece is too long")]
     PieceTooLong,
@@ -52,6 +59,11 @@ pub fn cuts_do_not_matter()
     ensures { CutsDoNotMatter }
 {}
 
+/// However a driver's bytes are cut into pieces, the content is the same.
+pub fn driver_cuts_do_not_matter()
+    ensures { DriverCutsDoNotMatter }
+{}
+
 /// Whatever a server may answer to an event, what it has then is the content of the history after it.
 pub fn answers_keep_content()
     ensures { AnswersKeepContent }
@@ -77,9 +89,24 @@ pub fn sent_is_front_of_due()
     ensures { SentIsFrontOfDue }
 {}
 
+/// What a driver was sent since it was connected is what it took, in turn, of the bytes that waited for it.
+pub fn driver_sent_is_received()
+    ensures { DriverSentIsReceived }
+{}
+
+/// What a connected driver was sent, and then what waits for it, is what it was asked, joined.
+pub fn driver_sent_and_waiting_is_due()
+    ensures { DriverSentAndWaitingIsDue }
+{}
+
 /// An accepted event changes no connection but its own.
 pub fn others_stay()
     ensures { OthersStay }
+{}
+
+/// An accepted event of a driver changes no UPS but its own.
+pub fn other_drivers_stay()
+    ensures { OtherDriversStay }
 {}
 
 /// A new connection has said nothing, and nothing waits for it.
@@ -92,7 +119,14 @@ pub fn closed_stays_closed()
     ensures { ClosedStaysClosed }
 {}
 
+/// What is kept of a line, and what waits for a driver, have their bounds.
+pub fn bounds_hold()
+    ensures { BoundsHold }
+{}
+
 /// What is answered in some histories, computed from the definitions.
 pub fn worked_examples()
-    ensures { WorkedExamples }
+    ensures connections { ConnectionExamples }
+    ensures drivers { DriverExamples }
+    ensures users { UserExamples }
 {}

@@ -1,6 +1,11 @@
-pub mod Hearing
+pub mod FromFiles
+pub mod RowTexts
+pub mod Asks
+pub mod Logins
+pub mod Results
+pub mod Feeds
+pub mod Reports
 pub mod Places
 pub mod Orderly
-pub mod Arrives
-pub mod FromFiles
-pub mod Rows
+pub mod Searching
+pub mod Entries

@@ -7,16 +7,19 @@ use Rattle.nut_history.specs.Content.{Session}
 use Rattle.nut_history.specs.Acceptance.{session_of}
 use Rattle.nut_history.specs.Laws.{IsBelow, IsRising, IsUpTo}
 use Rattle.nut_history.specs.Machine.{update, without}
-use Rattle.nut_history.proofs.Sessions.{KeepsNumber}
 use Rattle.nut_server.specs.Inside.{numbers_of}
 use Rattle.nut_server.specs.Settling.{is_unsettled, settles, IsNextUnsettled}
+
+-- a change leaves the number
+abbrev pub KeepsNumber : (Session → Session) → Type 0
+KeepsNumber change = (k : Session) → (change k).number ≡ k.number
 
 -- the sessions stand by rising number, up to n
 pub record IsOrdered (n : ℕ) (ks : List Session) : Type 0 where
   pub rising : IsRising (numbers_of ks)
   pub up_to : IsUpTo n (numbers_of ks)
 
-numbers_of-update : (c : ℕ) (change : Session → Session) (ks : List Session) → KeepsNumber change → numbers_of (update c change ks) ≡ numbers_of ks
+pub numbers_of-update : (c : ℕ) (change : Session → Session) (ks : List Session) → KeepsNumber change → numbers_of (update c change ks) ≡ numbers_of ks
 numbers_of-update c change [] keeps = refl
 numbers_of-update c change (k ∷ ks) keeps =
     elim (cases_Bool (eqb k.number c)) [
@@ -28,12 +31,12 @@ IsBelow-without : (c n : ℕ) (ks : List Session) → IsBelow n (numbers_of ks) 
 IsBelow-without c n [] below = tt
 IsBelow-without c n (k ∷ ks) below = elim (cases_Bool (eqb k.number c)) [ inl e ↦ rw e (IsBelow-without c n ks below.1) | inr e ↦ rw e (below.0, IsBelow-without c n ks below.1) ]
 
-IsRising-without : (c : ℕ) (ks : List Session) → IsRising (numbers_of ks) → IsRising (numbers_of (without c ks))
+pub IsRising-without : (c : ℕ) (ks : List Session) → IsRising (numbers_of ks) → IsRising (numbers_of (without c ks))
 IsRising-without c [] rising = tt
 IsRising-without c (k ∷ ks) rising =
     elim (cases_Bool (eqb k.number c)) [ inl e ↦ rw e (IsRising-without c ks rising.1) | inr e ↦ rw e (IsBelow-without c k.number ks rising.0, IsRising-without c ks rising.1) ]
 
-IsUpTo-without : (c n : ℕ) (ks : List Session) → IsUpTo n (numbers_of ks) → IsUpTo n (numbers_of (without c ks))
+pub IsUpTo-without : (c n : ℕ) (ks : List Session) → IsUpTo n (numbers_of ks) → IsUpTo n (numbers_of (without c ks))
 IsUpTo-without c n [] up = tt
 IsUpTo-without c n (k ∷ ks) up = elim (cases_Bool (eqb k.number c)) [ inl e ↦ rw e (IsUpTo-without c n ks up.1) | inr e ↦ rw e (up.0, IsUpTo-without c n ks up.1) ]
 
@@ -41,11 +44,11 @@ IsBelow-push : (n : ℕ) (k : Session) (ks : List Session) → IsBelow n (number
 IsBelow-push n k [] below less = (less, tt)
 IsBelow-push n k (j ∷ ks) below less = (below.0, IsBelow-push n k ks below.1 less)
 
-IsRising-push : (n : ℕ) (k : Session) (ks : List Session) → IsRising (numbers_of ks) → IsUpTo n (numbers_of ks) → n < k.number → IsRising (numbers_of (ks ++ k ∷ []))
+pub IsRising-push : (n : ℕ) (k : Session) (ks : List Session) → IsRising (numbers_of ks) → IsUpTo n (numbers_of ks) → n < k.number → IsRising (numbers_of (ks ++ k ∷ []))
 IsRising-push n k [] rising up less = (tt, tt)
 IsRising-push n k (j ∷ ks) rising up less = (IsBelow-push j.number k ks rising.0 (omega (arith, up.0)), IsRising-push n k ks rising.1 up.1 less)
 
-IsUpTo-push : (n : ℕ) (k : Session) (ks : List Session) → IsUpTo n (numbers_of ks) → k.number ≡ n + 1 → IsUpTo (n + 1) (numbers_of (ks ++ k ∷ []))
+pub IsUpTo-push : (n : ℕ) (k : Session) (ks : List Session) → IsUpTo n (numbers_of ks) → k.number ≡ n + 1 → IsUpTo (n + 1) (numbers_of (ks ++ k ∷ []))
 IsUpTo-push n k [] up is = (omega arith, tt)
 IsUpTo-push n k (j ∷ ks) up is = (omega (arith, up.0), IsUpTo-push n k ks up.1 is)
 

@@ -33,12 +33,12 @@ place_none i c (k ∷ ks) none =
       | inr e ↦ rw e (place_none (i + 1) c ks (rw e at none))
     ]
 
-place_within : (c : ℕ) (ks : List Session) (at : ℕ) → IsPlace c ks at → at < length ks
+pub place_within : (c : ℕ) (ks : List Session) (at : ℕ) → IsPlace c ks at → at < length ks
 place_within c [] at place = absurd place
 place_within c (k ∷ ks) zero place = omega arith
 place_within c (k ∷ ks) (suc at) place = omega (arith, place_within c ks at place.1)
 
-place_session : (c : ℕ) (ks : List Session) (at : ℕ) → IsPlace c ks at → session_of c ks ≡ slice_get ks at
+pub place_session : (c : ℕ) (ks : List Session) (at : ℕ) → IsPlace c ks at → session_of c ks ≡ slice_get ks at
 place_session c [] at place = absurd place
 place_session c (k ∷ ks) zero place = rw place refl
 place_session c (k ∷ ks) (suc at) place = rw place.0 (place_session c ks at place.1)
@@ -53,7 +53,7 @@ stands c ks at found =
     let place = place_is c ks at found in
     record { place = place; within = place_within c ks at place; session = place_session c ks at place }
 
-get_is : (ks : List Session) (at : ℕ) (k : Session) → at < length ks → k ≡ slice_index_or ks at k → slice_get ks at ≡ Some k
+pub get_is : (ks : List Session) (at : ℕ) (k : Session) → at < length ks → k ≡ slice_index_or ks at k → slice_get ks at ≡ Some k
 get_is [] at k lt e = absurd (omega arith)
 get_is (x ∷ ks) zero k lt e = ap (λ y. Some y) (sym e)
 get_is (x ∷ ks) (suc at) k lt e = get_is ks at k (omega arith) e

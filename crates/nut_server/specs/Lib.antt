@@ -1,7 +1,12 @@
 pub mod Arrival
 pub mod Settling
-pub mod Values
-pub mod Dialogs
 pub mod Place
 pub mod Inside
+pub mod Verdicts
 pub mod Configured
+pub mod Asking
+pub mod Answers
+pub mod Access
+pub mod Rows
+pub mod Effects
+pub mod Entries

@@ -1,41 +1,54 @@
 //! An open connection.
 
-ghost use Rattle.std.specs.Prelude.{◌≡◌, ◌≤◌, ◌<◌, drop, length, Some, OnOk, IfErr};
+ghost use Rattle.std.specs.Prelude.{◌≡◌, ◌≤◌, ◌++◌, [], true, Some, None, drop, length, map, option_map, OnOk, OnErr};
 ghost use Rattle.nut_words.specs.Cutter.{kept_of};
 ghost use Rattle.nut_queue.specs.Front.{IsFrontPart};
-ghost use Rattle.nut_history.specs.Acceptance.{may_read, leaves, line_feeds};
-ghost use Rattle.nut_history.specs.Machine.{fresh, bytes_heard};
+ghost use Rattle.nut_history.specs.Acceptance.{may_read, leaves};
+ghost use Rattle.nut_history.specs.Answer.{is_logged_in};
+ghost use Rattle.nut_words.specs.Lines.{Text};
+ghost use Rattle.nut_history.specs.Machine.{fresh, with_rest};
+ghost use Rattle.nut_server.specs.Effects.{affected, said};
+ghost use Rattle.nut_server.specs.Inside.{IsRest};
 ghost use Rattle.nut_server.specs.Settling.{is_unsettled};
 
 use crate::address::Address;
-use crate::config::Config;
-use crate::dialog::{Dialog, hear_piece};
+use crate::credential::Credential;
+use crate::effect::Effect;
 use nut_queue::Outbox;
 use nut_words::LineCutter;
-use std::alloc::Global;
+use std::alloc::{AllocError, Global};
 use std::marker::Model;
+use std::mem;
 
-/// A connection: its number, where it comes from, its unfinished line, and what was said on it.
+/// A connection: its number, where it comes from, what the client said of itself, its unfinished line, and the answers
+/// that wait.
 #[derive(Drop)]
 pub struct Connection {
     number: u64,
     address: Address,
+    user: Option<Credential>,
+    password: Option<Credential>,
+    login: Option<usize>,
+    logged_out: bool,
     cutter: LineCutter,
-    dialog: Dialog,
+    outbox: Outbox,
 }
 
 impl Model for Connection {
     ghost use Rattle.nut_history.specs.Content.{Session};
-    ghost use Rattle.nut_server.specs.Dialogs.{IsRest};
+    ghost use Rattle.nut_server.specs.Inside.{IsRest};
 
     ghost Value = { Session };
 
     ghost view = { λ k. record {
       number = k.number;
       address = k.address.items;
-      logged_out = k.dialog.logged_out;
+      user = k.user;
+      password = k.password;
+      login = k.login;
+      logged_out = k.logged_out;
       rest = k.cutter;
-      waits = k.dialog.outbox;
+      waits = k.outbox;
     } };
 
     ghost invariant = { λ k. IsRest k.cutter };
@@ -49,11 +62,12 @@ impl Connection {
         Connection {
             number,
             address,
+            user: None,
+            password: None,
+            login: None,
+            logged_out: false,
             cutter: LineCutter::new(),
-            dialog: Dialog {
-                logged_out: false,
-                outbox: Outbox::new(alloc),
-            },
+            outbox: Outbox::new(alloc),
         }
     }
 
@@ -63,30 +77,81 @@ impl Connection {
         self.number
     }
 
+    /// Where the client comes from.
+    pub fn address(&self) -> &[u8]
+        ensures { result.now ≡ self.now.address }
+    {
+        self.address.as_slice()
+    }
+
+    /// The user name that the client gave.
+    pub fn user(&self) -> Option<&[u8]>
+        ensures { option_map (λ text. text.now) result ≡ self.now.user }
+    {
+        match &self.user {
+            Some(user) => Some(user.as_bytes()),
+            None => None,
+        }
+    }
+
+    /// The password that the client gave.
+    pub fn password(&self) -> Option<&[u8]>
+        ensures { option_map (λ text. text.now) result ≡ self.now.password }
+    {
+        match &self.password {
+            Some(password) => Some(password.as_bytes()),
+            None => None,
+        }
+    }
+
+    /// The UPS that the client is logged in to.
+    pub fn login(&self) -> Option<usize>
+        ensures { result ≡ self.now.login }
+    {
+        self.login
+    }
+
+    /// Whether the client is logged in to this UPS.
+    pub fn is_logged_in(&self, u: usize) -> bool
+        ensures { result ≡ is_logged_in u self.now.login }
+    {
+        match self.login {
+            Some(ups) => ups == u,
+            None => false,
+        }
+    }
+
+    /// Whether the client has logged out.
+    pub fn has_logged_out(&self) -> bool
+        ensures { result ≡ self.now.logged_out }
+    {
+        self.logged_out
+    }
+
     /// How many bytes wait.
     pub fn waits(&self) -> usize
         ensures { result ≡ length self.now.waits }
     {
-        self.dialog.outbox.len()
+        self.outbox.len()
     }
 
     /// A front part of the bytes that wait, which is empty only where none wait.
     pub fn waiting(&self) -> &[u8]
         ensures { IsFrontPart result.now self.now.waits }
     {
-        self.dialog.outbox.front()
+        self.outbox.front()
     }
 
     pub fn may_read(&self) -> bool
         ensures { result ≡ may_read (Some self.now) }
     {
-        self.waits() == 0 && !self.dialog.logged_out
+        self.waits() == 0 && !self.logged_out
     }
 
     pub fn leaves(&self) -> bool
         ensures { result ≡ leaves (Some self.now) }
     {
-        self.waits() == 0 && self.dialog.logged_out
+        self.waits() == 0 && self.logged_out
     }
 
     /// Whether it has to be written to or closed.
@@ -103,26 +168,48 @@ impl Connection {
         self.cutter.kept()
     }
 
-    /// Takes a piece of what the client sends. An `Err` tells how many lines were done when memory ran out.
-    pub fn hear(
-        &mut self,
-        alloc: Global,
-        config: &Config,
-        scratch: &mut Vec<u8>,
-        piece: &[u8],
-    ) -> Result<(), usize>
-        ensures ok { OnOk result (self.new ≡ bytes_heard config.now piece.now self.old) }
+    /// Puts an answer behind those that wait, and does what its line does to the connection. At an `Err` nothing changed.
+    pub fn answer(&mut self, text: &[u8], effect: Effect) -> Result<(), AllocError>
         ensures number { self.new.number ≡ self.old.number }
-        ensures few { IfErr result (λ done. done < line_feeds piece.now) }
+        ensures ok { OnOk result (self.new ≡ affected effect (said text.now self.old)) }
+        ensures err { OnErr result (self.new ≡ self.old) }
     {
-        hear_piece(
-            &mut self.cutter,
-            &mut self.dialog,
-            alloc,
-            config,
-            scratch,
-            piece,
-        )
+        self.outbox.push(text)?;
+        self.apply(effect);
+        Ok(())
+    }
+
+    fn apply(&mut self, effect: Effect)
+        ensures number { self.new.number ≡ self.old.number }
+        ensures value { self.new ≡ affected effect self.old }
+    {
+        match effect {
+            Effect::Nothing => {}
+            Effect::User(user) => self.user = Some(user),
+            Effect::Password(password) => self.password = Some(password),
+            Effect::Login(login) => self.login = login,
+            Effect::Logout => {
+                self.login = None;
+                self.logged_out = true;
+            }
+        }
+    }
+
+    /// Takes the cutter of its lines out, which leaves an empty one.
+    pub fn take_cutter(&mut self) -> LineCutter
+        ensures taken { result ≡ self.old.rest }
+        ensures rest { IsRest result }
+        ensures left { self.new ≡ with_rest (Text []) self.old }
+    {
+        mem::take(&mut self.cutter)
+    }
+
+    /// Puts the cutter of its lines back.
+    pub fn put_cutter(&mut self, cutter: LineCutter)
+        requires { IsRest cutter }
+        ensures { self.new ≡ with_rest cutter self.old }
+    {
+        self.cutter = cutter;
     }
 
     /// The client took the first `n` of the bytes that wait.
@@ -130,6 +217,6 @@ impl Connection {
         requires { n ≤ length self.old.waits }
         ensures { self.new ≡ record self.old { waits = drop n self.old.waits } }
     {
-        self.dialog.outbox.took(n);
+        self.outbox.took(n);
     }
 }

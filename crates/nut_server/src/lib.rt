@@ -1,20 +1,26 @@
 //! A server of UPSes: what it is told, one arrival at a time, and what it answers.
 #![tactic(auto)]
 
+mod access;
 mod address;
 mod answer;
 mod arrival;
+mod changes;
+mod command;
 mod config;
 mod connection;
-mod dialog;
-mod request;
-mod server;
-mod table;
-#[cfg(test)]
-mod tests;
+mod connections;
+mod credential;
+mod device;
+mod effect;
+mod lists;
+mod queries;
+mod reply;
+mod scene;
+mod setting;
 mod text;
+mod verdict;
 
 pub use arrival::{Arrival, PIECE_MAX};
 pub use config::{Config, Ups, User};
 pub use nut_history::{Place, Refused};
-pub use server::{Server, ServerFault};

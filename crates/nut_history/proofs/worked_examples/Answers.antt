@@ -1,5 +1,6 @@
-use Rattle.nut_history.proofs.Worked.{examples}
+use Rattle.nut_history.proofs.Worked.{connections}
+use Rattle.nut_history.proofs.WorkedDrivers.{drivers, users}
 use Rattle.nut_history.proofs.worked_examples.Goals as goal
 
 pub returns : goal.returns
-returns c = examples
+returns c = record { connections = connections; drivers = drivers; users = users }

@@ -1,12 +1,27 @@
-use Rattle.std.proofs.Common.{sym, ap, ◌∙◌, arith}
-use Rattle.nut_history.specs.Answer.{ups_row}
-use Rattle.nut_server.proofs.Rows.{more_rows, stands_within}
-use Rattle.nut_server.proofs.text.put_rows.Goals.{in-Some+in_ok-put_row, in_default}
+use Rattle.std.proofs.lemmas.List.Folds.{flat_map-map}
+use Rattle.nut_server.proofs.RowTexts.{writable_rows, client_rows}
 use Rattle.nut_server.proofs.text.put_rows.Goals as goal
 
-pub loop-u-preserved : goal.loop-u-preserved
-loop-u-preserved c = elim c.match-ups_at.branch [
-  | in-Some+in_ok-put_row w ↦ more_rows ups_row c.args.config.now.upses c.loop-u.u w.in-Some.ups c.args.out.now.items c.loop-u.out.items c.match-ups_at.out.items
-      w.in-Some.ensures c.loop-u.invariant (ap (λ o. o.items) w.out-is ∙ w.in_ok-put_row.ensures {u = tt})
-  | in_default w ↦ absurd (stands_within c.args.config.now.upses c.loop-u.u (omega (arith, c.loop-u-test.true, c.number_of_upses-u-end.ensures.len)) (sym c.ups_at.ensures ∙ w.in_default.is))
-]
+pub returns-in-Upses : goal.returns-in-Upses
+returns-in-Upses c = rw (c.in-Upses.is, flat_map-map) c.put_upses.ensures
+
+pub returns-in-Variables : goal.returns-in-Variables
+returns-in-Variables c = rw (c.in-Variables.is, flat_map-map) c.put_variables.ensures
+
+pub returns-in-Writable : goal.returns-in-Writable
+returns-in-Writable c =
+    let d = c.in-Writable.device.now.device in
+    rw (c.in-Writable.is, ← writable_rows c.in-Writable.ups.now d d.table.variables) c.put_writables.ensures
+
+pub returns-in-Commands : goal.returns-in-Commands
+returns-in-Commands c = rw (c.in-Commands.is, flat_map-map) c.put_commands.ensures
+
+pub returns-in-Enums : goal.returns-in-Enums
+returns-in-Enums c = rw (c.in-Enums.is, flat_map-map) c.put_enums.ensures
+
+pub returns-in-Ranges : goal.returns-in-Ranges
+returns-in-Ranges c = rw (c.in-Ranges.is, flat_map-map) c.put_ranges.ensures
+
+pub returns-in-Clients : goal.returns-in-Clients
+returns-in-Clients c =
+    rw (c.in-Clients.is, ← client_rows c.in-Clients.ups.now c.in-Clients.u c.in-Clients.connections.now) c.put_clients.ensures

@@ -1,0 +1,53 @@
+-- A UPS as its driver has told it, and how far that can be relied on (NUT developer guide, chapter 5).
+use Rattle.std.specs.Prelude.{ℕ, ◌+◌, ◌/◌, Bool, true, false, not, ◌&&◌, ◌||◌, nat_lt, nat_le, if◌then◌else◌, List, [], length, Option, Some, None}
+use Rattle.std.specs.Option.{option_map_or}
+use Rattle.nut_state.specs.Table.{Table, empty}
+use Rattle.nut_proto.specs.declared.refusal.Refusal.{Refusal}
+use Rattle.nut_proto.specs.declared.refusal.Refusal.TheVariants.{DriverNotConnected, DataStale}
+use Rattle.nut_proto.specs.declared.driver_ask.DriverAsk.TheVariants.{Ping}
+use Rattle.nut_proto.specs.DriverAsks.{ask_line}
+
+-- A UPS: whether its driver is connected; the table that the driver told since then; the moment of the last line that
+-- was heard of it, or of its connection; the moment of the last PING since then; whether a shutdown was forced; and
+-- the requests that the driver still has to take.
+pub record Device : Type 0 where
+  pub connected : Bool
+  pub table : Table
+  pub heard_at : ℕ
+  pub pinged_at : Option ℕ
+  pub forced : Bool
+  pub waits : List ℕ
+
+-- a UPS of which nothing was told
+abbrev pub absent : Device
+absent = record { connected = false; table = empty; heard_at = 0; pinged_at = None; forced = false; waits = [] }
+
+-- more than so many seconds have passed since a moment
+abbrev pub is_past : ℕ → ℕ → ℕ → Bool
+is_past seconds clock moment = nat_lt (moment + seconds) clock
+
+-- The data are stale where the driver hasn't told all that it knows, where the last of DATAOK and DATASTALE wasn't
+-- DATAOK, and where no line was heard for more than MAXAGE seconds.
+abbrev pub is_stale : ℕ → ℕ → Device → Bool
+is_stale max_age clock d = not d.table.dump_done || not d.table.data_ok || is_past max_age clock d.heard_at
+
+-- why the UPS can't be asked about now, if it can't
+abbrev pub trouble : ℕ → ℕ → Device → Option Refusal
+trouble max_age clock d =
+    if not d.connected then Some DriverNotConnected else
+    if is_stale max_age clock d then Some DataStale else None
+
+-- how many bytes may wait for a driver
+abbrev pub most_waiting : ℕ
+most_waiting = 4096
+
+-- a request fits behind those that wait
+abbrev pub fits : List ℕ → Device → Bool
+fits line d = nat_le (length d.waits + length line) most_waiting
+
+-- A connected driver is asked PING where a third of MAXAGE has passed since the last line that was heard of it, and since
+-- the last PING; one that doesn't fit is left out.
+abbrev pub needs_ping : ℕ → ℕ → Device → Bool
+needs_ping max_age clock d =
+    d.connected && is_past (max_age / 3) clock d.heard_at
+    && option_map_or (is_past (max_age / 3) clock) d.pinged_at true && fits (ask_line Ping) d

@@ -1,0 +1,27 @@
+-- How many connections are logged in, counted one by one.
+use Rattle.std.proofs.Common.{◌≡◌, ℕ, zero, suc, ◌+◌, ◌<◌, ◌≤◌, List, [], ◌∷◌, map, length, take, refl, sym, ◌∙◌, ap, arith, inl, inr, Bool, true, false, slice_index_or}
+use Rattle.std.specs.Prelude.{if◌then◌else◌}
+use Rattle.std.proofs.lemmas.Bool.{cases_Bool}
+use Rattle.nut_history.specs.Content.{Session}
+use Rattle.nut_history.specs.Answer.{guests_of, is_logged_in}
+use Rattle.nut_history.specs.Machine.{guest_of}
+
+abbrev pub logins : ℕ → List Session → ℕ
+logins u ks = length (guests_of u (map guest_of ks))
+
+pub logins_more : (u i : ℕ) (ks : List Session) (d : Session) → i < length ks
+    → logins u (take (i + 1) ks) ≡ logins u (take i ks) + (if is_logged_in u (slice_index_or ks i d).login then 1 else 0)
+logins_more u i [] d lt = absurd (omega arith)
+logins_more u zero (k ∷ ks) d lt = elim (cases_Bool (is_logged_in u k.login)) [ inl e ↦ rw e refl | inr e ↦ rw e refl ]
+logins_more u (suc i) (k ∷ ks) d lt =
+    let later : logins u (take (i + 1) ks) ≡ logins u (take i ks) + (if is_logged_in u (slice_index_or ks i d).login then 1 else 0) = logins_more u i ks d (omega arith) in
+    let front : take (suc i + 1) (k ∷ ks) ≡ k ∷ take (i + 1) ks = let e : suc i + 1 ≡ suc (i + 1) = omega arith in ap (λ n. take n (k ∷ ks)) e in
+    rw front (elim (cases_Bool (is_logged_in u k.login)) [ inl e ↦ rw e (omega (arith, later)) | inr e ↦ rw e later ])
+
+pub logins_below : (u i : ℕ) (ks : List Session) → logins u (take i ks) ≤ i
+logins_below u i [] = omega (arith, ap (logins u) (none i)) where
+  none : (i : ℕ) → take {A = Session} i [] ≡ []
+  none zero = refl
+  none (suc i) = refl
+logins_below u zero (k ∷ ks) = omega arith
+logins_below u (suc i) (k ∷ ks) = elim (cases_Bool (is_logged_in u k.login)) [ inl e ↦ rw e (omega (arith, logins_below u i ks)) | inr e ↦ rw e (omega (arith, logins_below u i ks)) ]

@@ -1,0 +1,19 @@
+-- What is known of a result, where it is an error and where it isn't.
+use Rattle.std.proofs.Common.{◌≡◌, true, false, Result, Ok, Err, OnOk, OnErr, is_err}
+use Rattle.std.proofs.lemmas.Bool.{false≢true}
+
+pub ok_is : {A E : Type 0} (r : Result A E) (P : Type 0) → false ≡ is_err r → OnOk r P → P
+ok_is (Ok v) P is h = h
+ok_is (Err e) P is h = absurd (false≢true is)
+
+pub err_is : {A E : Type 0} (r : Result A E) (P : Type 0) → true ≡ is_err r → OnErr r P → P
+err_is (Ok v) P is h = absurd (let e : true ≡ false = is in cc)
+err_is (Err e) P is h = h
+
+pub on_ok : {A E : Type 0} (r : Result A E) (P Q : Type 0) → (P → Q) → OnOk r P → OnOk r Q
+on_ok (Ok v) P Q f h = f h
+on_ok (Err e) P Q f h = h
+
+pub on_err : {A E : Type 0} (r : Result A E) (P : Type 0) → P → OnErr r P
+on_err (Ok v) P h = tt
+on_err (Err e) P h = h

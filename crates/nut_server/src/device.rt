@@ -1,0 +1,268 @@
+//! A UPS and its driver.
+
+ghost use Rattle.std.specs.Prelude.{◌≡◌, ◌≤◌, ◌<◌, [], ◌++◌, Some, None, IfOk, IfErr, IsTrue, OnOk, OnErr, length, true};
+ghost use Rattle.std.specs.Option.{option_map_or};
+ghost use Rattle.nut_queue.specs.Front.{IsFrontPart};
+ghost use Rattle.nut_words.specs.Lines.{Text};
+ghost use Rattle.nut_words.specs.Cutter.{line_of};
+ghost use Rattle.nut_history.specs.Acceptance.{front, line_feeds};
+ghost use Rattle.nut_history.specs.Device.{absent, fits, is_past, needs_ping, trouble};
+ghost use Rattle.nut_history.specs.Machine.{up, down, drained, ticked, reported_by, bytes_reported};
+ghost use Rattle.nut_history.specs.Outcome.{report_takes, MayRunOutOf};
+
+use nut_proto::Refusal;
+use nut_queue::AskRing;
+use nut_state::{Heard, StateFault, UpsState};
+use nut_words::{Line, LineCutter};
+use std::alloc::{AllocError, Global};
+use std::marker::Model;
+use std::mem;
+
+/// The line that asks a driver for all that it knows.
+const DUMP_ALL: &[u8] = b"DUMPALL\n";
+
+/// The line that asks a driver whether it is there.
+const PING: &[u8] = b"PING\n";
+
+/// A UPS: what its driver told of it, that one's unfinished line, and what the driver still has to take.
+#[derive(Drop)]
+pub struct Device {
+    connected: bool,
+    table: UpsState,
+    heard_at: u64,
+    pinged_at: Option<u64>,
+    forced: bool,
+    asks: AskRing,
+    cutter: LineCutter,
+}
+
+impl Model for Device {
+    ghost use Rattle.nut_history.specs.Content.{Supply};
+    ghost use Rattle.nut_server.specs.Inside.{IsRest};
+
+    ghost Value = { Supply };
+
+    ghost view = { λ d. record {
+      device = record {
+        connected = d.connected;
+        table = d.table;
+        heard_at = d.heard_at;
+        pinged_at = d.pinged_at;
+        forced = d.forced;
+        waits = d.asks;
+      };
+      rest = d.cutter;
+    } };
+
+    ghost invariant = { λ d. IsRest d.cutter };
+}
+
+impl Device {
+    /// A UPS of which nothing was told. It takes the memory of its ring.
+    pub fn new(alloc: Global) -> Result<Device, AllocError>
+        ensures { IfOk result (λ d. d ≡ record { device = absent; rest = Text [] }) }
+    {
+        let asks = AskRing::new(alloc)?;
+        Ok(Device {
+            connected: false,
+            table: UpsState::new(alloc),
+            heard_at: 0,
+            pinged_at: None,
+            forced: false,
+            asks,
+            cutter: LineCutter::new(),
+        })
+    }
+
+    /// Whether its driver is connected.
+    pub fn is_connected(&self) -> bool
+        ensures { result ≡ self.now.device.connected }
+    {
+        self.connected
+    }
+
+    /// What the driver told.
+    pub fn table(&self) -> &UpsState
+        ensures { result.now ≡ self.now.device.table }
+    {
+        &self.table
+    }
+
+    /// Whether a shutdown was forced.
+    pub fn is_forced(&self) -> bool
+        ensures { result ≡ self.now.device.forced }
+    {
+        self.forced
+    }
+
+    /// How many bytes wait for the driver.
+    pub fn waits(&self) -> usize
+        ensures length { result ≡ length self.now.device.waits }
+        ensures within { result ≤ 4096 }
+    {
+        self.asks.len()
+    }
+
+    /// A front part of the bytes that wait for the driver, which is empty only where none wait.
+    pub fn waiting(&self) -> &[u8]
+        ensures { IsFrontPart result.now self.now.device.waits }
+    {
+        self.asks.front()
+    }
+
+    /// Whether a request fits behind those that wait.
+    pub fn fits(&self, line: &[u8]) -> bool
+        ensures { result ≡ fits line.now self.now.device }
+    {
+        line.len() <= self.asks.room()
+    }
+
+    /// Whether more than `seconds` have passed at `time` since the last line that was heard.
+    fn is_silent_for(&self, seconds: u64, time: u64) -> bool
+        ensures { result ≡ is_past seconds time self.now.device.heard_at }
+    {
+        time.saturating_sub(self.heard_at) > seconds
+    }
+
+    /// Why the UPS can't be asked about at this time, if it can't.
+    pub fn trouble(&self, max_age: u64, time: u64) -> Option<Refusal>
+        ensures { result ≡ trouble max_age time self.now.device }
+    {
+        if !self.connected {
+            return Some(Refusal::DriverNotConnected);
+        }
+        if !self.table.dump_done()
+            || !self.table.data_ok()
+            || self.is_silent_for(max_age, time)
+        {
+            return Some(Refusal::DataStale);
+        }
+        None
+    }
+
+    /// Whether more than `seconds` have passed at `time` since the last PING, if there was one.
+    fn is_unpinged_for(&self, seconds: u64, time: u64) -> bool
+        ensures { result ≡ option_map_or (is_past seconds time) self.now.device.pinged_at true }
+    {
+        match self.pinged_at {
+            Some(moment) => time.saturating_sub(moment) > seconds,
+            None => true,
+        }
+    }
+
+    /// Whether a request is due at this time that asks the driver whether it is there.
+    #[tactic(auto, using(crate::proofs::Asks::ping_is))]
+    fn needs_ping(&self, max_age: u64, time: u64) -> bool
+        ensures { result ≡ needs_ping max_age time self.now.device }
+    {
+        let seconds = max_age / 3;
+        if !self.connected
+            || !self.is_silent_for(seconds, time)
+            || !self.is_unpinged_for(seconds, time)
+        {
+            return false;
+        }
+        self.fits(PING)
+    }
+
+    /// It is this time: the driver is asked whether it is there, where that is due.
+    #[tactic(auto, using(crate::proofs::Asks::ping_is))]
+    pub fn tick(&mut self, max_age: u64, time: u64)
+        ensures { self.new ≡ ticked max_age time self.old }
+    {
+        if self.needs_ping(max_age, time) {
+            self.ask(PING);
+            self.pinged_at = Some(time);
+        }
+    }
+
+    /// The driver is connected at this time: what it told before is over, and it is asked for all that it knows.
+    #[tactic(auto, using(crate::proofs::Asks::dump_all_is))]
+    pub fn up(&mut self, time: u64)
+        ensures { self.new ≡ up time self.old }
+    {
+        self.connected = true;
+        self.table.clear();
+        self.heard_at = time;
+        self.pinged_at = None;
+        self.asks.clear();
+        self.cutter = LineCutter::new();
+        self.ask(DUMP_ALL);
+    }
+
+    /// The driver is gone.
+    pub fn down(&mut self)
+        ensures { self.new ≡ down self.old }
+    {
+        self.connected = false;
+        self.asks.clear();
+        self.cutter = LineCutter::new();
+    }
+
+    /// The driver took the first `n` of the bytes that wait.
+    pub fn took(&mut self, n: usize)
+        requires { n ≤ length self.old.device.waits }
+        ensures { self.new ≡ drained n self.old }
+    {
+        self.asks.took(n);
+    }
+
+    /// A shutdown was forced.
+    pub fn force(&mut self)
+        ensures { self.new ≡ record self.old { device = record self.old.device { forced = true } } }
+    {
+        self.forced = true;
+    }
+
+    /// The driver is asked this, which fits behind what waits.
+    pub fn ask(&mut self, line: &[u8])
+        requires { IsTrue (fits line.now self.old.device) }
+        ensures { self.new ≡ record self.old { device = record self.old.device { waits = self.old.device.waits ++ line.now } } }
+    {
+        self.asks.push(line);
+    }
+
+    /// Takes a line of the driver. At an `Err` it left no trace.
+    fn hear_line(&mut self, time: u64, line: Line<'_>) -> Result<(), StateFault>
+        ensures ok { OnOk result (self.new ≡ reported_by time (line_of line.entry) self.old) }
+        ensures err { OnErr result (self.new ≡ self.old) }
+        ensures memory { OnErr result (IsTrue (report_takes (line_of line.entry) (Some self.old))) }
+    {
+        let heard = match line {
+            Line::Text(text) => self.table.apply(text)?,
+            Line::TooLong => Heard::Ignored,
+        };
+        if heard == Heard::Heard {
+            self.heard_at = time;
+        }
+        self.cutter = LineCutter::new();
+        Ok(())
+    }
+
+    /// Takes a piece of what the driver sends, line by line. An `Err` tells how many lines were done when memory ran
+    /// out; the driver then counts as gone.
+    pub fn hear(&mut self, time: u64, piece: &[u8]) -> Result<(), usize>
+        ensures ok { OnOk result (self.new ≡ bytes_reported time piece.now self.old) }
+        ensures lost { IfErr result (λ done. self.new ≡ down (bytes_reported time (front done piece.now) self.old)) }
+        ensures few { IfErr result (λ done. done < line_feeds piece.now) }
+        ensures memory { IfErr result (λ done. MayRunOutOf piece.now done
+            (Some (bytes_reported time (front done piece.now) self.old))) }
+    {
+        let mut cutter = mem::take(&mut self.cutter);
+        let mut left = piece;
+        let mut done = 0usize;
+        loop {
+            let (line, used) = cutter.feed(left);
+            let Some(line) = line else {
+                self.cutter = cutter;
+                return Ok(());
+            };
+            if self.hear_line(time, line).is_err() {
+                self.down();
+                return Err(done);
+            }
+            done += 1;
+            left = &left[used..];
+        }
+    }
+}
