@@ -13,7 +13,7 @@ use nut_words::Words;
 use std::alloc::AllocError;
 
 /// What the server asks of a driver (NUT developer guide, socket protocol). It borrows its words.
-#[derive(Debug, Drop)]
+#[derive(Drop)]
 pub enum DriverAsk<'a> {
     /// To answer `PONG`.
     Ping,

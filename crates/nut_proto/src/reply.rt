@@ -24,7 +24,7 @@ pub enum VariableKind {
 /// A line of the server's (RFC 9271). It borrows its words.
 ///
 /// The reply to a LIST is its query's `put_begin`, a row for each entry, and its query's `put_end`.
-#[derive(Debug, Drop)]
+#[derive(Drop)]
 pub enum Reply<'a> {
     /// `OK`, to SET, INSTCMD, USERNAME, PASSWORD, LOGIN and PRIMARY.
     Accepted,

@@ -12,7 +12,7 @@ use std::alloc::AllocError;
 /// What a client asks of the server (RFC 9271). It borrows its words.
 ///
 /// Names and values are the client's, of any bytes: nothing says that a UPS, a variable or a command bears them.
-#[derive(Debug, Drop)]
+#[derive(Drop)]
 pub enum Request<'a> {
     /// `GET NUMLOGINS`: how many connections are logged in to the UPS.
     GetNumLogins {
@@ -88,7 +88,7 @@ pub enum Request<'a> {
 }
 
 /// What a LIST asks for.
-#[derive(Debug, Drop)]
+#[derive(Drop)]
 pub enum ListQuery<'a> {
     /// All UPSes.
     Ups,

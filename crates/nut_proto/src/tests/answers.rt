@@ -1,10 +1,9 @@
 //! What a client makes of the server's lines.
 use crate::{Answer, AnswerFault, Rest, read_answer};
 use std::alloc::Global;
-use std::test::Fail;
 
 /// What a line is, and its words or its name.
-#[derive(Clone, Copy)]
+#[derive(Clone, Copy, PartialEq, Eq)]
 enum Kind {
     Ok,
     Err,
@@ -26,58 +25,73 @@ fn are(rest: &Rest<'_>, words: &[&[u8]]) -> bool {
     rest.get(words.len()).is_empty()
 }
 
-/// Whether a line is read as an answer of this kind with these words.
-fn reads(alloc: Global, line: &[u8], kind: Kind, words: &[&[u8]]) -> Result<bool, Fail> {
-    let answer = read_answer(alloc, line)?;
-    Ok(match (answer, kind) {
-        (Answer::Ok(rest), Kind::Ok) => are(&rest, words),
-        (Answer::Err(name), Kind::Err) => words.len() == 1 && name.as_bytes() == words[0],
-        (Answer::Begin(rest), Kind::Begin) => are(&rest, words),
-        (Answer::End(rest), Kind::End) => are(&rest, words),
-        (Answer::Row(rest), Kind::Row) => are(&rest, words),
-        _ => false,
-    })
+fn has(answer: &Answer<'_>, kind: Kind, words: &[&[u8]]) -> bool {
+    match answer {
+        Answer::Ok(rest) => kind == Kind::Ok && are(rest, words),
+        Answer::Err(name) => {
+            kind == Kind::Err && words.len() == 1 && name.as_bytes() == words[0]
+        }
+        Answer::Begin(rest) => kind == Kind::Begin && are(rest, words),
+        Answer::End(rest) => kind == Kind::End && are(rest, words),
+        Answer::Row(rest) => kind == Kind::Row && are(rest, words),
+    }
 }
 
-#[test]
-fn each_kind(rt: HostRuntime) -> Result<(), Fail> {
-    let rows: [(&[u8], Kind, &[&[u8]]); 15] = [
-        (b"OK", Kind::Ok, &[]),
-        (b"OK FSD-SET", Kind::Ok, &[b"FSD-SET"]),
-        (b"ok", Kind::Row, &[b"ok"]),
-        (b"OKAY", Kind::Row, &[b"OKAY"]),
-        (b"ERR DATA-STALE", Kind::Err, &[b"DATA-STALE"]),
-        (b"ERR DATA-STALE now", Kind::Err, &[b"DATA-STALE"]),
-        (b"ERR", Kind::Row, &[b"ERR"]),
-        (b"BEGIN LIST UPS", Kind::Begin, &[b"UPS"]),
-        (b"BEGIN LIST VAR u", Kind::Begin, &[b"VAR", b"u"]),
-        (b"BEGIN LIST", Kind::Begin, &[]),
-        (b"BEGIN VAR", Kind::Row, &[b"BEGIN", b"VAR"]),
-        (b"END LIST CMD u", Kind::End, &[b"CMD", b"u"]),
-        (b"END", Kind::Row, &[b"END"]),
-        (b"end LIST UPS", Kind::Row, &[b"end", b"LIST", b"UPS"]),
-        (
-            b"VAR u v \"a \\\"b\"",
-            Kind::Row,
-            &[b"VAR", b"u", b"v", b"a \"b"],
-        ),
-    ];
-    for (line, kind, words) in rows {
-        assert!(rt; reads(rt.alloc(), line, kind, words)?);
+/// The first line that isn't read as an answer of its kind with its words.
+fn first_wrong(alloc: Global, rows: &[(&[u8], Kind, &[&[u8]])]) -> Option<usize> {
+    for (index, (line, kind, words)) in rows.iter().enumerate() {
+        match read_answer(alloc, line) {
+            Ok(answer) if has(&answer, *kind, words) => {}
+            _ => return Some(index),
+        }
     }
-    Ok(())
+    None
 }
+
+const KINDS: [(&[u8], Kind, &[&[u8]]); 15] = [
+    (b"OK", Kind::Ok, &[]),
+    (b"OK FSD-SET", Kind::Ok, &[b"FSD-SET"]),
+    (b"ok", Kind::Row, &[b"ok"]),
+    (b"OKAY", Kind::Row, &[b"OKAY"]),
+    (b"ERR DATA-STALE", Kind::Err, &[b"DATA-STALE"]),
+    (b"ERR DATA-STALE now", Kind::Err, &[b"DATA-STALE"]),
+    (b"ERR", Kind::Row, &[b"ERR"]),
+    (b"BEGIN LIST UPS", Kind::Begin, &[b"UPS"]),
+    (b"BEGIN LIST VAR u", Kind::Begin, &[b"VAR", b"u"]),
+    (b"BEGIN LIST", Kind::Begin, &[]),
+    (b"BEGIN VAR", Kind::Row, &[b"BEGIN", b"VAR"]),
+    (b"END LIST CMD u", Kind::End, &[b"CMD", b"u"]),
+    (b"END", Kind::Row, &[b"END"]),
+    (b"end LIST UPS", Kind::Row, &[b"end", b"LIST", b"UPS"]),
+    (
+        b"VAR u v \"a \\\"b\"",
+        Kind::Row,
+        &[b"VAR", b"u", b"v", b"a \"b"],
+    ),
+];
+
+#[test]
+fn each_kind(rt: HostRuntime) {
+    assert_eq!(rt; first_wrong(rt.alloc(), &KINDS), None);
+}
+
+fn first_other_fault(alloc: Global, rows: &[(&[u8], AnswerFault)]) -> Option<usize> {
+    for (index, (line, fault)) in rows.iter().enumerate() {
+        if read_answer(alloc, line).err() != Some(*fault) {
+            return Some(index);
+        }
+    }
+    None
+}
+
+const FAULTS: [(&[u8], AnswerFault); 4] = [
+    (b"", AnswerFault::Empty),
+    (b" \t# OK", AnswerFault::Empty),
+    (b"OK \"a", AnswerFault::Unreadable),
+    (b"\xff", AnswerFault::Unreadable),
+];
 
 #[test]
 fn no_answer(rt: HostRuntime) {
-    let rows: [(&[u8], AnswerFault); 4] = [
-        (b"", AnswerFault::Empty),
-        (b" \t# OK", AnswerFault::Empty),
-        (b"OK \"a", AnswerFault::Unreadable),
-        (b"\xff", AnswerFault::Unreadable),
-    ];
-    for (line, fault) in rows {
-        let found = read_answer(rt.alloc(), line).err();
-        assert_eq!(rt; found, Some(fault));
-    }
+    assert_eq!(rt; first_other_fault(rt.alloc(), &FAULTS), None);
 }

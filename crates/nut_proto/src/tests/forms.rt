@@ -1,9 +1,8 @@
 //! Each form of a request: right, in mixed case, a word short and a word long.
 use crate::read;
 use arrayvec::ArrayVec;
-use nut_words::split;
+use nut_words::{WordFault, split};
 use std::alloc::Global;
-use std::test::Fail;
 
 /// Each form with its words in mixed case, as it is written, and without its last word.
 const FORMS: [(&[u8], &[u8], &[u8]); 25] = [
@@ -71,7 +70,7 @@ const FORMS: [(&[u8], &[u8], &[u8]); 25] = [
 ];
 
 /// The line that is written of the request that a line reads as, or the name of its refusal.
-fn rewritten(alloc: Global, line: &[u8]) -> Result<ArrayVec<u8, 513>, Fail> {
+fn rewritten(alloc: Global, line: &[u8]) -> Result<ArrayVec<u8, 513>, WordFault> {
     let words = split(alloc, line)?;
     let mut out = ArrayVec::new();
     match read(&words) {
@@ -85,58 +84,80 @@ fn rewritten(alloc: Global, line: &[u8]) -> Result<ArrayVec<u8, 513>, Fail> {
     Ok(out)
 }
 
-#[test]
-fn right_and_mixed_case(rt: HostRuntime) -> Result<(), Fail> {
-    for (mixed, written, _) in FORMS {
-        let mut line = Vec::from_slice(rt.alloc(), written)?;
-        line.push(b'\n')?;
-        assert_eq!(rt; rewritten(rt.alloc(), mixed)?.as_slice(), line.as_slice());
-        assert_eq!(rt; rewritten(rt.alloc(), written)?.as_slice(), line.as_slice());
+/// Whether a line is read, and written again as this one.
+fn is_read(alloc: Global, line: &[u8], written: &[u8]) -> bool {
+    match rewritten(alloc, line) {
+        Ok(found) => found.as_slice().strip_suffix(b"\n") == Some(written),
+        Err(_) => false,
     }
-    Ok(())
+}
+
+/// Whether a line is refused by this name.
+fn is_refused(alloc: Global, line: &[u8], name: &[u8]) -> bool {
+    match rewritten(alloc, line) {
+        Ok(found) => found.as_slice() == name,
+        Err(_) => false,
+    }
+}
+
+/// Whether a line with one word more is an invalid argument.
+fn is_too_long(alloc: Global, line: &[u8]) -> bool {
+    let mut long: ArrayVec<u8, 64> = ArrayVec::new();
+    long.try_extend_from_slice(line).is_ok()
+        && long.try_extend_from_slice(b" x").is_ok()
+        && is_refused(alloc, long.as_slice(), b"INVALID-ARGUMENT")
+}
+
+/// The first form that isn't read right and in mixed case, or is read with a word less or more.
+fn first_wrong(alloc: Global, forms: &[(&[u8], &[u8], &[u8])]) -> Option<usize> {
+    for (index, (mixed, written, short)) in forms.iter().enumerate() {
+        if !is_read(alloc, mixed, written)
+            || !is_read(alloc, written, written)
+            || !is_refused(alloc, short, b"INVALID-ARGUMENT")
+            || !is_too_long(alloc, written)
+        {
+            return Some(index);
+        }
+    }
+    None
 }
 
 #[test]
-fn a_word_short_or_long(rt: HostRuntime) -> Result<(), Fail> {
-    for (_, written, short) in FORMS {
-        assert_eq!(rt;
-            rewritten(rt.alloc(), short)?.as_slice(),
-            b"INVALID-ARGUMENT".as_slice()
-        );
-        let mut long = Vec::from_slice(rt.alloc(), written)?;
-        long.extend_from_slice(b" x")?;
-        assert_eq!(rt;
-            rewritten(rt.alloc(), long.as_slice())?.as_slice(),
-            b"INVALID-ARGUMENT".as_slice()
-        );
+fn each_form(rt: HostRuntime) {
+    assert_eq!(rt; first_wrong(rt.alloc(), &FORMS), None);
+}
+
+const NO_FORMS: [(&[u8], &[u8]); 12] = [
+    (b"", b"INVALID-ARGUMENT"),
+    (b"# GET", b"INVALID-ARGUMENT"),
+    (b"LIST LOG", b"INVALID-ARGUMENT"),
+    (b"GET ENUM u v", b"INVALID-ARGUMENT"),
+    (b"LIST DESC u v", b"INVALID-ARGUMENT"),
+    (b"SET RW u v x", b"INVALID-ARGUMENT"),
+    (b"SET", b"INVALID-ARGUMENT"),
+    (b"FOO", b"UNKNOWN-COMMAND"),
+    (b"\"\" GET", b"UNKNOWN-COMMAND"),
+    (b"NUMLOGINS u", b"UNKNOWN-COMMAND"),
+    (b"GETS u", b"UNKNOWN-COMMAND"),
+    (b"MASTER u", b"UNKNOWN-COMMAND"),
+];
+
+fn first_other_refusal(alloc: Global, rows: &[(&[u8], &[u8])]) -> Option<usize> {
+    for (index, (line, name)) in rows.iter().enumerate() {
+        if !is_refused(alloc, line, name) {
+            return Some(index);
+        }
     }
-    Ok(())
+    None
 }
 
 #[test]
-fn no_form(rt: HostRuntime) -> Result<(), Fail> {
-    let rows: [(&[u8], &[u8]); 12] = [
-        (b"", b"INVALID-ARGUMENT"),
-        (b"# GET", b"INVALID-ARGUMENT"),
-        (b"LIST LOG", b"INVALID-ARGUMENT"),
-        (b"GET ENUM u v", b"INVALID-ARGUMENT"),
-        (b"LIST DESC u v", b"INVALID-ARGUMENT"),
-        (b"SET RW u v x", b"INVALID-ARGUMENT"),
-        (b"SET", b"INVALID-ARGUMENT"),
-        (b"FOO", b"UNKNOWN-COMMAND"),
-        (b"\"\" GET", b"UNKNOWN-COMMAND"),
-        (b"NUMLOGINS u", b"UNKNOWN-COMMAND"),
-        (b"GETS u", b"UNKNOWN-COMMAND"),
-        (b"MASTER u", b"UNKNOWN-COMMAND"),
-    ];
-    for (line, name) in rows {
-        assert_eq!(rt; rewritten(rt.alloc(), line)?.as_slice(), name);
-    }
-    Ok(())
+fn no_form(rt: HostRuntime) {
+    assert_eq!(rt; first_other_refusal(rt.alloc(), &NO_FORMS), None);
 }
 
 /// Whether a command with a word of so many bytes is a request.
-fn takes(alloc: Global, command: &[u8], len: usize) -> Result<bool, Fail> {
+fn takes(alloc: Global, command: &[u8], len: usize) -> Result<bool, WordFault> {
     let mut line = Vec::from_slice(alloc, command)?;
     line.extend_from_slice(b" \"")?;
     for _ in 0..len {
@@ -148,35 +169,44 @@ fn takes(alloc: Global, command: &[u8], len: usize) -> Result<bool, Fail> {
     Ok(taken)
 }
 
-#[test]
-fn lengths_of_user_names_and_passwords(rt: HostRuntime) -> Result<(), Fail> {
-    let rows: [(&[u8], usize, bool); 9] = [
-        (b"USERNAME", 0, false),
-        (b"USERNAME", 1, true),
-        (b"USERNAME", 128, true),
-        (b"USERNAME", 129, false),
-        (b"PASSWORD", 0, false),
-        (b"PASSWORD", 128, true),
-        (b"PASSWORD", 129, false),
-        (b"LOGIN", 0, true),
-        (b"LOGIN", 400, true),
-    ];
-    for (command, len, taken) in rows {
-        assert_eq!(rt; takes(rt.alloc(), command, len)?, taken);
+const LENGTHS: [(&[u8], usize, bool); 9] = [
+    (b"USERNAME", 0, false),
+    (b"USERNAME", 1, true),
+    (b"USERNAME", 128, true),
+    (b"USERNAME", 129, false),
+    (b"PASSWORD", 0, false),
+    (b"PASSWORD", 128, true),
+    (b"PASSWORD", 129, false),
+    (b"LOGIN", 0, true),
+    (b"LOGIN", 400, true),
+];
+
+fn first_other_length(alloc: Global, rows: &[(&[u8], usize, bool)]) -> Option<usize> {
+    for (index, (command, len, taken)) in rows.iter().enumerate() {
+        if takes(alloc, command, *len) != Ok(*taken) {
+            return Some(index);
+        }
     }
-    Ok(())
+    None
 }
 
 #[test]
-fn room(rt: HostRuntime) -> Result<(), Fail> {
-    let words = split(rt.alloc(), b"SET VAR u v \"a \\\"b\"")?;
-    let Ok(request) = read(&words) else {
-        return Err(Fail::from("no request"));
-    };
+fn lengths_of_user_names_and_passwords(rt: HostRuntime) {
+    assert_eq!(rt; first_other_length(rt.alloc(), &LENGTHS), None);
+}
+
+/// Whether a request is written where it just fits, and not at all where it doesn't.
+fn fits_exactly(alloc: Global) -> Result<bool, WordFault> {
+    let words = split(alloc, b"SET VAR u v \"a \\\"b\"")?;
     let mut exact: ArrayVec<u8, 21> = ArrayVec::new();
-    assert!(rt; request.put_in(&mut exact));
-    assert_eq!(rt; exact.as_slice(), b"SET VAR u v \"a \\\"b\"\n".as_slice());
-    assert!(rt; !request.put_in(&mut exact));
-    assert_eq!(rt; exact.len(), 20);
-    Ok(())
+    let fits = match read(&words) {
+        Ok(request) => request.put_in(&mut exact) && !request.put_in(&mut exact),
+        Err(_) => false,
+    };
+    Ok(fits && exact.as_slice() == b"SET VAR u v \"a \\\"b\"\n".as_slice())
+}
+
+#[test]
+fn room(rt: HostRuntime) {
+    assert!(rt; fits_exactly(rt.alloc()) == Ok(true));
 }

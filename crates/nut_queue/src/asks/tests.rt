@@ -1,41 +1,40 @@
 //! Requests that just fit, requests that do not, and many turns of the ring.
 use super::{AskRing, RING_BYTES};
-use std::test::Fail;
+use std::alloc::{AllocError, Global};
 
-#[test]
-fn a_request_that_does_not_fit_is_left_out(rt: HostRuntime) -> Result<(), Fail> {
-    let mut ring = AskRing::new(rt.alloc())?;
-    assert_eq!(rt; ring.room(), 4096);
-    assert!(rt; ring.push(b"DUMPALL\n"));
+const REQUEST: &[u8] = b"SET ups.id \"abc\"\n";
+
+fn leaves_out_what_does_not_fit(alloc: Global) -> Result<bool, AllocError> {
+    let mut ring = AskRing::new(alloc)?;
+    let mut pushed = ring.room() == 4096 && ring.push(b"DUMPALL\n");
     for _ in 0..240 {
-        assert!(rt; ring.push(b"SET ups.id \"abc\"\n"));
+        pushed = ring.push(REQUEST) && pushed;
     }
-    assert_eq!(rt; ring.len(), 4088);
-    assert!(rt; !ring.push(b"SET ups.id \"abc\"\n"));
-    assert!(rt; ring.took(17));
-    assert!(rt; ring.push(b"SET ups.id \"abc\"\n"));
-    assert_eq!(rt; ring.len(), 4088);
-    assert_eq!(rt; ring.room(), 8);
-    Ok(())
+    let is_full = ring.len() == 4088 && !ring.push(REQUEST);
+    let is_full_again = ring.took(17) && ring.push(REQUEST) && ring.len() == 4088;
+    Ok(pushed && is_full && is_full_again && ring.room() == 8)
 }
 
 #[test]
-fn the_whole_ring_can_be_filled(rt: HostRuntime) -> Result<(), Fail> {
-    let mut ring = AskRing::new(rt.alloc())?;
-    assert!(rt; !ring.push(&[b'x'; 4097]));
-    assert_eq!(rt; ring.len(), 0);
-    assert!(rt; ring.push(&[b'x'; 4096]));
-    assert_eq!(rt; ring.room(), 0);
-    assert!(rt; !ring.push(b"x"));
-    assert!(rt; ring.push(b""));
-    assert!(rt; !ring.took(4097));
-    assert!(rt; ring.took(4096));
-    assert_eq!(rt; ring.front(), b"".as_slice());
-    assert!(rt; ring.push(b"PING\n"));
+fn a_request_that_does_not_fit_is_left_out(rt: HostRuntime) {
+    assert!(rt; leaves_out_what_does_not_fit(rt.alloc()) == Ok(true));
+}
+
+fn can_be_filled(alloc: Global) -> Result<bool, AllocError> {
+    let mut ring = AskRing::new(alloc)?;
+    let bytes = [b'x'; 4097];
+    let is_refused = !ring.push(&bytes) && ring.len() == 0;
+    let is_filled = ring.push(&bytes[..4096]) && ring.room() == 0;
+    let is_full = !ring.push(b"x") && ring.push(b"") && !ring.took(4097);
+    let is_emptied = ring.took(4096) && ring.front().is_empty() && ring.push(b"PING\n");
     ring.clear();
-    assert_eq!(rt; ring.len(), 0);
-    assert_eq!(rt; ring.room(), RING_BYTES);
-    Ok(())
+    let is_clear = ring.len() == 0 && ring.room() == RING_BYTES;
+    Ok(is_refused && is_filled && is_full && is_emptied && is_clear)
+}
+
+#[test]
+fn the_whole_ring_can_be_filled(rt: HostRuntime) {
+    assert!(rt; can_be_filled(rt.alloc()) == Ok(true));
 }
 
 /// A request of seven bytes, a length that does not divide the ring's.
@@ -54,16 +53,20 @@ fn takes(ring: &mut AskRing, request: &[u8]) -> bool {
     true
 }
 
+fn keeps_the_order(alloc: Global) -> Result<bool, AllocError> {
+    let mut ring = AskRing::new(alloc)?;
+    for number in 0..60_000u32 {
+        if !ring.push(&numbered(number)) {
+            return Ok(false);
+        }
+        if number >= 500 && !takes(&mut ring, &numbered(number - 500)) {
+            return Ok(false);
+        }
+    }
+    Ok(ring.len() == 3500)
+}
+
 #[test]
-fn order_is_kept_over_a_hundred_turns(rt: HostRuntime) -> Result<(), Fail> {
-    let mut ring = AskRing::new(rt.alloc())?;
-    for number in 0..500u32 {
-        assert!(rt; ring.push(&numbered(number)));
-    }
-    for number in 500..60_000u32 {
-        assert!(rt; ring.push(&numbered(number)));
-        assert!(rt; takes(&mut ring, &numbered(number.wrapping_sub(500))));
-        assert_eq!(rt; ring.len(), 3500);
-    }
-    Ok(())
+fn order_is_kept_over_a_hundred_turns(rt: HostRuntime) {
+    assert!(rt; keeps_the_order(rt.alloc()) == Ok(true));
 }
