@@ -7,3 +7,8 @@ pub mod Places
 pub mod Orderly
 pub mod Searching
 pub mod Entries
+pub mod FromFiles
+pub mod ByVerdict
+pub mod Acting
+pub mod Saying
+pub mod ShortNames

@@ -5,3 +5,6 @@ pub mod Inside
 pub mod Verdicts
 pub mod Effects
 pub mod Entries
+pub mod Asking
+pub mod Configured
+pub mod Server

@@ -1,0 +1,173 @@
+//! The server.
+
+ghost use Rattle.std.specs.Prelude.{◌≡◌, ◌<◌, ℕ, List, [], Some, None, Result, Ok, Err, IfOk, IfSome, length};
+ghost use Rattle.nut_queue.specs.Front.{IsFrontPart};
+ghost use Rattle.nut_history.specs.Configuration.{Configuration};
+ghost use Rattle.nut_history.specs.Event.{Event, Moment, Open, Bytes, Took, Close, DriverUp, DriverBytes, DriverTook, DriverDown};
+ghost use Rattle.nut_history.specs.Content.{content};
+ghost use Rattle.nut_history.specs.Acceptance.{Tells, refusal, session_of, supply_of, waiting_of, asks_of, may_read, leaves, kept, is_connected};
+ghost use Rattle.nut_history.specs.Outcome.{IsAnswer, after, content_after};
+ghost use Rattle.nut_server.specs.Arrival.{event_of};
+ghost use Rattle.nut_server.specs.Settling.{IsNextUnsettled};
+
+use crate::address::address_of;
+use crate::arrival::{Arrival, PIECE_MAX};
+use crate::config::Config;
+use crate::connection::Connection;
+use crate::connections::Connections;
+use crate::device::Device;
+use nut_history::{Place, Refused};
+use std::alloc::{AllocError, Global};
+use std::marker::Model;
+use thiserror::Error;
+
+mod hearing;
+
+/// How many connections a server opens in its life.
+const MOST_OPENED: u64 = 4_294_967_295;
+
+/// Why a server can't be made.
+#[derive(Clone, Copy, Debug, PartialEq, Eq, Error)]
+pub enum ServerFault {
+    /// There is no memory for all the connections that may be open at once, or for what waits for the drivers.
+    #[error("out of memory")]
+    Memory,
+}
+
+impl From<AllocError> for ServerFault {
+    fn from(_error: AllocError) -> ServerFault {
+        ServerFault::Memory
+    }
+}
+
+/// A server: its configuration, the time, the UPSes, and the open connections with room for all that may be open.
+#[derive(Drop)]
+pub struct Server {
+    config: Config,
+    clock: u64,
+    opened: u64,
+    devices: Vec<Device>,
+    connections: Connections,
+    scratch: Vec<u8>,
+    alloc: Global,
+}
+
+impl Model for Server {
+    ghost use Rattle.nut_history.specs.Content.{Content};
+    ghost use Rattle.nut_server.specs.Server.{IsOrderly};
+
+    ghost Value = { Content };
+
+    ghost view = { λ a. record {
+      configuration = a.config;
+      clock = a.clock;
+      opened = a.opened;
+      sessions = a.connections;
+      supplies = a.devices.items;
+    } };
+
+    ghost invariant = { IsOrderly };
+}
+
+impl Server {
+    /// How many connections were opened: the number of the newest.
+    pub fn opened(&self) -> u64
+        ensures { result ≡ self.now.opened }
+    {
+        self.opened
+    }
+
+    /// What the server was made with.
+    pub fn config(&self) -> &Config
+        ensures { result.now ≡ self.now.configuration }
+    {
+        &self.config
+    }
+
+    /// How many UPSes there are.
+    pub fn number_of_upses(&self) -> usize
+        ensures { result ≡ length self.now.configuration.upses }
+    {
+        self.config.number_of_upses()
+    }
+
+    /// How many bytes wait for a connection: 0 where it isn't open.
+    pub fn waits(&self, c: u64) -> usize
+        ensures { result ≡ length (waiting_of c self.now.sessions) }
+    {
+        match self.connections.get(c) {
+            Some(connection) => connection.waits(),
+            None => 0,
+        }
+    }
+
+    /// A front part of the bytes that wait for a connection, which is empty only where none wait.
+    pub fn waiting(&self, c: u64) -> &[u8]
+        ensures { IsFrontPart result.now (waiting_of c self.now.sessions) }
+    {
+        match self.connections.get(c) {
+            Some(connection) => connection.waiting(),
+            None => &[],
+        }
+    }
+
+    /// Whether a connection may be read from: it is open, nothing waits for it, and it hasn't logged out.
+    pub fn may_read(&self, c: u64) -> bool
+        ensures { result ≡ may_read (session_of c self.now.sessions) }
+    {
+        match self.connections.get(c) {
+            Some(connection) => connection.may_read(),
+            None => false,
+        }
+    }
+
+    /// Whether a connection is to be closed: it logged out, and nothing waits for it.
+    pub fn leaves(&self, c: u64) -> bool
+        ensures { result ≡ leaves (session_of c self.now.sessions) }
+    {
+        match self.connections.get(c) {
+            Some(connection) => connection.leaves(),
+            None => false,
+        }
+    }
+
+    /// How many bytes are kept of a connection's unfinished line, at most 512.
+    pub fn kept(&self, c: u64) -> usize
+        ensures { result ≡ kept (session_of c self.now.sessions) }
+    {
+        match self.connections.get(c) {
+            Some(connection) => connection.kept(),
+            None => 0,
+        }
+    }
+
+    /// Whether the driver of a UPS is connected.
+    pub fn is_connected(&self, u: usize) -> bool
+        ensures { result ≡ is_connected (supply_of u self.now.supplies) }
+    {
+        match self.devices.get(u) {
+            Some(device) => device.is_connected(),
+            None => false,
+        }
+    }
+
+    /// How many bytes wait for the driver of a UPS, at most 4,096: 0 where there is no such UPS.
+    pub fn waits_for_driver(&self, u: usize) -> usize
+        ensures { result ≡ length (asks_of u self.now.supplies) }
+    {
+        match self.devices.get(u) {
+            Some(device) => device.waits(),
+            None => 0,
+        }
+    }
+
+    /// A front part of the bytes that wait for the driver of a UPS, which is empty only where none wait.
+    pub fn waiting_for_driver(&self, u: usize) -> &[u8]
+        ensures { IsFrontPart result.now (asks_of u self.now.supplies) }
+    {
+        match self.devices.get(u) {
+            Some(device) => device.waiting(),
+            None => &[],
+        }
+    }
+}
