@@ -15,6 +15,7 @@ import time
 
 HERE = os.path.dirname(os.path.abspath(__file__))
 ROOM = ["--stdio", "--ups", "su700=Server room"]
+EXAMPLES = ["--stdio", "--conf", os.path.join(os.path.dirname(HERE), "examples")]
 
 VERSION = b"Network UPS Tools upsd profile 1.2\n"
 LIST = b'BEGIN LIST UPS\nUPS su700 "Server room"\nEND LIST UPS\n'
@@ -37,6 +38,42 @@ MIXED = [
     (b"LIST UPS # all of them\r\n", LIST),
     (b"LOGOUT\n", GOODBYE),
     (b"VER\n", b""),
+]
+
+
+# how a configuration file doesn't read: its name, its text, and what is said of it
+CONF_FAULTS = [
+    ("ups.conf", b"[a]\n[a]\n", "2: Repeated"),
+    ("ups.conf", b'[a]\ndesc = "x\n', "2: Unreadable"),
+    ("ups.conf", b"desc = x\n", "1: OutsideSection"),
+    ("ups.conf", b"[a]\ndesc =\n", "2: BadForm"),
+    ("ups.conf", b"[a]\nfoo = x\n", "2: UnknownDirective"),
+    ("ups.conf", b"\n# names\n[a/b]\n", "3: BadName"),
+    ("ups.conf", b"[a]\ndriver = a/b\n", "2: BadName"),
+    ("ups.conf", b"[" + b"a" * 33 + b"]\n", "1: PastLimit"),
+    ("ups.conf", b"[a]\ndesc = " + b"x" * 129 + b"\n", "2: PastLimit"),
+    ("ups.conf", b"".join(b"[u%d]\n" % i for i in range(33)), "33: PastLimit"),
+    ("ups.conf", b"# " + b"x" * 511 + b"\n", "1: PastLimit"),
+    ("ups.conf", b"\n" * 1_048_577, "0: PastLimit"),
+    ("ups.conf", b"[a]\ndesc = x\ndesc = y\n", "3: Repeated"),
+    ("upsd.users", b"[mon]\nupsmon tertiary\n", "2: UnknownWord"),
+    ("upsd.users", b"[mon]\nactions = ALL\n", "2: UnknownWord"),
+    ("upsd.users", b'[mon]\npassword = ""\n', "2: PastLimit"),
+    ("upsd.users", b"upsmon primary\n", "1: OutsideSection"),
+    ("upsd.users", b"[mon]\nupsmon = primary\n", "2: BadForm"),
+    ("upsd.conf", b"MAXAGE 15\nMAXAGE 0\n", "2: BadNumber"),
+    ("upsd.conf", b"MAXAGE 15\nMAXAGE 16\n", "2: Repeated"),
+    ("upsd.conf", b"MAXCONN 257\n", "1: BadNumber"),
+    ("upsd.conf", b"LISTEN a_b 0\n", "1: BadName"),
+    ("upsd.conf", b"CERTFILE x\n", "1: UnknownDirective"),
+    # bytes past ASCII, also in a comment
+    ("ups.conf", "[a]\ndesc = caf\u00e9\n".encode(), "2: Unreadable"),
+    ("upsd.conf", b"# \xff\n", "1: Unreadable"),
+    # carriage returns are blanks, and a last line needs no line feed
+    ("ups.conf", b"[a]\r\ndesc = x\r\n\r\n[a]\r\n", "4: Repeated"),
+    ("upsd.conf", b"MAXAGE 15\nMAXAGE 16", "2: Repeated"),
+    # the first faulty line is named
+    ("ups.conf", b"[a]\nfoo = x\n[a]\n", "2: UnknownDirective"),
 ]
 
 
@@ -66,6 +103,19 @@ class Tests:
         """Gives a run's environment in which a call fails, and the file that will hold how many such calls there were."""
         count = os.path.join(self.folder, "count")
         return {"LD_PRELOAD": self.shim, "REFUSE": kind, "REFUSE_AT": str(at), "REFUSE_COUNT": count}, count
+
+    def conf(self, **texts):
+        """Writes a folder's files, each under its name with '_' for '.', where the text isn't None. It gives the
+        arguments of a run by them."""
+        folder = os.path.join(self.folder, "conf")
+        shutil.rmtree(folder, ignore_errors=True)
+        os.mkdir(folder)
+        for name in ("ups.conf", "upsd.users", "upsd.conf"):
+            text = texts.get(name.replace(".", "_"), b"")
+            if text is not None:
+                with open(os.path.join(folder, name), "wb") as file:
+                    file.write(text)
+        return ["--stdio", "--conf", folder]
 
     def cut(self, data, at):
         """Gives what a run prints whose input comes in two writes."""
@@ -162,7 +212,7 @@ class Tests:
             expect(self.run(["--stdio", *args], b"")[0], 0, f"{args} is within the limits")
 
     def test_command_lines(self):
-        for args in ([], ["--ups", "a=b"], ["--stdio", "--nothing"], ["--stdio", "more"], ["--stdio", "--ups"], ["-c", "reload"]):
+        for args in ([], ["--ups", "a=b"], ["--stdio", "--nothing"], ["--stdio", "more"], ["--stdio", "--ups"], ["-c", "reload"], ["--stdio", "--conf"], [*EXAMPLES, "--ups", "a=b"], [*EXAMPLES, "--conf", "x"]):
             status, out, err = self.run(args, b"VER\n")
             expect((status, out, err != b""), (2, b"", True), f"{args}")
         invalid = b"error: invalid UTF-8 was detected in one or more arguments\n"
@@ -170,6 +220,90 @@ class Tests:
         for args, word in ((["--help"], b"--ups"), (["--version"], b"upsd")):
             status, out, err = self.run(args)
             expect((status, word in out, err), (0, True, b""), f"{args}")
+
+    def test_conf_faults(self):
+        for name, text, fault in CONF_FAULTS:
+            found = self.run(self.conf(**{name.replace(".", "_"): text}), b"LIST UPS\n")
+            expect(found, (1, b"", f"upsd: {name}:{fault}\n".encode()), f"{name}: {text[:40]!r}")
+
+    def test_conf_that_cannot_be_read(self):
+        for name in ("ups.conf", "upsd.users", "upsd.conf"):
+            cannot = (1, b"", f"upsd: {name}: cannot read\n".encode())
+            args = self.conf(**{name.replace(".", "_"): None})
+            expect(self.run(args, b"VER\n"), cannot, f"no {name}")
+            path = os.path.join(args[-1], name)
+            os.mkdir(path)
+            expect(self.run(args, b"VER\n"), cannot, f"{name} is a folder")
+            os.rmdir(path)
+            os.symlink(name, path)
+            expect(self.run(args, b"VER\n"), cannot, f"{name} is a link to itself")
+            os.remove(path)
+            if os.geteuid() != 0:
+                with open(path, "wb") as file:
+                    os.fchmod(file.fileno(), 0)
+                expect(self.run(args, b"VER\n"), cannot, f"{name} may not be read")
+        cannot = (1, b"", b"upsd: ups.conf: cannot read\n")
+        for folder in (os.path.join(self.folder, "no-such-folder"), self.shim, ""):
+            expect(self.run(["--stdio", "--conf", folder], b"VER\n"), cannot, f"the folder {folder!r}")
+
+    def test_conf_in_order(self):
+        bad = b"[a]\n[a]\n"
+        for texts, fault in (
+            ({"ups_conf": bad, "upsd_users": None, "upsd_conf": None}, b"upsd: ups.conf:2: Repeated\n"),
+            ({"upsd_users": bad, "upsd_conf": None}, b"upsd: upsd.users:2: Repeated\n"),
+            ({"upsd_users": None, "upsd_conf": bad}, b"upsd: upsd.users: cannot read\n"),
+            ({"upsd_conf": bad}, b"upsd: upsd.conf:1: UnknownDirective\n"),
+        ):
+            expect(self.run(self.conf(**texts), b"VER\n"), (1, b"", fault), f"{texts}")
+
+    def test_conf_is_served(self):
+        asked = b"LIST UPS\nGET UPSDESC su700\nLOGOUT\n"
+        expect(self.run(EXAMPLES, asked), (0, LIST + DESCRIPTION + GOODBYE, b""), "examples")
+        expect(self.run(self.conf(), b"LIST UPS\n"), (0, b"BEGIN LIST UPS\nEND LIST UPS\n", b""), "empty files")
+        rows = b'UPS b "Unavailable"\nUPS a "say \\"hi\\""\nUPS c ""\n'
+        for text in (
+            b'[b]\n[a]\ndesc = "say \\"hi\\""\n[c]\ndesc=""\n',
+            b'[b]\r\n\r\n[a]\r\ndesc = "say \\"hi\\""\r\n[c]\r\ndesc=""',
+        ):
+            found = self.run(self.conf(ups_conf=text), b"LIST UPS\n")
+            expect(found, (0, b"BEGIN LIST UPS\n" + rows + b"END LIST UPS\n", b""), f"{text}")
+
+    def test_conf_of_the_greatest_length(self):
+        worst = 0.0
+        for line in (b"\n", b"actions = SET\n", b"# " + b"x" * 509 + b"\n"):
+            text = b"[a]\n" + line * (1_048_572 // len(line))
+            args = self.conf(upsd_users=text.ljust(1_048_576))
+            begun = time.monotonic()
+            expect(self.run(args, b"VER\n"), (0, VERSION, b""), f"lines {line[:20]!r}")
+            worst = max(worst, time.monotonic() - begun)
+        print(f"   1,048,576 bytes take at most {worst:.3f} s")
+        if worst > 1:
+            raise Failed(f"a file of 1,048,576 bytes took {worst:.3f} s")
+
+    def test_huge_conf_is_not_taken_into_memory(self):
+        args = self.conf()
+        with open(os.path.join(args[-1], "upsd.users"), "wb") as file:
+            file.truncate(1 << 40)
+        found = self.run(args, b"VER\n")
+        expect(found, (1, b"", b"upsd: upsd.users:0: PastLimit\n"), "a file of 1 TiB")
+
+    def test_conf_byte_by_byte(self):
+        env, _ = self.refusing("short-file-read", 1)
+        expect(self.run(EXAMPLES, b"LIST UPS\n", env), (0, LIST, b""), "files read byte by byte")
+
+    def test_each_read_of_a_file_refused(self):
+        told = set()
+        for at in itertools.count(1):
+            env, count = self.refusing("file-read", at)
+            status, out, err = self.run(EXAMPLES, b"LIST UPS\n", env)
+            with open(count) as file:
+                calls = int(file.read())
+            if calls < at:
+                expect((status, out, err), (0, LIST, b""), f"read {at}, which isn't reached")
+                break
+            expect((status, out, err.endswith(b": cannot read\n")), (1, b"", True), f"read {at}: {err!r}")
+            told.add(err)
+        expect(len(told), 3, "files of which a read failed")
 
     def test_failing_devices(self):
         failed = (1, b"upsd: I/O failed\n")
@@ -202,12 +336,19 @@ class Tests:
                 raise Failed(f"no {kind} was seen")
 
     def test_each_allocation_refused(self):
+        self.refuse_allocations(ROOM)
+
+    def test_each_allocation_refused_with_files(self):
+        self.refuse_allocations(EXAMPLES)
+
+    def refuse_allocations(self, args):
+        """Refuses each allocation of a run in turn: it ends before it serves, or after a line."""
         asked = b"".join(it for it, _ in MIXED)
         fronts = list(itertools.accumulate((it for _, it in MIXED), initial=b""))
         served = 0
         for at in itertools.count(1):
             env, count = self.refusing("allocation", at)
-            status, out, err = self.run(ROOM, asked, env)
+            status, out, err = self.run(args, asked, env)
             with open(count) as file:
                 calls = int(file.read())
             if calls < at:

@@ -3,9 +3,10 @@
  *   cc -shared -fPIC -o refuse.so refuse.c -ldl
  *   LD_PRELOAD=./refuse.so REFUSE=allocation REFUSE_AT=3 PROGRAM ..
  *
- * REFUSE is 'allocation', 'read' or 'write': the call of that kind with the number REFUSE_AT fails. It is 'short-read'
- * or 'short-write': from that call on each moves one byte. Calls are counted from 1. At its end the program's count
- * of calls of that kind is written to the file that REFUSE_COUNT names. */
+ * REFUSE is 'allocation', 'read', 'write' or 'file-read': the call of that kind with the number REFUSE_AT fails. It is
+ * 'short-read', 'short-write' or 'short-file-read': from that call on each moves one byte. 'read' and 'write' are those
+ * of standard input and output, 'file-read' is of any other file. Calls are counted from 1. At its end the program's
+ * count of calls of that kind is written to the file that REFUSE_COUNT names. */
 #define _GNU_SOURCE
 #include <dlfcn.h>
 #include <errno.h>
@@ -77,11 +78,11 @@ ssize_t read(int file, void *to, size_t size) {
     static ssize_t (*next)(int, void *, size_t);
     if (!next)
         next = NEXT("read");
-    if (file == 0 && is_refused("read", 0)) {
+    if (is_refused(file == 0 ? "read" : "file-read", 0)) {
         errno = EIO;
         return -1;
     }
-    if (file == 0 && size > 1 && is_refused("short-read", 1))
+    if (size > 1 && is_refused(file == 0 ? "short-read" : "short-file-read", 1))
         size = 1;
     return next(file, to, size);
 }

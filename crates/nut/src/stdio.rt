@@ -1,12 +1,15 @@
 //! `upsd --stdio`: one client over standard streams.
 
+use crate::conf_file::{FileFault, read_conf};
 use crate::streams::StreamWorld;
-use crate::{ServeFault, UpsFault, UpsOption, read_ups_options, serve};
+use crate::{ServeFault, read_ups_options, serve};
 use clap::{Arg, ArgAction, Command};
-use nut_server::{Config, Server, ServerFault, Ups};
-use std::alloc::{AllocError, AllocFailed, Global};
+use nut_conf::{FaultKind, UpsdConf, UsersConf};
+use nut_server::{Config, Server, ServerFault};
+use std::alloc::{AllocError, Global};
 use std::convert::AsStr;
 use std::io::{Read, Write};
+use std::rt::Files;
 use std::sync::Wait;
 
 /// Why a run ends before its client does.
@@ -15,7 +18,9 @@ enum Failure {
     /// The command line doesn't read, or asks for the help or the version: the text is clap's.
     CommandLine(clap::Error),
     /// A value of `--ups` doesn't read.
-    Ups(UpsFault),
+    Ups(FaultKind),
+    /// A file gives no configuration.
+    File(FileFault),
     /// A growth of memory was refused.
     Memory,
     /// A read or a write failed.
@@ -32,20 +37,23 @@ impl From<clap::Error> for Failure {
     }
 }
 
-impl From<UpsFault> for Failure {
-    fn from(fault: UpsFault) -> Self {
-        Failure::Ups(fault)
+impl From<FaultKind> for Failure {
+    fn from(fault: FaultKind) -> Self {
+        match fault {
+            FaultKind::Memory => Failure::Memory,
+            fault => Failure::Ups(fault),
+        }
+    }
+}
+
+impl From<FileFault> for Failure {
+    fn from(fault: FileFault) -> Self {
+        Failure::File(fault)
     }
 }
 
 impl From<AllocError> for Failure {
     fn from(_: AllocError) -> Self {
-        Failure::Memory
-    }
-}
-
-impl<T: Drop> From<AllocFailed<T>> for Failure {
-    fn from(_: AllocFailed<T>) -> Self {
         Failure::Memory
     }
 }
@@ -69,13 +77,14 @@ impl Failure {
             Failure::CommandLine(error) if error.use_stderr() => write!(err, "{error}"),
             Failure::CommandLine(error) => write!(out, "{error}"),
             Failure::Ups(fault) => writeln!(err, "upsd: --ups: {fault}"),
+            Failure::File(fault) => writeln!(err, "upsd: {fault}"),
             Failure::Memory => writeln!(err, "upsd: out of memory"),
             Failure::Io => writeln!(err, "upsd: I/O failed"),
         };
         match self {
             Failure::CommandLine(error) if error.use_stderr() => 2,
             Failure::CommandLine(_) => u8::from(told.is_err()),
-            Failure::Ups(_) | Failure::Memory | Failure::Io => 1,
+            Failure::Ups(_) | Failure::File(_) | Failure::Memory | Failure::Io => 1,
         }
     }
 }
@@ -83,14 +92,18 @@ impl Failure {
 /// Serves one client, whose address is `stdio`, over a reader and a writer, to its LOGOUT, to the end of the input, or
 /// until memory runs out in one of its pieces. It gives the exit status: 0, or after a text on `err` 1.
 ///
-/// The words are those of the command line `upsd --stdio [--ups NAME=DESC]..`, with the program's name first. Where they
-/// don't read, clap's text says so on `err`, and the status is 2; the help and the version go to `out`, with status 0.
-/// The values of `--ups` are read in the order given, and the first fault is told as `upsd: --ups: <fault>`. A failed
-/// read or write is told as `upsd: I/O failed`, and a refused growth as `upsd: out of memory`.
+/// The words are those of the command line `upsd --stdio [--conf DIR | --ups NAME=DESC ..]`, with the program's name
+/// first. Where they don't read, clap's text says so on `err`, and the status is 2; the help and the version go to
+/// `out`, with status 0.
+///
+/// With `--conf` the files ups.conf, upsd.users and upsd.conf of the folder are read, in this order. The first fault is
+/// told as `upsd: ups.conf:2: Repeated`, and a file that can't be read as `upsd: ups.conf: cannot read`. The values of
+/// `--ups` are read in the order given, and the first fault is told as `upsd: --ups: <fault>`. Nothing is served then.
+/// A failed read or write is told as `upsd: I/O failed`, and a refused growth as `upsd: out of memory`.
 ///
 /// Replies are written as soon as a piece of the input was read: `out` should keep no bytes back.
 pub fn run_stdio<S: AsStr, I: Read, O: Write, E: Write>(
-    rt: &impl Wait,
+    rt: &(impl Wait + Files),
     alloc: Global,
     words: &[S],
     input: &mut I,
@@ -104,13 +117,13 @@ pub fn run_stdio<S: AsStr, I: Read, O: Write, E: Write>(
 }
 
 fn serve_client<S: AsStr, I: Read, O: Write>(
-    rt: &impl Wait,
+    rt: &(impl Wait + Files),
     alloc: Global,
     words: &[S],
     input: &mut I,
     out: &mut O,
 ) -> Result<(), Failure> {
-    let config = configuration(alloc, words)?;
+    let config = configuration(rt, alloc, words)?;
     let mut server = Server::new(alloc, config)?;
     let mut world = StreamWorld::new(input, out);
     serve(rt, &mut server, &mut world)?;
@@ -118,21 +131,26 @@ fn serve_client<S: AsStr, I: Read, O: Write>(
 }
 
 /// What the words of the command line ask the server to be.
-fn configuration<S: AsStr>(alloc: Global, words: &[S]) -> Result<Config, Failure> {
+fn configuration<S: AsStr>(
+    files: &impl Files,
+    alloc: Global,
+    words: &[S],
+) -> Result<Config, Failure> {
     let matches = command(alloc)?.try_get_matches_from(words)?;
-    let read = read_ups_options(matches.get_strs("ups").unwrap_or(&[]))?;
-    let mut upses = Vec::new(alloc);
-    for ups in read.as_slice() {
-        upses.push(owned(alloc, ups)?)?;
+    if let Some(folder) = matches.get_str("conf") {
+        return Ok(read_config(files, alloc, folder)?);
     }
-    Ok(Config::new(upses, 1))
+    let ups = read_ups_options(alloc, matches.get_strs("ups").unwrap_or(&[]))?;
+    let users = UsersConf::new(alloc);
+    Ok(Config::new(ups, users, UpsdConf::new(alloc)))
 }
 
-/// The UPS with its texts copied.
-fn owned(alloc: Global, ups: &UpsOption<'_>) -> Result<Ups, AllocError> {
-    let name = Vec::from_slice(alloc, ups.name)?;
-    let description = Vec::from_slice(alloc, ups.description)?;
-    Ok(Ups::new(name, description))
+/// The configuration that the files of a folder set.
+fn read_config(files: &impl Files, alloc: Global, folder: &str) -> Result<Config, FileFault> {
+    let ups = read_conf(files, alloc, folder)?;
+    let users = read_conf(files, alloc, folder)?;
+    let upsd = read_conf(files, alloc, folder)?;
+    Ok(Config::new(ups, users, upsd))
 }
 
 /// The command line.
@@ -142,6 +160,11 @@ fn command<'a>(alloc: Global) -> Result<Command<'a>, AllocError> {
         .action(ArgAction::SetTrue)
         .required(true)
         .help("Serve one client over standard input and output (for now the only way to serve)");
+    let conf = Arg::new(alloc, "conf")
+        .long("conf")
+        .value_name("DIR")
+        .help("The folder of ups.conf, upsd.users and upsd.conf")
+        .conflicts_with("ups")?;
     let ups = Arg::new(alloc, "ups")
         .long("ups")
         .value_name("NAME=DESC")
@@ -151,5 +174,6 @@ fn command<'a>(alloc: Global) -> Result<Command<'a>, AllocError> {
         .version("profile 1.2")
         .about("A server of the UPS Management Protocol (RFC 9271)")
         .arg(stdio)?
+        .arg(conf)?
         .arg(ups)
 }

@@ -9,6 +9,7 @@ pub mod DraftLemmas
 pub mod SectionLemmas
 pub mod DistinctNames
 pub mod NameLookup
+pub mod AddedUps
 pub mod FlagLemmas
 pub mod TargetLemmas
 pub mod UpsmonLemmas

@@ -1,13 +1,19 @@
 -- The file ups.conf: the UPSes that a server serves.
-use Rattle.std.specs.Prelude.{◌≡◌, ℕ, List, [], ◌∷◌, map, codes, position, slice_get, Option}
+use Rattle.std.specs.Prelude.{◌≡◌, ℕ, Bool, not, List, [], ◌∷◌, ◌++◌, length, map, codes, position, slice_get, nat_le, Option, Result, Ok, Err, if◌then◌else◌}
+use Rattle.std.specs.List.{list_all, list_any}
 use Rattle.std.specs.Option.{option_map, option_map_or, option_to_list}
 use Rattle.std.specs.Str.{bytes_eq}
 use Rattle.indexmap.specs.IndexMap.{keys, values}
+use Rattle.nut_words.specs.Spelling.{is_printing}
+use Rattle.nut_conf.specs.Faults.{◌>>=◌}
 use Rattle.nut_conf.specs.Settings.{Setting, Text, Directive, settings, line_fault, once, name_value, text_value}
 use Rattle.nut_conf.specs.declared.values.Form.TheVariants.{Assigned}
-use Rattle.nut_conf.specs.Values.{Words}
+use Rattle.nut_conf.specs.Values.{Words, name, text}
 use Rattle.nut_conf.specs.Files.{LineFault}
 use Rattle.nut_conf.specs.Sections.{AllHold, sections, sectioned_fault, names_in}
+use Rattle.nut_conf.specs.declared.text.Name.{Name}
+use Rattle.nut_conf.specs.declared.fault.FaultKind.{FaultKind}
+use Rattle.nut_conf.specs.declared.fault.FaultKind.TheVariants.{PastLimit, Repeated, Unreadable}
 use Rattle.nut_conf.specs.declared.ups.UpsConf.{UpsConf}
 use Rattle.nut_conf.specs.declared.ups.Ups.{Ups}
 use Rattle.nut_conf.specs.declared.ups.UpsDirective.{UpsDirective}
@@ -64,3 +70,30 @@ number_of name c = position (bytes_eq name) (names_of c)
 -- the UPS with this number
 abbrev pub ups_at : UpsConf → ℕ → Option Ups
 ups_at c number = slice_get (values c.ups.by_name) number
+
+-- a UPS without where it lies in memory: its name, its driver's program, and what people call it
+pub record Shown : Type 0 where
+  pub name : List ℕ
+  pub driver : List ℕ
+  pub description : List ℕ
+
+-- what is set under a name, with the defaults
+abbrev pub shown : Name 32 × Ups → Shown
+shown e = record { name = e.0.bytes.items; driver = driver_of e.1; description = desc_of e.1 }
+
+-- the UPSes, in the order of the file
+abbrev pub shown_in : UpsConf → List Shown
+shown_in c = map shown c.ups.by_name.entries
+
+-- the UPS has this name
+abbrev pub is_shown_as : List ℕ → Shown → Bool
+is_shown_as n u = bytes_eq n u.name
+
+-- A name and a description behind other UPSes: these with one more, whose driver is the default, or the first fault.
+abbrev pub with_ups : List Shown → List ℕ → List ℕ → Result (List Shown) FaultKind
+with_ups before n desc =
+    name 32 n >>= (λ n. text 0 128 desc >>= (λ d.
+    if nat_le 32 (length before) then Err PastLimit
+    else if list_any (is_shown_as n) before then Err Repeated
+    else if not (list_all is_printing d) then Err Unreadable
+    else Ok (before ++ record { name = n; driver = codes "dummy-ups"; description = d } ∷ [])))

@@ -10,8 +10,8 @@ use crate::fault::{ConfFault, FaultKind};
 use crate::line::Line;
 use std::alloc::Global;
 
-/// How many bytes a file has at most.
-const FILE_MAX: usize = 1_048_576;
+/// How many bytes a configuration file has at most.
+pub const FILE_MAX: usize = 1_048_576;
 
 /// Takes in a line.
 fn take_line<D: Draft>(alloc: Global, draft: &mut D, bytes: &[u8]) -> Result<(), FaultKind>

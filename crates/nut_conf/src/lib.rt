@@ -26,6 +26,7 @@ mod users;
 mod values;
 
 pub use fault::{ConfFault, FaultKind};
+pub use file::FILE_MAX;
 pub use host::{Address, Host};
 pub use laws::{blank_lines_change_nothing, first_fault, names_are_distinct};
 pub use monitor::Monitored;

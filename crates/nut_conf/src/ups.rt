@@ -1,10 +1,11 @@
 //! The file ups.conf.
-ghost use Rattle.std.specs.Prelude.{◌≡◌, ◌==◌, ◌<◌, ◌≤◌, IfSome, IsTrue, None, MatchOption, length, slice_get};
+ghost use Rattle.std.specs.Prelude.{◌≡◌, ◌==◌, ◌<◌, ◌≤◌, [], IfSome, IsTrue, None, MatchOption, OnErr, length, slice_get};
 ghost use Rattle.std.specs.Option.{option_copied, option_map};
 ghost use Rattle.nut_words.specs.Quoting.{IsPrintable};
+ghost use Rattle.nut_conf.specs.Faults.{Gives};
 ghost use Rattle.nut_conf.specs.Files.{Means, read_file};
 ghost use Rattle.nut_conf.specs.Values.{is_name, is_text};
-ghost use Rattle.nut_conf.specs.Ups.{UpsConfHolds, ups_fault, driver_of, port_of, desc_of, names_of, number_of, ups_at};
+ghost use Rattle.nut_conf.specs.Ups.{UpsConfHolds, ups_fault, driver_of, port_of, desc_of, names_of, number_of, ups_at, shown_in, with_ups};
 
 use crate::draft::Draft;
 use crate::fault::{ConfFault, FaultKind};
@@ -12,7 +13,7 @@ use crate::file::read_draft;
 use crate::line::Line;
 use crate::sections::Sections;
 use crate::slot::once;
-use crate::text::{Name, Text};
+use crate::text::{Name, Text, are_printing};
 use crate::values::Form;
 use std::alloc::Global;
 
@@ -68,7 +69,53 @@ impl Ups {
     }
 }
 
+/// How many UPSes there are at most.
+const UPS_MAX: usize = 32;
+/// How many bytes a description has at most.
+const DESC_MAX: usize = 128;
+
 impl UpsConf {
+    /// A configuration without a UPS, as that of an empty file.
+    pub fn new(alloc: Global) -> Self
+        ensures shown { shown_in result ≡ [] }
+        ensures holds { UpsConfHolds result [] }
+    {
+        UpsConf {
+            ups: Sections::new(alloc),
+        }
+    }
+
+    /// Puts a UPS behind the others, with this description and the default driver.
+    ///
+    /// # Errors
+    ///
+    /// The first test that fails, in this order: `BadName` where the name is empty or has a byte that may not stand
+    /// there; `PastLimit` where it has more than 32 bytes, the description has more than 128, or there are 32 UPSes;
+    /// `Repeated` where one has this name; `Unreadable` where a byte of the description isn't printing; `Memory`.
+    /// Nothing changes then.
+    pub fn add(&mut self, name: &[u8], desc: &[u8]) -> Result<(), FaultKind>
+        ensures added { Gives (λ _. shown_in self.new) result (with_ups (shown_in self.old) name.now desc.now) }
+        ensures unchanged { OnErr result (shown_in self.new ≡ shown_in self.old) }
+    {
+        let name = Name::read(name)?;
+        if desc.len() > DESC_MAX || self.ups.by_name.len() >= UPS_MAX {
+            return Err(FaultKind::PastLimit);
+        }
+        if self.ups.by_name.contains_key(&name) {
+            return Err(FaultKind::Repeated);
+        }
+        if !are_printing(desc) {
+            return Err(FaultKind::Unreadable);
+        }
+        let ups = Ups {
+            driver: None,
+            port: None,
+            desc: Some(Text::read(desc)?),
+        };
+        self.ups.by_name.insert(name, ups)?;
+        Ok(())
+    }
+
     /// How many UPSes there are, at most 32.
     pub fn len(&self) -> usize
         ensures len { result ≡ length (names_of self.now) }

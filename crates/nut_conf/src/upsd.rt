@@ -1,5 +1,5 @@
 //! The file upsd.conf.
-ghost use Rattle.std.specs.Prelude.{◌≡◌, ◌≤◌, None, MatchOption, length, slice_get};
+ghost use Rattle.std.specs.Prelude.{◌≡◌, ◌≤◌, [], None, MatchOption, length, slice_get};
 ghost use Rattle.std.specs.Option.{option_map};
 ghost use Rattle.nut_conf.specs.Faults.{Reads};
 ghost use Rattle.nut_conf.specs.Files.{Means, read_file};
@@ -32,6 +32,13 @@ pub struct UpsdConf {
 }
 
 impl UpsdConf {
+    /// A configuration in which nothing is set, as that of an empty file.
+    pub fn new(alloc: Global) -> Self
+        ensures { UpsdHolds result [] }
+    {
+        Draft::new(alloc)
+    }
+
     /// After how many seconds without a word from its driver the data of a UPS is stale; where none is set, 15.
     pub fn max_age(&self) -> u32
         ensures value { result ≡ max_age_of self.now }

@@ -1,5 +1,5 @@
 //! The file upsd.users.
-ghost use Rattle.std.specs.Prelude.{◌≡◌, None, MatchOption, map, codes};
+ghost use Rattle.std.specs.Prelude.{◌≡◌, [], None, MatchOption, map, codes};
 ghost use Rattle.std.specs.Str.{bytes_eq};
 ghost use Rattle.std.specs.Char.{to_ascii_lowercase};
 ghost use Rattle.std.specs.Option.{option_copied};
@@ -105,6 +105,15 @@ impl User {
 }
 
 impl UsersConf {
+    /// A configuration without a user, as that of an empty file.
+    pub fn new(alloc: Global) -> Self
+        ensures { UsersConfHolds result [] }
+    {
+        UsersConf {
+            users: Sections::new(alloc),
+        }
+    }
+
     /// The user with this name. Takes no memory, and no longer for many users.
     pub fn find(&self, name: &[u8]) -> Option<&User>
         ensures { option_copied result ≡ user_named name.now self.now }

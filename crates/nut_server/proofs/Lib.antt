@@ -1,3 +1,5 @@
+pub mod FromFiles
+pub mod RowTexts
 pub mod Asks
 pub mod Logins
 pub mod Results
@@ -7,7 +9,6 @@ pub mod Places
 pub mod Orderly
 pub mod Searching
 pub mod Entries
-pub mod FromFiles
 pub mod ByVerdict
 pub mod Acting
 pub mod Saying

@@ -3,8 +3,11 @@ pub mod Settling
 pub mod Place
 pub mod Inside
 pub mod Verdicts
+pub mod Configured
+pub mod Asking
+pub mod Answers
+pub mod Access
+pub mod Rows
 pub mod Effects
 pub mod Entries
-pub mod Asking
-pub mod Configured
 pub mod Server

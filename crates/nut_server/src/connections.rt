@@ -100,7 +100,8 @@ impl Connections {
     /// How many of them are logged in to a UPS.
     #[tactic(auto, using(crate::proofs::Logins::logins_more))]
     pub fn logged_in(&self, u: usize) -> usize
-        ensures { result ≡ length (guests_of u (map guest_of self.now)) }
+        ensures count { result ≡ length (guests_of u (map guest_of self.now)) }
+        ensures within { result ≤ MOST_OPEN }
     {
         let mut count = 0;
         for connection in &self.entries {

@@ -1,8 +1,11 @@
 //! A server of UPSes: what it is told, one arrival at a time, and what it answers.
 #![tactic(auto)]
 
+mod access;
 mod address;
+mod answer;
 mod arrival;
+mod changes;
 mod command;
 mod config;
 mod connection;
@@ -10,9 +13,13 @@ mod connections;
 mod credential;
 mod device;
 mod effect;
+mod lists;
+mod queries;
 mod reply;
 mod scene;
 mod server;
+mod setting;
+mod text;
 mod verdict;
 
 pub use arrival::{Arrival, PIECE_MAX};

@@ -103,7 +103,8 @@ impl Variable {
 
     /// Its value: at most [`VALUE_BYTES`] bytes.
     pub fn value(&self) -> &[u8]
-        ensures { result.now ≡ self.now.value }
+        ensures value { result.now ≡ self.now.value }
+        ensures fits { length result.now ≤ VALUE_BYTES }
     {
         self.value.as_bytes()
     }

@@ -3,6 +3,7 @@
 use super::{ROWS, ROWS_ANSWERED, Sink, Source};
 use crate::run_stdio;
 use std::alloc::Global;
+use std::rt::Files;
 use std::sync::Wait;
 use std::test::Fail;
 
@@ -15,7 +16,7 @@ struct Ran {
 }
 
 fn run_with(
-    rt: &impl Wait,
+    rt: &(impl Wait + Files),
     alloc: Global,
     words: &[&str],
     mut input: Source<'_>,
@@ -36,7 +37,7 @@ fn run_with(
     }
 }
 
-fn run(rt: &impl Wait, alloc: Global, words: &[&str], input: Source<'_>) -> Ran {
+fn run(rt: &(impl Wait + Files), alloc: Global, words: &[&str], input: Source<'_>) -> Ran {
     run_with(rt, alloc, words, input, 65_536, u64::MAX)
 }
 
@@ -132,6 +133,18 @@ fn faults_of_options(rt: HostRuntime) {
 }
 
 #[test]
+fn no_such_folder(rt: HostRuntime) {
+    let words = ["upsd", "--stdio", "--conf", "no-such-folder"];
+    let ran = run(&rt, rt.alloc(), &words, Source::whole(b"VER\n"));
+    assert_eq!(rt;
+        ran.err.as_slice(),
+        b"upsd: ups.conf: cannot read\n".as_slice()
+    );
+    assert_eq!(rt; ran.out.len(), 0);
+    assert_eq!(rt; ran.status, 1);
+}
+
+#[test]
 fn command_lines(rt: HostRuntime) {
     for words in [
         ["upsd", "--ups=a=b"].as_slice(),
@@ -140,6 +153,8 @@ fn command_lines(rt: HostRuntime) {
         &["upsd", "--stdio", "--ups"],
         &["upsd", "--stdio", "x"],
         &["upsd", "--stdio", "-c", "x"],
+        &["upsd", "--stdio", "--conf", "x", "--ups", "a=b"],
+        &["upsd", "--stdio", "--conf"],
     ] {
         let ran = run(&rt, rt.alloc(), words, Source::whole(b"VER\n"));
         assert_eq!(rt; ran.out.len(), 0);

@@ -7,7 +7,8 @@ use super::{ROWS, ROWS_ANSWERED};
 use crate::{
     Address, Fault, Given, MemoryWorld, Next, Note, Piece, World, Written, serve, serve_memory,
 };
-use nut_server::{Config, Server, Ups};
+use nut_conf::{UpsConf, UsersConf, read_upsd};
+use nut_server::{Config, Server};
 use std::alloc::Global;
 use std::test::Fail;
 
@@ -19,11 +20,11 @@ const LIST: &[u8] = b"BEGIN LIST UPS\nUPS su700 \"Server room\"\nEND LIST UPS\n"
 fn fresh_server(alloc: Global) -> Result<Server, Fail>
     ensures { IfOk result (λ s. s ≡ content s.configuration []) }
 {
-    let name = Vec::from_slice(alloc, b"su700")?;
-    let description = Vec::from_slice(alloc, b"Server room")?;
-    let mut upses = Vec::new(alloc);
-    upses.push(Ups::new(name, description))?;
-    let server = Server::new(alloc, Config::new(upses, 2))?;
+    let mut ups = UpsConf::new(alloc);
+    ups.add(b"su700", b"Server room")?;
+    let upsd = read_upsd(alloc, b"MAXCONN 2")?;
+    let config = Config::new(ups, UsersConf::new(alloc), upsd);
+    let server = Server::new(alloc, config)?;
     Ok(server)
 }
 

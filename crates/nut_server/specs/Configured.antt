@@ -1,0 +1,53 @@
+-- The configuration of a server, as the files ups.conf, upsd.users and upsd.conf set it.
+use Rattle.std.specs.Prelude.{ℕ, List, map, Option, Some, None}
+use Rattle.std.specs.Option.{option_map}
+use Rattle.nut_conf.specs.Ups.{Shown, shown_in}
+use Rattle.nut_conf.specs.Upsd.{max_age_of, max_conn_of}
+use Rattle.nut_conf.specs.declared.text.Name.{Name}
+use Rattle.nut_conf.specs.declared.ups.UpsConf.{UpsConf}
+use Rattle.nut_conf.specs.declared.upsd.UpsdConf.{UpsdConf}
+use Rattle.nut_conf.specs.declared.users.User as files
+use Rattle.nut_conf.specs.declared.users.UsersConf.{UsersConf}
+use Rattle.nut_conf.specs.declared.users.Commands.{Commands}
+use Rattle.nut_conf.specs.declared.users.Commands.TheVariants as commands
+use Rattle.nut_history.specs.Configuration.{Configuration, Ups, User}
+
+-- a UPS of ups.conf
+abbrev pub ups_of : Shown → Ups
+ups_of u = record { name = u.name; driver = u.driver; description = u.description }
+
+-- the UPSes of ups.conf, in the order of the file
+abbrev pub upses_of : UpsConf → List Ups
+upses_of c = map ups_of (shown_in c)
+
+-- the commands that a line of upsd.users names: all, or one
+abbrev pub command_of : Commands → Option (List ℕ)
+command_of commands.All = None
+command_of (commands.Named n) = Some n.bytes.items
+
+-- a user of upsd.users, who has this name
+abbrev pub user_of : List ℕ → files.User → User
+user_of name u = record {
+  name = name;
+  password = option_map (λ t. t.bytes.items) u.password;
+  actions = u.actions.items;
+  commands = map command_of u.instcmds.items;
+  role = u.upsmon;
+}
+
+-- the user under a name
+abbrev pub user_in : Name 32 × files.User → User
+user_in e = user_of e.0.bytes.items e.1
+
+-- the users of upsd.users, in the order of the file
+abbrev pub users_of : UsersConf → List User
+users_of c = map user_in c.users.by_name.entries
+
+-- what the three files set
+abbrev pub configuration_of : UpsConf → UsersConf → UpsdConf → Configuration
+configuration_of ups users upsd = record {
+  upses = upses_of ups;
+  users = users_of users;
+  max_age = max_age_of upsd;
+  most_connections = max_conn_of upsd;
+}

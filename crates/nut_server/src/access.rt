@@ -1,0 +1,86 @@
+//! Who may do what.
+
+ghost use Rattle.std.specs.Prelude.{◌≡◌, ℕ, MatchResult};
+ghost use Rattle.nut_history.specs.Answer as definitions;
+ghost use Rattle.nut_history.specs.Answer.{has_right, is_primary, refused, with_right};
+ghost use Rattle.nut_history.specs.Configuration.{user_named};
+ghost use Rattle.nut_history.specs.Machine.{caller_of};
+ghost use Rattle.nut_server.specs.Access.{allows};
+
+use crate::config::{Config, User};
+use crate::connection::Connection;
+use crate::scene::Scene;
+use nut_conf::{Action, Role};
+use nut_proto::Refusal;
+
+/// What a request that changes something takes.
+#[derive(Clone, Copy, Drop)]
+pub enum Right<'a> {
+    /// To set variables: `actions = SET`.
+    Set,
+    /// To give the command with this name: `instcmds`.
+    Command(&'a [u8]),
+    /// To log in: `upsmon primary` or `upsmon secondary`.
+    LogIn,
+    /// To be the primary: `upsmon primary`.
+    BePrimary,
+    /// To force a shutdown: `upsmon primary` or `actions = FSD`.
+    Force,
+}
+
+fn is_primary(role: Option<Role>) -> bool
+    ensures { result ≡ is_primary role }
+{
+    match role {
+        Some(Role::Primary) => true,
+        Some(Role::Secondary) | None => false,
+    }
+}
+
+/// Whether a user has a right.
+fn allows(right: Right<'_>, user: &User<'_>) -> bool
+    ensures { result ≡ allows right.entry user.now }
+{
+    match right {
+        Right::Set => user.may_act(Action::Set),
+        Right::Command(name) => user.may_command(name),
+        Right::LogIn => user.role().is_some(),
+        Right::BePrimary => is_primary(user.role()),
+        Right::Force => is_primary(user.role()) || user.may_act(Action::Fsd),
+    }
+}
+
+/// Whether the user of this name has the password and the right.
+fn has_right(config: &Config, name: &[u8], password: &[u8], right: Right<'_>) -> bool
+    ensures { result ≡ has_right (allows right.entry) password.now (user_named name.now config.now.users) }
+{
+    match config.find_user(name) {
+        Some(user) => user.has_password(password) && allows(right, &user),
+        None => false,
+    }
+}
+
+/// The number of the UPS of this name, where the client may use its right on it: it gave a user and a password, there
+/// is such a UPS, and the user has the password and the right.
+pub fn authorize(
+    scene: &Scene<'_>,
+    caller: &Connection,
+    right: Right<'_>,
+    ups: &[u8],
+) -> Result<usize, Refusal>
+    ensures { MatchResult result
+        (λ u. (next : ℕ → definitions.Answer) → with_right scene.now (caller_of caller.now) (allows right.entry) ups.now next ≡ next u)
+        (λ refusal. (next : ℕ → definitions.Answer) → with_right scene.now (caller_of caller.now) (allows right.entry) ups.now next ≡ refused refusal) }
+{
+    let Some(user) = caller.user() else {
+        return Err(Refusal::UsernameRequired);
+    };
+    let Some(password) = caller.password() else {
+        return Err(Refusal::PasswordRequired);
+    };
+    let u = scene.number_of(ups)?;
+    if !has_right(scene.config, user, password, right) {
+        return Err(Refusal::AccessDenied);
+    }
+    Ok(u)
+}

@@ -1,0 +1,187 @@
+//! What a server is made with.
+
+ghost use Rattle.std.specs.Prelude.{◌≡◌, ◌<◌, ◌≤◌, IfSome, length, slice_get};
+ghost use Rattle.nut_history.specs.Configuration.{number_of_ups, ups_named, user_named, has_password, may_act, may_command};
+ghost use Rattle.nut_server.specs.Configured.{configuration_of, upses_of, users_of};
+
+use nut_conf::{Action, Role, UpsConf, UpsdConf, UsersConf};
+use std::marker::Model;
+
+/// A UPS, lent from the configuration.
+#[derive(Drop)]
+pub struct Ups<'a> {
+    /// The name by which clients ask for it.
+    pub name: &'a [u8],
+    /// The program of its driver.
+    pub driver: &'a [u8],
+    /// What people call it.
+    pub description: &'a [u8],
+}
+
+impl<'a> Model for Ups<'a> {
+    ghost use Rattle.nut_history.specs.Configuration as definitions;
+
+    ghost Value = { definitions.Ups };
+
+    ghost view = { λ u. record { name = u.name.now; driver = u.driver.now; description = u.description.now } };
+}
+
+/// A user, lent from the configuration.
+#[derive(Drop)]
+pub struct User<'a> {
+    name: &'a [u8],
+    entry: &'a nut_conf::User,
+}
+
+impl<'a> Model for User<'a> {
+    ghost use Rattle.nut_history.specs.Configuration as definitions;
+    ghost use Rattle.nut_server.specs.Configured.{user_of};
+
+    ghost Value = { definitions.User };
+
+    ghost view = { λ u. user_of u.name.now u.entry.now };
+}
+
+impl<'a> User<'a> {
+    /// Whether the user's password is this one. A user without a password has none.
+    pub fn has_password(&self, password: &[u8]) -> bool
+        ensures { result ≡ has_password password.now self.now }
+    {
+        self.entry.has_password(password)
+    }
+
+    /// Whether the user may take the action.
+    pub fn may_act(&self, action: Action) -> bool
+        ensures { result ≡ may_act action self.now }
+    {
+        self.entry.may_act(action)
+    }
+
+    /// Whether the user may give the command with this name.
+    pub fn may_command(&self, name: &[u8]) -> bool
+        ensures { result ≡ may_command name.now self.now }
+    {
+        self.entry.may_command(name)
+    }
+
+    /// What the user's monitor is to a UPS, if it may be a monitor.
+    pub fn role(&self) -> Option<Role>
+        ensures { result ≡ self.now.role }
+    {
+        self.entry.upsmon
+    }
+}
+
+/// The configuration of a server: ups.conf(5), upsd.users(5) and upsd.conf(5).
+#[derive(Drop)]
+pub struct Config {
+    ups: UpsConf,
+    users: UsersConf,
+    upsd: UpsdConf,
+}
+
+impl Model for Config {
+    ghost use Rattle.nut_history.specs.Configuration.{Configuration};
+    ghost use Rattle.nut_server.specs.Configured.{configuration_of};
+
+    ghost Value = { Configuration };
+
+    ghost view = { λ c. configuration_of c.ups c.users c.upsd };
+}
+
+impl Config {
+    /// What these three files set.
+    pub fn new(ups: UpsConf, users: UsersConf, upsd: UpsdConf) -> Config
+        ensures { result ≡ configuration_of ups users upsd }
+    {
+        Config { ups, users, upsd }
+    }
+
+    /// What ups.conf sets.
+    pub fn ups(&self) -> &UpsConf
+        ensures { upses_of result.now ≡ self.now.upses }
+    {
+        &self.ups
+    }
+
+    /// What upsd.users sets.
+    pub fn users(&self) -> &UsersConf
+        ensures { users_of result.now ≡ self.now.users }
+    {
+        &self.users
+    }
+
+    /// How many UPSes there are, at most 32.
+    pub fn number_of_upses(&self) -> usize
+        ensures len { result ≡ length self.now.upses }
+        ensures few { result ≤ 32 }
+    {
+        self.ups.len()
+    }
+
+    /// The number of the first UPS of this name, counted from 0 in the order of the file.
+    ///
+    /// Takes no memory, and no longer for many UPSes.
+    pub fn find_ups(&self, name: &[u8]) -> Option<usize>
+        ensures number { result ≡ number_of_ups name.now self.now.upses }
+        ensures within { IfSome result (λ u. u < length self.now.upses) }
+    {
+        self.ups.find(name)
+    }
+
+    /// The UPS with this number.
+    pub fn ups_at(&self, u: usize) -> Option<Ups<'_>>
+        ensures { result ≡ slice_get self.now.upses u }
+    {
+        let Some(name) = self.ups.name(u) else {
+            return None;
+        };
+        let Some(entry) = self.ups.get(u) else {
+            return None;
+        };
+        Some(Ups {
+            name: name.as_bytes(),
+            driver: entry.driver(),
+            description: entry.desc(),
+        })
+    }
+
+    /// The first UPS of this name. Takes no memory, and no longer for many UPSes.
+    pub fn ups_named(&self, name: &[u8]) -> Option<Ups<'_>>
+        ensures { result ≡ ups_named name.now self.now.upses }
+    {
+        match self.find_ups(name) {
+            Some(u) => self.ups_at(u),
+            None => None,
+        }
+    }
+
+    /// The first user of this name. Takes no memory, and no longer for many users.
+    pub fn find_user<'a>(&'a self, name: &'a [u8]) -> Option<User<'a>>
+        ensures { result ≡ user_named name.now self.now.users }
+    {
+        match self.users.find(name) {
+            Some(entry) => Some(User { name, entry }),
+            None => None,
+        }
+    }
+
+    /// After how many seconds without a word from its driver the data of a UPS is stale, 1 to 86,400 (MAXAGE of
+    /// upsd.conf(5)).
+    pub fn max_age(&self) -> u32
+        ensures value { result ≡ self.now.max_age }
+        ensures least { 1 ≤ result }
+        ensures most { result ≤ 86400 }
+    {
+        self.upsd.max_age()
+    }
+
+    /// How many connections may be open at once, 1 to 256 (MAXCONN of upsd.conf(5)).
+    pub fn most_connections(&self) -> usize
+        ensures value { result ≡ self.now.most_connections }
+        ensures least { 1 ≤ result }
+        ensures most { result ≤ 256 }
+    {
+        self.upsd.max_conn() as usize
+    }
+}

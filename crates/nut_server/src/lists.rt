@@ -1,0 +1,110 @@
+//! What LIST is answered (RFC 9271).
+
+ghost use Rattle.std.specs.Prelude.{◌≡◌};
+ghost use Rattle.nut_proto.specs.declared.request.ListQuery.TheVariants as queries;
+ghost use Rattle.nut_history.specs.Answer.{list_answer};
+ghost use Rattle.nut_server.specs.Answers.{outcome};
+
+use crate::answer::{Answer, Rows};
+use crate::queries::variable_of;
+use crate::scene::Scene;
+use nut_proto::{ListQuery, Refusal, Word};
+
+/// The variables of a UPS.
+fn list_variables<'a>(scene: &'a Scene<'_>, ups: &'a [u8]) -> Result<Answer<'a>, Refusal>
+    ensures { outcome result ≡ list_answer scene.now (queries.Var ups.now) }
+{
+    let device = scene.data_of(scene.number_of(ups)?)?;
+    let query = ListQuery::Var {
+        ups: Word::new(ups),
+    };
+    Ok(Answer::Listing(query, Rows::Variables(ups, device)))
+}
+
+/// Those of its variables that may be set.
+fn list_writable<'a>(scene: &'a Scene<'_>, ups: &'a [u8]) -> Result<Answer<'a>, Refusal>
+    ensures { outcome result ≡ list_answer scene.now (queries.Rw ups.now) }
+{
+    let device = scene.data_of(scene.number_of(ups)?)?;
+    let query = ListQuery::Rw {
+        ups: Word::new(ups),
+    };
+    Ok(Answer::Listing(query, Rows::Writable(ups, device)))
+}
+
+/// Its commands.
+fn list_commands<'a>(scene: &'a Scene<'_>, ups: &'a [u8]) -> Result<Answer<'a>, Refusal>
+    ensures { outcome result ≡ list_answer scene.now (queries.Cmd ups.now) }
+{
+    let device = scene.data_of(scene.number_of(ups)?)?;
+    let query = ListQuery::Cmd {
+        ups: Word::new(ups),
+    };
+    Ok(Answer::Listing(query, Rows::Commands(ups, device)))
+}
+
+/// The values that a variable takes.
+fn list_enums<'a>(
+    scene: &'a Scene<'_>,
+    ups: &'a [u8],
+    name: &'a [u8],
+) -> Result<Answer<'a>, Refusal>
+    ensures { outcome result ≡ list_answer scene.now (queries.Enum ups.now name.now) }
+{
+    let device = scene.data_of(scene.number_of(ups)?)?;
+    let variable = variable_of(device, name)?;
+    let query = ListQuery::Enum {
+        ups: Word::new(ups),
+        variable: Word::new(name),
+    };
+    Ok(Answer::Listing(query, Rows::Enums(ups, name, variable)))
+}
+
+/// The ranges of numbers that a variable takes.
+fn list_ranges<'a>(
+    scene: &'a Scene<'_>,
+    ups: &'a [u8],
+    name: &'a [u8],
+) -> Result<Answer<'a>, Refusal>
+    ensures { outcome result ≡ list_answer scene.now (queries.Range ups.now name.now) }
+{
+    let device = scene.data_of(scene.number_of(ups)?)?;
+    let variable = variable_of(device, name)?;
+    let query = ListQuery::Range {
+        ups: Word::new(ups),
+        variable: Word::new(name),
+    };
+    Ok(Answer::Listing(query, Rows::Ranges(ups, name, variable)))
+}
+
+/// The clients that are logged in to a UPS.
+fn list_clients<'a>(scene: &'a Scene<'_>, ups: &'a [u8]) -> Result<Answer<'a>, Refusal>
+    ensures { outcome result ≡ list_answer scene.now (queries.Client ups.now) }
+{
+    let u = scene.number_of(ups)?;
+    scene.data_of(u)?;
+    let query = ListQuery::Client {
+        ups: Word::new(ups),
+    };
+    Ok(Answer::Listing(query, Rows::Clients(ups, u, scene.connections)))
+}
+
+/// What a LIST is answered.
+pub fn list_answer<'a>(
+    scene: &'a Scene<'_>,
+    query: &'a ListQuery<'_>,
+) -> Result<Answer<'a>, Refusal>
+    ensures { outcome result ≡ list_answer scene.now query.now }
+{
+    match query {
+        ListQuery::Ups => Ok(Answer::Listing(ListQuery::Ups, Rows::Upses(scene.config))),
+        ListQuery::Var { ups } => list_variables(scene, ups.as_bytes()),
+        ListQuery::Rw { ups } => list_writable(scene, ups.as_bytes()),
+        ListQuery::Cmd { ups } => list_commands(scene, ups.as_bytes()),
+        ListQuery::Enum { ups, variable } => list_enums(scene, ups.as_bytes(), variable.as_bytes()),
+        ListQuery::Range { ups, variable } => {
+            list_ranges(scene, ups.as_bytes(), variable.as_bytes())
+        }
+        ListQuery::Client { ups } => list_clients(scene, ups.as_bytes()),
+    }
+}

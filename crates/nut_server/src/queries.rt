@@ -1,0 +1,122 @@
+//! What GET and LIST are answered (RFC 9271).
+
+ghost use Rattle.std.specs.Prelude.{◌≡◌, None, Some, MatchResult, length, map, filter};
+ghost use Rattle.nut_proto.specs.declared.refusal.Refusal.TheVariants as refusals;
+ghost use Rattle.nut_proto.specs.declared.reply.Reply.TheVariants as replies;
+ghost use Rattle.nut_proto.specs.declared.request.ListQuery.TheVariants as queries;
+ghost use Rattle.nut_proto.specs.Descriptions.{variable_description, command_description};
+ghost use Rattle.nut_history.specs.Answer.{Line, Listing, described, guests_of, list_answer, on_command, on_data, on_device, on_ups, on_variable, rw_row, type_reply, var_row};
+ghost use Rattle.nut_history.specs.Configuration.{ups_named};
+ghost use Rattle.nut_state.specs.Table.{variable};
+ghost use Rattle.nut_server.specs.Answers.{outcome};
+
+use crate::answer::{Answer, Rows};
+use crate::device::Device;
+use crate::scene::Scene;
+use crate::setting::kind_of;
+use nut_proto::{ListQuery, Refusal, Reply, Word, command_description, variable_description};
+use nut_state::Variable;
+
+/// The variable of this name, where the UPS has it.
+pub fn variable_of<'a>(device: &'a Device, name: &[u8]) -> Result<&'a Variable, Refusal>
+    ensures { MatchResult result
+        (λ v. variable device.now.device.table name.now ≡ Some v.now)
+        (λ refusal. (variable device.now.device.table name.now ≡ None) × (refusal ≡ refusals.VarNotSupported)) }
+{
+    device
+        .table()
+        .variable(name)
+        .ok_or(Refusal::VarNotSupported)
+}
+
+/// How many clients are logged in to a UPS.
+pub fn count_logins<'a>(scene: &'a Scene<'_>, ups: &'a [u8]) -> Result<Answer<'a>, Refusal>
+    ensures { outcome result ≡ on_ups scene.now ups.now (λ u. on_data scene.now u (λ d. Line (replies.NumLogins ups.now (length (guests_of u scene.now.guests))))) }
+{
+    let u = scene.number_of(ups)?;
+    scene.data_of(u)?;
+    Ok(Answer::Line(Reply::NumLogins {
+        ups: Word::new(ups),
+        count: scene.connections.logged_in(u) as u32,
+    }))
+}
+
+/// What people call a UPS.
+pub fn describe_ups<'a>(scene: &'a Scene<'_>, ups: &'a [u8]) -> Result<Answer<'a>, Refusal>
+    ensures { outcome result ≡ described ups.now (ups_named ups.now scene.now.configuration.upses) }
+{
+    let Some(entry) = scene.config.ups_named(ups) else {
+        return Err(Refusal::UnknownUps);
+    };
+    Ok(Answer::Line(Reply::UpsDesc {
+        ups: Word::new(ups),
+        description: Word::new(entry.description),
+    }))
+}
+
+/// The value of a variable.
+pub fn show_variable<'a>(
+    scene: &'a Scene<'_>,
+    ups: &'a [u8],
+    name: &[u8],
+) -> Result<Answer<'a>, Refusal>
+    ensures { outcome result ≡ on_device scene.now ups.now (λ d. on_variable name.now d (λ v. Line (var_row ups.now d v))) }
+{
+    let device = scene.data_of(scene.number_of(ups)?)?;
+    let variable = variable_of(device, name)?;
+    Ok(Answer::Value(ups, device, variable))
+}
+
+/// Whether a variable may be set, and what values it takes.
+pub fn show_type<'a>(
+    scene: &'a Scene<'_>,
+    ups: &'a [u8],
+    name: &[u8],
+) -> Result<Answer<'a>, Refusal>
+    ensures { outcome result ≡ on_device scene.now ups.now (λ d. on_variable name.now d (λ v. Line (type_reply ups.now v))) }
+{
+    let device = scene.data_of(scene.number_of(ups)?)?;
+    let variable = variable_of(device, name)?;
+    Ok(Answer::Line(Reply::Type {
+        ups: Word::new(ups),
+        variable: Word::new(variable.name()),
+        writable: variable.flags().writable,
+        kind: kind_of(variable),
+    }))
+}
+
+/// What a variable tells.
+pub fn describe_variable<'a>(
+    scene: &'a Scene<'_>,
+    ups: &'a [u8],
+    name: &'a [u8],
+) -> Result<Answer<'a>, Refusal>
+    ensures { outcome result ≡ on_device scene.now ups.now (λ d. on_variable name.now d (λ v. Line (replies.Desc ups.now name.now (variable_description name.now)))) }
+{
+    let device = scene.data_of(scene.number_of(ups)?)?;
+    variable_of(device, name)?;
+    Ok(Answer::Line(Reply::Desc {
+        ups: Word::new(ups),
+        variable: Word::new(name),
+        description: Word::new(variable_description(name)),
+    }))
+}
+
+/// What a command does.
+pub fn describe_command<'a>(
+    scene: &'a Scene<'_>,
+    ups: &'a [u8],
+    name: &'a [u8],
+) -> Result<Answer<'a>, Refusal>
+    ensures { outcome result ≡ on_device scene.now ups.now (λ d. on_command name.now d (Line (replies.CmdDesc ups.now name.now (command_description name.now)))) }
+{
+    let device = scene.data_of(scene.number_of(ups)?)?;
+    if !device.table().has_cmd(name) {
+        return Err(Refusal::CmdNotSupported);
+    }
+    Ok(Answer::Line(Reply::CmdDesc {
+        ups: Word::new(ups),
+        command: Word::new(name),
+        description: Word::new(command_description(name)),
+    }))
+}

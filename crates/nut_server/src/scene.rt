@@ -1,0 +1,63 @@
+//! What is known where a line is answered.
+
+ghost use Rattle.std.specs.Prelude.{◌≡◌, None, Some, MatchResult};
+ghost use Rattle.nut_proto.specs.declared.refusal.Refusal.TheVariants as refusals;
+ghost use Rattle.nut_history.specs.Answer.{ups_number, device_at};
+ghost use Rattle.nut_history.specs.Device.{trouble};
+
+use crate::config::Config;
+use crate::connections::Connections;
+use crate::device::Device;
+use nut_proto::Refusal;
+use std::marker::Model;
+
+/// The configuration, the time in seconds since the start, the UPSes by their numbers, and the open connections.
+#[derive(Drop)]
+pub struct Scene<'a> {
+    pub config: &'a Config,
+    pub clock: u64,
+    pub devices: &'a [Device],
+    pub connections: &'a Connections,
+}
+
+impl<'a> Model for Scene<'a> {
+    ghost use Rattle.std.specs.Prelude.{map};
+    ghost use Rattle.nut_history.specs.Answer as definitions;
+    ghost use Rattle.nut_history.specs.Machine.{guest_of};
+
+    ghost Value = { definitions.Scene };
+
+    ghost view = { λ s. record {
+      configuration = s.config.now;
+      clock = s.clock;
+      devices = map (λ d. d.device) s.devices.now;
+      guests = map guest_of s.connections.now;
+    } };
+}
+
+impl<'a> Scene<'a> {
+    /// The number of the UPS of this name.
+    pub fn number_of(&self, name: &[u8]) -> Result<usize, Refusal>
+        ensures { MatchResult result
+            (λ u. ups_number self.now name.now ≡ Some u)
+            (λ refusal. (ups_number self.now name.now ≡ None) × (refusal ≡ refusals.UnknownUps)) }
+    {
+        self.config.find_ups(name).ok_or(Refusal::UnknownUps)
+    }
+
+    /// The UPS with this number, where it can be asked about.
+    pub fn data_of(&self, u: usize) -> Result<&'a Device, Refusal>
+        ensures { MatchResult result
+            (λ d. (device_at self.now u ≡ d.now.device)
+            × (trouble self.now.configuration.max_age self.now.clock (device_at self.now u) ≡ None))
+            (λ refusal. trouble self.now.configuration.max_age self.now.clock (device_at self.now u) ≡ Some refusal) }
+    {
+        let Some(device) = self.devices.get(u) else {
+            return Err(Refusal::DriverNotConnected);
+        };
+        match device.trouble(u64::from(self.config.max_age()), self.clock) {
+            Some(refusal) => Err(refusal),
+            None => Ok(device),
+        }
+    }
+}

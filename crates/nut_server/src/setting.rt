@@ -1,0 +1,91 @@
+//! What may be set, and what fits behind the requests that wait for a driver.
+
+ghost use Rattle.std.specs.Prelude.{◌≡◌};
+ghost use Rattle.std.specs.List.{list_any};
+ghost use Rattle.nut_proto.specs.DriverAsks.{ask_line};
+ghost use Rattle.nut_state.specs.Attribute.{lists_enum};
+ghost use Rattle.nut_history.specs.Answer.{is_in_range, is_in_ranges, kind_of, misfit, misfit_by};
+ghost use Rattle.nut_history.specs.Device.{fits};
+
+use crate::device::Device;
+use arrayvec::ArrayVec;
+use nut_proto::{DriverAsk, Refusal, VariableKind};
+use nut_state::{Range, Text, VALUE_BYTES, Variable, whole_number};
+
+/// The kind of a variable.
+pub fn kind_of(variable: &Variable) -> VariableKind
+    ensures { result ≡ kind_of variable.now }
+{
+    if !variable.enums().is_empty() {
+        return VariableKind::Enum;
+    }
+    if !variable.ranges().is_empty() {
+        return VariableKind::Range;
+    }
+    if variable.flags().string {
+        return VariableKind::String(u32::from(variable.aux()));
+    }
+    VariableKind::Number
+}
+
+fn lists_enum(value: &[u8], listed: &[Text]) -> bool
+    ensures { result ≡ lists_enum value.now listed.now }
+{
+    listed.iter().any(|text| text.as_bytes() == value)
+}
+
+fn is_in_range(number: i32, range: Range) -> bool
+    ensures { result ≡ is_in_range number range }
+{
+    range.minimum <= number && number <= range.maximum
+}
+
+fn lists_number(number: i32, ranges: &[Range]) -> bool
+    ensures { result ≡ list_any (is_in_range number) ranges.now }
+{
+    ranges.iter().any(|range| is_in_range(number, *range))
+}
+
+fn is_in_ranges(number: Option<i32>, ranges: &[Range]) -> bool
+    ensures { result ≡ is_in_ranges number ranges.now }
+{
+    match number {
+        Some(number) => lists_number(number, ranges),
+        None => false,
+    }
+}
+
+/// Why a variable doesn't take a value of at most 128 bytes, by its kind.
+fn misfit_by(kind: VariableKind, variable: &Variable, value: &[u8]) -> Option<Refusal>
+    ensures { result ≡ misfit_by kind variable.now value.now }
+{
+    match kind {
+        VariableKind::Enum if lists_enum(value, variable.enums()) => None,
+        VariableKind::Enum => Some(Refusal::InvalidValue),
+        VariableKind::Range if is_in_ranges(whole_number(value), variable.ranges()) => None,
+        VariableKind::Range => Some(Refusal::InvalidValue),
+        VariableKind::String(most) if value.len() > most as usize => Some(Refusal::TooLong),
+        VariableKind::String(_) | VariableKind::Number => None,
+    }
+}
+
+/// Why a variable doesn't take a value: it may not be set, the value is too long, or doesn't fit the variable's kind.
+pub fn misfit(variable: &Variable, value: &[u8]) -> Option<Refusal>
+    ensures { result ≡ misfit variable.now value.now }
+{
+    if !variable.flags().writable {
+        return Some(Refusal::ReadOnly);
+    }
+    if value.len() > VALUE_BYTES {
+        return Some(Refusal::TooLong);
+    }
+    misfit_by(kind_of(variable), variable, value)
+}
+
+/// Whether what is asked of a driver fits behind what waits for it. Takes no memory.
+pub fn has_room(device: &Device, ask: &DriverAsk<'_>) -> bool
+    ensures { result ≡ fits (ask_line ask.now) device.now.device }
+{
+    let mut line = ArrayVec::<u8, 4096>::new();
+    ask.put_in(&mut line) && device.fits(line.as_slice())
+}

@@ -1,0 +1,273 @@
+//! The bytes of answers.
+
+ghost use Rattle.std.specs.Prelude.{◌≡◌, ◌≤◌, ◌&&◌, ◌++◌, OnOk, codes, flat_map, length, map, filter};
+ghost use Rattle.std.specs.Str.{bytes_eq};
+ghost use Rattle.nut_proto.specs.declared.reply.Reply.TheVariants as replies;
+ghost use Rattle.nut_proto.specs.Replies.{reply_line};
+ghost use Rattle.nut_history.specs.Answer.{guests_of, rw_row, text_of, var_row};
+ghost use Rattle.nut_history.specs.Machine.{guest_of};
+ghost use Rattle.nut_server.specs.Answers.{given, rows_of};
+ghost use Rattle.nut_server.specs.Rows.{writable_text, client_text};
+
+use crate::answer::{Answer, Rows};
+use crate::config::{Config, Ups};
+use crate::connection::Connection;
+use crate::connections::Connections;
+use crate::device::Device;
+use arrayvec::ArrayVec;
+use nut_proto::{Reply, Word};
+use nut_state::{Name, Range, Text, Variable};
+use std::alloc::AllocError;
+
+// ---- rows
+
+fn is_named(variable: &Variable, name: &[u8]) -> bool
+    ensures { result ≡ bytes_eq variable.now.name name.now }
+{
+    variable.name() == name
+}
+
+/// Whether the value is shown with `FSD ` in front: it is the status of a UPS whose shutdown was forced.
+fn shows_forced(device: &Device, variable: &Variable) -> bool
+    ensures { result ≡ (device.now.device.forced && bytes_eq variable.now.name (codes "ups.status")) }
+{
+    device.is_forced() && is_named(variable, b"ups.status")
+}
+
+/// The value with `FSD ` in front.
+fn forced(value: &[u8]) -> ArrayVec<u8, 132>
+    requires { length value.now ≤ 128 }
+    ensures { result.items ≡ codes "FSD " ++ value.now }
+{
+    let mut shown = ArrayVec::new();
+    shown.try_extend_from_slice(b"FSD ").unwrap();
+    shown.try_extend_from_slice(value).unwrap();
+    shown
+}
+
+fn put_var(out: &mut Vec<u8>, ups: &[u8], name: &[u8], value: &[u8]) -> Result<(), AllocError>
+    ensures { OnOk result (out.new.items ≡ out.old.items ++ reply_line (replies.Var ups.now name.now value.now)) }
+{
+    let row = Reply::Var {
+        ups: Word::new(ups),
+        variable: Word::new(name),
+        value: Word::new(value),
+    };
+    row.put(out)
+}
+
+fn put_rw(out: &mut Vec<u8>, ups: &[u8], name: &[u8], value: &[u8]) -> Result<(), AllocError>
+    ensures { OnOk result (out.new.items ≡ out.old.items ++ reply_line (replies.Rw ups.now name.now value.now)) }
+{
+    let row = Reply::Rw {
+        ups: Word::new(ups),
+        variable: Word::new(name),
+        value: Word::new(value),
+    };
+    row.put(out)
+}
+
+/// A variable of a UPS with its value as it is shown.
+fn put_variable(
+    out: &mut Vec<u8>,
+    ups: &[u8],
+    device: &Device,
+    variable: &Variable,
+) -> Result<(), AllocError>
+    ensures { OnOk result (out.new.items ≡ out.old.items ++ reply_line (var_row ups.now device.now.device variable.now)) }
+{
+    if shows_forced(device, variable) {
+        let shown = forced(variable.value());
+        return put_var(out, ups, variable.name(), shown.as_slice());
+    }
+    put_var(out, ups, variable.name(), variable.value())
+}
+
+/// A variable of a UPS that may be set, with its value as it is shown.
+fn put_writable(
+    out: &mut Vec<u8>,
+    ups: &[u8],
+    device: &Device,
+    variable: &Variable,
+) -> Result<(), AllocError>
+    ensures { OnOk result (out.new.items ≡ out.old.items ++ reply_line (rw_row ups.now device.now.device variable.now)) }
+{
+    if shows_forced(device, variable) {
+        let shown = forced(variable.value());
+        return put_rw(out, ups, variable.name(), shown.as_slice());
+    }
+    put_rw(out, ups, variable.name(), variable.value())
+}
+
+fn put_ups(out: &mut Vec<u8>, ups: &Ups<'_>) -> Result<(), AllocError>
+    ensures { OnOk result (out.new.items ≡ out.old.items ++ reply_line (replies.Ups ups.now.name ups.now.description)) }
+{
+    let row = Reply::Ups {
+        ups: Word::new(ups.name),
+        description: Word::new(ups.description),
+    };
+    row.put(out)
+}
+
+fn put_command(out: &mut Vec<u8>, ups: &[u8], command: &Name) -> Result<(), AllocError>
+    ensures { OnOk result (out.new.items ≡ out.old.items ++ reply_line (replies.Cmd ups.now command.now)) }
+{
+    let row = Reply::Cmd {
+        ups: Word::new(ups),
+        command: Word::new(command.as_bytes()),
+    };
+    row.put(out)
+}
+
+fn put_enum(out: &mut Vec<u8>, ups: &[u8], name: &[u8], value: &Text) -> Result<(), AllocError>
+    ensures { OnOk result (out.new.items ≡ out.old.items ++ reply_line (replies.Enum ups.now name.now value.now)) }
+{
+    let row = Reply::Enum {
+        ups: Word::new(ups),
+        variable: Word::new(name),
+        value: Word::new(value.as_bytes()),
+    };
+    row.put(out)
+}
+
+fn put_range(out: &mut Vec<u8>, ups: &[u8], name: &[u8], range: Range) -> Result<(), AllocError>
+    ensures { OnOk result (out.new.items ≡ out.old.items ++ reply_line (replies.Range ups.now name.now range.minimum range.maximum)) }
+{
+    let row = Reply::Range {
+        ups: Word::new(ups),
+        variable: Word::new(name),
+        min: range.minimum,
+        max: range.maximum,
+    };
+    row.put(out)
+}
+
+fn put_client(out: &mut Vec<u8>, ups: &[u8], client: &Connection) -> Result<(), AllocError>
+    ensures { OnOk result (out.new.items ≡ out.old.items ++ reply_line (replies.Client ups.now client.now.address)) }
+{
+    let row = Reply::Client {
+        ups: Word::new(ups),
+        address: Word::new(client.address()),
+    };
+    row.put(out)
+}
+
+// ---- lists, each of which walks its table once
+
+fn put_upses(out: &mut Vec<u8>, config: &Config) -> Result<(), AllocError>
+    ensures { OnOk result (out.new.items ≡ out.old.items ++ flat_map (λ ups. reply_line (replies.Ups ups.name ups.description)) config.now.upses) }
+{
+    for u in 0..config.number_of_upses() {
+        if let Some(ups) = config.ups_at(u) {
+            put_ups(out, &ups)?;
+        }
+    }
+    Ok(())
+}
+
+fn put_variables(out: &mut Vec<u8>, ups: &[u8], device: &Device) -> Result<(), AllocError>
+    ensures { OnOk result (out.new.items ≡ out.old.items ++ flat_map (λ v. reply_line (var_row ups.now device.now.device v)) device.now.device.table.variables) }
+{
+    for variable in device.table().variables() {
+        put_variable(out, ups, device, variable)?;
+    }
+    Ok(())
+}
+
+fn put_writables(out: &mut Vec<u8>, ups: &[u8], device: &Device) -> Result<(), AllocError>
+    ensures { OnOk result (out.new.items ≡ out.old.items ++ flat_map (writable_text ups.now device.now.device) device.now.device.table.variables) }
+{
+    for variable in device.table().variables() {
+        if variable.flags().writable {
+            put_writable(out, ups, device, variable)?;
+        }
+    }
+    Ok(())
+}
+
+fn put_commands(out: &mut Vec<u8>, ups: &[u8], device: &Device) -> Result<(), AllocError>
+    ensures { OnOk result (out.new.items ≡ out.old.items ++ flat_map (λ k. reply_line (replies.Cmd ups.now k)) device.now.device.table.commands) }
+{
+    for command in device.table().commands() {
+        put_command(out, ups, command)?;
+    }
+    Ok(())
+}
+
+fn put_enums(
+    out: &mut Vec<u8>,
+    ups: &[u8],
+    name: &[u8],
+    variable: &Variable,
+) -> Result<(), AllocError>
+    ensures { OnOk result (out.new.items ≡ out.old.items ++ flat_map (λ x. reply_line (replies.Enum ups.now name.now x)) variable.now.enums) }
+{
+    for value in variable.enums() {
+        put_enum(out, ups, name, value)?;
+    }
+    Ok(())
+}
+
+fn put_ranges(
+    out: &mut Vec<u8>,
+    ups: &[u8],
+    name: &[u8],
+    variable: &Variable,
+) -> Result<(), AllocError>
+    ensures { OnOk result (out.new.items ≡ out.old.items ++ flat_map (λ r. reply_line (replies.Range ups.now name.now r.minimum r.maximum)) variable.now.ranges) }
+{
+    for range in variable.ranges() {
+        put_range(out, ups, name, *range)?;
+    }
+    Ok(())
+}
+
+fn put_clients(
+    out: &mut Vec<u8>,
+    ups: &[u8],
+    u: usize,
+    connections: &Connections,
+) -> Result<(), AllocError>
+    ensures { OnOk result (out.new.items ≡ out.old.items ++ flat_map (client_text ups.now u) connections.now) }
+{
+    for index in 0..connections.len() {
+        let client = connections.at(index);
+        if client.is_logged_in(u) {
+            put_client(out, ups, client)?;
+        }
+    }
+    Ok(())
+}
+
+// ---- answers
+
+fn put_rows(out: &mut Vec<u8>, rows: &Rows<'_>) -> Result<(), AllocError>
+    ensures { OnOk result (out.new.items ≡ out.old.items ++ flat_map reply_line (rows_of rows.now)) }
+{
+    match rows {
+        Rows::Upses(config) => put_upses(out, config),
+        Rows::Variables(ups, device) => put_variables(out, ups, device),
+        Rows::Writable(ups, device) => put_writables(out, ups, device),
+        Rows::Commands(ups, device) => put_commands(out, ups, device),
+        Rows::Enums(ups, name, variable) => put_enums(out, ups, name, variable),
+        Rows::Ranges(ups, name, variable) => put_ranges(out, ups, name, variable),
+        Rows::Clients(ups, u, connections) => put_clients(out, ups, *u, connections),
+    }
+}
+
+/// Appends the bytes of an answer. An `Err` is for want of memory: then `out` may have a part of them.
+#[tactic(auto, unfolding(nut_history::specs::Answer::text_of))]
+pub fn put_answer(out: &mut Vec<u8>, answer: &Answer<'_>) -> Result<(), AllocError>
+    ensures { OnOk result (out.new.items ≡ out.old.items ++ text_of (given answer.now)) }
+{
+    match answer {
+        Answer::Silence => Ok(()),
+        Answer::Line(reply) => reply.put(out),
+        Answer::Value(ups, device, variable) => put_variable(out, ups, device, variable),
+        Answer::Listing(query, rows) => {
+            query.put_begin(out)?;
+            put_rows(out, rows)?;
+            query.put_end(out)
+        }
+    }
+}
