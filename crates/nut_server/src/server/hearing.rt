@@ -11,7 +11,7 @@ ghost use Rattle.nut_history.specs.Content.{Session};
 ghost use Rattle.nut_history.specs.Device.{fits};
 ghost use Rattle.nut_history.specs.Effect.{target, request_of};
 ghost use Rattle.nut_history.specs.Machine.{act_on, acted, answer_in, bytes_heard, caller_of, scene_of, with_supplies, without, with_sessions};
-ghost use Rattle.nut_history.specs.Outcome.{line_takes, MayRunOut};
+ghost use Rattle.nut_history.specs.Outcome.{line_takes};
 ghost use Rattle.nut_server.specs.Asking.{meant};
 ghost use Rattle.nut_server.specs.Effects.{HasShortNames, answered_by, forced, reply_of, requesting};
 ghost use Rattle.nut_server.specs.Place.{Stands};

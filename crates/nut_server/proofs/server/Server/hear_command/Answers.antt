@@ -11,9 +11,6 @@ use Rattle.nut_server.specs.contracts.server.Server.{the_view}
 use Rattle.nut_server.proofs.Saying.{answered_all}
 use Rattle.nut_server.proofs.server.Server.hear_command.Goals as goal
 
-pub reply-requires : goal.reply-requires
-reply-requires c = record { few = omega (arith, length-map c.self.inside.connections guest_of, length-map c.self.inside.connections (λ k. k.number), c.self.invariant.within, c.self.invariant.most) }
-
 pub invariant_of-self-2 : goal.invariant_of-self-2
 invariant_of-self-2 c =
     let before = c.self.invariant in
