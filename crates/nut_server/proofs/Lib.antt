@@ -13,3 +13,5 @@ pub mod ByVerdict
 pub mod Acting
 pub mod Saying
 pub mod ShortNames
+pub mod Arrives
+pub mod Heard

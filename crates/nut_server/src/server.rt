@@ -1,14 +1,16 @@
 //! The server.
 
-ghost use Rattle.std.specs.Prelude.{◌≡◌, ◌<◌, ℕ, List, [], Some, None, Result, Ok, Err, IfOk, IfSome, length};
+ghost use Rattle.std.specs.Prelude.{◌≡◌, ◌<◌, ℕ, List, [], Some, None, Result, Ok, Err, IfOk, IfSome, map, length};
 ghost use Rattle.nut_queue.specs.Front.{IsFrontPart};
 ghost use Rattle.nut_history.specs.Configuration.{Configuration};
 ghost use Rattle.nut_history.specs.Event.{Event, Moment, Open, Bytes, Took, Close, DriverUp, DriverBytes, DriverTook, DriverDown};
 ghost use Rattle.nut_history.specs.Content.{content};
+ghost use Rattle.nut_history.specs.Trace.{below};
+ghost use Rattle.nut_server.specs.Server.{unheard};
 ghost use Rattle.nut_history.specs.Acceptance.{Tells, refusal, session_of, supply_of, waiting_of, asks_of, may_read, leaves, kept, is_connected};
 ghost use Rattle.nut_history.specs.Outcome.{IsAnswer, after, content_after};
 ghost use Rattle.nut_server.specs.Arrival.{event_of};
-ghost use Rattle.nut_server.specs.Settling.{IsNextUnsettled};
+ghost use Rattle.nut_server.specs.Settling.{IsNextUnsettled, IsNextWaiting};
 
 use crate::address::address_of;
 use crate::arrival::{Arrival, PIECE_MAX};
@@ -21,10 +23,11 @@ use std::alloc::{AllocError, Global};
 use std::marker::Model;
 use thiserror::Error;
 
+mod arriving;
 mod hearing;
 
 /// How many connections a server opens in its life.
-const MOST_OPENED: u64 = 4_294_967_295;
+pub(crate) const MOST_OPENED: u64 = 4_294_967_295;
 
 /// Why a server can't be made.
 #[derive(Clone, Copy, Debug, PartialEq, Eq, Error)]
@@ -69,7 +72,40 @@ impl Model for Server {
     ghost invariant = { IsOrderly };
 }
 
+/// So many UPSes of which nothing was told.
+fn untold(alloc: Global, count: usize) -> Result<Vec<Device>, AllocError>
+    ensures { IfOk result (λ devices. devices.items ≡ map (λ u. unheard) (below count)) }
+{
+    let mut devices = Vec::new(alloc);
+    for _ in 0..count {
+        devices.push(Device::new(alloc)?)?;
+    }
+    Ok(devices)
+}
+
 impl Server {
+    /// A server that was told nothing. It takes the memory for as many connections as may be open at once and for what
+    /// waits for the drivers, so that none is lacking when a client or a driver connects.
+    ///
+    /// # Errors
+    ///
+    /// `Memory` where that memory isn't to be had.
+    pub fn new(alloc: Global, config: Config) -> Result<Server, ServerFault>
+        ensures { IfOk result (λ server. server ≡ content config []) }
+    {
+        let connections = Connections::with_room(alloc)?;
+        let devices = untold(alloc, config.number_of_upses())?;
+        Ok(Server {
+            config,
+            clock: 0,
+            opened: 0,
+            devices,
+            connections,
+            scratch: Vec::new(alloc),
+            alloc,
+        })
+    }
+
     /// How many connections were opened: the number of the newest.
     pub fn opened(&self) -> u64
         ensures { result ≡ self.now.opened }
@@ -169,5 +205,26 @@ impl Server {
             Some(device) => device.waiting(),
             None => &[],
         }
+    }
+
+    /// The least number, from `least` on, of a connection for which bytes wait or that leaves.
+    pub fn next_unsettled(&self, least: u64) -> Option<u64>
+        ensures next { IsNextUnsettled self.now.sessions least result }
+        ensures fits { IfSome result (λ c. c < u64.MAX) }
+    {
+        self.connections.first_unsettled(least)
+    }
+
+    /// The least number, from `least` on, of a UPS for whose driver bytes wait.
+    pub fn next_driver_waiting(&self, least: usize) -> Option<usize>
+        ensures next { IsNextWaiting self.now.supplies least result }
+        ensures fits { IfSome result (λ u. u < usize.MAX) }
+    {
+        for u in least..self.devices.len() {
+            if self.devices[u].waits() > 0 {
+                return Some(u);
+            }
+        }
+        None
     }
 }

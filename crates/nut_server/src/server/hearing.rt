@@ -11,7 +11,7 @@ ghost use Rattle.nut_history.specs.Content.{Session};
 ghost use Rattle.nut_history.specs.Device.{fits};
 ghost use Rattle.nut_history.specs.Effect.{target, request_of};
 ghost use Rattle.nut_history.specs.Machine.{act_on, acted, answer_in, bytes_heard, caller_of, scene_of, with_supplies, without, with_sessions};
-ghost use Rattle.nut_history.specs.Outcome.{line_takes};
+ghost use Rattle.nut_history.specs.Outcome.{content_lost, line_takes, MayRunOut};
 ghost use Rattle.nut_server.specs.Asking.{meant};
 ghost use Rattle.nut_server.specs.Effects.{HasShortNames, answered_by, forced, reply_of, requesting};
 ghost use Rattle.nut_server.specs.Place.{Stands};
@@ -159,5 +159,34 @@ impl Server {
             return Ok(());
         }
         self.hear_command(at, &command)
+    }
+}
+
+impl Server {
+    /// Takes a piece of the connection with this number, which stands at this place, line by line. An `Err` tells how
+    /// many lines were done when memory ran out; the connection is then closed.
+    pub(super) fn hear(&mut self, c: u64, at: usize, piece: &[u8]) -> Result<(), usize>
+        requires { Stands c self.old.sessions at }
+        ensures ok { OnOk result (self.new ≡ bytes_heard c piece.now self.old) }
+        ensures lost { IfErr result (λ done. self.new ≡ content_lost c piece.now done self.old) }
+        ensures few { IfErr result (λ done. done < line_feeds piece.now) }
+        ensures memory { IfErr result (λ done. MayRunOut c piece.now done self.old) }
+    {
+        let mut cutter = self.connections.take_cutter(at);
+        let mut left = piece;
+        let mut done = 0usize;
+        loop {
+            let (line, used) = cutter.feed(left);
+            let Some(line) = line else {
+                self.connections.put_cutter(at, cutter);
+                return Ok(());
+            };
+            if self.hear_line(at, line).is_err() {
+                self.connections.remove(c);
+                return Err(done);
+            }
+            done += 1;
+            left = &left[used..];
+        }
     }
 }
