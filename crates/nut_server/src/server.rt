@@ -13,12 +13,11 @@ ghost use Rattle.nut_server.specs.Arrival.{event_of};
 ghost use Rattle.nut_server.specs.Settling.{IsNextUnsettled, IsNextWaiting};
 
 use crate::address::address_of;
-use crate::arrival::{Arrival, PIECE_MAX};
+use crate::arrival::Arrival;
 use crate::config::Config;
-use crate::connection::Connection;
 use crate::connections::Connections;
 use crate::device::Device;
-use nut_history::{Place, Refused};
+use nut_history::Refused;
 use std::alloc::{AllocError, Global};
 use std::marker::Model;
 use thiserror::Error;
@@ -104,6 +103,57 @@ impl Server {
             scratch: Vec::new(alloc),
             alloc,
         })
+    }
+
+    /// Takes one arrival as the machine does.
+    fn step(&mut self, arrival: Arrival<'_>) -> Result<(), Refused>
+        ensures answered { IsAnswer self.old (event_of arrival.entry) result }
+        ensures content { self.new ≡ content_after result self.old (event_of arrival.entry) }
+    {
+        match arrival {
+            Arrival::Moment(t) => {
+                self.moment(t);
+                Ok(())
+            }
+            Arrival::Open(address) => self.open(address),
+            Arrival::Bytes(c, piece) => self.bytes(c, piece),
+            Arrival::Took(c, n) => self.took(c, n),
+            Arrival::Close(c) | Arrival::WriteFailed(c) => self.close(c),
+            Arrival::DriverUp(u) => self.driver_up(u),
+            Arrival::DriverBytes(u, piece) => self.driver_bytes(u, piece),
+            Arrival::DriverTook(u, n) => self.driver_took(u, n),
+            Arrival::DriverDown(u) => self.driver_down(u),
+        }
+    }
+
+    /// Takes one arrival. Whatever the history was, it goes on with the arrival as it is answered: with all of it at
+    /// an `Ok`, and with nothing of it where it is refused.
+    ///
+    /// No arrival takes memory but `Bytes` and `DriverBytes`, and of these only a client's line that says something or has
+    /// a backslash, on a connection that hasn't logged out, and a driver's line that adds a variable, an enum value, a
+    /// range or a command, or has a backslash.
+    ///
+    /// # Errors
+    ///
+    /// The first test that refuses it, in this order. Of `Open`: `BadAddress`, `Full`. Of what connections do:
+    /// `NoSuchConnection`; then of `Bytes` `PieceTooLong` and `Busy`, and of `Took` `TooMuchTaken`. Of what drivers do:
+    /// `NotConnected`, for `DriverUp` only where there is no such UPS; then of `DriverBytes` `PieceTooLong`, and of
+    /// `DriverTook` `TooMuchTaken`. Where memory runs out in a piece: `Memory`. The lines before stand, and the
+    /// connection is closed, or the driver counts as gone.
+    pub fn arrive(&mut self, arrival: Arrival<'_>) -> Result<(), Refused>
+        // The answer is the one of the first test that refuses; memory may be lacking where none does.
+        ensures answered { IsAnswer self.old (event_of arrival.entry) result }
+
+        // What stands after it is what the history says, which goes on by the answer.
+        ensures stands { (first : Configuration) (h : List Event) → Tells first h self.old
+            → Tells first (after result (event_of arrival.entry) h) self.new }
+        ensures content { self.new ≡ content_after result self.old (event_of arrival.entry) }
+
+        // A refused arrival changes nothing.
+        ensures unchanged { (r : Refused) → refusal self.old (event_of arrival.entry) ≡ Some r
+            → (result ≡ Err r) × (self.new ≡ self.old) }
+    {
+        self.step(arrival)
     }
 
     /// How many connections were opened: the number of the newest.

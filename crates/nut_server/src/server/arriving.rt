@@ -1,7 +1,7 @@
 //! What arrives but is said by nobody: moments, connections and links that come and go, and bytes that are taken.
 
 ghost use Rattle.std.specs.Prelude.{◌≡◌, ◌<◌, ◌≤◌, map, length, max};
-ghost use Rattle.nut_history.specs.Event.{Moment, Open, Took, Close, DriverUp, DriverBytes, DriverTook, DriverDown};
+ghost use Rattle.nut_history.specs.Event.{Moment, Open, Bytes, Took, Close, DriverUp, DriverBytes, DriverTook, DriverDown};
 ghost use Rattle.nut_history.specs.Acceptance.{line_feeds};
 ghost use Rattle.nut_history.specs.Machine.{advance, ticked};
 ghost use Rattle.nut_history.specs.Outcome.{IsAnswer, content_after};
@@ -46,6 +46,26 @@ impl Server {
         self.connections
             .add(Connection::new(self.alloc, number, address));
         self.opened = number;
+        Ok(())
+    }
+
+    /// A connection sends a piece. Where memory runs out in it, the connection is closed.
+    pub(super) fn bytes(&mut self, c: u64, piece: &[u8]) -> Result<(), Refused>
+        ensures answered { IsAnswer self.old (Bytes c piece.now) result }
+        ensures content { self.new ≡ content_after result self.old (Bytes c piece.now) }
+    {
+        let Some(at) = self.connections.place_of(c) else {
+            return Err(Refused::NoSuchConnection);
+        };
+        if piece.len() > PIECE_MAX {
+            return Err(Refused::PieceTooLong);
+        }
+        if self.connections.at(at).waits() > 0 {
+            return Err(Refused::Busy);
+        }
+        if let Err(done) = self.hear(c, at, piece) {
+            return Err(Refused::Memory(Place::Line(c, done)));
+        }
         Ok(())
     }
 
