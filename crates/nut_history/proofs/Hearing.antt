@@ -21,7 +21,7 @@ bytes_heard-append c (b ∷ x) y s = bytes_heard-append c x y (byte_heard c b s)
 
 -- ---- updates of one session
 
-update-update : (c : ℕ) (f g : Session → Session) (sessions : List Session) → KeepsNumber f → update c g (update c f sessions) ≡ update c (λ k. g (f k)) sessions
+pub update-update : (c : ℕ) (f g : Session → Session) (sessions : List Session) → KeepsNumber f → update c g (update c f sessions) ≡ update c (λ k. g (f k)) sessions
 update-update c f g [] keeps = refl
 update-update c f g (k ∷ sessions) keeps =
     elim (cases_Bool (eqb k.number c)) [

@@ -9,3 +9,9 @@ pub mod Places
 pub mod Orderly
 pub mod Searching
 pub mod Entries
+pub mod ByVerdict
+pub mod Acting
+pub mod Saying
+pub mod ShortNames
+pub mod Arrives
+pub mod Heard

@@ -1,5 +1,6 @@
 -- What is known of a result, where it is an error and where it isn't.
-use Rattle.std.proofs.Common.{◌≡◌, true, false, Result, Ok, Err, OnOk, OnErr, is_err}
+use Rattle.std.proofs.Common.{◌≡◌, true, false, Result, Bool, Ok, Err, OnOk, OnErr, is_err}
+use Rattle.std.specs.Bool.{OnTrue}
 use Rattle.std.proofs.lemmas.Bool.{false≢true}
 
 pub ok_is : {A E : Type 0} (r : Result A E) (P : Type 0) → false ≡ is_err r → OnOk r P → P
@@ -17,3 +18,7 @@ on_ok (Err e) P Q f h = h
 pub on_err : {A E : Type 0} (r : Result A E) (P : Type 0) → P → OnErr r P
 on_err (Ok v) P h = tt
 on_err (Err e) P h = h
+
+pub on_true : (b : Bool) (P : Type 0) → b ≡ true → OnTrue b P → P
+on_true true P is h = h
+on_true false P is h = absurd (false≢true is)

@@ -1,5 +1,5 @@
 -- A search for a number among rising ones, by halves.
-use Rattle.std.proofs.Common.{◌≡◌, ℕ, zero, suc, ◌+◌, ◌<◌, ◌≤◌, true, false, eqb, List, [], ◌∷◌, length, refl, sym, ◌∙◌, ap, arith, inl, inr, Option, Some, None, slice_get}
+use Rattle.std.proofs.Common.{◌≡◌, ℕ, zero, suc, ◌+◌, ◌<◌, ◌≤◌, true, false, eqb, List, [], ◌∷◌, length, refl, sym, ◌∙◌, ap, arith, inl, inr, Option, Some, None, slice_get, slice_index_or, ◌-◌, ◌/◌}
 use Rattle.std.specs.Prelude.{nat_lt}
 use Rattle.std.proofs.lemmas.Bool.{cases_Bool, eqb-true, eqb-false, eq-eqb, ne_eqb}
 use Rattle.std.proofs.lemmas.Bool.Decides.{nat_tests}
@@ -8,7 +8,7 @@ use Rattle.nut_history.specs.Acceptance.{session_of}
 use Rattle.nut_history.specs.Laws.{IsBelow, IsRising}
 use Rattle.nut_server.specs.Inside.{numbers_of}
 use Rattle.nut_server.specs.Place.{IsPlace, Stands}
-use Rattle.nut_server.proofs.Places.{place_within, place_session}
+use Rattle.nut_server.proofs.Places.{place_within, place_session, get_is}
 
 -- What stands before `low` has smaller numbers than c, and what stands from `high` on has greater ones.
 pub record IsSearched (c : ℕ) (ks : List Session) (low high : ℕ) : Type 0 where
@@ -79,3 +79,11 @@ found_at c ks at k rising is number = let place = placed ks at rising is in reco
   placed [] at rising is = absurd (cc)
   placed (x ∷ ks) zero rising is = let same : x ≡ k = cc in eq-eqb x.number c (ap (λ k. k.number) same ∙ number)
   placed (x ∷ ks) (suc at) rising is = (ne_eqb x.number c (λ e. omega (arith, e, number, below_at x.number ks at k rising.0 is)), placed ks at rising.1 is)
+
+-- what is read in the middle stands there
+pub middle_there : (ks slice : List Session) (low high : ℕ) (k : Session) → low < high → high ≤ length ks → slice ≡ ks → k ≡ slice_index_or slice (low + (high - low) / 2) k
+    → slice_get ks (low + (high - low) / 2) ≡ Some k
+middle_there ks slice low high k less within same is =
+    let middle = low + (high - low) / 2 in
+    let lt : middle < length ks = omega (arith, less, within) in
+    get_is ks middle k lt (is ∙ ap (λ xs. slice_index_or xs middle k) same)

@@ -1,5 +1,5 @@
 -- What always holds of the open connections.
-use Rattle.std.specs.Prelude.{ℕ, ◌≤◌, vec_len, vec_capacity}
+use Rattle.std.specs.Prelude.{ℕ, ◌≤◌, length, vec_capacity}
 use Rattle.nut_history.specs.Laws.{IsRising}
 use Rattle.nut_server.specs.declared.connections.Connections.TheInside.{Inside}
 use Rattle.nut_server.specs.Inside.{numbers_of}
@@ -7,5 +7,5 @@ use Rattle.nut_server.specs.Inside.{numbers_of}
 -- They stand by rising number, and there is room for all that may be open.
 pub record AreEntries (c : Inside) : Type 0 where
   pub rising : IsRising (numbers_of c.entries.items)
-  pub few : vec_len c.entries ≤ 256
+  pub few : length c.entries.items ≤ 256
   pub room : 256 ≤ vec_capacity c.entries

@@ -10,3 +10,4 @@ pub mod Access
 pub mod Rows
 pub mod Effects
 pub mod Entries
+pub mod Server

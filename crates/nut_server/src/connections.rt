@@ -1,16 +1,16 @@
 //! The open connections, by rising number.
 
-ghost use Rattle.std.specs.Prelude.{◌≡◌, ◌<◌, ◌≤◌, ℕ, [], ◌∷◌, ◌++◌, Some, None, IfOk, IfNone, IfSome, OnOk, OnErr, drop, length, map, option_map, slice_get};
+ghost use Rattle.std.specs.Prelude.{◌≡◌, ◌<◌, ◌≤◌, ℕ, [], ◌∷◌, ◌++◌, Some, None, IfOk, IfNone, IfSome, OnOk, OnErr, drop, find, length, map, option_map, slice_get};
 ghost use Rattle.nut_words.specs.Lines.{Text};
 ghost use Rattle.nut_history.specs.Content.{Session};
 ghost use Rattle.nut_history.specs.Acceptance.{session_of};
 ghost use Rattle.nut_history.specs.Answer.{guests_of};
-ghost use Rattle.nut_history.specs.Laws.{IsUpTo};
+ghost use Rattle.nut_history.specs.Laws.{IsRising, IsUpTo};
 ghost use Rattle.nut_history.specs.Machine.{guest_of, update, with_rest, without};
 ghost use Rattle.nut_server.specs.Effects.{affected, said};
 ghost use Rattle.nut_server.specs.Inside.{IsRest, numbers_of};
 ghost use Rattle.nut_server.specs.Place.{Stands};
-ghost use Rattle.nut_server.specs.Settling.{IsNextUnsettled};
+ghost use Rattle.nut_server.specs.Settling.{IsNextUnsettled, settles};
 
 use crate::connection::Connection;
 use crate::effect::Effect;
@@ -112,15 +112,21 @@ impl Connections {
         count
     }
 
+    /// The first connection, from the number `least` on, for which bytes wait or that leaves.
+    fn find_unsettled(&self, least: u64) -> Option<&Connection>
+        ensures value { option_map (λ k. k.now) result ≡ find (settles least) self.now }
+        ensures rising { IsRising (numbers_of self.now) }
+    {
+        self.entries
+            .iter()
+            .find(|k| least <= k.number() && k.is_unsettled())
+    }
+
     /// The least number, from `least` on, of a connection for which bytes wait or that leaves.
     pub fn first_unsettled(&self, least: u64) -> Option<u64>
         ensures { IsNextUnsettled self.now least result }
     {
-        let found = self
-            .entries
-            .iter()
-            .find(|k| least <= k.number() && k.is_unsettled());
-        match found {
+        match self.find_unsettled(least) {
             Some(connection) => Some(connection.number()),
             None => None,
         }
@@ -145,6 +151,7 @@ impl Connections {
     /// The connection at this place is answered, and changes as its line does. At an `Err` nothing changed.
     pub fn answer(&mut self, at: usize, text: &[u8], effect: Effect) -> Result<(), AllocError>
         requires { at < length self.old }
+        ensures numbers { numbers_of self.new ≡ numbers_of self.old }
         ensures ok { (c : ℕ) → Stands c self.old at → OnOk result (self.new
             ≡ update c (λ k. affected effect (said text.now k)) self.old) }
         ensures err { OnErr result (self.new ≡ self.old) }
@@ -157,7 +164,8 @@ impl Connections {
     pub fn took(&mut self, at: usize, n: usize)
         requires within { at < length self.old }
         requires waits { (k : Session) → slice_get self.old at ≡ Some k → n ≤ length k.waits }
-        ensures { (c : ℕ) → Stands c self.old at → self.new
+        ensures numbers { numbers_of self.new ≡ numbers_of self.old }
+        ensures items { (c : ℕ) → Stands c self.old at → self.new
             ≡ update c (λ k. record k { waits = drop n k.waits }) self.old }
     {
         let connection = &mut self.entries[at];
@@ -167,6 +175,7 @@ impl Connections {
     /// Takes out the cutter of the connection at this place, which leaves an empty one.
     pub fn take_cutter(&mut self, at: usize) -> LineCutter
         requires { at < length self.old }
+        ensures numbers { numbers_of self.new ≡ numbers_of self.old }
         ensures taken { (k : Session) → slice_get self.old at ≡ Some k → result ≡ k.rest }
         ensures rest { IsRest result }
         ensures left { (c : ℕ) → Stands c self.old at → self.new ≡ update c (with_rest (Text [])) self.old }
@@ -179,7 +188,8 @@ impl Connections {
     pub fn put_cutter(&mut self, at: usize, cutter: LineCutter)
         requires within { at < length self.old }
         requires rest { IsRest cutter }
-        ensures { (c : ℕ) → Stands c self.old at → self.new ≡ update c (with_rest cutter) self.old }
+        ensures numbers { numbers_of self.new ≡ numbers_of self.old }
+        ensures items { (c : ℕ) → Stands c self.old at → self.new ≡ update c (with_rest cutter) self.old }
     {
         let connection = &mut self.entries[at];
         connection.put_cutter(cutter);

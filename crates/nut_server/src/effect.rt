@@ -1,6 +1,17 @@
 //! What an answered line does to its connection.
 
+ghost use Rattle.std.specs.Prelude.{◌≡◌, ◌≤◌, ℕ, List, length};
+ghost use Rattle.nut_proto.specs.declared.request.Request.TheVariants as requests;
+ghost use Rattle.nut_history.specs.Command as definitions;
+ghost use Rattle.nut_history.specs.Content.{Session};
+ghost use Rattle.nut_server.specs.Asking.{meant};
+ghost use Rattle.nut_server.specs.Effects.{affected, decided, HasShortNames};
+
+use crate::command::Command;
+use crate::config::Config;
 use crate::credential::Credential;
+use crate::verdict::Verdict;
+use nut_proto::Request;
 
 /// What a line does to its connection besides the answer that waits.
 #[derive(Drop)]
@@ -14,4 +25,47 @@ pub enum Effect {
     Login(Option<usize>),
     /// The client logged out.
     Logout,
+}
+
+/// What a command that is answered `OK` does to its connection.
+fn effect_of_accepted(config: &Config, command: &Command<'_>) -> Effect
+    requires { HasShortNames (meant command.now) }
+    ensures { (k : Session) → affected result k ≡ decided config.now (meant command.now) Verdict.Accepted k }
+{
+    let Command::Asks(request) = command else {
+        return Effect::Nothing;
+    };
+    match request {
+        Request::Username { name } => Effect::User(Credential::new(name.as_bytes())),
+        Request::Password { password } => Effect::Password(Credential::new(password.as_bytes())),
+        Request::Login { ups } => Effect::Login(config.find_ups(ups.as_bytes())),
+        Request::GetNumLogins { .. }
+        | Request::GetUpsDesc { .. }
+        | Request::GetVar { .. }
+        | Request::GetType { .. }
+        | Request::GetDesc { .. }
+        | Request::GetCmdDesc { .. }
+        | Request::List(_)
+        | Request::SetVar { .. }
+        | Request::InstCmd { .. }
+        | Request::Primary { .. }
+        | Request::Fsd { .. }
+        | Request::Logout
+        | Request::Ver
+        | Request::NetVer
+        | Request::Help
+        | Request::StartTls => Effect::Nothing,
+    }
+}
+
+/// What a command does to its connection, by what its answer decides.
+pub fn effect_of(config: &Config, command: &Command<'_>, verdict: Verdict) -> Effect
+    requires { HasShortNames (meant command.now) }
+    ensures { (k : Session) → affected result k ≡ decided config.now (meant command.now) verdict k }
+{
+    match verdict {
+        Verdict::Accepted => effect_of_accepted(config, command),
+        Verdict::Goodbye => Effect::Logout,
+        Verdict::FsdSet | Verdict::Other => Effect::Nothing,
+    }
 }

@@ -77,12 +77,8 @@ fn put_variable(
     ensures { OnOk result (out.new.items ≡ out.old.items ++ reply_line (var_row ups.now device.now.device variable.now)) }
 {
     if shows_forced(device, variable) {
-        return put_var(
-            out,
-            ups,
-            variable.name(),
-            forced(variable.value()).as_slice(),
-        );
+        let shown = forced(variable.value());
+        return put_var(out, ups, variable.name(), shown.as_slice());
     }
     put_var(out, ups, variable.name(), variable.value())
 }
@@ -97,12 +93,8 @@ fn put_writable(
     ensures { OnOk result (out.new.items ≡ out.old.items ++ reply_line (rw_row ups.now device.now.device variable.now)) }
 {
     if shows_forced(device, variable) {
-        return put_rw(
-            out,
-            ups,
-            variable.name(),
-            forced(variable.value()).as_slice(),
-        );
+        let shown = forced(variable.value());
+        return put_rw(out, ups, variable.name(), shown.as_slice());
     }
     put_rw(out, ups, variable.name(), variable.value())
 }

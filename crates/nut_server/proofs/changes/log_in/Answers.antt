@@ -1,4 +1,4 @@
-use Rattle.std.proofs.Common.{rules, ◌≡◌, sym, is_none, ℕ}
+use Rattle.std.proofs.Common.{rules, sym, is_none, ℕ}
 use Rattle.std.proofs.lemmas.Result.{err_from_is_err_and}
 use Rattle.nut_proto.specs.declared.refusal.Refusal.TheVariants as refusals
 use Rattle.nut_proto.specs.declared.reply.Reply.TheVariants as replies

@@ -1,4 +1,4 @@
-use Rattle.std.proofs.Common.{rules, ◌≡◌, sym, ℕ}
+use Rattle.std.proofs.Common.{rules, sym, ℕ}
 use Rattle.std.proofs.lemmas.Result.{err_from_is_err_and}
 use Rattle.nut_history.specs.Answer.{Answer, set_answer, on_data}
 use Rattle.nut_server.proofs.changes.set_variable.Goals as goal

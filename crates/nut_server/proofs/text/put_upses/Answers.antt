@@ -1,4 +1,4 @@
-use Rattle.std.proofs.Common.{◌≡◌, sym, ◌∙◌, ap, ℕ, List, arith}
+use Rattle.std.proofs.Common.{sym, ◌∙◌, ap, ℕ, List, arith}
 use Rattle.nut_proto.specs.declared.reply.Reply.TheVariants as replies
 use Rattle.nut_proto.specs.Replies.{reply_line}
 use Rattle.nut_history.specs.Configuration.{Ups}

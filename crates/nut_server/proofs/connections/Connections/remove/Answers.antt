@@ -1,12 +1,12 @@
 use Rattle.std.proofs.Common.{rules, ◌∙◌, ap, arith}
 use Rattle.std.proofs.lemmas.Fn.{filter_same}
-use Rattle.nut_server.proofs.Entries.{rising_without}
+use Rattle.nut_server.proofs.Entries.{rising_without, fewer_without}
 use Rattle.nut_server.proofs.connections.Connections.remove.Goals as goal
 
 pub invariant_of-self : goal.invariant_of-self
 invariant_of-self c = record {
   rising = rising_without c.args.c c.self.inside.entries.items c.retain.new.self.items c.self.invariant.rising (filter_same _ _ _ (λ x b f' k. search rules) _ _ c.retain.ensures.filtered);
-  few = omega (arith, c.retain.ensures.bound, c.self.invariant.few);
+  few = omega (arith, fewer_without c.args.c c.self.inside.entries.items c.retain.new.self.items (filter_same _ _ _ (λ x b f' k. search rules) _ _ c.retain.ensures.filtered), c.self.invariant.few);
   room = omega (arith, c.retain.ensures.capacity, c.self.invariant.room);
 }
 

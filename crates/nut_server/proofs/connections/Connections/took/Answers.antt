@@ -4,12 +4,15 @@ use Rattle.nut_history.specs.Machine.{with_rest}
 use Rattle.nut_server.specs.Effects.{affected, said}
 use Rattle.nut_server.proofs.Results.{on_ok}
 use Rattle.nut_server.proofs.Places.{written, get_is}
-use Rattle.nut_server.proofs.Entries.{entries_changed}
+use Rattle.nut_server.proofs.Entries.{numbers-set, entries_changed}
 use Rattle.nut_server.proofs.connections.Connections.took.Goals as goal
 
 pub invariant_of-self : goal.invariant_of-self
 invariant_of-self c =
     entries_changed c.self.inside c.args.at c.index_mut-connection.result.now c.took.new.self c.self.invariant c.index_mut-connection.ensures.value (ap (λ k. k.number) c.took.ensures)
 
-pub returns : goal.returns
-returns c = rw (← c.self.view_is) (λ c' stands. written c' (λ k. record k { waits = drop c.args.n k.waits }) c.self.inside.entries.items c.args.at c.index_mut-connection.result.now c.took.new.self stands c.index_mut-connection.ensures.value c.took.ensures)
+pub returns-clause-items : goal.returns-clause-items
+returns-clause-items c = rw (← c.self.view_is) (λ c' stands. written c' (λ k. record k { waits = drop c.args.n k.waits }) c.self.inside.entries.items c.args.at c.index_mut-connection.result.now c.took.new.self stands c.index_mut-connection.ensures.value c.took.ensures)
+
+pub returns-clause-numbers : goal.returns-clause-numbers
+returns-clause-numbers c = rw (← c.self.view_is) (numbers-set c.self.inside.entries.items c.args.at c.index_mut-connection.result.now c.took.new.self c.index_mut-connection.ensures.value (ap (λ k. k.number) c.took.ensures))

@@ -1,0 +1,61 @@
+-- How a connection's piece is heard while its cutter is out.
+use Rattle.std.proofs.Common.{◌≡◌, ℕ, zero, suc, true, false, eqb, List, [], ◌∷◌, length, refl, sym, ◌∙◌, ap, subst, inl, inr, Option, Some, None, slice_get}
+use Rattle.std.specs.Prelude.{option_map, IsTrue}
+use Rattle.std.proofs.lemmas.Bool.{cases_Bool}
+use Rattle.nut_words.specs.Lines.{LineText, Text}
+use Rattle.nut_history.specs.Answer.{Answer}
+use Rattle.nut_history.specs.Command.{Command}
+use Rattle.nut_history.specs.Content.{Session, Content}
+use Rattle.nut_history.specs.Effect.{target}
+use Rattle.nut_history.specs.Acceptance.{session_of}
+use Rattle.nut_history.specs.Event.{Close}
+use Rattle.nut_history.specs.Machine.{update, with_rest, with_sessions, answered, act_on, acted, after_answer, without, advance}
+use Rattle.nut_history.specs.Outcome.{line_takes, first_line, unfinished_of}
+use Rattle.nut_history.proofs.Hearing.{update-update, with_unfinished, with_unfinished-same}
+use Rattle.nut_history.proofs.Sessions.{KeepsNumber, session_of-update, without-update}
+use Rattle.nut_server.specs.Effects.{answered_by}
+use Rattle.nut_server.specs.Place.{IsPlace, Stands}
+use Rattle.nut_server.proofs.Places.{place_within, place_session, found_session}
+
+place_updated : (c : ℕ) (change : Session → Session) (ks : List Session) (at : ℕ) → KeepsNumber change → IsPlace c ks at → IsPlace c (update c change ks) at
+place_updated c change [] at keeps place = absurd place
+place_updated c change (k ∷ ks) zero keeps place = rw place (ap (λ n. eqb n c) (keeps k) ∙ place)
+place_updated c change (k ∷ ks) (suc at) keeps place = rw place.0 (place.0, place_updated c change ks at keeps place.1)
+
+-- a change of it leaves a connection where it stands
+pub stands_updated : (c : ℕ) (change : Session → Session) (ks ks' : List Session) (at : ℕ) → KeepsNumber change → ks' ≡ update c change ks → Stands c ks at → Stands c ks' at
+stands_updated c change ks ks' at keeps is stands =
+    let place = place_updated c change ks at keeps stands.place in
+    subst (λ xs. Stands c xs at) (sym is)
+    (record { place = place; within = place_within c (update c change ks) at place; session = place_session c (update c change ks) at place })
+
+-- the session that stands there
+pub standing : (c : ℕ) (ks : List Session) (at : ℕ) → Stands c ks at → (k : Session) × (session_of c ks ≡ Some k) × (slice_get ks at ≡ Some k)
+standing c ks at stands = let found = found_session c ks at stands in (found.0, found.1, sym stands.session ∙ found.1)
+
+-- its cutter is taken out
+pub cutter_out : (c : ℕ) (s s' : Content) (k : Session) (cutter : LineText) → session_of c s.sessions ≡ Some k → cutter ≡ k.rest → s' ≡ with_unfinished c (Text []) s → with_unfinished c cutter s' ≡ s
+cutter_out c s s' k cutter found is out =
+    ap (with_unfinished c cutter) out
+    ∙ ap (λ sessions. with_sessions sessions s) (update-update c (with_rest (Text [])) (with_rest cutter) s.sessions (λ k. refl))
+    ∙ with_unfinished-same c cutter s k found (sym is)
+
+-- a line was answered, and nothing is left of it
+pub answered_then : (c : ℕ) (command : Command) (reply : Answer) (s : Content) → with_unfinished c (Text []) (answered_by c command reply s) ≡ after_answer c command reply s
+answered_then c command reply s =
+    ap (λ sessions. record s { sessions = sessions; supplies = act_on (target s.configuration command) (acted command reply) s.supplies })
+    (update-update c (λ k. answered s.configuration command reply k) (with_rest (Text [])) s.sessions (λ k. refl))
+
+-- the connection is closed, whatever its unfinished line
+pub closed_then : (c : ℕ) (r : LineText) (s h : Content) → with_unfinished c r s ≡ h → with_sessions (without c s.sessions) s ≡ advance h (Close c)
+closed_then c r s h is =
+    ap (λ sessions. with_sessions sessions s) (sym (without-update c (with_rest r) s.sessions (λ k. refl))) ∙ ap (λ s. advance s (Close c)) is
+
+-- a line that may take memory
+pub may_run_out : (c : ℕ) (r line : LineText) (behind : List ℕ) (s h : Content) (k : Session) → with_unfinished c r s ≡ h → session_of c s.sessions ≡ Some k → line ≡ first_line r behind
+    → IsTrue (line_takes line (Some k)) → IsTrue (line_takes (first_line (unfinished_of (session_of c h.sessions)) behind) (session_of c h.sessions))
+may_run_out c r line behind s h k is found first takes =
+    let there : session_of c (with_unfinished c r s).sessions ≡ Some (with_rest r k) = session_of-update c (with_rest r) s.sessions (λ k. refl) ∙ ap (option_map (with_rest r)) found in
+    let P : Option Session → Type 0 = λ o. IsTrue (line_takes (first_line (unfinished_of o) behind) o) in
+    let here : P (Some (with_rest r k)) = subst (λ (l : LineText). IsTrue (line_takes l (Some k))) first takes in
+    subst (λ (s : Content). P (session_of c s.sessions)) is (subst P (sym there) here)

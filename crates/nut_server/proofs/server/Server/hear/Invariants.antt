@@ -1,0 +1,18 @@
+use Rattle.std.proofs.Common.{◌≡◌, ℕ, List, length}
+use Rattle.nut_words.specs.Lines.{rest}
+use Rattle.nut_history.specs.Acceptance.{front}
+use Rattle.nut_history.specs.Machine.{bytes_heard}
+use Rattle.nut_history.specs.Outcome.{behind}
+use Rattle.nut_history.proofs.Hearing.{with_unfinished}
+use Rattle.nut_server.specs.Place.{Stands}
+use Rattle.nut_server.proofs.server.Server.hear.Given as goal
+
+-- The piece was heard through as many line feeds as lines are done.
+abbrev pub invariant-loop-line : goal.invariant-loop-line
+invariant-loop-line l =
+    (b : List ℕ) × (l.cutter ≡ rest b) × (l.left ≡ behind l.done l.piece)
+    × (with_unfinished l.c l.cutter l.self ≡ bytes_heard l.c (front l.done l.piece) l.fn.self)
+    × Stands l.c l.self.sessions l.at
+
+abbrev pub decreases-loop-line : goal.decreases-loop-line
+decreases-loop-line l = length l.left

@@ -1,0 +1,7 @@
+use Rattle.std.proofs.Common.{◌≡◌, ◌<◌, ◌≤◌, ℕ, []}
+use Rattle.nut_history.specs.Acceptance.{asks_of}
+use Rattle.nut_server.proofs.server.Server.next_driver_waiting.Given as goal
+
+-- for none before it do bytes wait
+abbrev pub invariant-loop-u : goal.invariant-loop-u
+invariant-loop-u l = (l.least ≤ l.u) × ((v : ℕ) → l.least ≤ v → v < l.u → asks_of v l.self.supplies ≡ [])

@@ -1,0 +1,7 @@
+use Rattle.std.proofs.Common.{◌≡◌, map}
+use Rattle.nut_history.specs.Trace.{below}
+use Rattle.nut_server.specs.Server.{unheard}
+use Rattle.nut_server.proofs.server.untold.Given as goal
+
+abbrev pub invariant-loop : goal.invariant-loop
+invariant-loop l = l.devices.items ≡ map (λ u. unheard) (below l.counter)

@@ -1,0 +1,280 @@
+//! The server.
+
+ghost use Rattle.std.specs.Prelude.{◌≡◌, ◌<◌, ℕ, List, [], Some, None, Result, Ok, Err, IfOk, IfSome, map, length};
+ghost use Rattle.nut_queue.specs.Front.{IsFrontPart};
+ghost use Rattle.nut_history.specs.Configuration.{Configuration};
+ghost use Rattle.nut_history.specs.Event.{Event, Moment, Open, Bytes, Took, Close, DriverUp, DriverBytes, DriverTook, DriverDown};
+ghost use Rattle.nut_history.specs.Content.{content};
+ghost use Rattle.nut_history.specs.Trace.{below};
+ghost use Rattle.nut_server.specs.Server.{unheard};
+ghost use Rattle.nut_history.specs.Acceptance.{Tells, refusal, session_of, supply_of, waiting_of, asks_of, may_read, leaves, kept, is_connected};
+ghost use Rattle.nut_history.specs.Outcome.{IsAnswer, after, content_after};
+ghost use Rattle.nut_server.specs.Arrival.{event_of};
+ghost use Rattle.nut_server.specs.Settling.{IsNextUnsettled, IsNextWaiting};
+
+use crate::address::address_of;
+use crate::arrival::Arrival;
+use crate::config::Config;
+use crate::connections::Connections;
+use crate::device::Device;
+use nut_history::Refused;
+use std::alloc::{AllocError, Global};
+use std::marker::Model;
+use thiserror::Error;
+
+mod arriving;
+mod hearing;
+
+/// How many connections a server opens in its life.
+pub(crate) const MOST_OPENED: u64 = 4_294_967_295;
+
+/// Why a server can't be made.
+#[derive(Clone, Copy, Debug, PartialEq, Eq, Error)]
+pub enum ServerFault {
+    /// There is no memory for all the connections that may be open at once, or for what waits for the drivers.
+    #[error("out of memory")]
+    Memory,
+}
+
+impl From<AllocError> for ServerFault {
+    fn from(_error: AllocError) -> ServerFault {
+        ServerFault::Memory
+    }
+}
+
+/// A server: its configuration, the time, the UPSes, and the open connections with room for all that may be open.
+#[derive(Drop)]
+pub struct Server {
+    config: Config,
+    clock: u64,
+    opened: u64,
+    devices: Vec<Device>,
+    connections: Connections,
+    scratch: Vec<u8>,
+    alloc: Global,
+}
+
+impl Model for Server {
+    ghost use Rattle.nut_history.specs.Content.{Content};
+    ghost use Rattle.nut_server.specs.Server.{IsOrderly};
+
+    ghost Value = { Content };
+
+    ghost view = { λ a. record {
+      configuration = a.config;
+      clock = a.clock;
+      opened = a.opened;
+      sessions = a.connections;
+      supplies = a.devices.items;
+    } };
+
+    ghost invariant = { IsOrderly };
+}
+
+/// So many UPSes of which nothing was told.
+fn untold(alloc: Global, count: usize) -> Result<Vec<Device>, AllocError>
+    ensures { IfOk result (λ devices. devices.items ≡ map (λ u. unheard) (below count)) }
+{
+    let mut devices = Vec::new(alloc);
+    for _ in 0..count {
+        devices.push(Device::new(alloc)?)?;
+    }
+    Ok(devices)
+}
+
+impl Server {
+    /// A server that was told nothing. It takes the memory for as many connections as may be open at once and for what
+    /// waits for the drivers, so that none is lacking when a client or a driver connects.
+    ///
+    /// # Errors
+    ///
+    /// `Memory` where that memory isn't to be had.
+    pub fn new(alloc: Global, config: Config) -> Result<Server, ServerFault>
+        ensures { IfOk result (λ server. server ≡ content config []) }
+    {
+        let connections = Connections::with_room(alloc)?;
+        let devices = untold(alloc, config.number_of_upses())?;
+        Ok(Server {
+            config,
+            clock: 0,
+            opened: 0,
+            devices,
+            connections,
+            scratch: Vec::new(alloc),
+            alloc,
+        })
+    }
+
+    /// Takes one arrival as the machine does.
+    fn step(&mut self, arrival: Arrival<'_>) -> Result<(), Refused>
+        ensures answered { IsAnswer self.old (event_of arrival.entry) result }
+        ensures content { self.new ≡ content_after result self.old (event_of arrival.entry) }
+    {
+        match arrival {
+            Arrival::Moment(t) => {
+                self.moment(t);
+                Ok(())
+            }
+            Arrival::Open(address) => self.open(address),
+            Arrival::Bytes(c, piece) => self.bytes(c, piece),
+            Arrival::Took(c, n) => self.took(c, n),
+            Arrival::Close(c) | Arrival::WriteFailed(c) => self.close(c),
+            Arrival::DriverUp(u) => self.driver_up(u),
+            Arrival::DriverBytes(u, piece) => self.driver_bytes(u, piece),
+            Arrival::DriverTook(u, n) => self.driver_took(u, n),
+            Arrival::DriverDown(u) => self.driver_down(u),
+        }
+    }
+
+    /// Takes one arrival. Whatever the history was, it goes on with the arrival as it is answered: with all of it at
+    /// an `Ok`, and with nothing of it where it is refused.
+    ///
+    /// No arrival takes memory but `Bytes` and `DriverBytes`, and of these only a client's line that says something or has
+    /// a backslash, on a connection that hasn't logged out, and a driver's line that adds a variable, an enum value, a
+    /// range or a command, or has a backslash.
+    ///
+    /// # Errors
+    ///
+    /// The first test that refuses it, in this order. Of `Open`: `BadAddress`, `Full`. Of what connections do:
+    /// `NoSuchConnection`; then of `Bytes` `PieceTooLong` and `Busy`, and of `Took` `TooMuchTaken`. Of what drivers do:
+    /// `NotConnected`, for `DriverUp` only where there is no such UPS; then of `DriverBytes` `PieceTooLong`, and of
+    /// `DriverTook` `TooMuchTaken`. Where memory runs out in a piece: `Memory`. The lines before stand, and the
+    /// connection is closed, or the driver counts as gone.
+    pub fn arrive(&mut self, arrival: Arrival<'_>) -> Result<(), Refused>
+        // The answer is the one of the first test that refuses; memory may be lacking where none does.
+        ensures answered { IsAnswer self.old (event_of arrival.entry) result }
+
+        // What stands after it is what the history says, which goes on by the answer.
+        ensures stands { (first : Configuration) (h : List Event) → Tells first h self.old
+            → Tells first (after result (event_of arrival.entry) h) self.new }
+        ensures content { self.new ≡ content_after result self.old (event_of arrival.entry) }
+
+        // A refused arrival changes nothing.
+        ensures unchanged { (r : Refused) → refusal self.old (event_of arrival.entry) ≡ Some r
+            → (result ≡ Err r) × (self.new ≡ self.old) }
+    {
+        self.step(arrival)
+    }
+
+    /// How many connections were opened: the number of the newest.
+    pub fn opened(&self) -> u64
+        ensures { result ≡ self.now.opened }
+    {
+        self.opened
+    }
+
+    /// What the server was made with.
+    pub fn config(&self) -> &Config
+        ensures { result.now ≡ self.now.configuration }
+    {
+        &self.config
+    }
+
+    /// How many UPSes there are.
+    pub fn number_of_upses(&self) -> usize
+        ensures { result ≡ length self.now.configuration.upses }
+    {
+        self.config.number_of_upses()
+    }
+
+    /// How many bytes wait for a connection: 0 where it isn't open.
+    pub fn waits(&self, c: u64) -> usize
+        ensures { result ≡ length (waiting_of c self.now.sessions) }
+    {
+        match self.connections.get(c) {
+            Some(connection) => connection.waits(),
+            None => 0,
+        }
+    }
+
+    /// A front part of the bytes that wait for a connection, which is empty only where none wait.
+    pub fn waiting(&self, c: u64) -> &[u8]
+        ensures { IsFrontPart result.now (waiting_of c self.now.sessions) }
+    {
+        match self.connections.get(c) {
+            Some(connection) => connection.waiting(),
+            None => &[],
+        }
+    }
+
+    /// Whether a connection may be read from: it is open, nothing waits for it, and it hasn't logged out.
+    pub fn may_read(&self, c: u64) -> bool
+        ensures { result ≡ may_read (session_of c self.now.sessions) }
+    {
+        match self.connections.get(c) {
+            Some(connection) => connection.may_read(),
+            None => false,
+        }
+    }
+
+    /// Whether a connection is to be closed: it logged out, and nothing waits for it.
+    pub fn leaves(&self, c: u64) -> bool
+        ensures { result ≡ leaves (session_of c self.now.sessions) }
+    {
+        match self.connections.get(c) {
+            Some(connection) => connection.leaves(),
+            None => false,
+        }
+    }
+
+    /// How many bytes are kept of a connection's unfinished line, at most 512.
+    pub fn kept(&self, c: u64) -> usize
+        ensures { result ≡ kept (session_of c self.now.sessions) }
+    {
+        match self.connections.get(c) {
+            Some(connection) => connection.kept(),
+            None => 0,
+        }
+    }
+
+    /// Whether the driver of a UPS is connected.
+    pub fn is_connected(&self, u: usize) -> bool
+        ensures { result ≡ is_connected (supply_of u self.now.supplies) }
+    {
+        match self.devices.get(u) {
+            Some(device) => device.is_connected(),
+            None => false,
+        }
+    }
+
+    /// How many bytes wait for the driver of a UPS, at most 4,096: 0 where there is no such UPS.
+    pub fn waits_for_driver(&self, u: usize) -> usize
+        ensures { result ≡ length (asks_of u self.now.supplies) }
+    {
+        match self.devices.get(u) {
+            Some(device) => device.waits(),
+            None => 0,
+        }
+    }
+
+    /// A front part of the bytes that wait for the driver of a UPS, which is empty only where none wait.
+    pub fn waiting_for_driver(&self, u: usize) -> &[u8]
+        ensures { IsFrontPart result.now (asks_of u self.now.supplies) }
+    {
+        match self.devices.get(u) {
+            Some(device) => device.waiting(),
+            None => &[],
+        }
+    }
+
+    /// The least number, from `least` on, of a connection for which bytes wait or that leaves.
+    pub fn next_unsettled(&self, least: u64) -> Option<u64>
+        ensures next { IsNextUnsettled self.now.sessions least result }
+        ensures fits { IfSome result (λ c. c < u64.MAX) }
+    {
+        self.connections.first_unsettled(least)
+    }
+
+    /// The least number, from `least` on, of a UPS for whose driver bytes wait.
+    pub fn next_driver_waiting(&self, least: usize) -> Option<usize>
+        ensures next { IsNextWaiting self.now.supplies least result }
+        ensures fits { IfSome result (λ u. u < usize.MAX) }
+    {
+        for u in least..self.devices.len() {
+            if self.devices[u].waits() > 0 {
+                return Some(u);
+            }
+        }
+        None
+    }
+}

@@ -1,0 +1,154 @@
+//! What arrives but is said by nobody: moments, connections and links that come and go, and bytes that are taken.
+
+ghost use Rattle.std.specs.Prelude.{◌≡◌, ◌<◌, ◌≤◌, map, length, max};
+ghost use Rattle.nut_history.specs.Event.{Moment, Open, Bytes, Took, Close, DriverUp, DriverBytes, DriverTook, DriverDown};
+ghost use Rattle.nut_history.specs.Acceptance.{line_feeds};
+ghost use Rattle.nut_history.specs.Machine.{advance, ticked};
+ghost use Rattle.nut_history.specs.Outcome.{IsAnswer, content_after};
+
+use crate::address::address_of;
+use crate::arrival::PIECE_MAX;
+use crate::connection::Connection;
+use crate::device::Device;
+use crate::server::{MOST_OPENED, Server};
+use nut_history::{Place, Refused};
+
+/// It is this time: each driver is asked whether it is there, where that is due.
+fn tick_all(devices: &mut Vec<Device>, max_age: u64, time: u64)
+    ensures { devices.new.items ≡ map (ticked max_age time) devices.old.items }
+{
+    for u in 0..devices.len() {
+        devices[u].tick(max_age, time);
+    }
+}
+
+impl Server {
+    /// So many seconds have passed since the start, or more. It takes no memory.
+    pub(super) fn moment(&mut self, t: u64)
+        ensures { self.new ≡ advance self.old (Moment t) }
+    {
+        self.clock = self.clock.max(t);
+        tick_all(&mut self.devices, u64::from(self.config.max_age()), self.clock);
+    }
+
+    /// A client connects, which takes no memory.
+    pub(super) fn open(&mut self, address: &[u8]) -> Result<(), Refused>
+        ensures answered { IsAnswer self.old (Open address.now) result }
+        ensures content { self.new ≡ content_after result self.old (Open address.now) }
+    {
+        let Some(address) = address_of(address) else {
+            return Err(Refused::BadAddress);
+        };
+        if self.connections.len() >= self.config.most_connections() || self.opened >= MOST_OPENED {
+            return Err(Refused::Full);
+        }
+        let number = self.opened + 1;
+        self.connections
+            .add(Connection::new(self.alloc, number, address));
+        self.opened = number;
+        Ok(())
+    }
+
+    /// A connection sends a piece. Where memory runs out in it, the connection is closed.
+    pub(super) fn bytes(&mut self, c: u64, piece: &[u8]) -> Result<(), Refused>
+        ensures answered { IsAnswer self.old (Bytes c piece.now) result }
+        ensures content { self.new ≡ content_after result self.old (Bytes c piece.now) }
+    {
+        let Some(at) = self.connections.place_of(c) else {
+            return Err(Refused::NoSuchConnection);
+        };
+        if piece.len() > PIECE_MAX {
+            return Err(Refused::PieceTooLong);
+        }
+        if self.connections.at(at).waits() > 0 {
+            return Err(Refused::Busy);
+        }
+        if let Err(done) = self.hear(c, at, piece) {
+            return Err(Refused::Memory(Place::Line(c, done)));
+        }
+        Ok(())
+    }
+
+    /// A connection took the first `n` of the bytes that wait for it.
+    pub(super) fn took(&mut self, c: u64, n: usize) -> Result<(), Refused>
+        ensures answered { IsAnswer self.old (Took c n) result }
+        ensures content { self.new ≡ content_after result self.old (Took c n) }
+    {
+        let Some(at) = self.connections.place_of(c) else {
+            return Err(Refused::NoSuchConnection);
+        };
+        if n > self.connections.at(at).waits() {
+            return Err(Refused::TooMuchTaken);
+        }
+        self.connections.took(at, n);
+        Ok(())
+    }
+
+    /// A connection is closed.
+    pub(super) fn close(&mut self, c: u64) -> Result<(), Refused>
+        ensures answered { IsAnswer self.old (Close c) result }
+        ensures content { self.new ≡ content_after result self.old (Close c) }
+    {
+        let Some(_) = self.connections.place_of(c) else {
+            return Err(Refused::NoSuchConnection);
+        };
+        self.connections.remove(c);
+        Ok(())
+    }
+
+    /// A driver is connected, which takes no memory.
+    pub(super) fn driver_up(&mut self, u: usize) -> Result<(), Refused>
+        ensures answered { IsAnswer self.old (DriverUp u) result }
+        ensures content { self.new ≡ content_after result self.old (DriverUp u) }
+    {
+        if u >= self.devices.len() {
+            return Err(Refused::NotConnected);
+        }
+        self.devices[u].up(self.clock);
+        Ok(())
+    }
+
+    /// A driver sends a piece. Where memory runs out in it, the driver counts as gone.
+    pub(super) fn driver_bytes(&mut self, u: usize, piece: &[u8]) -> Result<(), Refused>
+        ensures answered { IsAnswer self.old (DriverBytes u piece.now) result }
+        ensures content { self.new ≡ content_after result self.old (DriverBytes u piece.now) }
+    {
+        if u >= self.devices.len() || !self.devices[u].is_connected() {
+            return Err(Refused::NotConnected);
+        }
+        if piece.len() > PIECE_MAX {
+            return Err(Refused::PieceTooLong);
+        }
+        if let Err(done) = self.devices[u].hear(self.clock, piece) {
+            return Err(Refused::Memory(Place::Report(u, done)));
+        }
+        Ok(())
+    }
+
+    /// A driver took the first `n` of the bytes that wait for it.
+    pub(super) fn driver_took(&mut self, u: usize, n: usize) -> Result<(), Refused>
+        ensures answered { IsAnswer self.old (DriverTook u n) result }
+        ensures content { self.new ≡ content_after result self.old (DriverTook u n) }
+    {
+        if u >= self.devices.len() || !self.devices[u].is_connected() {
+            return Err(Refused::NotConnected);
+        }
+        if n > self.devices[u].waits() {
+            return Err(Refused::TooMuchTaken);
+        }
+        self.devices[u].took(n);
+        Ok(())
+    }
+
+    /// A driver is gone.
+    pub(super) fn driver_down(&mut self, u: usize) -> Result<(), Refused>
+        ensures answered { IsAnswer self.old (DriverDown u) result }
+        ensures content { self.new ≡ content_after result self.old (DriverDown u) }
+    {
+        if u >= self.devices.len() || !self.devices[u].is_connected() {
+            return Err(Refused::NotConnected);
+        }
+        self.devices[u].down();
+        Ok(())
+    }
+}
