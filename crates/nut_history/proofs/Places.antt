@@ -2,6 +2,8 @@
 use Rattle.std.proofs.Common.{◌≡◌, ℕ, zero, suc, ◌+◌, ◌<◌, false, eqb, List, [], ◌∷◌, ◌++◌, length, map, refl, sym, ◌∙◌, ap, arith, Option, Some, None, length-append}
 use Rattle.std.specs.Prelude.{slice_get, option_map}
 use Rattle.std.proofs.lemmas.Bool.{eqb-false, ne_eqb}
+use Rattle.std.proofs.lemmas.List.{length-map}
+use Rattle.std.proofs.lemmas.Option.{slice_get_within}
 use Rattle.nut_history.specs.Content.{Supply}
 use Rattle.nut_history.specs.Machine.{update_at}
 use Rattle.nut_history.specs.Trace.{below}
@@ -70,3 +72,16 @@ pub update_at-twice : (u : ℕ) (f g : Supply → Supply) (supplies : List Suppl
 update_at-twice u f g [] = refl
 update_at-twice zero f g (d ∷ supplies) = refl
 update_at-twice (suc u) f g (d ∷ supplies) = ap (λ ds. d ∷ ds) (update_at-twice u f g supplies)
+
+-- what there is at a place
+get_at : {A : Type 0} (u w k : ℕ) (f : ℕ → A) (ns : List ℕ) → IsCount k ns → w ≡ u + k → u < length ns → slice_get (map f ns) u ≡ Some (f w)
+get_at u w k f [] counts is less = absurd (omega (arith, less))
+get_at zero w k f (n ∷ ns) counts is less = let e : n ≡ w = omega (arith, counts.0, is) in ap (λ m. Some (f m)) e
+get_at (suc u) w k f (n ∷ ns) counts is less = get_at u w (suc k) f ns counts.1 (omega (arith, is)) (omega (arith, less))
+
+pub get_below : {A : Type 0} (u n : ℕ) (f : ℕ → A) → u < n → slice_get (map f (below n)) u ≡ Some (f u)
+get_below u n f less = get_at u u 0 f (below n) (below_counts n) (omega arith) (omega (arith, less, below-length n))
+
+-- a place where there is something is below the count
+pub found_below : {A : Type 0} (u n : ℕ) (f : ℕ → A) (x : A) → slice_get (map f (below n)) u ≡ Some x → u < n
+found_below u n f x found = omega (arith, slice_get_within (map f (below n)) u x found, length-map (below n) f, below-length n)
