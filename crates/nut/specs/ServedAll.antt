@@ -2,19 +2,22 @@
 use Rattle.std.specs.Prelude.{◌≡◌, ℕ, List, [], map, None}
 use Rattle.nut_history.specs.Configuration.{Configuration}
 use Rattle.nut_history.specs.Event.{Event}
-use Rattle.nut_history.specs.Content.{Content, sent}
+use Rattle.nut_history.specs.Trace.{driver_sent}
+use Rattle.nut_history.specs.Content.{Content, past, sent}
 use Rattle.nut_history.specs.Acceptance.{Tells}
-use Rattle.nut.specs.Record.{Entry, taken}
+use Rattle.nut.specs.Record.{taken, driver_taken}
 use Rattle.nut.specs.Served.{Told}
-use Rattle.nut.specs.Memory.{event_of_given, first_coming, gave_of, StandIn}
+use Rattle.nut.specs.Memory.{MemoryState, event_of_given, first_coming, gave_of, StandIn}
 use Rattle.nut.specs.declared.types.Given.{Given}
 
--- Of these arrivals each was given, but those left, which are bytes of connections that may not be read. What was
--- given and taken tells a history whose content the server has, and what was taken was sent.
-pub record ServedAll (first : Configuration) (arrivals left : List Given) (log : List Entry) (s : Content) : Type 0 where
+-- Of the arrivals that `old` had left each was given, but those that `new` has left, which are bytes of connections
+-- that may not be read. What was given and taken tells a history whose content the server has, and what was taken
+-- was sent.
+pub record ServedAll (first : Configuration) (old new : MemoryState) (s : Content) : Type 0 where
   pub history : List Event
-  pub told : Told first log history []
+  pub told : Told first new.log history []
   pub holds : Tells first history s
-  pub sent_is : (c : ℕ) → taken c log ≡ sent first c history
-  pub each : StandIn (map event_of_given arrivals) (gave_of log) (map event_of_given left)
-  pub stuck : first_coming s left ≡ None
+  pub sent_is : (c : ℕ) → taken c new.log ≡ sent first c history
+  pub asked_is : (u : ℕ) → driver_taken u new.log ≡ driver_sent u (past first history)
+  pub each : StandIn (map event_of_given old.left) (gave_of new.log) (map event_of_given new.left)
+  pub stuck : first_coming s new.left ≡ None

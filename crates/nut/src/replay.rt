@@ -2,7 +2,6 @@
 
 ghost use Rattle.std.specs.Prelude.{◌≡◌, ◌<◌, ◌-◌, ◌^◌, [], OnOk, OnErr};
 ghost use Rattle.nut_history.specs.Content.{content};
-ghost use Rattle.nut.specs.Memory.{log_of};
 ghost use Rattle.nut.specs.ServedAll.{ServedAll};
 
 use crate::{MemoryWorld, ServeFault, serve};
@@ -19,9 +18,9 @@ pub fn serve_memory(
     world: &mut MemoryWorld,
 ) -> Result<(), ServeFault>
     requires fresh { server.old ≡ content server.old.configuration [] }
-    requires blank { world.old.notes.items ≡ [] }
+    requires blank { world.old.log ≡ [] }
     requires few { world.old.faults < 2 ^ 64 - 1 }
-    ensures all { OnOk result (ServedAll server.old.configuration world.old.left.items world.new.left.items (log_of world.new.notes.items) server.new) }
+    ensures all { OnOk result (ServedAll server.old.configuration world.old world.new server.new) }
     ensures fault { OnErr result (world.old.faults < world.new.faults) }
 {
     serve(rt, server, world)

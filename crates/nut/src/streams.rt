@@ -24,7 +24,7 @@ enum Stage {
     Ended,
 }
 
-/// A world with one client, whose bytes come from a reader and whose replies go to a writer at once.
+/// A world with one client and no drivers. The client's bytes come from a reader, and replies go to a writer at once.
 ///
 /// It ends where the client may be read no more, and at the end of the input. A failed read or write is a fault.
 /// The writer isn't flushed: it should be one that keeps no bytes back. It tells no record.
@@ -54,6 +54,8 @@ impl<'a, R: Read, T: Write> World for StreamWorld<'a, R, T> {
     ghost log = { λ w. None };
 
     ghost late = { λ w d. false };
+
+    ghost driver_late = { λ w u. false };
 
     ghost fault_count = { λ w. w.faults };
 
@@ -101,8 +103,17 @@ impl<'a, R: Read, T: Write> World for StreamWorld<'a, R, T> {
         }
     }
 
+    fn write_driver(&mut self, _u: usize, _bytes: &[u8]) -> Result<Written, Fault> {
+        self.faults += 1;
+        Err(Fault)
+    }
+
     fn close(&mut self, _c: u64) -> Result<(), Fault> {
         self.stage = Stage::Ended;
+        Ok(())
+    }
+
+    fn close_driver(&mut self, _u: usize) -> Result<(), Fault> {
         Ok(())
     }
 }

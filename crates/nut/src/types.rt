@@ -9,15 +9,23 @@ pub type Piece = ArrayVec<u8, 512>;
 /// The address of a client, as the world names it: at most 64 bytes.
 pub type Address = ArrayVec<u8, 64>;
 
-/// What comes next.
+/// What comes next. Connections go by the numbers that the server gave them, UPSes by their places in ups.conf.
 #[derive(Drop)]
 pub enum Next {
+    /// It is so many seconds since the start.
+    Moment(u64),
     /// A client connects from this address.
     Open(Address),
     /// The connection with this number sent the bytes that stand in the piece.
     Bytes(u64),
     /// The connection with this number went away.
     Close(u64),
+    /// The driver of the UPS with this number is connected, anew where it was connected before.
+    DriverUp(usize),
+    /// The driver of the UPS with this number sent the bytes that stand in the piece.
+    DriverBytes(usize),
+    /// The driver of the UPS with this number went away.
+    DriverDown(usize),
     /// Nothing came. Writes that were late may be tried again.
     Again,
     /// Nothing will come any more.
@@ -51,12 +59,20 @@ pub enum ServeFault {
 /// An arrival as a world over memory keeps it.
 #[derive(Drop)]
 pub enum Given {
+    /// It is so many seconds since the start.
+    Moment(u64),
     /// A client connects from this address.
     Open(Address),
     /// The connection with this number sends these bytes.
     Bytes(u64, Piece),
     /// The connection with this number goes away.
     Close(u64),
+    /// The driver of the UPS with this number is connected.
+    DriverUp(usize),
+    /// The driver of the UPS with this number sends these bytes.
+    DriverBytes(usize, Piece),
+    /// The driver of the UPS with this number goes away.
+    DriverDown(usize),
 }
 
 /// What a world over memory notes down.
@@ -68,4 +84,8 @@ pub enum Note {
     Took(u64, Vec<u8>),
     /// It closed a connection.
     Closed(u64),
+    /// It took these requests, or parts of them, for the driver of a UPS.
+    TookRequests(usize, Vec<u8>),
+    /// It closed the link to the driver of a UPS.
+    ClosedDriver(usize),
 }

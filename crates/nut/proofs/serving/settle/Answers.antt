@@ -1,6 +1,6 @@
 use Rattle.std.proofs.Common.{◌≡◌, ◌<◌, true, length, sym, ◌∙◌, ap, subst, arith}
 use Rattle.nut_history.specs.Acceptance.{session_of, waiting_in, leaves}
-use Rattle.nut.proofs.Steps.{closed_left}
+use Rattle.nut.proofs.Writes.{closed_left}
 use Rattle.nut.proofs.Settles.{gone_after_close, only_closed, only_twice}
 use Rattle.nut.proofs.serving.settle.Goals as goal
 

@@ -1,5 +1,6 @@
 use Rattle.std.proofs.Common.{◌<◌, [], length, subst, arith}
-use Rattle.nut.proofs.Steps.{at_err, stays, write_took, write_late, write_broke, closed_ended}
+use Rattle.nut.proofs.Steps.{at_err, stays}
+use Rattle.nut.proofs.Writes.{write_took, write_late, write_broke, closed_ended}
 use Rattle.nut.proofs.Settles.{waits_less, only_took, none_waits, only_broke}
 use Rattle.nut.proofs.serving.write_once.Goals as goal
 

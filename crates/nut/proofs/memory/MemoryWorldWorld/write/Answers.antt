@@ -6,4 +6,5 @@ use Rattle.nut.proofs.memory.MemoryWorldWorld.write.Goals as goal
 
 pub returns-in-Ok-clause-reached : goal.returns-in-Ok-clause-reached
 returns-in-Ok-clause-reached c =
-    goes_on_more c.args.self.now.left.items c.args.self.now.left.items (log_of c.args.self.now.notes.items) (log_of c.note_taken.new.notes.items) (TookBytes c.args.c c.args.bytes.now) refl c.in-Ok.ensures.ok refl
+    rw (← c.self.view_is) (goes_on_more (record { left = c.self.inside.left.items; log = log_of c.self.inside.notes.items; faults = c.self.inside.faults })
+    (record { left = c.self.inside.left.items; log = log_of c.note_taken.new.notes.items; faults = c.self.inside.faults }) (TookBytes c.args.c c.args.bytes.now) refl c.in-Ok.ensures.ok refl)
