@@ -11,7 +11,7 @@ use nut_words::{Line, WordFault, Words, split};
 use std::alloc::{AllocError, Global};
 
 /// A line: it says nothing, is refused for its form, or asks for something. It borrows its words.
-#[derive(Debug, Drop)]
+#[derive(Drop)]
 pub enum Command<'a> {
     /// A line without words.
     Blank,
