@@ -1,5 +1,5 @@
 -- What an arrival, and the server's answer to it, make of what is served.
-use Rattle.std.proofs.Common.{◌≡◌, ℕ, eqb, List, [], ◌∷◌, ◌++◌, Option, Some, None, Result, Ok, Err, if◌then◌else◌, refl, sym, ◌∙◌, ap, subst, inl, inr, append-nil}
+use Rattle.std.proofs.Common.{◌≡◌, ℕ, eqb, List, [], ◌∷◌, Option, Some, None, Result, Ok, Err, if◌then◌else◌, refl, sym, ◌∙◌, ap, subst, inl, inr, append-nil}
 use Rattle.std.specs.Prelude.{option_map}
 use Rattle.std.proofs.lemmas.Bool.{cases_Bool, eqb-true}
 use Rattle.nut_history.specs.declared.Place.{Place}
@@ -10,17 +10,17 @@ use Rattle.nut_history.specs.Configuration.{Configuration}
 use Rattle.nut_history.specs.Event.{Event}
 use Rattle.nut_history.specs.Event as event
 use Rattle.nut_history.specs.Trace.{driver_sent}
-use Rattle.nut_history.specs.Content.{Supply, Content, past, sent}
+use Rattle.nut_history.specs.Content.{Supply, Content, past}
 use Rattle.nut_history.specs.Acceptance.{refusal, up_refusal, IsAccepted, Tells, supply_of}
 use Rattle.nut_history.specs.Outcome.{IsAnswer, IsRefusal, after_refusal}
-use Rattle.nut_history.proofs.Sent.{taken_by, sent-other, sent-refused}
+use Rattle.nut_history.proofs.Sent.{taken_by, sent-refused}
 use Rattle.nut_history.proofs.DriverSent.{driver_sent-step, driver_sent-refused}
 use Rattle.nut_server.specs.declared.arrival.Arrival.{Arrival}
 use Rattle.nut_server.specs.Arrival.{event_of}
-use Rattle.nut.specs.Record.{Entry, Gave, tells, tells_next, tells_arrival, arrival_of, since_up, taken, driver_taken}
+use Rattle.nut.specs.Record.{Entry, Gave, tells, tells_next, tells_arrival, arrival_of, since_up}
 use Rattle.nut.specs.declared.types.Next.{Next}
 use Rattle.nut.specs.declared.types.Next.TheVariants as next
-use Rattle.nut.specs.Served.{Served, ServedBefore, Ended, ended_in, ended_by, ended_by_refusal}
+use Rattle.nut.specs.Served.{Served, ServedBefore, ended_in, ended_by, ended_by_refusal}
 use Rattle.nut.proofs.Steps.{Leads, goes_on, same_sent, same_asked}
 use Rattle.nut.proofs.Unconnected.{none_sent}
 

@@ -1,12 +1,12 @@
 -- Of a driver without a UPS nothing was ever taken: what is connected is a driver of a UPS, and the UPSes stay.
-use Rattle.std.proofs.Common.{◌≡◌, ℕ, zero, suc, eqb, List, [], ◌∷◌, length, map, Option, Some, None, refl, sym, ◌∙◌, ap, subst, inl, inr}
+use Rattle.std.proofs.Common.{◌≡◌, ℕ, zero, suc, eqb, List, [], ◌∷◌, length, map, Some, None, refl, sym, ◌∙◌, subst, inl, inr}
 use Rattle.std.specs.Prelude.{slice_get}
 use Rattle.std.proofs.lemmas.Bool.{cases_Bool, eqb-true}
 use Rattle.nut_history.specs.Configuration.{Configuration}
 use Rattle.nut_history.specs.Event.{Event, Moment, Open, Bytes, Took, Close, WriteFailed, DriverUp, DriverBytes, DriverTook, DriverDown, steps, brought, input, driver_input}
 use Rattle.nut_history.specs.Trace.{configuration, driver_sent, ups_numbers, below}
 use Rattle.nut_history.specs.Content.{Content, content, past, supply}
-use Rattle.nut_history.specs.Acceptance.{drain_refusal, IsAccepted, Tells, supply_of}
+use Rattle.nut_history.specs.Acceptance.{IsAccepted, Tells, supply_of}
 use Rattle.nut_history.specs.Laws.{driver_received}
 use Rattle.nut_history.proofs.Others.{configuration_lines, configuration_reports}
 use Rattle.nut_history.proofs.DriverSent.{connected_took, driver_sent-received}

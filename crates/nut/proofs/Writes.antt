@@ -7,7 +7,7 @@ use Rattle.nut_history.specs.declared.Refused.{Refused}
 use Rattle.nut_history.specs.Configuration.{Configuration}
 use Rattle.nut_history.specs.Event.{Event}
 use Rattle.nut_history.specs.Event as event
-use Rattle.nut_history.specs.Content.{Session, Content, content, sent}
+use Rattle.nut_history.specs.Content.{Session, Content, sent}
 use Rattle.nut_history.specs.Acceptance.{refusal, took_refusal, close_refusal, Tells, session_of, waiting_in, waiting_of, leaves}
 use Rattle.nut_history.specs.Outcome.{IsAnswer}
 use Rattle.nut_history.proofs.Sent.{sent-took_told, sent-took_other}

@@ -8,7 +8,6 @@ use Rattle.nut_history.specs.Acceptance.{Tells}
 use Rattle.nut.specs.Record.{taken, driver_taken}
 use Rattle.nut.specs.Served.{Told}
 use Rattle.nut.specs.Memory.{MemoryState, event_of_given, first_coming, gave_of, StandIn}
-use Rattle.nut.specs.declared.types.Given.{Given}
 
 -- Of the arrivals that `old` had left each was given, but those that `new` has left, which are bytes of connections
 -- that may not be read. What was given and taken tells a history whose content the server has, and what was taken

@@ -1,7 +1,7 @@
 -- How a content hears the bytes of a connection: line by line.
 use Rattle.std.proofs.Common.{◌≡◌, ℕ, zero, suc, ◌<◌, true, false, eqb, List, [], ◌∷◌, ◌++◌, map, length, refl, sym, ◌∙◌, ap, arith, inl, inr, append_assoc, append-nil, Option, Some, None}
 use Rattle.std.specs.Prelude.{if◌then◌else◌, option_map}
-use Rattle.std.proofs.lemmas.Bool.{cases_Bool, eqb-true, eqb-false}
+use Rattle.std.proofs.lemmas.Bool.{cases_Bool, eqb-false}
 use Rattle.nut_words.specs.Lines.{LineText, Text, as_line, last_of, parts, rest, joined}
 use Rattle.nut_words.proofs.LineLemmas.{joined-as_line}
 use Rattle.nut_words.proofs.StreamGrowth.{rest_within}

@@ -2,7 +2,7 @@
 use Rattle.std.proofs.Common.{◌≡◌, ℕ, ◌≤◌, true, false, eqb, List, [], ◌∷◌, ◌++◌, map, length, refl, sym, ◌∙◌, ap, arith, inl, inr, length-append, Option, Some, None, subst}
 use Rattle.std.specs.Prelude.{if◌then◌else◌}
 use Rattle.std.proofs.lemmas.Bool.{cases_Bool, eqb-true, eqb-false, eq-eqb}
-use Rattle.nut_words.specs.Lines.{LineText, Text, joined, rest}
+use Rattle.nut_words.specs.Lines.{LineText, joined, rest}
 use Rattle.nut_words.proofs.StreamGrowth.{rest_at_line_feed, rest_within}
 use Rattle.nut_history.specs.Configuration.{Configuration}
 use Rattle.nut_history.specs.Command.{command_of}
@@ -12,7 +12,7 @@ use Rattle.nut_history.specs.Answer.{Silence, answer, text_of}
 use Rattle.nut_history.specs.Trace.{configuration, clock, open_numbers, logged_out, due, driver_due, ups_numbers, caller, with_request, request_for, trace, answer_to, asks_at}
 use Rattle.nut_history.specs.Content.{Session, Content, past, content, session, supply}
 use Rattle.nut_history.specs.Acceptance.{session_of}
-use Rattle.nut_history.specs.Machine.{advance, answer_in, line_heard, update, update_at, with_rest, with_sessions, with_supplies, answered, after_answer, after_command, byte_heard, bytes_heard, byte_reported, bytes_reported}
+use Rattle.nut_history.specs.Machine.{advance, answer_in, line_heard, update_at, with_rest, with_supplies, after_answer, byte_heard, bytes_heard, byte_reported, bytes_reported}
 use Rattle.nut_history.proofs.LineLaws.{brought_line_feed, brought_within}
 use Rattle.nut_history.proofs.Places.{update-below, update_at-none, update_at-twice}
 use Rattle.nut_history.proofs.Law.{content_from, supply_from, rests_of, takes_of, reports_of, scene_is, eqb_turn, rest-law, said_sessions, said_supplies, answered_past, reported_self, IsDriverCovered}

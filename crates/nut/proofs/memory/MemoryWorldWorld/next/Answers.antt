@@ -1,4 +1,4 @@
-use Rattle.std.proofs.Common.{◌≡◌, Some, ap, ◌∙◌, sym}
+use Rattle.std.proofs.Common.{ap, ◌∙◌, sym}
 use Rattle.nut.specs.Memory.{first_coming, log_of}
 use Rattle.nut.proofs.Noted.{came, gave_reached}
 use Rattle.nut.proofs.memory.MemoryWorldWorld.next.Goals as goal
