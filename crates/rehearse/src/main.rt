@@ -16,6 +16,7 @@ fn main(rt: HostRuntime) -> ExitCode {
     let mut err = io::writer(&stderr);
     let status = match words(&rt) {
         Ok(words) => play::run(
+            &rt,
             rt.alloc(),
             words.as_slice(),
             &mut rt.reader(),

@@ -2,19 +2,19 @@
 
 use crate::script::{Line, hex_byte, read};
 use arrayvec::ArrayVec;
-use nut_server::{Arrival, Refused, Server};
+use nut::{FileFault, read_conf};
+use nut_server::{Arrival, Config, Refused, Server};
 use nut_words::{Line as Cut, LineCutter};
 use std::alloc::Global;
 use std::convert::AsStr;
 use std::io;
 use std::io::{Read, Write};
-
-/// How many bytes a piece may be made of: more than a server takes, so that this can be tried.
-const PIECE_ROOM: usize = 1024;
+use std::rt::Files;
 
 /// Plays the script that `input` holds against a server by the files in a folder, and gives the exit status: 0, or 1
 /// after a text on `err`.
 pub fn run<S: AsStr, I: Read, O: Write, E: Write>(
+    files: &impl Files,
     alloc: Global,
     words: &[S],
     input: &mut I,
@@ -25,9 +25,16 @@ pub fn run<S: AsStr, I: Read, O: Write, E: Write>(
         let _ = writeln!(err, "usage: rehearse DIR < SCRIPT");
         return 2;
     };
-    let server = match nut::server_from_folder(alloc, folder.as_str()) {
-        Ok(server) => server,
-        Err(failure) => return failure.tell("rehearse", err),
+    let config = match configuration(files, alloc, folder.as_str()) {
+        Ok(config) => config,
+        Err(fault) => {
+            let _ = writeln!(err, "rehearse: {fault}");
+            return 1;
+        }
+    };
+    let Ok(server) = Server::new(alloc, config) else {
+        let _ = writeln!(err, "rehearse: out of memory");
+        return 1;
     };
     let mut player = Player {
         server,
@@ -36,14 +43,23 @@ pub fn run<S: AsStr, I: Read, O: Write, E: Write>(
     };
     match player.play_all(input) {
         Ok(()) => 0,
-        Err(error) => {
-            let _ = writeln!(err, "rehearse: {error}");
+        Err(_) => {
+            let _ = writeln!(err, "rehearse: I/O failed");
             1
         }
     }
 }
 
+/// The configuration that the files of a folder set.
+fn configuration(files: &impl Files, alloc: Global, folder: &str) -> Result<Config, FileFault> {
+    let ups = read_conf(files, alloc, folder)?;
+    let users = read_conf(files, alloc, folder)?;
+    let upsd = read_conf(files, alloc, folder)?;
+    Ok(Config::new(ups, users, upsd))
+}
+
 /// A server that is played against, the piece that is being made, and where bytes are printed.
+#[derive(Drop)]
 struct Player<'a, O> {
     server: Server,
     piece: ArrayVec<u8, 1024>,
