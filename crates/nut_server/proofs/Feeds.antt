@@ -92,8 +92,8 @@ first_of b (c ∷ x) more =
           let one : lines (b ++ c ∷ []) ≡ lines b ++ rest b ∷ [] = ap (λ c. lines (b ++ c ∷ [])) is ∙ lines_at_line_feed b in
           rw e (
             ap lines (sym whole) ∙ lines-append (b ++ c ∷ []) x ∙ ap (λ r. lines (b ++ c ∷ []) ++ lines_after r x) ended
-            ∙ ap (λ l. l ++ lines_after (Text []) x) one ∙ append_assoc (lines b) (rest b ∷ []) (lines_after (Text []) x)
-            ∙ ap (λ r. lines b ++ r ∷ lines_after (Text []) x) (sym (joined_rest b)),
+                ∙ ap (λ l. l ++ lines_after (Text []) x) one ∙ append_assoc (lines b) (rest b ∷ []) (lines_after (Text []) x)
+                ∙ ap (λ r. lines b ++ r ∷ lines_after (Text []) x) (sym (joined_rest b)),
             ended,
           )
       | inr e ↦
@@ -101,9 +101,9 @@ first_of b (c ∷ x) more =
           let later = first_of (b ++ c ∷ []) x (rw e at more) in
           rw e (
             ap lines (sym (append_assoc b (c ∷ []) x)) ∙ later.0
-            ∙ ap (λ l. l ++ joined (rest (b ++ c ∷ [])) (until_feed x) ∷ lines_after (Text []) (behind 1 x)) (lines_within b c other)
-            ∙ ap (λ r. lines b ++ joined r (until_feed x) ∷ lines_after (Text []) (behind 1 x)) (rest_within b c other)
-            ∙ ap (λ r. lines b ++ r ∷ lines_after (Text []) (behind 1 x)) (joined_next b c (until_feed x)),
+                ∙ ap (λ l. l ++ joined (rest (b ++ c ∷ [])) (until_feed x) ∷ lines_after (Text []) (behind 1 x)) (lines_within b c other)
+                ∙ ap (λ r. lines b ++ joined r (until_feed x) ∷ lines_after (Text []) (behind 1 x)) (rest_within b c other)
+                ∙ ap (λ r. lines b ++ r ∷ lines_after (Text []) (behind 1 x)) (joined_next b c (until_feed x)),
             ap rest (sym (append_assoc b (c ∷ []) (front 1 x))) ∙ later.1,
           )
     ]

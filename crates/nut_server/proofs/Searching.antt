@@ -68,6 +68,7 @@ not_found c ks low high le searched = none ks (λ i k is. differs i k is) where
     | inl e ↦ let lt : i < low = grind (arith, nat_tests) in omega (arith, searched.smaller i k lt is)
     | inr e ↦ let ge : low ≤ i = grind (arith, nat_tests) in omega (arith, searched.greater i k (omega arith) is)
   ]
+
   none : (ks : List Session) → ((i : ℕ) (k : Session) → slice_get ks i ≡ Some k → k.number ≡ c → ⊥) → session_of c ks ≡ None
   none [] differs = refl
   none (k ∷ ks) differs = let e : eqb k.number c ≡ false = ne_eqb k.number c (differs 0 k refl) in rw e (none ks (λ i k is. differs (suc i) k is))

@@ -64,33 +64,82 @@ of_about subject rule short [] = tt
 of_about subject rule short (x ∷ xs) = elim (cases_Bool (is_subject subject (subject_of x))) [ inl e ↦ rw e (short xs) | inr e ↦ rw e tt ]
 
 all_short : AllGiveShort forms
-all_short =
-    (of_about subjects.NumLogins (one (λ x. requests.GetNumLogins x)) (of_one (λ x. requests.GetNumLogins x) (λ x. tt)),
-    (of_about subjects.UpsDesc (one (λ x. requests.GetUpsDesc x)) (of_one (λ x. requests.GetUpsDesc x) (λ x. tt)),
-    (of_about subjects.Var (two (λ x y. requests.GetVar x y)) (of_two (λ x y. requests.GetVar x y) (λ x y. tt)),
-    (of_about subjects.Type (two (λ x y. requests.GetType x y)) (of_two (λ x y. requests.GetType x y) (λ x y. tt)),
-    (of_about subjects.Desc (two (λ x y. requests.GetDesc x y)) (of_two (λ x y. requests.GetDesc x y) (λ x y. tt)),
-    (of_about subjects.CmdDesc (two (λ x y. requests.GetCmdDesc x y)) (of_two (λ x y. requests.GetCmdDesc x y) (λ x y. tt)),
-    (of_about subjects.Ups (none (requests.List queries.Ups)) (of_none (requests.List queries.Ups) tt),
-    (of_about subjects.Var (one (λ ups. requests.List (queries.Var ups))) (of_one (λ ups. requests.List (queries.Var ups)) (λ x. tt)),
-    (of_about subjects.Rw (one (λ ups. requests.List (queries.Rw ups))) (of_one (λ ups. requests.List (queries.Rw ups)) (λ x. tt)),
-    (of_about subjects.Cmd (one (λ ups. requests.List (queries.Cmd ups))) (of_one (λ ups. requests.List (queries.Cmd ups)) (λ x. tt)),
-    (of_about subjects.Enum (two (λ ups variable. requests.List (queries.Enum ups variable))) (of_two (λ ups variable. requests.List (queries.Enum ups variable)) (λ x y. tt)),
-    (of_about subjects.Range (two (λ ups variable. requests.List (queries.Range ups variable))) (of_two (λ ups variable. requests.List (queries.Range ups variable)) (λ x y. tt)),
-    (of_about subjects.Client (one (λ ups. requests.List (queries.Client ups))) (of_one (λ ups. requests.List (queries.Client ups)) (λ x. tt)),
-    (of_about subjects.Var (three (λ x y z. requests.SetVar x y z)) (of_three (λ x y z. requests.SetVar x y z) (λ x y z. tt)),
-    (of_two (λ x y. requests.InstCmd x y) (λ x y. tt),
-    (of_credential (λ x. requests.Username x) (λ x le. le),
-    (of_credential (λ x. requests.Password x) (λ x le. le),
-    (of_one (λ x. requests.Login x) (λ x. tt),
-    (of_one (λ x. requests.Primary x) (λ x. tt),
-    (of_one (λ x. requests.Fsd x) (λ x. tt),
-    (of_none requests.Logout tt,
-    (of_none requests.Ver tt,
-    (of_none requests.NetVer tt,
-    (of_none requests.Help tt,
-    (of_none requests.StartTls tt,
-    tt)))))))))))))))))))))))))
+all_short = (
+  of_about subjects.NumLogins (one (λ x. requests.GetNumLogins x)) (of_one (λ x. requests.GetNumLogins x) (λ x. tt)),
+  (
+    of_about subjects.UpsDesc (one (λ x. requests.GetUpsDesc x)) (of_one (λ x. requests.GetUpsDesc x) (λ x. tt)),
+    (
+      of_about subjects.Var (two (λ x y. requests.GetVar x y)) (of_two (λ x y. requests.GetVar x y) (λ x y. tt)),
+      (
+        of_about subjects.Type (two (λ x y. requests.GetType x y)) (of_two (λ x y. requests.GetType x y) (λ x y. tt)),
+        (
+          of_about subjects.Desc (two (λ x y. requests.GetDesc x y)) (of_two (λ x y. requests.GetDesc x y) (λ x y. tt)),
+          (
+            of_about subjects.CmdDesc (two (λ x y. requests.GetCmdDesc x y)) (of_two (λ x y. requests.GetCmdDesc x y) (λ x y. tt)),
+            (
+              of_about subjects.Ups (none (requests.List queries.Ups)) (of_none (requests.List queries.Ups) tt),
+              (
+                of_about subjects.Var (one (λ ups. requests.List (queries.Var ups))) (of_one (λ ups. requests.List (queries.Var ups)) (λ x. tt)),
+                (
+                  of_about subjects.Rw (one (λ ups. requests.List (queries.Rw ups))) (of_one (λ ups. requests.List (queries.Rw ups)) (λ x. tt)),
+                  (
+                    of_about subjects.Cmd (one (λ ups. requests.List (queries.Cmd ups))) (of_one (λ ups. requests.List (queries.Cmd ups)) (λ x. tt)),
+                    (
+                      of_about subjects.Enum (two (λ ups variable. requests.List (queries.Enum ups variable))) (of_two (λ ups variable. requests.List (queries.Enum ups variable)) (λ x y. tt)),
+                      (
+                        of_about subjects.Range (two (λ ups variable. requests.List (queries.Range ups variable))) (of_two (λ ups variable. requests.List (queries.Range ups variable)) (λ x y. tt)),
+                        (
+                          of_about subjects.Client (one (λ ups. requests.List (queries.Client ups))) (of_one (λ ups. requests.List (queries.Client ups)) (λ x. tt)),
+                          (
+                            of_about subjects.Var (three (λ x y z. requests.SetVar x y z)) (of_three (λ x y z. requests.SetVar x y z) (λ x y z. tt)),
+                            (
+                              of_two (λ x y. requests.InstCmd x y) (λ x y. tt),
+                              (
+                                of_credential (λ x. requests.Username x) (λ x le. le),
+                                (
+                                  of_credential (λ x. requests.Password x) (λ x le. le),
+                                  (
+                                    of_one (λ x. requests.Login x) (λ x. tt),
+                                    (
+                                      of_one (λ x. requests.Primary x) (λ x. tt),
+                                      (
+                                        of_one (λ x. requests.Fsd x) (λ x. tt),
+                                        (
+                                          of_none requests.Logout tt,
+                                          (
+                                            of_none requests.Ver tt,
+                                            (
+                                              of_none requests.NetVer tt,
+                                              (
+                                                of_none requests.Help tt,
+                                                (
+                                                  of_none requests.StartTls tt,
+                                                  tt,
+                                                ),
+                                              ),
+                                            ),
+                                          ),
+                                        ),
+                                      ),
+                                    ),
+                                  ),
+                                ),
+                              ),
+                            ),
+                          ),
+                        ),
+                      ),
+                    ),
+                  ),
+                ),
+              ),
+            ),
+          ),
+        ),
+      ),
+    ),
+  ),
+)
 
 of_either : (a b : Option Request) → IsShort a → IsShort b → IsShort (option_or a b)
 of_either None b short short' = short'

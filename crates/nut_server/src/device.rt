@@ -131,10 +131,7 @@ impl Device {
         if !self.connected {
             return Some(Refusal::DriverNotConnected);
         }
-        if !self.table.dump_done()
-            || !self.table.data_ok()
-            || self.is_silent_for(max_age, time)
-        {
+        if !self.table.dump_done() || !self.table.data_ok() || self.is_silent_for(max_age, time) {
             return Some(Refusal::DataStale);
         }
         None

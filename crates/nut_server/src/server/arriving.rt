@@ -28,7 +28,11 @@ impl Server {
         ensures { self.new ≡ advance self.old (Moment t) }
     {
         self.clock = self.clock.max(t);
-        tick_all(&mut self.devices, u64::from(self.config.max_age()), self.clock);
+        tick_all(
+            &mut self.devices,
+            u64::from(self.config.max_age()),
+            self.clock,
+        );
     }
 
     /// A client connects, which takes no memory.

@@ -122,7 +122,7 @@ impl Server {
         requires short { HasShortNames (meant command.now) }
         ensures ok { (c : ℕ) (k : Session) → Stands c self.old.sessions at → slice_get self.old.sessions at ≡ Some k
             → OnOk result (self.new ≡ answered_by c (meant command.now)
-                (answer (scene_of self.old) (caller_of k) (meant command.now)) self.old) }
+            (answer (scene_of self.old) (caller_of k) (meant command.now)) self.old) }
         ensures err { OnErr result (self.new ≡ self.old) }
     {
         self.scratch.clear();
@@ -134,7 +134,8 @@ impl Server {
         };
         let verdict = reply(&scene, self.connections.at(at), command, &mut self.scratch)?;
         let effect = effect_of(&self.config, command, verdict);
-        self.connections.answer(at, self.scratch.as_slice(), effect)?;
+        self.connections
+            .answer(at, self.scratch.as_slice(), effect)?;
         self.act(command, verdict);
         Ok(())
     }
@@ -145,7 +146,7 @@ impl Server {
         requires { at < length self.old.sessions }
         ensures ok { (c : ℕ) (k : Session) → Stands c self.old.sessions at → slice_get self.old.sessions at ≡ Some k
             → OnOk result (self.new ≡ answered_by c (command_of (line_of line.entry))
-                (answer_in self.old (command_of (line_of line.entry)) k) self.old) }
+            (answer_in self.old (command_of (line_of line.entry)) k) self.old) }
         ensures err { OnErr result (self.new ≡ self.old) }
         ensures memory { (k : Session) → slice_get self.old.sessions at ≡ Some k
             → OnErr result (IsTrue (line_takes (line_of line.entry) (Some k))) }

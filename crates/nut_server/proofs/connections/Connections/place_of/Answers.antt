@@ -17,7 +17,7 @@ loop-low-preserved-then-number-c-2 c =
       omega (arith, c.loop-low-test.true),
       c.loop-low.invariant.1,
       searched_above c.args.c ks c.loop-low.low _ c.loop-low.high c.index-entries-middle.result (subst (λ ks. IsRising (numbers_of ks)) c.self.view_is c.self.invariant.rising) there
-      (omega (arith, c.number-number.ensures, c.if-number-c-2.true)) c.loop-low.invariant.2,
+          (omega (arith, c.number-number.ensures, c.if-number-c-2.true)) c.loop-low.invariant.2,
     )
 
 pub loop-low-preserved : goal.loop-low-preserved
@@ -27,7 +27,7 @@ loop-low-preserved c =
       omega arith,
       omega (arith, c.loop-low-test.true, c.loop-low.invariant.1),
       searched_below c.args.c ks c.loop-low.low _ c.loop-low.high c.index-entries-middle.result (subst (λ ks. IsRising (numbers_of ks)) c.self.view_is c.self.invariant.rising) there
-      (omega (arith, c.number-number.ensures, c.if-number-c-2.false, c.if-number-c.false)) c.loop-low.invariant.2,
+          (omega (arith, c.number-number.ensures, c.if-number-c-2.false, c.if-number-c.false)) c.loop-low.invariant.2,
     )
 
 pub returns-clause-none : goal.returns-clause-none

@@ -93,8 +93,7 @@ loop-line-preserved c =
     ∙ ap (bytes_reported time (front 1 left)) g.3
     ∙ sym (bytes_reported-append time (front done piece) (front 1 left) c.args.self.now)
     ∙ ap (λ x. bytes_reported time (front done piece ++ front 1 x) c.args.self.now) g.2
-    ∙ ap (λ x. bytes_reported time x c.args.self.now) (sym (front_next done piece)) in
-    (
+    ∙ ap (λ x. bytes_reported time x c.args.self.now) (sym (front_next done piece)) in (
       [],
       ended,
       take_rest left used ∙ next ∙ ap (behind 1) g.2 ∙ sym (behind_next done piece) ∙ ap (λ n. behind n piece) (sym more_done),

@@ -26,8 +26,7 @@ loop-line-init c =
     let s = the_view c.self.inside in
     let there : Stands c.args.c s.sessions c.args.at = subst (λ (x : Content). Stands c.args.c x.sessions c.args.at) (sym c.self.view_is) c.requires in
     let it = standing c.args.c s.sessions c.args.at there in
-    let out = c.take_cutter-cutter.ensures.left c.args.c there in
-    (
+    let out = c.take_cutter-cutter.ensures.left c.args.c there in (
       c.take_cutter-cutter.ensures.rest.0,
       c.take_cutter-cutter.ensures.rest.1,
       refl,
@@ -130,12 +129,11 @@ loop-line-preserved c =
     ∙ ap (bytes_heard n (front 1 left)) g.3
     ∙ sym (bytes_heard-append n (front done piece) (front 1 left) c.args.self.now)
     ∙ ap (λ x. bytes_heard n (front done piece ++ front 1 x) c.args.self.now) g.2
-    ∙ ap (λ x. bytes_heard n x c.args.self.now) (sym (front_next done piece)) in
-    (
+    ∙ ap (λ x. bytes_heard n x c.args.self.now) (sym (front_next done piece)) in (
       [],
       ended,
       take_rest left used ∙ next ∙ ap (behind 1) g.2 ∙ sym (behind_next done piece) ∙ ap (λ n. behind n piece) (sym more_done),
       ap (λ r. with_unfinished n r c.hear_line.new.self) ended ∙ ap (with_unfinished n (Text [])) said ∙ answered_then n (command_of line) reply s
-      ∙ heard ∙ ap (λ m. bytes_heard n (front m piece) c.args.self.now) (sym more_done),
+          ∙ heard ∙ ap (λ m. bytes_heard n (front m piece) c.args.self.now) (sym more_done),
       stands_updated n (λ k. answered s.configuration (command_of line) reply k) s.sessions _ c.args.at (λ k. refl) (ap (λ x. x.sessions) said) g.4,
     )
