@@ -19,6 +19,8 @@ mod reply;
 mod scene;
 mod server;
 mod setting;
+#[cfg(test)]
+mod tests;
 mod text;
 mod verdict;
 
