@@ -1,7 +1,6 @@
 -- What an answer does hangs on what it decides alone.
 use Rattle.std.proofs.Common.{◌≡◌, ℕ, Bool, List, Option, None, refl, sym, ap, ◌∙◌}
 use Rattle.nut_proto.specs.declared.request.Request.TheVariants as requests
-use Rattle.nut_proto.specs.declared.reply.Reply.{Reply}
 use Rattle.nut_proto.specs.declared.reply.Reply.TheVariants as replies
 use Rattle.nut_history.specs.Configuration.{Configuration}
 use Rattle.nut_history.specs.Command.{Command, Blank, Malformed, Asks}

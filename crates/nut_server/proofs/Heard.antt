@@ -1,7 +1,6 @@
 -- How a connection's piece is heard while its cutter is out.
-use Rattle.std.proofs.Common.{◌≡◌, ℕ, zero, suc, true, false, eqb, List, [], ◌∷◌, length, refl, sym, ◌∙◌, ap, subst, inl, inr, Option, Some, None, slice_get}
+use Rattle.std.proofs.Common.{◌≡◌, ℕ, zero, suc, eqb, List, [], ◌∷◌, refl, sym, ◌∙◌, ap, subst, Option, Some, slice_get}
 use Rattle.std.specs.Prelude.{option_map, IsTrue}
-use Rattle.std.proofs.lemmas.Bool.{cases_Bool}
 use Rattle.nut_words.specs.Lines.{LineText, Text}
 use Rattle.nut_history.specs.Answer.{Answer}
 use Rattle.nut_history.specs.Command.{Command}

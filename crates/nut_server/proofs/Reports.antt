@@ -1,15 +1,14 @@
 -- How a UPS hears its driver's bytes: line by line.
-use Rattle.std.proofs.Common.{◌≡◌, ℕ, zero, suc, ◌+◌, ◌<◌, ◌≤◌, true, false, eqb, List, [], ◌∷◌, ◌++◌, length, take, drop, refl, sym, ◌∙◌, ap, arith, inl, inr}
-use Rattle.std.specs.Prelude.{if◌then◌else◌}
-use Rattle.std.proofs.lemmas.Bool.{cases_Bool, eqb-true, false≢true}
+use Rattle.std.proofs.Common.{◌≡◌, ℕ, suc, ◌<◌, true, false, eqb, List, [], ◌∷◌, ◌++◌, refl, sym, ◌∙◌, ap, arith, inl, inr}
+use Rattle.std.proofs.lemmas.Bool.{cases_Bool, false≢true}
 use Rattle.std.proofs.lemmas.List.{append-nil, append_assoc}
-use Rattle.nut_words.specs.Lines.{LineText, Text, rest, joined}
+use Rattle.nut_words.specs.Lines.{LineText, rest, joined}
 use Rattle.nut_words.proofs.StreamGrowth.{rest_within}
 use Rattle.nut_history.specs.Content.{Supply}
 use Rattle.nut_history.specs.Acceptance.{front, line_feeds}
 use Rattle.nut_history.specs.Machine.{reported_by, byte_reported, bytes_reported}
-use Rattle.nut_history.specs.Outcome.{behind, first_line, until_feed}
-use Rattle.nut_server.proofs.Feeds.{front_next, joined_rest, joined_next}
+use Rattle.nut_history.specs.Outcome.{first_line, until_feed}
+use Rattle.nut_server.proofs.Feeds.{joined_rest, joined_next}
 
 -- a UPS with this unfinished line of its driver
 abbrev pub with_report : LineText → Supply → Supply

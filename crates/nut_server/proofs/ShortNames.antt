@@ -1,5 +1,5 @@
 -- A user name or a password that a line gives has at most 128 bytes.
-use Rattle.std.proofs.Common.{◌≡◌, ℕ, ◌≤◌, Bool, true, false, List, [], ◌∷◌, length, refl, inl, inr, Option, Some, None, arith}
+use Rattle.std.proofs.Common.{◌≡◌, ℕ, ◌≤◌, Bool, true, false, List, [], ◌∷◌, length, inl, inr, Option, Some, None, arith}
 use Rattle.std.specs.Prelude.{nat_le, ◌&&◌, if◌then◌else◌}
 use Rattle.std.specs.Option.{ok_or, option_or}
 use Rattle.std.proofs.lemmas.Bool.{cases_Bool}
@@ -12,7 +12,7 @@ use Rattle.nut_proto.specs.declared.keyword.Command as keywords
 use Rattle.nut_proto.specs.declared.keyword.Subject.{Subject}
 use Rattle.nut_proto.specs.declared.keyword.Subject.TheVariants as subjects
 use Rattle.nut_proto.specs.Keywords.{subject_of, is_subject, is_command, command_of}
-use Rattle.nut_proto.specs.Rules.{none, one, two, three, credential, no_word, one_word, two_words, three_words, is_credential}
+use Rattle.nut_proto.specs.Rules.{none, one, two, three, credential, is_credential}
 use Rattle.nut_proto.specs.Forms.{Rule, Form, about, forms, first_fit, meaning_by, meaning}
 use Rattle.nut_history.specs.Command.{Asks, asked}
 use Rattle.nut_server.specs.Asking.{command_read}

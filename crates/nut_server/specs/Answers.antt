@@ -1,10 +1,8 @@
 -- What the answers of the code are in the definitions.
-use Rattle.std.specs.Prelude.{ℕ, List, map, filter, Result, Ok, Err}
+use Rattle.std.specs.Prelude.{List, map, filter, Result, Ok, Err}
 use Rattle.nut_proto.specs.declared.refusal.Refusal.{Refusal}
 use Rattle.nut_proto.specs.declared.reply.Reply.{Reply}
 use Rattle.nut_proto.specs.declared.reply.Reply.TheVariants as replies
-use Rattle.nut_conf.specs.declared.users.Action.TheVariants as actions
-use Rattle.nut_history.specs.Configuration.{User}
 use Rattle.nut_history.specs.Answer as A
 use Rattle.nut_history.specs.Machine.{guest_of}
 use Rattle.nut_server.specs.declared.answer.Rows.{Rows}

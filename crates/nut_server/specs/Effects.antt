@@ -1,5 +1,5 @@
 -- What an answered line does to its connection.
-use Rattle.std.specs.Prelude.{ℕ, ◌≤◌, true, List, ◌++◌, length, Option, Some, None}
+use Rattle.std.specs.Prelude.{ℕ, ◌≤◌, true, List, ◌++◌, length, Some, None}
 use Rattle.nut_proto.specs.declared.request.Request.TheVariants as requests
 use Rattle.nut_proto.specs.declared.reply.Reply.TheVariants as replies
 use Rattle.nut_history.specs.Configuration.{Configuration}

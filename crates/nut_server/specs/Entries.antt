@@ -1,5 +1,5 @@
 -- What always holds of the open connections.
-use Rattle.std.specs.Prelude.{ℕ, ◌≤◌, length, vec_capacity}
+use Rattle.std.specs.Prelude.{◌≤◌, length, vec_capacity}
 use Rattle.nut_history.specs.Laws.{IsRising}
 use Rattle.nut_server.specs.declared.connections.Connections.TheInside.{Inside}
 use Rattle.nut_server.specs.Inside.{numbers_of}

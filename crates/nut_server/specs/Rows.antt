@@ -1,5 +1,5 @@
 -- The texts of the rows of lists that leave out some of what they walk over.
-use Rattle.std.specs.Prelude.{ℕ, List, [], Bool, if◌then◌else◌}
+use Rattle.std.specs.Prelude.{ℕ, List, [], if◌then◌else◌}
 use Rattle.nut_state.specs.Table.{Entry}
 use Rattle.nut_proto.specs.declared.reply.Reply.TheVariants as replies
 use Rattle.nut_proto.specs.Replies.{reply_line}

@@ -1,5 +1,5 @@
 -- What always holds inside a server.
-use Rattle.std.specs.Prelude.{◌≡◌, ℕ, ◌≤◌, List, [], length}
+use Rattle.std.specs.Prelude.{◌≡◌, ◌≤◌, [], length}
 use Rattle.nut_words.specs.Lines.{Text}
 use Rattle.nut_history.specs.Content.{Supply}
 use Rattle.nut_history.specs.Device.{absent}

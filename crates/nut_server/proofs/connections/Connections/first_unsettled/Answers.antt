@@ -1,7 +1,5 @@
 use Rattle.std.proofs.Common.{◌≡◌, ◌∙◌, ℕ, Some, None, Option, option_map, ap, sym, subst}
 use Rattle.std.specs.Prelude.{find}
-use Rattle.nut_history.specs.Laws.{IsRising}
-use Rattle.nut_server.specs.Inside.{numbers_of}
 use Rattle.nut_server.specs.Settling.{IsNextUnsettled, settles}
 use Rattle.nut_server.proofs.Orderly.{next_is}
 use Rattle.nut_server.proofs.connections.Connections.first_unsettled.Goals as goal

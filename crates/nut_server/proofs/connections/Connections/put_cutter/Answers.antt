@@ -1,9 +1,6 @@
-use Rattle.std.proofs.Common.{◌≡◌, [], ◌++◌, drop, ap, sym, ◌∙◌, refl}
-use Rattle.nut_words.specs.Lines.{Text}
+use Rattle.std.proofs.Common.{ap}
 use Rattle.nut_history.specs.Machine.{with_rest}
-use Rattle.nut_server.specs.Effects.{affected, said}
-use Rattle.nut_server.proofs.Results.{on_ok}
-use Rattle.nut_server.proofs.Places.{written, get_is}
+use Rattle.nut_server.proofs.Places.{written}
 use Rattle.nut_server.proofs.Entries.{numbers-set, entries_changed}
 use Rattle.nut_server.proofs.connections.Connections.put_cutter.Goals as goal
 

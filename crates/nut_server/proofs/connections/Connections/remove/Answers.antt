@@ -1,4 +1,4 @@
-use Rattle.std.proofs.Common.{rules, ◌∙◌, ap, arith}
+use Rattle.std.proofs.Common.{rules, arith}
 use Rattle.std.proofs.lemmas.Fn.{filter_same}
 use Rattle.nut_server.proofs.Entries.{rising_without, fewer_without}
 use Rattle.nut_server.proofs.connections.Connections.remove.Goals as goal

@@ -1,5 +1,5 @@
-use Rattle.std.proofs.Common.{◌≡◌, ◌<◌, ◌+◌, suc, ◌++◌, ◌∷◌, ℕ, List, [], IsTrue, length, take, drop, refl, sym, ap, subst, ◌∙◌, arith}
-use Rattle.std.proofs.lemmas.List.{take_rest, length-drop}
+use Rattle.std.proofs.Common.{◌≡◌, ◌<◌, ◌+◌, suc, ◌++◌, ℕ, List, [], IsTrue, take, drop, refl, sym, ap, subst, ◌∙◌, arith}
+use Rattle.std.proofs.lemmas.List.{take_rest}
 use Rattle.nut_words.specs.Lines.{LineText, Text, rest, lines}
 use Rattle.nut_words.specs.Cutter.{handed_out, line_of}
 use Rattle.nut_history.specs.Content.{Supply}

@@ -1,13 +1,12 @@
-use Rattle.std.proofs.Common.{◌≡◌, ◌<◌, ◌+◌, suc, ◌++◌, ◌∷◌, ℕ, List, [], Some, length, take, drop, refl, sym, ap, subst, ◌∙◌, arith}
-use Rattle.std.proofs.lemmas.List.{take_rest, length-drop}
-use Rattle.nut_words.specs.Lines.{LineText, Text, rest, lines}
+use Rattle.std.proofs.Common.{◌≡◌, ◌<◌, ◌+◌, suc, ◌++◌, ℕ, List, [], length, take, drop, refl, sym, ap, subst, ◌∙◌, arith}
+use Rattle.std.proofs.lemmas.List.{take_rest}
+use Rattle.nut_words.specs.Lines.{Text, rest, lines}
 use Rattle.nut_words.specs.Cutter.{handed_out, line_of}
 use Rattle.nut_history.specs.Acceptance.{front, line_feeds}
 use Rattle.nut_history.specs.Command.{command_of}
 use Rattle.nut_history.specs.Content.{Content}
-use Rattle.nut_history.specs.Event.{Close}
 use Rattle.nut_history.specs.Laws.{IsUpTo}
-use Rattle.nut_history.specs.Machine.{after_answer, answer_in, answered, advance, bytes_heard, with_rest, with_sessions, without}
+use Rattle.nut_history.specs.Machine.{after_answer, answer_in, answered, bytes_heard, with_rest, with_sessions, without}
 use Rattle.nut_history.specs.Outcome.{behind, first_line}
 use Rattle.nut_history.proofs.Hearing.{with_unfinished, bytes_heard-append, line_heard_front, rest_heard}
 use Rattle.nut_server.specs.Effects.{answered_by}

@@ -1,11 +1,9 @@
 use Rattle.std.proofs.Common.{◌≡◌, ◌++◌, ℕ, List, Some, ap, sym, subst, ◌∙◌, arith, length, map}
-use Rattle.std.proofs.lemmas.List.{length-map}
-use Rattle.nut_history.specs.Answer.{Answer, Scene, answer, text_of}
+use Rattle.nut_history.specs.Answer.{Answer, answer, text_of}
 use Rattle.nut_history.specs.Content.{Session, Content}
 use Rattle.nut_history.specs.Laws.{IsUpTo}
-use Rattle.nut_history.specs.Machine.{guest_of, caller_of, scene_of}
+use Rattle.nut_history.specs.Machine.{caller_of, scene_of}
 use Rattle.nut_server.specs.Asking.{meant}
-use Rattle.nut_server.specs.Inside.{numbers_of}
 use Rattle.nut_server.specs.Verdicts.{verdict_of}
 use Rattle.nut_server.specs.contracts.server.Server.{the_view}
 use Rattle.nut_server.proofs.Saying.{answered_all}

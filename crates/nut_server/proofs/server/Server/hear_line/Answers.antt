@@ -1,6 +1,5 @@
-use Rattle.std.proofs.Common.{◌≡◌, Some, true, false, ap, sym, subst, ◌∙◌, slice_get}
+use Rattle.std.proofs.Common.{◌≡◌, Some, ap, sym, subst, ◌∙◌, slice_get}
 use Rattle.nut_words.specs.Cutter.{line_of}
-use Rattle.nut_history.specs.Command as definitions
 use Rattle.nut_history.specs.Command.{command_of}
 use Rattle.nut_server.specs.Asking.{meant}
 use Rattle.nut_server.specs.Effects.{HasShortNames}

@@ -1,4 +1,4 @@
-use Rattle.std.proofs.Common.{[], length, map, subst, sym, ap, ◌∙◌, arith}
+use Rattle.std.proofs.Common.{length, subst, sym, ap, ◌∙◌, arith}
 use Rattle.std.proofs.lemmas.List.{length-map}
 use Rattle.nut_history.specs.Laws.{IsUpTo}
 use Rattle.nut_history.specs.Trace.{below}

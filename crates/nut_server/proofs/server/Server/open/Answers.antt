@@ -1,4 +1,4 @@
-use Rattle.std.proofs.Common.{◌+◌, [], ◌∷◌, length, subst, sym, ap, ◌∙◌, arith, length-append}
+use Rattle.std.proofs.Common.{◌+◌, [], ◌∷◌, length, subst, sym, ap, arith, length-append}
 use Rattle.nut_history.specs.Laws.{IsUpTo}
 use Rattle.nut_server.specs.Inside.{numbers_of}
 use Rattle.nut_server.proofs.Orderly.{IsUpTo-push}
