@@ -9,6 +9,7 @@ use crate::{Arrival, Config, Refused, Server};
 use nut_conf::{read_ups, read_upsd, read_users};
 use std::alloc::Global;
 use std::test::Fail;
+use thiserror::Error;
 
 const UPS: &[u8] = b"[su700]\ndriver = dummy-ups\nport = su700.dev\ndesc = \"Server room\"\n";
 
@@ -106,33 +107,34 @@ fn does(server: &mut Server, step: Step) -> bool {
     }
 }
 
-/// The first step that a server doesn't answer as it has to.
-fn play(server: &mut Server, steps: &[Step]) -> Option<usize> {
+/// Which step a server doesn't answer as it has to, counted from 0.
+#[derive(Clone, Copy, Debug, Error)]
+#[error("step {0} is answered otherwise")]
+struct Wrong(usize);
+
+/// Plays the steps on a server, to the first that it doesn't answer as it has to.
+fn play_on(server: &mut Server, steps: &[Step]) -> Result<(), Wrong> {
     for (index, step) in steps.iter().enumerate() {
         if !does(server, *step) {
-            return Some(index);
+            return Err(Wrong(index));
         }
     }
-    None
+    Ok(())
 }
 
-/// The first step that goes wrong on a fresh server with these files.
-fn first_wrong_with(
-    alloc: Global,
-    ups: &[u8],
-    upsd: &[u8],
-    steps: &[Step],
-) -> Result<Option<usize>, Fail> {
+/// Plays the steps on a server that was told nothing, with these files.
+fn play_with(alloc: Global, ups: &[u8], upsd: &[u8], steps: &[Step]) -> Result<(), Fail> {
     let config = Config::new(
         read_ups(alloc, ups)?,
         read_users(alloc, USERS)?,
         read_upsd(alloc, upsd)?,
     );
     let mut server = Server::new(alloc, config)?;
-    Ok(play(&mut server, steps))
+    play_on(&mut server, steps)?;
+    Ok(())
 }
 
-/// The first step that goes wrong on a fresh server.
-fn first_wrong(alloc: Global, steps: &[Step]) -> Result<Option<usize>, Fail> {
-    first_wrong_with(alloc, UPS, UPSD, steps)
+/// Plays the steps on a server that was told nothing.
+fn play(alloc: Global, steps: &[Step]) -> Result<(), Fail> {
+    play_with(alloc, UPS, UPSD, steps)
 }

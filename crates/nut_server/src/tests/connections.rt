@@ -1,6 +1,6 @@
 //! Connections that come and go, who they are, and what they count for.
 
-use super::{ON_LINE, OPEN, Step, UP, UPS, first_wrong, first_wrong_with};
+use super::{ON_LINE, OPEN, Step, UP, UPS, play, play_with};
 use crate::{Arrival, Refused};
 use std::test::Fail;
 
@@ -12,7 +12,7 @@ const CLIENTS: &[u8] = b"LIST CLIENT su700\n";
 
 #[test]
 fn name_and_password_are_wanted(rt: HostRuntime) -> Result<(), Fail> {
-    const STEPS: [Step; 8] = [
+    static STEPS: [Step; 8] = [
         OPEN,
         Step::Ask(1, SET, b"ERR USERNAME-REQUIRED\n"),
         Step::Ask(1, b"USERNAME admin\n", b"OK\n"),
@@ -26,13 +26,12 @@ fn name_and_password_are_wanted(rt: HostRuntime) -> Result<(), Fail> {
         ),
         Step::Ask(1, b"FSD su700\n", b"ERR ACCESS-DENIED\n"),
     ];
-    assert_eq!(rt; first_wrong(rt.alloc(), &STEPS)?, None);
-    Ok(())
+    play(rt.alloc(), &STEPS)
 }
 
 #[test]
 fn logins_are_counted(rt: HostRuntime) -> Result<(), Fail> {
-    const STEPS: [Step; 9] = [
+    static STEPS: [Step; 9] = [
         UP,
         ON_LINE,
         OPEN,
@@ -43,13 +42,12 @@ fn logins_are_counted(rt: HostRuntime) -> Result<(), Fail> {
         Step::Tell(Arrival::Close(1)),
         Step::Ask(2, b"GET NUMLOGINS su700\n", b"NUMLOGINS su700 0\n"),
     ];
-    assert_eq!(rt; first_wrong(rt.alloc(), &STEPS)?, None);
-    Ok(())
+    play(rt.alloc(), &STEPS)
 }
 
 #[test]
 fn failed_write_ends_a_login(rt: HostRuntime) -> Result<(), Fail> {
-    const STEPS: [Step; 11] = [
+    static STEPS: [Step; 11] = [
         UP,
         ON_LINE,
         OPEN,
@@ -62,14 +60,13 @@ fn failed_write_ends_a_login(rt: HostRuntime) -> Result<(), Fail> {
         OPEN,
         Step::Ask(2, b"GET NUMLOGINS su700\n", b"NUMLOGINS su700 0\n"),
     ];
-    assert_eq!(rt; first_wrong(rt.alloc(), &STEPS)?, None);
-    Ok(())
+    play(rt.alloc(), &STEPS)
 }
 
 /// Two connections at a time, and numbers that aren't used again.
 #[test]
 fn clients_of_a_full_server(rt: HostRuntime) -> Result<(), Fail> {
-    const STEPS: [Step; 17] = [
+    static STEPS: [Step; 17] = [
         UP,
         ON_LINE,
         Step::Refuse(Arrival::Open(b"a b"), Refused::BadAddress),
@@ -96,16 +93,12 @@ fn clients_of_a_full_server(rt: HostRuntime) -> Result<(), Fail> {
         Step::Tell(Arrival::Close(3)),
         Step::Opened(3),
     ];
-    assert_eq!(rt;
-        first_wrong_with(rt.alloc(), UPS, b"MAXCONN 2\n", &STEPS)?,
-        None
-    );
-    Ok(())
+    play_with(rt.alloc(), UPS, b"MAXCONN 2\n", &STEPS)
 }
 
 #[test]
 fn forced_shutdown_is_shown(rt: HostRuntime) -> Result<(), Fail> {
-    const STEPS: [Step; 10] = [
+    static STEPS: [Step; 10] = [
         UP,
         ON_LINE,
         Step::Report(b"SETFLAGS ups.status RW\n"),
@@ -129,6 +122,5 @@ fn forced_shutdown_is_shown(rt: HostRuntime) -> Result<(), Fail> {
             b"BEGIN LIST RW su700\nRW su700 ups.status \"FSD OL\"\nEND LIST RW su700\n",
         ),
     ];
-    assert_eq!(rt; first_wrong(rt.alloc(), &STEPS)?, None);
-    Ok(())
+    play(rt.alloc(), &STEPS)
 }

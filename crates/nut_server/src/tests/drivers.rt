@@ -1,6 +1,6 @@
 //! What drivers tell and are asked, and when their data is stale.
 
-use super::{ON_LINE, OPEN, Step, UP, first_wrong};
+use super::{ON_LINE, OPEN, Step, UP, play};
 use crate::{Arrival, Refused};
 use std::test::Fail;
 
@@ -14,7 +14,7 @@ const STALE: &[u8] = b"ERR DATA-STALE\n";
 
 #[test]
 fn data_is_shown_once_it_was_told(rt: HostRuntime) -> Result<(), Fail> {
-    const STEPS: [Step; 10] = [
+    static STEPS: [Step; 10] = [
         OPEN,
         UP,
         Step::Asked(b"DUMPALL\n"),
@@ -26,13 +26,12 @@ fn data_is_shown_once_it_was_told(rt: HostRuntime) -> Result<(), Fail> {
         Step::Report(b"DATASTALE\n"),
         Step::Ask(1, STATUS, STALE),
     ];
-    assert_eq!(rt; first_wrong(rt.alloc(), &STEPS)?, None);
-    Ok(())
+    play(rt.alloc(), &STEPS)
 }
 
 #[test]
 fn driver_that_is_connected_anew(rt: HostRuntime) -> Result<(), Fail> {
-    const STEPS: [Step; 12] = [
+    static STEPS: [Step; 12] = [
         OPEN,
         UP,
         ON_LINE,
@@ -46,13 +45,12 @@ fn driver_that_is_connected_anew(rt: HostRuntime) -> Result<(), Fail> {
         Step::Refuse(Arrival::DriverBytes(0, b"PONG\n"), Refused::NotConnected),
         Step::Refuse(Arrival::DriverDown(0), Refused::NotConnected),
     ];
-    assert_eq!(rt; first_wrong(rt.alloc(), &STEPS)?, None);
-    Ok(())
+    play(rt.alloc(), &STEPS)
 }
 
 #[test]
 fn quotes_and_backslashes(rt: HostRuntime) -> Result<(), Fail> {
-    const STEPS: [Step; 6] = [
+    static STEPS: [Step; 6] = [
         OPEN,
         UP,
         ON_LINE,
@@ -68,13 +66,12 @@ fn quotes_and_backslashes(rt: HostRuntime) -> Result<(), Fail> {
             b"VAR su700 ups.mfr \"a \\\"b\\\" \\\\c\"\n",
         ),
     ];
-    assert_eq!(rt; first_wrong(rt.alloc(), &STEPS)?, None);
-    Ok(())
+    play(rt.alloc(), &STEPS)
 }
 
 #[test]
 fn silent_driver(rt: HostRuntime) -> Result<(), Fail> {
-    const STEPS: [Step; 17] = [
+    static STEPS: [Step; 17] = [
         OPEN,
         UP,
         ON_LINE,
@@ -94,13 +91,12 @@ fn silent_driver(rt: HostRuntime) -> Result<(), Fail> {
         Step::Tell(Arrival::Moment(0)),
         Step::Ask(1, STATUS, STALE),
     ];
-    assert_eq!(rt; first_wrong(rt.alloc(), &STEPS)?, None);
-    Ok(())
+    play(rt.alloc(), &STEPS)
 }
 
 #[test]
 fn driver_that_answers_a_ping(rt: HostRuntime) -> Result<(), Fail> {
-    const STEPS: [Step; 9] = [
+    static STEPS: [Step; 9] = [
         OPEN,
         UP,
         ON_LINE,
@@ -111,6 +107,5 @@ fn driver_that_answers_a_ping(rt: HostRuntime) -> Result<(), Fail> {
         Step::Tell(Arrival::Moment(31)),
         Step::Ask(1, STATUS, STALE),
     ];
-    assert_eq!(rt; first_wrong(rt.alloc(), &STEPS)?, None);
-    Ok(())
+    play(rt.alloc(), &STEPS)
 }

@@ -1,6 +1,6 @@
 //! Clients' lines, whole and in pieces, and what waits.
 
-use super::{OPEN, Step, UPSD, first_wrong, first_wrong_with};
+use super::{OPEN, Step, UPSD, play, play_with};
 use crate::{Arrival, Refused};
 use std::test::Fail;
 
@@ -8,7 +8,7 @@ const VERSION: &[u8] = b"Network UPS Tools upsd profile 1.2\n";
 
 #[test]
 fn names_and_descriptions(rt: HostRuntime) -> Result<(), Fail> {
-    const STEPS: [Step; 5] = [
+    static STEPS: [Step; 5] = [
         OPEN,
         Step::Ask(
             1,
@@ -31,38 +31,35 @@ fn names_and_descriptions(rt: HostRuntime) -> Result<(), Fail> {
             b"1.2\nERR INVALID-ARGUMENT\nERR INVALID-ARGUMENT\n",
         ),
     ];
-    assert_eq!(rt; first_wrong(rt.alloc(), &STEPS)?, None);
-    Ok(())
+    play(rt.alloc(), &STEPS)
 }
 
 #[test]
 fn no_upses(rt: HostRuntime) -> Result<(), Fail> {
-    const STEPS: [Step; 3] = [
+    static STEPS: [Step; 3] = [
         OPEN,
         Step::Ask(1, b"LIST UPS\n", b"BEGIN LIST UPS\nEND LIST UPS\n"),
         Step::Refuse(Arrival::DriverUp(0), Refused::NotConnected),
     ];
-    assert_eq!(rt; first_wrong_with(rt.alloc(), b"", UPSD, &STEPS)?, None);
-    Ok(())
+    play_with(rt.alloc(), b"", UPSD, &STEPS)
 }
 
 #[test]
 fn pieces_of_a_line(rt: HostRuntime) -> Result<(), Fail> {
-    const STEPS: [Step; 5] = [
+    static STEPS: [Step; 5] = [
         OPEN,
         Step::Ask(1, b"GE", b""),
         Step::Ask(1, b"T VAR su700 ups.sta", b""),
         Step::Kept(1, 21),
         Step::Ask(1, b"tus\n", b"ERR DRIVER-NOT-CONNECTED\n"),
     ];
-    assert_eq!(rt; first_wrong(rt.alloc(), &STEPS)?, None);
-    Ok(())
+    play(rt.alloc(), &STEPS)
 }
 
 /// A line of 512 bytes is read, and one of 513 isn't.
 #[test]
 fn longest_line(rt: HostRuntime) -> Result<(), Fail> {
-    const STEPS: [Step; 7] = [
+    static STEPS: [Step; 7] = [
         OPEN,
         Step::Ask(1, b"VER", b""),
         Step::AskOften(509, 1, b" ", b""),
@@ -75,15 +72,14 @@ fn longest_line(rt: HostRuntime) -> Result<(), Fail> {
             b"ERR INVALID-ARGUMENT\nNetwork UPS Tools upsd profile 1.2\n",
         ),
     ];
-    assert_eq!(rt; first_wrong(rt.alloc(), &STEPS)?, None);
-    Ok(())
+    play(rt.alloc(), &STEPS)
 }
 
 /// Two million bytes without a line feed are one line, which is too long and isn't kept.
 #[test]
 fn endless_line(rt: HostRuntime) -> Result<(), Fail> {
     const PART: &[u8] = b"aaaaaaaaaaaaaaaaaaaaaaaaaaaaaaaaaaaaaaaaaaaaaaaaaa";
-    const STEPS: [Step; 7] = [
+    static STEPS: [Step; 7] = [
         OPEN,
         Step::AskOften(10, 1, PART, b""),
         Step::Kept(1, 500),
@@ -92,13 +88,12 @@ fn endless_line(rt: HostRuntime) -> Result<(), Fail> {
         Step::Ask(1, b"\n", b"ERR INVALID-ARGUMENT\n"),
         Step::Ask(1, b"VER\n", VERSION),
     ];
-    assert_eq!(rt; first_wrong(rt.alloc(), &STEPS)?, None);
-    Ok(())
+    play(rt.alloc(), &STEPS)
 }
 
 #[test]
 fn client_that_takes_late(rt: HostRuntime) -> Result<(), Fail> {
-    const STEPS: [Step; 8] = [
+    static STEPS: [Step; 8] = [
         OPEN,
         Step::Tell(Arrival::Bytes(1, b"VER\n")),
         Step::Refuse(Arrival::Bytes(1, b"VER\n"), Refused::Busy),
@@ -108,13 +103,12 @@ fn client_that_takes_late(rt: HostRuntime) -> Result<(), Fail> {
         Step::Tell(Arrival::Took(1, 1)),
         Step::Ask(1, b"VER\n", VERSION),
     ];
-    assert_eq!(rt; first_wrong(rt.alloc(), &STEPS)?, None);
-    Ok(())
+    play(rt.alloc(), &STEPS)
 }
 
 #[test]
 fn line_behind_a_logout(rt: HostRuntime) -> Result<(), Fail> {
-    const STEPS: [Step; 8] = [
+    static STEPS: [Step; 8] = [
         OPEN,
         Step::Stands(1, true, false),
         Step::Tell(Arrival::Bytes(1, b"LOGOUT\nVER\n")),
@@ -124,6 +118,5 @@ fn line_behind_a_logout(rt: HostRuntime) -> Result<(), Fail> {
         Step::Stands(1, false, true),
         Step::Ask(1, b"VER\n", b""),
     ];
-    assert_eq!(rt; first_wrong(rt.alloc(), &STEPS)?, None);
-    Ok(())
+    play(rt.alloc(), &STEPS)
 }

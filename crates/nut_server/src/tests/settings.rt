@@ -1,6 +1,6 @@
 //! Variables that may be set, commands, and what is handed on to drivers.
 
-use super::{ON_LINE, OPEN, Step, UP, first_wrong};
+use super::{ON_LINE, OPEN, Step, UP, play};
 use crate::{Arrival, Refused};
 use std::test::Fail;
 
@@ -19,7 +19,7 @@ const SET_FAILED: &[u8] = b"ERR SET-FAILED\n";
 
 #[test]
 fn values_that_fit(rt: HostRuntime) -> Result<(), Fail> {
-    const STEPS: [Step; 12] = [
+    static STEPS: [Step; 12] = [
         OPEN,
         UP,
         ON_LINE,
@@ -41,13 +41,12 @@ fn values_that_fit(rt: HostRuntime) -> Result<(), Fail> {
         ),
         Step::Asked(b""),
     ];
-    assert_eq!(rt; first_wrong(rt.alloc(), &STEPS)?, None);
-    Ok(())
+    play(rt.alloc(), &STEPS)
 }
 
 #[test]
 fn types_and_lists(rt: HostRuntime) -> Result<(), Fail> {
-    const STEPS: [Step; 7] = [
+    static STEPS: [Step; 7] = [
         OPEN,
         UP,
         ON_LINE,
@@ -68,13 +67,12 @@ fn types_and_lists(rt: HostRuntime) -> Result<(), Fail> {
             b"BEGIN LIST ENUM su700 input.sensitivity\nENUM su700 input.sensitivity \"low\"\nEND LIST ENUM su700 input.sensitivity\n",
         ),
     ];
-    assert_eq!(rt; first_wrong(rt.alloc(), &STEPS)?, None);
-    Ok(())
+    play(rt.alloc(), &STEPS)
 }
 
 #[test]
 fn values_of_a_variable_that_went(rt: HostRuntime) -> Result<(), Fail> {
-    const STEPS: [Step; 6] = [
+    static STEPS: [Step; 6] = [
         OPEN,
         UP,
         ON_LINE,
@@ -86,13 +84,12 @@ fn values_of_a_variable_that_went(rt: HostRuntime) -> Result<(), Fail> {
             b"BEGIN LIST ENUM su700 input.sensitivity\nEND LIST ENUM su700 input.sensitivity\n",
         ),
     ];
-    assert_eq!(rt; first_wrong(rt.alloc(), &STEPS)?, None);
-    Ok(())
+    play(rt.alloc(), &STEPS)
 }
 
 #[test]
 fn commands_of_a_driver(rt: HostRuntime) -> Result<(), Fail> {
-    const STEPS: [Step; 9] = [
+    static STEPS: [Step; 9] = [
         OPEN,
         UP,
         ON_LINE,
@@ -111,14 +108,13 @@ fn commands_of_a_driver(rt: HostRuntime) -> Result<(), Fail> {
             b"BEGIN LIST CMD su700\nCMD su700 load.off\nEND LIST CMD su700\n",
         ),
     ];
-    assert_eq!(rt; first_wrong(rt.alloc(), &STEPS)?, None);
-    Ok(())
+    play(rt.alloc(), &STEPS)
 }
 
 /// What a driver that takes little is asked: 4,096 bytes wait at most.
 #[test]
 fn driver_that_takes_late(rt: HostRuntime) -> Result<(), Fail> {
-    const STEPS: [Step; 17] = [
+    static STEPS: [Step; 17] = [
         OPEN,
         UP,
         ON_LINE,
@@ -137,14 +133,13 @@ fn driver_that_takes_late(rt: HostRuntime) -> Result<(), Fail> {
         Step::DriverWaits(4083),
         Step::Ask(1, SET, SET_FAILED),
     ];
-    assert_eq!(rt; first_wrong(rt.alloc(), &STEPS)?, None);
-    Ok(())
+    play(rt.alloc(), &STEPS)
 }
 
 /// A PING that doesn't fit is left out, and isn't counted as one.
 #[test]
 fn full_driver_is_not_pinged(rt: HostRuntime) -> Result<(), Fail> {
-    const STEPS: [Step; 13] = [
+    static STEPS: [Step; 13] = [
         OPEN,
         UP,
         ON_LINE,
@@ -159,6 +154,5 @@ fn full_driver_is_not_pinged(rt: HostRuntime) -> Result<(), Fail> {
         Step::Tell(Arrival::Moment(13)),
         Step::DriverWaits(4090),
     ];
-    assert_eq!(rt; first_wrong(rt.alloc(), &STEPS)?, None);
-    Ok(())
+    play(rt.alloc(), &STEPS)
 }
