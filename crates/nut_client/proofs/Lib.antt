@@ -1,0 +1,4 @@
+pub mod Headings
+pub mod Writable
+pub mod Advancing
+pub mod Feeding

@@ -1,0 +1,6 @@
+pub mod Rests
+pub mod Matching
+pub mod Asking
+pub mod Link
+pub mod Hearing
+pub mod Laws
