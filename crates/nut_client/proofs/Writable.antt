@@ -66,7 +66,7 @@ pub line_is : (request : Request) → request_line request ≡ message (request_
 unfolding request_line line
 line_is request = refl
 
-length_line : (request : Request) → length (request_line request) ≡ length (message (request_parts request)) + 1
+pub length_line : (request : Request) → length (request_line request) ≡ length (message (request_parts request)) + 1
 length_line request = ap length (line_is request) ∙ length-append (message (request_parts request)) (10 ∷ [])
 
 -- the line doesn't fit

@@ -3,4 +3,6 @@ pub mod Matching
 pub mod Asking
 pub mod Link
 pub mod Hearing
+pub mod Parts
+pub mod Bounds
 pub mod Laws

@@ -1,7 +1,9 @@
 //! A client's link to a server.
-ghost use Rattle.std.specs.Prelude.{◌≡◌, ℕ, ◌⊎◌, None};
+ghost use Rattle.std.specs.Prelude.{◌≡◌, ℕ, ◌⊎◌, None, false};
+ghost use Rattle.std.specs.List.{list_any};
 ghost use Rattle.nut_words.specs.Lines.{lines_after};
-ghost use Rattle.nut_client.specs.Hearing.{Feeds, RunsOut};
+ghost use Rattle.nut_client.specs.Bounds.{IsBounded};
+ghost use Rattle.nut_client.specs.Hearing.{Feeds, RunsOut, may_take_memory};
 ghost use Rattle.nut_client.specs.Link.{answer_by, ask_fault, asked, fed, fresh, link_with, outcome_of, take_fault, taken, taken_out, waits, with_exchange};
 ghost use Rattle.nut_client.specs.Rests.{IsRest};
 
@@ -109,7 +111,14 @@ impl Link {
     /// complete before that line can still be taken out. `Memory` comes only at a line that has a backslash, is a row,
     /// or names an error.
     pub fn feed(&mut self, piece: &[u8]) -> Result<(), LinkFault>
-        ensures { (done : ℕ) × Feeds self.old piece.now done result self.new }
+        ensures feeds { (done : ℕ) × Feeds self.old piece.now done result self.new }
+
+        // Where no line may take memory, none runs out.
+        ensures no_memory { list_any may_take_memory (lines_after self.old.rest piece.now) ≡ false
+            → (self.new ≡ fed piece.now self.old) × (result ≡ answer_by (fed piece.now self.old).exchange.fault) }
+
+        // It keeps no more than a query, 512 bytes of a line and 512 rows.
+        ensures bounded { IsBounded self.old → IsBounded self.new }
     {
         self.feed_lines(piece).1
     }
