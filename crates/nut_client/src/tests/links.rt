@@ -287,20 +287,20 @@ fn answers_to_others(rt: HostRuntime) -> Result<(), Fail> {
     Ok(())
 }
 
-/// A line of this length with nothing but `a`.
-fn long_line(rt: &HostRuntime, length: usize) -> Result<Vec<u8>, Fail> {
-    let mut line = Vec::new(rt.alloc());
-    for _ in 0..length {
-        line.push(b'a')?;
+/// So many times the letter `a`.
+fn letters(rt: &HostRuntime, count: usize) -> Result<Vec<u8>, Fail> {
+    let mut text = Vec::new(rt.alloc());
+    for _ in 0..count {
+        text.push(b'a')?;
     }
-    line.push(b'\n')?;
-    Ok(line)
+    Ok(text)
 }
 
 #[test]
 fn lines_past_the_longest_fail(rt: HostRuntime) -> Result<(), Fail> {
     for (length, wanted) in [(512usize, b"said ".as_slice()), (513, b"BadLine")] {
-        let line = long_line(&rt, length)?;
+        let mut line = letters(&rt, length)?;
+        line.push(b'\n')?;
         let mut link = asking(&rt, b"VER", 0)?;
         let text = outcome(&rt, &mut link, line.as_slice(), 100)?;
         assert!(rt; text.starts_with(wanted));
@@ -335,25 +335,26 @@ fn a_line_before_the_query_was_sent_is_out_of_order(rt: HostRuntime) -> Result<(
     Ok(())
 }
 
+/// What a new link answers where this UPS is asked for, twice.
+fn asked_twice(rt: &HostRuntime, ups: &[u8]) -> (Result<(), LinkFault>, Result<(), LinkFault>) {
+    let mut link = Link::new(rt.alloc());
+    let request = Request::Login {
+        ups: Word::new(ups),
+    };
+    let first = link.ask(&request);
+    let second = link.ask(&request);
+    (first, second)
+}
+
 #[test]
 fn queries_are_refused(rt: HostRuntime) -> Result<(), Fail> {
-    let long = long_line(&rt, 510)?;
-    for (name, wanted) in [
-        (b"a".as_slice(), Ok(())),
-        (b"a\n", Err(LinkFault::BadQuery)),
-        (b"\x7f", Err(LinkFault::BadQuery)),
-        (&long.as_slice()[..506], Ok(())),
-        (&long.as_slice()[..507], Err(LinkFault::BadQuery)),
-        (long.as_slice(), Err(LinkFault::BadQuery)),
-    ] {
-        let mut link = Link::new(rt.alloc());
-        let request = Request::Login {
-            ups: Word::new(name),
-        };
-        assert!(rt; link.ask(&request) == wanted);
-        if wanted.is_ok() {
-            assert!(rt; link.ask(&request) == Err(LinkFault::OutOfOrder));
-        }
-    }
+    let bad = (Err(LinkFault::BadQuery), Err(LinkFault::BadQuery));
+    assert!(rt; asked_twice(&rt, b"a") == (Ok(()), Err(LinkFault::OutOfOrder)));
+    assert!(rt; asked_twice(&rt, b"a\n") == bad);
+    assert!(rt; asked_twice(&rt, b"\x7f") == bad);
+    let longest = letters(&rt, 506)?;
+    assert!(rt; asked_twice(&rt, longest.as_slice()) == (Ok(()), Err(LinkFault::OutOfOrder)));
+    let longer = letters(&rt, 507)?;
+    assert!(rt; asked_twice(&rt, longer.as_slice()) == bad);
     Ok(())
 }

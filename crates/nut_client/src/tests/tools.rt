@@ -1,7 +1,9 @@
 //! What the tools print, over streams in memory.
 use crate::*;
+use std::alloc::Global;
 use std::io;
 use std::io::{ErrorKind, Read, Write};
+use std::sync::Wait;
 use std::test::*;
 
 /// A stream that gives a text, at most so many bytes a read, and then ends or fails. It keeps what is written to it, and
@@ -71,35 +73,36 @@ impl Write for Sink {
     }
 }
 
-fn sink(rt: &HostRuntime, room: usize) -> Sink {
+fn sink_with(alloc: Global, room: usize) -> Sink {
     Sink {
-        bytes: Vec::new(rt.alloc()),
+        bytes: Vec::new(alloc),
         room,
     }
 }
 
-fn server<'a>(rt: &HostRuntime, answers: &'a [u8], most: usize) -> Server<'a> {
+fn sending<'a>(alloc: Global, answers: &'a [u8], most: usize) -> Server<'a> {
     Server {
         rest: answers,
         most,
         fails: false,
-        asked: Vec::new(rt.alloc()),
+        asked: Vec::new(alloc),
         room: usize::MAX,
     }
 }
 
 /// Runs the tool that the first word names.
-fn run(
-    rt: &HostRuntime,
+fn run_tool(
+    rt: &impl Wait,
+    alloc: Global,
     words: &[&str],
     stream: Option<&mut Server<'_>>,
     out: &mut Sink,
     err: &mut Sink,
 ) -> u8 {
     match words.first() {
-        Some(&"upsc") => run_upsc(rt, rt.alloc(), words, stream, out, err),
-        Some(&"upsrw") => run_upsrw(rt, rt.alloc(), words, stream, out, err),
-        _ => run_upscmd(rt, rt.alloc(), words, stream, out, err),
+        Some(&"upsc") => run_upsc(rt, alloc, words, stream, out, err),
+        Some(&"upsrw") => run_upsrw(rt, alloc, words, stream, out, err),
+        _ => run_upscmd(rt, alloc, words, stream, out, err),
     }
 }
 
@@ -114,32 +117,40 @@ struct Run<'a> {
 }
 
 /// The number of the first run that is wrong, with what the server sends in pieces of several lengths.
-fn first_wrong(rt: &HostRuntime, runs: &[Run<'_>]) -> Result<Option<usize>, Fail> {
+fn first_wrong(rt: &impl Wait, alloc: Global, runs: &[Run<'_>]) -> Option<usize> {
     for (number, wanted) in runs.iter().enumerate() {
         for most in [1, 5, 512] {
-            let mut stream = server(rt, wanted.answers, most);
-            let mut out = sink(rt, usize::MAX);
-            let mut err = sink(rt, usize::MAX);
-            let status = run(rt, wanted.words, Some(&mut stream), &mut out, &mut err);
+            let mut stream = sending(alloc, wanted.answers, most);
+            let mut out = sink_with(alloc, usize::MAX);
+            let mut err = sink_with(alloc, usize::MAX);
+            let status = run_tool(
+                rt,
+                alloc,
+                wanted.words,
+                Some(&mut stream),
+                &mut out,
+                &mut err,
+            );
             let is_right = status == wanted.status
                 && stream.asked.as_slice() == wanted.queries
                 && out.bytes.as_slice() == wanted.out
                 && err.bytes.as_slice() == wanted.err;
             if !is_right {
-                return Ok(Some(number));
+                return Some(number);
             }
         }
     }
-    Ok(None)
+    None
 }
 
 const VARIABLES: &[u8] =
     b"BEGIN LIST VAR su700\nVAR su700 battery.charge \"100\"\nVAR su700 ups.status \"OL\"\nEND LIST VAR su700\n";
 
 #[test]
-fn upsc_shows(rt: HostRuntime) -> Result<(), Fail> {
+fn upsc_shows(rt: HostRuntime) {
     let wrong = first_wrong(
         &rt,
+        rt.alloc(),
         &[
             Run {
                 words: &["upsc", "su700"],
@@ -182,15 +193,15 @@ fn upsc_shows(rt: HostRuntime) -> Result<(), Fail> {
                 status: 0,
             },
         ],
-    )?;
+    );
     assert_eq!(rt; wrong, None);
-    Ok(())
 }
 
 #[test]
-fn upsc_says_why_not(rt: HostRuntime) -> Result<(), Fail> {
+fn upsc_says_why_not(rt: HostRuntime) {
     let wrong = first_wrong(
         &rt,
+        rt.alloc(),
         &[
             Run {
                 words: &["upsc", "su700"],
@@ -249,15 +260,15 @@ fn upsc_says_why_not(rt: HostRuntime) -> Result<(), Fail> {
                 status: 2,
             },
         ],
-    )?;
+    );
     assert_eq!(rt; wrong, None);
-    Ok(())
 }
 
 #[test]
-fn upsrw_shows_and_sets(rt: HostRuntime) -> Result<(), Fail> {
+fn upsrw_shows_and_sets(rt: HostRuntime) {
     let wrong = first_wrong(
         &rt,
+        rt.alloc(),
         &[
             Run {
                 words: &["upsrw", "su700"],
@@ -319,15 +330,15 @@ fn upsrw_shows_and_sets(rt: HostRuntime) -> Result<(), Fail> {
                 status: 2,
             },
         ],
-    )?;
+    );
     assert_eq!(rt; wrong, None);
-    Ok(())
 }
 
 #[test]
-fn upscmd_lists_and_commands(rt: HostRuntime) -> Result<(), Fail> {
+fn upscmd_lists_and_commands(rt: HostRuntime) {
     let wrong = first_wrong(
         &rt,
+        rt.alloc(),
         &[
             Run {
                 words: &["upscmd", "-l", "su700"],
@@ -354,18 +365,18 @@ fn upscmd_lists_and_commands(rt: HostRuntime) -> Result<(), Fail> {
                 status: 2,
             },
         ],
-    )?;
+    );
     assert_eq!(rt; wrong, None);
-    Ok(())
 }
 
 #[test]
-fn a_broken_output_took_a_beginning(rt: HostRuntime) -> Result<(), Fail> {
-    let mut stream = server(&rt, VARIABLES, 512);
-    let mut out = sink(&rt, 10);
-    let mut err = sink(&rt, usize::MAX);
-    let status = run(
+fn a_broken_output_took_a_beginning(rt: HostRuntime) {
+    let mut stream = sending(rt.alloc(), VARIABLES, 512);
+    let mut out = sink_with(rt.alloc(), 10);
+    let mut err = sink_with(rt.alloc(), usize::MAX);
+    let status = run_tool(
         &rt,
+        rt.alloc(),
         &["upsc", "su700"],
         Some(&mut stream),
         &mut out,
@@ -373,15 +384,15 @@ fn a_broken_output_took_a_beginning(rt: HostRuntime) -> Result<(), Fail> {
     );
     assert_eq!(rt; status, 1);
     assert_eq!(rt; out.bytes.as_slice(), b"battery.ch".as_slice());
-    Ok(())
 }
 
 #[test]
 fn no_connection(rt: HostRuntime) {
-    let mut out = sink(&rt, usize::MAX);
-    let mut err = sink(&rt, usize::MAX);
-    let status = run(
+    let mut out = sink_with(rt.alloc(), usize::MAX);
+    let mut err = sink_with(rt.alloc(), usize::MAX);
+    let status = run_tool(
         &rt,
+        rt.alloc(),
         &["upsc", "su700@localhost:1"],
         None,
         &mut out,
@@ -398,12 +409,13 @@ fn no_connection(rt: HostRuntime) {
 #[test]
 fn a_stream_that_breaks(rt: HostRuntime) {
     for room in [0usize, 3] {
-        let mut stream = server(&rt, VARIABLES, 2);
+        let mut stream = sending(rt.alloc(), VARIABLES, 2);
         stream.room = room;
-        let mut out = sink(&rt, usize::MAX);
-        let mut err = sink(&rt, usize::MAX);
-        let status = run(
+        let mut out = sink_with(rt.alloc(), usize::MAX);
+        let mut err = sink_with(rt.alloc(), usize::MAX);
+        let status = run_tool(
             &rt,
+            rt.alloc(),
             &["upsc", "su700"],
             Some(&mut stream),
             &mut out,
@@ -446,9 +458,9 @@ fn help_and_version(rt: HostRuntime) {
         (["upsrw", "--version"], b"upsrw profile 1.2\n"),
         (["upscmd", "--version"], b"upscmd profile 1.2\n"),
     ] {
-        let mut out = sink(&rt, usize::MAX);
-        let mut err = sink(&rt, usize::MAX);
-        let status = run(&rt, words.as_slice(), None, &mut out, &mut err);
+        let mut out = sink_with(rt.alloc(), usize::MAX);
+        let mut err = sink_with(rt.alloc(), usize::MAX);
+        let status = run_tool(&rt, rt.alloc(), words.as_slice(), None, &mut out, &mut err);
         assert_eq!(rt; status, 0);
         assert_eq!(rt; out.bytes.as_slice(), wanted);
         assert!(rt; err.bytes.is_empty());
