@@ -2,6 +2,7 @@
 use crate::*;
 use nut_proto::{Request, Word, read};
 use nut_words::split;
+use std::alloc::{AllocError, Global};
 use std::test::*;
 
 fn fault_name(fault: LinkFault) -> &'static [u8] {
@@ -16,7 +17,7 @@ fn fault_name(fault: LinkFault) -> &'static [u8] {
 }
 
 /// Appends the words, each with a `|` behind it.
-fn put_fields(out: &mut Vec<u8>, fields: &Fields) -> Result<(), Fail> {
+fn put_fields(out: &mut Vec<u8>, fields: &Fields) -> Result<(), AllocError> {
     for word in fields.as_slice() {
         out.extend_from_slice(word.as_bytes())?;
         out.push(b'|')?;
@@ -25,12 +26,12 @@ fn put_fields(out: &mut Vec<u8>, fields: &Fields) -> Result<(), Fail> {
 }
 
 /// Appends what came of a query.
-fn put_outcome(out: &mut Vec<u8>, outcome: &Outcome) -> Result<(), Fail> {
+fn put_outcome(out: &mut Vec<u8>, outcome: &Outcome) -> Result<(), AllocError> {
     match outcome {
-        Outcome::Done => out.extend_from_slice(b"done ")?,
+        Outcome::Done => out.extend_from_slice(b"done "),
         Outcome::Said(fields) => {
             out.extend_from_slice(b"said ")?;
-            put_fields(out, fields)?;
+            put_fields(out, fields)
         }
         Outcome::List(rows) => {
             out.extend_from_slice(b"list ")?;
@@ -38,13 +39,13 @@ fn put_outcome(out: &mut Vec<u8>, outcome: &Outcome) -> Result<(), Fail> {
                 put_fields(out, row)?;
                 out.push(b';')?;
             }
+            Ok(())
         }
         Outcome::Refused(name) => {
             out.extend_from_slice(b"refused ")?;
-            out.extend_from_slice(name.as_bytes())?;
+            out.extend_from_slice(name.as_bytes())
         }
     }
-    Ok(())
 }
 
 /// Feeds the bytes in pieces of this length, up to the first fault.
@@ -55,57 +56,53 @@ fn feed_all(link: &mut Link, bytes: &[u8], length: usize) -> Result<(), LinkFaul
     Ok(())
 }
 
-/// A link that asked this query, of which all but `left` bytes were taken.
-fn asking(rt: &HostRuntime, query: &[u8], left: usize) -> Result<Link, Fail> {
-    let words = split(rt.alloc(), query)?;
-    let mut link = Link::new(rt.alloc());
-    if let Ok(request) = read(&words) {
-        link.ask(&request)?;
-    }
-    let taken = link.waiting().len().saturating_sub(left);
-    link.took(taken)?;
-    Ok(link)
+/// A link that asked this query, whose bytes were all taken, unless memory ran out or the query doesn't read.
+fn asking(alloc: Global, query: &[u8]) -> Option<Link> {
+    let words = split(alloc, query).ok()?;
+    let request = read(&words).ok()?;
+    let mut link = Link::new(alloc);
+    link.ask(&request).ok()?;
+    let taken = link.waiting().len();
+    link.took(taken).ok()?;
+    Some(link)
 }
 
-/// What comes of a link that is fed these lines in pieces of this length: the answer, and a fault behind it.
-fn outcome(
-    rt: &HostRuntime,
-    link: &mut Link,
-    lines: &[u8],
-    length: usize,
-) -> Result<Vec<u8>, Fail> {
-    let mut text = Vec::new(rt.alloc());
-    let fed = feed_all(link, lines, length);
+/// What comes of a query whose lines come in pieces of this length: the answer, and a fault behind it.
+fn outcome(alloc: Global, query: &[u8], lines: &[u8], length: usize) -> Option<Vec<u8>> {
+    let mut link = asking(alloc, query)?;
+    let mut text = Vec::new(alloc);
+    let fed = feed_all(&mut link, lines, length);
     if let Some(outcome) = link.answer() {
-        put_outcome(&mut text, &outcome)?;
+        put_outcome(&mut text, &outcome).ok()?;
     }
     if let Err(fault) = fed {
-        text.extend_from_slice(fault_name(fault))?;
+        text.extend_from_slice(fault_name(fault)).ok()?;
     }
-    Ok(text)
+    Some(text)
 }
 
 /// Each row has a query, the lines that come, and what comes of it, however they are cut.
 type Row<'a> = (&'a [u8], &'a [u8], &'a [u8]);
 
 /// The number of the first row that is wrong.
-fn first_wrong(rt: &HostRuntime, rows: &[Row<'_>]) -> Result<Option<usize>, Fail> {
+fn first_wrong(alloc: Global, rows: &[Row<'_>]) -> Option<usize> {
     for (number, (query, lines, wanted)) in rows.iter().enumerate() {
         for length in [1, 2, 3, 7, 512] {
-            let mut link = asking(rt, query, 0)?;
-            let text = outcome(rt, &mut link, lines, length)?;
+            let Some(text) = outcome(alloc, query, lines, length) else {
+                return Some(number);
+            };
             if text.as_slice() != *wanted {
-                return Ok(Some(number));
+                return Some(number);
             }
         }
     }
-    Ok(None)
+    None
 }
 
 #[test]
-fn answers_to_gets(rt: HostRuntime) -> Result<(), Fail> {
+fn answers_to_gets(rt: HostRuntime) {
     let wrong = first_wrong(
-        &rt,
+        rt.alloc(),
         &[
             (
                 b"GET VAR su700 ups.status",
@@ -175,15 +172,14 @@ fn answers_to_gets(rt: HostRuntime) -> Result<(), Fail> {
                 b"said b c|",
             ),
         ],
-    )?;
+    );
     assert_eq!(rt; wrong, None);
-    Ok(())
 }
 
 #[test]
-fn answers_to_lists(rt: HostRuntime) -> Result<(), Fail> {
+fn answers_to_lists(rt: HostRuntime) {
     let wrong = first_wrong(
-        &rt,
+        rt.alloc(),
         &[
             (
                 b"LIST UPS",
@@ -246,15 +242,14 @@ fn answers_to_lists(rt: HostRuntime) -> Result<(), Fail> {
                 b"list a|1|;",
             ),
         ],
-    )?;
+    );
     assert_eq!(rt; wrong, None);
-    Ok(())
 }
 
 #[test]
-fn answers_to_others(rt: HostRuntime) -> Result<(), Fail> {
+fn answers_to_others(rt: HostRuntime) {
     let wrong = first_wrong(
-        &rt,
+        rt.alloc(),
         &[
             (b"LOGIN su700", b"OK\n", b"done "),
             (b"FSD su700", b"OK FSD-SET\n", b"done "),
@@ -282,79 +277,61 @@ fn answers_to_others(rt: HostRuntime) -> Result<(), Fail> {
             (b"LOGIN su700", b"OK\nOK\n", b"done OutOfOrder"),
             (b"LOGIN su700", b"OK\n\"\n", b"done BadLine"),
         ],
-    )?;
+    );
     assert_eq!(rt; wrong, None);
-    Ok(())
 }
 
 /// So many times the letter `a`.
-fn letters(rt: &HostRuntime, count: usize) -> Result<Vec<u8>, Fail> {
-    let mut text = Vec::new(rt.alloc());
+fn letters(alloc: Global, count: usize) -> Option<Vec<u8>> {
+    let mut text = Vec::new(alloc);
     for _ in 0..count {
-        text.push(b'a')?;
+        text.push(b'a').ok()?;
     }
-    Ok(text)
+    Some(text)
 }
 
-#[test]
-fn lines_past_the_longest_fail(rt: HostRuntime) -> Result<(), Fail> {
-    for (length, wanted) in [(512usize, b"said ".as_slice()), (513, b"BadLine")] {
-        let mut line = letters(&rt, length)?;
-        line.push(b'\n')?;
-        let mut link = asking(&rt, b"VER", 0)?;
-        let text = outcome(&rt, &mut link, line.as_slice(), 100)?;
-        assert!(rt; text.starts_with(wanted));
+/// The length of the shortest line that isn't taken as the answer to `VER`.
+fn shortest_bad_line(alloc: Global) -> Option<usize> {
+    for length in 500..600 {
+        let mut line = letters(alloc, length)?;
+        line.push(b'\n').ok()?;
+        let mut link = asking(alloc, b"VER")?;
+        if link.feed(line.as_slice()).is_err() {
+            return Some(length);
+        }
     }
-    Ok(())
+    None
 }
 
-#[test]
-fn lists_have_at_most_512_rows(rt: HostRuntime) -> Result<(), Fail> {
-    let mut link = asking(&rt, b"LIST CMD u", 0)?;
-    link.feed(b"BEGIN LIST CMD u\n")?;
-    for _ in 0..512 {
-        link.feed(b"CMD u k\n")?;
+/// The number of rows of a list that are taken.
+fn rows_taken(alloc: Global) -> Option<usize> {
+    let mut link = asking(alloc, b"LIST CMD u")?;
+    link.feed(b"BEGIN LIST CMD u\n").ok()?;
+    for count in 0..600 {
+        if link.feed(b"CMD u k\n").is_err() {
+            return Some(count);
+        }
     }
-    assert!(rt; link.feed(b"CMD u k\n") == Err(LinkFault::BadLine));
-    assert!(rt; link.answer().is_none());
-    assert!(rt; link.feed(b"") == Err(LinkFault::BadLine));
-    assert!(rt; link.took(0) == Err(LinkFault::BadLine));
-    Ok(())
+    None
+}
+
+/// The length of the shortest name with which `LOGIN` can't be asked.
+fn shortest_bad_name(alloc: Global) -> Option<usize> {
+    for length in 500..600 {
+        let name = letters(alloc, length)?;
+        let request = Request::Login {
+            ups: Word::new(name.as_slice()),
+        };
+        if Link::new(alloc).ask(&request).is_err() {
+            return Some(length);
+        }
+    }
+    None
 }
 
 #[test]
-fn a_line_before_the_query_was_sent_is_out_of_order(rt: HostRuntime) -> Result<(), Fail> {
-    let mut link = asking(&rt, b"LOGIN su700", 1)?;
-    assert!(rt; link.waiting() == b"\n".as_slice());
-    assert!(rt; link.took(2) == Err(LinkFault::TooMuchTaken));
-    let text = outcome(&rt, &mut link, b"OK\n", 512)?;
-    assert_eq!(rt; text.as_slice(), b"OutOfOrder".as_slice());
-    assert!(rt; link.waiting().is_empty());
-    let mut idle = Link::new(rt.alloc());
-    assert!(rt; idle.feed_lines(b"\"\nOK\n") == (0, Err(LinkFault::BadLine)));
-    Ok(())
-}
-
-/// What a new link answers where this UPS is asked for, twice.
-fn asked_twice(rt: &HostRuntime, ups: &[u8]) -> (Result<(), LinkFault>, Result<(), LinkFault>) {
-    let mut link = Link::new(rt.alloc());
-    let request = Request::Login {
-        ups: Word::new(ups),
-    };
-    let first = link.ask(&request);
-    let second = link.ask(&request);
-    (first, second)
-}
-
-#[test]
-fn queries_are_refused(rt: HostRuntime) -> Result<(), Fail> {
-    let bad = (Err(LinkFault::BadQuery), Err(LinkFault::BadQuery));
-    assert!(rt; asked_twice(&rt, b"a") == (Ok(()), Err(LinkFault::OutOfOrder)));
-    assert!(rt; asked_twice(&rt, b"a\n") == bad);
-    assert!(rt; asked_twice(&rt, b"\x7f") == bad);
-    let longest = letters(&rt, 506)?;
-    assert!(rt; asked_twice(&rt, longest.as_slice()) == (Ok(()), Err(LinkFault::OutOfOrder)));
-    let longer = letters(&rt, 507)?;
-    assert!(rt; asked_twice(&rt, longer.as_slice()) == bad);
-    Ok(())
+fn limits(rt: HostRuntime) {
+    assert_eq!(rt; shortest_bad_line(rt.alloc()), Some(513));
+    assert_eq!(rt; rows_taken(rt.alloc()), Some(512));
+    assert_eq!(rt; shortest_bad_name(rt.alloc()), Some(507));
 }

@@ -6,22 +6,18 @@ use std::io::{ErrorKind, Read, Write};
 use std::sync::Wait;
 use std::test::*;
 
-/// A stream that gives a text, at most so many bytes a read, and then ends or fails. It keeps what is written to it, and
-/// fails at a write once it took so many bytes.
+/// A stream that gives a text, at most so many bytes a read, and then ends. It keeps what is written to it, and fails at
+/// a write once it took so many bytes.
 #[derive(Drop)]
 struct Server<'a> {
     rest: &'a [u8],
     most: usize,
-    fails: bool,
     asked: Vec<u8>,
     room: usize,
 }
 
 impl<'a> Read for Server<'a> {
     fn read(&mut self, buf: &mut [u8]) -> io::Result<usize> {
-        if self.fails && self.rest.is_empty() {
-            return Err(io::Error::from(ErrorKind::ConnectionReset));
-        }
         let n = self.rest.len().min(buf.len()).min(self.most);
         let (part, rest) = self.rest.split_at(n);
         buf[..n].copy_from_slice(part);
@@ -73,6 +69,36 @@ impl Write for Sink {
     }
 }
 
+/// How far the streams of a run go.
+#[derive(Clone, Copy)]
+struct Way {
+    /// Whether there is a connection.
+    is_connected: bool,
+    /// The server takes so many bytes.
+    takes: usize,
+    /// The output takes so many bytes.
+    prints: usize,
+}
+
+/// Streams on which nothing breaks.
+const WHOLE: Way = Way {
+    is_connected: true,
+    takes: usize::MAX,
+    prints: usize::MAX,
+};
+
+/// A run of a tool: its command line, its streams, what the server sends, and the queries, the output, the error text and
+/// the status.
+struct Run<'a> {
+    words: &'a [&'a str],
+    way: Way,
+    answers: &'a [u8],
+    queries: &'a [u8],
+    out: &'a [u8],
+    err: &'a [u8],
+    status: u8,
+}
+
 fn sink_with(alloc: Global, room: usize) -> Sink {
     Sink {
         bytes: Vec::new(alloc),
@@ -80,13 +106,12 @@ fn sink_with(alloc: Global, room: usize) -> Sink {
     }
 }
 
-fn sending<'a>(alloc: Global, answers: &'a [u8], most: usize) -> Server<'a> {
+fn server_of<'a>(alloc: Global, run: &Run<'a>, most: usize) -> Server<'a> {
     Server {
-        rest: answers,
+        rest: run.answers,
         most,
-        fails: false,
         asked: Vec::new(alloc),
-        room: usize::MAX,
+        room: run.way.takes,
     }
 }
 
@@ -106,33 +131,27 @@ fn run_tool(
     }
 }
 
-/// A run of a tool: its command line, what the server sends, and the queries, the output, the error text and the status.
-struct Run<'a> {
-    words: &'a [&'a str],
-    answers: &'a [u8],
-    queries: &'a [u8],
-    out: &'a [u8],
-    err: &'a [u8],
-    status: u8,
-}
-
 /// The number of the first run that is wrong, with what the server sends in pieces of several lengths.
 fn first_wrong(rt: &impl Wait, alloc: Global, runs: &[Run<'_>]) -> Option<usize> {
     for (number, wanted) in runs.iter().enumerate() {
         for most in [1, 5, 512] {
-            let mut stream = sending(alloc, wanted.answers, most);
-            let mut out = sink_with(alloc, usize::MAX);
+            let mut server = server_of(alloc, wanted, most);
+            let mut out = sink_with(alloc, wanted.way.prints);
             let mut err = sink_with(alloc, usize::MAX);
-            let status = run_tool(
-                rt,
-                alloc,
-                wanted.words,
-                Some(&mut stream),
-                &mut out,
-                &mut err,
-            );
+            let status = if wanted.way.is_connected {
+                run_tool(
+                    rt,
+                    alloc,
+                    wanted.words,
+                    Some(&mut server),
+                    &mut out,
+                    &mut err,
+                )
+            } else {
+                run_tool(rt, alloc, wanted.words, None, &mut out, &mut err)
+            };
             let is_right = status == wanted.status
-                && stream.asked.as_slice() == wanted.queries
+                && server.asked.as_slice() == wanted.queries
                 && out.bytes.as_slice() == wanted.out
                 && err.bytes.as_slice() == wanted.err;
             if !is_right {
@@ -154,6 +173,7 @@ fn upsc_shows(rt: HostRuntime) {
         &[
             Run {
                 words: &["upsc", "su700"],
+                way: WHOLE,
                 answers: VARIABLES,
                 queries: b"LIST VAR su700\n",
                 out: b"battery.charge: 100\nups.status: OL\n",
@@ -162,6 +182,7 @@ fn upsc_shows(rt: HostRuntime) {
             },
             Run {
                 words: &["upsc", "su700@host:5", "ups.status"],
+                way: WHOLE,
                 answers: b"VAR su700 ups.status \"OB \\\"x\\\"\"\nVER\n",
                 queries: b"GET VAR su700 ups.status\n",
                 out: b"OB \"x\"\n",
@@ -170,6 +191,7 @@ fn upsc_shows(rt: HostRuntime) {
             },
             Run {
                 words: &["upsc", "-l"],
+                way: WHOLE,
                 answers: b"BEGIN LIST UPS\nUPS su700 \"Server room\"\nUPS b \"\"\nEND LIST UPS\n",
                 queries: b"LIST UPS\n",
                 out: b"su700\nb\n",
@@ -178,6 +200,7 @@ fn upsc_shows(rt: HostRuntime) {
             },
             Run {
                 words: &["upsc", "-L", "localhost:3493"],
+                way: WHOLE,
                 answers: b"BEGIN LIST UPS\nUPS su700 \"Server room\"\nUPS b \"\"\nEND LIST UPS\n",
                 queries: b"LIST UPS\n",
                 out: b"su700: Server room\nb: \n",
@@ -186,6 +209,7 @@ fn upsc_shows(rt: HostRuntime) {
             },
             Run {
                 words: &["upsc", "-c", "su700"],
+                way: WHOLE,
                 answers: b"BEGIN LIST CLIENT su700\nCLIENT su700 ::1\nEND LIST CLIENT su700\n",
                 queries: b"LIST CLIENT su700\n",
                 out: b"::1\n",
@@ -205,6 +229,7 @@ fn upsc_says_why_not(rt: HostRuntime) {
         &[
             Run {
                 words: &["upsc", "su700"],
+                way: WHOLE,
                 answers: b"ERR DATA-STALE\n",
                 queries: b"LIST VAR su700\n",
                 out: b"",
@@ -213,6 +238,7 @@ fn upsc_says_why_not(rt: HostRuntime) {
             },
             Run {
                 words: &["upsc", "su700"],
+                way: WHOLE,
                 answers: b"BEGIN LIST VAR su700\nVAR su700 battery.charge \"100\"\n",
                 queries: b"LIST VAR su700\n",
                 out: b"",
@@ -221,6 +247,7 @@ fn upsc_says_why_not(rt: HostRuntime) {
             },
             Run {
                 words: &["upsc", "su700"],
+                way: WHOLE,
                 answers: b"OK\n",
                 queries: b"LIST VAR su700\n",
                 out: b"",
@@ -229,6 +256,7 @@ fn upsc_says_why_not(rt: HostRuntime) {
             },
             Run {
                 words: &["upsc", "su700", "\u{e9}"],
+                way: WHOLE,
                 answers: b"",
                 queries: b"",
                 out: b"",
@@ -237,6 +265,7 @@ fn upsc_says_why_not(rt: HostRuntime) {
             },
             Run {
                 words: &["upsc", "a@"],
+                way: WHOLE,
                 answers: b"",
                 queries: b"",
                 out: b"",
@@ -245,6 +274,7 @@ fn upsc_says_why_not(rt: HostRuntime) {
             },
             Run {
                 words: &["upsc", "-l", "a:0"],
+                way: WHOLE,
                 answers: b"",
                 queries: b"",
                 out: b"",
@@ -253,6 +283,7 @@ fn upsc_says_why_not(rt: HostRuntime) {
             },
             Run {
                 words: &["upsc", "-l", "-L"],
+                way: WHOLE,
                 answers: b"",
                 queries: b"",
                 out: b"",
@@ -272,6 +303,7 @@ fn upsrw_shows_and_sets(rt: HostRuntime) {
         &[
             Run {
                 words: &["upsrw", "su700"],
+                way: WHOLE,
                 answers: b"BEGIN LIST RW su700\nRW su700 ups.id \"x\"\nEND LIST RW su700\nTYPE su700 ups.id RW STRING:16\n",
                 queries: b"LIST RW su700\nGET TYPE su700 ups.id\n",
                 out: b"[ups.id]\nType: RW STRING:16\nValue: x\n\n",
@@ -280,6 +312,7 @@ fn upsrw_shows_and_sets(rt: HostRuntime) {
             },
             Run {
                 words: &["upsrw", "u"],
+                way: WHOLE,
                 answers: b"BEGIN LIST RW u\nRW u a \"low\"\nRW u b \"5\"\nEND LIST RW u\nTYPE u a RW ENUM\nBEGIN LIST ENUM u a\nENUM u a \"low\"\nENUM u a \"high\"\nEND LIST ENUM u a\nTYPE u b RW RANGE\nBEGIN LIST RANGE u b\nRANGE u b \"0\" \"9\"\nEND LIST RANGE u b\n",
                 queries: b"LIST RW u\nGET TYPE u a\nLIST ENUM u a\nGET TYPE u b\nLIST RANGE u b\n",
                 out: b"[a]\nType: RW ENUM\nValue: low\nOption: low\nOption: high\n\n[b]\nType: RW RANGE\nValue: 5\nRange: 0..9\n\n",
@@ -297,6 +330,7 @@ fn upsrw_shows_and_sets(rt: HostRuntime) {
                     "pw",
                     "su700",
                 ],
+                way: WHOLE,
                 answers: b"OK\nOK\nOK\n",
                 queries: b"USERNAME admin\nPASSWORD pw\nSET VAR su700 ups.id \"y=z\"\n",
                 out: b"OK\n",
@@ -307,6 +341,7 @@ fn upsrw_shows_and_sets(rt: HostRuntime) {
                 words: &[
                     "upsrw", "-s", "ups.id=y", "-u", "admin", "-p", "pw", "su700",
                 ],
+                way: WHOLE,
                 answers: b"OK\nOK\nERR READONLY\n",
                 queries: b"USERNAME admin\nPASSWORD pw\nSET VAR su700 ups.id \"y\"\n",
                 out: b"",
@@ -315,6 +350,7 @@ fn upsrw_shows_and_sets(rt: HostRuntime) {
             },
             Run {
                 words: &["upsrw", "-s", "ups.id", "-u", "admin", "-p", "pw", "su700"],
+                way: WHOLE,
                 answers: b"",
                 queries: b"",
                 out: b"",
@@ -323,6 +359,7 @@ fn upsrw_shows_and_sets(rt: HostRuntime) {
             },
             Run {
                 words: &["upsrw", "-u", "admin", "su700"],
+                way: WHOLE,
                 answers: b"",
                 queries: b"",
                 out: b"",
@@ -342,6 +379,7 @@ fn upscmd_lists_and_commands(rt: HostRuntime) {
         &[
             Run {
                 words: &["upscmd", "-l", "su700"],
+                way: WHOLE,
                 answers: b"BEGIN LIST CMD su700\nCMD su700 load.off\nEND LIST CMD su700\nCMDDESC su700 load.off \"Turn off the load\"\n",
                 queries: b"LIST CMD su700\nGET CMDDESC su700 load.off\n",
                 out: b"load.off - Turn off the load\n",
@@ -350,6 +388,7 @@ fn upscmd_lists_and_commands(rt: HostRuntime) {
             },
             Run {
                 words: &["upscmd", "-u", "admin", "-p", "pw", "su700", "load.off"],
+                way: WHOLE,
                 answers: b"OK\nOK\nOK\n",
                 queries: b"USERNAME admin\nPASSWORD pw\nINSTCMD su700 load.off\n",
                 out: b"OK\n",
@@ -358,6 +397,7 @@ fn upscmd_lists_and_commands(rt: HostRuntime) {
             },
             Run {
                 words: &["upscmd", "-u", "admin", "-p", "pw", "su700"],
+                way: WHOLE,
                 answers: b"",
                 queries: b"",
                 out: b"",
@@ -370,99 +410,131 @@ fn upscmd_lists_and_commands(rt: HostRuntime) {
 }
 
 #[test]
-fn a_broken_output_took_a_beginning(rt: HostRuntime) {
-    let mut stream = sending(rt.alloc(), VARIABLES, 512);
-    let mut out = sink_with(rt.alloc(), 10);
-    let mut err = sink_with(rt.alloc(), usize::MAX);
-    let status = run_tool(
+fn versions(rt: HostRuntime) {
+    let wrong = first_wrong(
         &rt,
         rt.alloc(),
-        &["upsc", "su700"],
-        Some(&mut stream),
-        &mut out,
-        &mut err,
+        &[
+            Run {
+                words: &["upsc", "--version"],
+                way: WHOLE,
+                answers: b"",
+                queries: b"",
+                out: b"upsc profile 1.2\n",
+                err: b"",
+                status: 0,
+            },
+            Run {
+                words: &["upsrw", "--version"],
+                way: WHOLE,
+                answers: b"",
+                queries: b"",
+                out: b"upsrw profile 1.2\n",
+                err: b"",
+                status: 0,
+            },
+            Run {
+                words: &["upscmd", "--version"],
+                way: WHOLE,
+                answers: b"",
+                queries: b"",
+                out: b"upscmd profile 1.2\n",
+                err: b"",
+                status: 0,
+            },
+        ],
     );
-    assert_eq!(rt; status, 1);
-    assert_eq!(rt; out.bytes.as_slice(), b"battery.ch".as_slice());
+    assert_eq!(rt; wrong, None);
 }
 
 #[test]
-fn no_connection(rt: HostRuntime) {
-    let mut out = sink_with(rt.alloc(), usize::MAX);
-    let mut err = sink_with(rt.alloc(), usize::MAX);
-    let status = run_tool(
+fn streams_that_break(rt: HostRuntime) {
+    let wrong = first_wrong(
         &rt,
         rt.alloc(),
-        &["upsc", "su700@localhost:1"],
-        None,
-        &mut out,
-        &mut err,
+        &[
+            Run {
+                words: &["upsc", "su700"],
+                way: Way {
+                    is_connected: false,
+                    ..WHOLE
+                },
+                answers: VARIABLES,
+                queries: b"",
+                out: b"",
+                err: b"Error: connection failed\n",
+                status: 1,
+            },
+            Run {
+                words: &["upsc", "su700"],
+                way: Way { takes: 0, ..WHOLE },
+                answers: VARIABLES,
+                queries: b"",
+                out: b"",
+                err: b"Error: connection lost\n",
+                status: 1,
+            },
+            Run {
+                words: &["upsc", "su700"],
+                way: Way { takes: 3, ..WHOLE },
+                answers: VARIABLES,
+                queries: b"LIS",
+                out: b"",
+                err: b"Error: connection lost\n",
+                status: 1,
+            },
+            Run {
+                words: &["upsc", "su700"],
+                way: Way {
+                    prints: 10,
+                    ..WHOLE
+                },
+                answers: VARIABLES,
+                queries: b"LIST VAR su700\n",
+                out: b"battery.ch",
+                err: b"",
+                status: 1,
+            },
+        ],
     );
-    assert_eq!(rt; status, 1);
-    assert_eq!(rt;
-        err.bytes.as_slice(),
-        b"Error: connection failed\n".as_slice()
-    );
-    assert!(rt; out.bytes.is_empty());
+    assert_eq!(rt; wrong, None);
 }
 
-#[test]
-fn a_stream_that_breaks(rt: HostRuntime) {
-    for room in [0usize, 3] {
-        let mut stream = sending(rt.alloc(), VARIABLES, 2);
-        stream.room = room;
-        let mut out = sink_with(rt.alloc(), usize::MAX);
-        let mut err = sink_with(rt.alloc(), usize::MAX);
-        let status = run_tool(
-            &rt,
-            rt.alloc(),
-            &["upsc", "su700"],
-            Some(&mut stream),
-            &mut out,
-            &mut err,
-        );
-        assert_eq!(rt; status, 1);
-        assert_eq!(rt;
-            err.bytes.as_slice(),
-            b"Error: connection lost\n".as_slice()
-        );
-        assert!(rt; out.bytes.is_empty());
+/// Whether the tool that the first word names would dial port 5 of `h`.
+fn is_dialled(alloc: Global, words: &[&str]) -> bool {
+    let target = match words.first() {
+        Some(&"upsc") => upsc_target(alloc, words),
+        Some(&"upsrw") => upsrw_target(alloc, words),
+        _ => upscmd_target(alloc, words),
+    };
+    match target {
+        Some(target) => target.host.as_bytes() == b"h".as_slice() && target.port.number == 5,
+        None => false,
     }
+}
+
+/// The number of the first command line for which it isn't so.
+fn first_misdialled(alloc: Global, rows: &[(&[&str], bool)]) -> Option<usize> {
+    for (number, (words, wanted)) in rows.iter().enumerate() {
+        if is_dialled(alloc, words) != *wanted {
+            return Some(number);
+        }
+    }
+    None
 }
 
 #[test]
 fn targets(rt: HostRuntime) {
-    for words in [
-        ["upsc", "x", "su700@h:5"].as_slice(),
-        &["upsrw", "su700@h:5"],
-        &["upscmd", "-l", "su700@h:5"],
-    ] {
-        let target = match words.first() {
-            Some(&"upsc") => upsc_target(rt.alloc(), &["upsc", "su700@h:5"]),
-            Some(&"upsrw") => upsrw_target(rt.alloc(), words),
-            _ => upscmd_target(rt.alloc(), words),
-        };
-        assert!(rt;
-            target.is_some_and(|t| t.host.as_bytes() == b"h".as_slice() && t.port.number == 5)
-        );
-    }
-    assert!(rt; upsc_target(rt.alloc(), &["upsc", "a@"]).is_none());
-    assert!(rt; upsc_target(rt.alloc(), &["upsc"]).is_none());
-    assert!(rt; upsc_target(rt.alloc(), &["upsc", "-j", "a"]).is_none());
-}
-
-#[test]
-fn help_and_version(rt: HostRuntime) {
-    for (words, wanted) in [
-        (["upsc", "--version"], b"upsc profile 1.2\n".as_slice()),
-        (["upsrw", "--version"], b"upsrw profile 1.2\n"),
-        (["upscmd", "--version"], b"upscmd profile 1.2\n"),
-    ] {
-        let mut out = sink_with(rt.alloc(), usize::MAX);
-        let mut err = sink_with(rt.alloc(), usize::MAX);
-        let status = run_tool(&rt, rt.alloc(), words.as_slice(), None, &mut out, &mut err);
-        assert_eq!(rt; status, 0);
-        assert_eq!(rt; out.bytes.as_slice(), wanted);
-        assert!(rt; err.bytes.is_empty());
-    }
+    let wrong = first_misdialled(
+        rt.alloc(),
+        &[
+            (&["upsc", "su700@h:5"], true),
+            (&["upsrw", "su700@h:5"], true),
+            (&["upscmd", "-l", "su700@h:5"], true),
+            (&["upsc", "a@"], false),
+            (&["upsc"], false),
+            (&["upsc", "-j", "su700@h:5"], false),
+        ],
+    );
+    assert_eq!(rt; wrong, None);
 }
