@@ -1,5 +1,5 @@
 -- How a query advances behind the beginning of its list.
-use Rattle.std.proofs.Common.{◌≡◌, ℕ, ◌==◌, true, List, [], length, Option, Some, None, Result, Ok, Err, if◌then◌else◌, refl, sym, ap, ap₂, ◌∙◌, inl, inr, ◌⊎◌}
+use Rattle.std.proofs.Common.{◌≡◌, ℕ, ◌==◌, true, List, length, Option, Some, None, Result, Ok, Err, if◌then◌else◌, refl, ap, ◌∙◌, inl, inr}
 use Rattle.nut_proto.specs.declared.answer.Answer.{Answer}
 use Rattle.nut_client.specs.declared.fault.LinkFault.{LinkFault}
 use Rattle.nut_client.specs.declared.fault.LinkFault.TheVariants.{OutOfOrder}
@@ -7,7 +7,7 @@ use Rattle.nut_client.specs.declared.outcome.Outcome.{Outcome}
 use Rattle.nut_client.specs.Asking.{Asked}
 use Rattle.nut_client.specs.Parts.{Advances, Gives}
 use Rattle.nut_client.specs.Link.{progress_of}
-use Rattle.nut_client.specs.Matching.{Progress, Listing, next, progress}
+use Rattle.nut_client.specs.Matching.{next, progress}
 
 progress_next : (query : Asked) (rows : List (List (List ℕ))) (answer : Answer) → query.rows ≡ Some rows → (length query.waits == 0) ≡ true → progress_of query answer ≡ next query.expected rows answer
 progress_next query rows answer some none =

@@ -1,6 +1,5 @@
 -- A link never keeps more than it may.
-use Rattle.std.proofs.Common.{◌≡◌, ℕ, ◌+◌, ◌≤◌, ◌<◌, Bool, true, false, nat_le, nat_lt, List, [], ◌∷◌, ◌++◌, length, drop, Option, Some, None, is_some, Result, Ok, Err, if◌then◌else◌, refl, sym, ap, subst, ◌∙◌, inl, inr, ◌⊎◌, arith, length-append, length-drop, leb-true, ltb-true, ◌&&◌}
-use Rattle.std.proofs.lemmas.Bool.{cases_Bool}
+use Rattle.std.proofs.Common.{◌≡◌, ℕ, ◌≤◌, Bool, true, false, nat_le, nat_lt, List, [], ◌∷◌, ◌++◌, length, drop, Option, Some, None, is_some, Result, Ok, Err, if◌then◌else◌, refl, sym, subst, inl, inr, arith, length-append, length-drop, leb-true, ltb-true, ◌&&◌}
 use Rattle.std.specs.List.{list_all}
 use Rattle.std.specs.Prelude.{◌==◌}
 use Rattle.nut_words.specs.Cutter.{kept_of}
@@ -11,7 +10,7 @@ use Rattle.nut_proto.specs.declared.answer.Answer.TheVariants as answers
 use Rattle.nut_proto.specs.declared.answer.AnswerFault.{AnswerFault}
 use Rattle.nut_proto.specs.declared.request.Request.{Request}
 use Rattle.nut_proto.specs.Answers.{answer_in}
-use Rattle.nut_proto.specs.Requests.{request_line, request_parts}
+use Rattle.nut_proto.specs.Requests.{request_parts}
 use Rattle.nut_proto.specs.Lines.{message}
 use Rattle.nut_client.specs.declared.exchange.Exchange.{Exchange}
 use Rattle.nut_client.specs.declared.exchange.Stage.{Stage}
@@ -19,13 +18,12 @@ use Rattle.nut_client.specs.declared.exchange.Stage.TheVariants as stages
 use Rattle.nut_client.specs.declared.expected.Expected.{Expected}
 use Rattle.nut_client.specs.declared.expected.Expected.TheVariants as expects
 use Rattle.nut_client.specs.declared.fault.LinkFault.{LinkFault}
-use Rattle.nut_client.specs.declared.fault.LinkFault.TheVariants.{OutOfOrder, NotMine, BadLine, BadQuery}
-use Rattle.nut_client.specs.declared.outcome.Outcome.{Outcome}
+use Rattle.nut_client.specs.declared.fault.LinkFault.TheVariants.{OutOfOrder, BadQuery}
 use Rattle.nut_client.specs.Asking.{Asked, is_writable, query_of}
 use Rattle.nut_client.specs.Bounds.{IsBounded, IsStageBounded, rows_in, rows_of}
 use Rattle.nut_client.specs.Hearing.{Feeds}
 use Rattle.nut_client.specs.Laws.{BoundsStay}
-use Rattle.nut_client.specs.Link.{LinkValue, asked, fed, heard, is_idle, left_of, lines_heard, moved, on_answer, on_line, on_read, or_else, progress_of, stage_after, stage_taken, stage_without, take_fault, taken, taken_out, waits_in}
+use Rattle.nut_client.specs.Link.{LinkValue, asked, fed, heard, is_idle, left_of, lines_heard, moved, on_answer, on_line, on_read, or_else, progress_of, stage_after, stage_taken, stage_without, take_fault, taken, taken_out}
 use Rattle.nut_client.specs.Matching.{Progress, Listing, Complete, first, is_heading, is_line, is_row, next, progress}
 use Rattle.nut_client.proofs.Writable.{length_line}
 

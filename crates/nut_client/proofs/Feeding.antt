@@ -1,15 +1,15 @@
 -- How a link hears a piece by the lines that it completes.
-use Rattle.std.proofs.Common.{◌≡◌, ℕ, ◌+◌, ◌≤◌, true, false, List, [], ◌∷◌, ◌++◌, length, take, drop, Option, Some, None, is_some, Result, Ok, Err, if◌then◌else◌, refl, sym, ap, ap₂, subst, ◌∙◌, arith, inl, inr, ◌⊎◌, ◌==◌, eqb-true, take_all, length-drop}
+use Rattle.std.proofs.Common.{◌≡◌, ℕ, ◌+◌, true, List, [], ◌∷◌, ◌++◌, length, take, drop, Option, Some, None, is_some, Result, Ok, Err, if◌then◌else◌, refl, sym, ap, ap₂, subst, ◌∙◌, arith, inl, inr, ◌⊎◌, ◌==◌, eqb-true, take_all, length-drop}
 use Rattle.std.proofs.Math.Seq.{take-add}
 use Rattle.std.proofs.lemmas.Bool.{cases_Bool}
-use Rattle.std.proofs.lemmas.List.{append-nil, append_assoc, append_cancel_left, length-append, take-append-drop}
+use Rattle.std.proofs.lemmas.List.{append_assoc, append_cancel_left, take-append-drop}
 use Rattle.nut_words.specs.Lines.{LineText, Text, lines, rest, lines_after, rest_after}
 use Rattle.nut_words.proofs.StreamGrowth.{lines-append, rest-append}
 use Rattle.nut_client.specs.declared.exchange.Exchange.{Exchange}
 use Rattle.nut_client.specs.declared.fault.LinkFault.{LinkFault}
 use Rattle.nut_client.specs.declared.fault.LinkFault.TheVariants.{Memory}
-use Rattle.nut_client.specs.Hearing.{Feeds, Hears, LacksMemory, RunsOut}
-use Rattle.nut_client.specs.Link.{LinkValue, answer_by, failed, fed, heard, lines_heard, link_with, moved, on_line}
+use Rattle.nut_client.specs.Hearing.{Feeds, Hears, RunsOut}
+use Rattle.nut_client.specs.Link.{answer_by, failed, fed, heard, lines_heard, link_with, moved, on_line}
 use Rattle.nut_client.specs.Laws.{CutsDoNotMatter, RestsStay}
 
 pub lines_heard-append : (xs ys : List LineText) (e : Exchange) → lines_heard (xs ++ ys) e ≡ lines_heard ys (lines_heard xs e)

@@ -1,10 +1,10 @@
 -- Which lines match.
-use Rattle.std.proofs.Common.{◌≡◌, ℕ, ◌==◌, ◌&&◌, ◌||◌, Bool, true, false, List, [], ◌∷◌, ◌++◌, length, None, Some, Ok, Err, if◌then◌else◌, bytes_eq, refl, sym, ap, ap₂, ◌∙◌, inl, inr, ◌⊎◌, Result}
-use Rattle.std.proofs.lemmas.Bool.{cases_Bool, false≢true}
+use Rattle.std.proofs.Common.{◌≡◌, ℕ, ◌||◌, Bool, true, false, List, [], ◌∷◌, None, Ok, bytes_eq, refl, sym, ap, ◌∙◌, inl, inr, Result}
+use Rattle.std.proofs.lemmas.Bool.{false≢true}
 use Rattle.std.proofs.lemmas.List.Folds.{list_any-append}
 use Rattle.std.proofs.lemmas.Slice.Eq.{bytes_eq-Decides}
 use Rattle.std.specs.List.{list_any}
-use Rattle.nut_words.specs.Lines.{LineText, lines_after}
+use Rattle.nut_words.specs.Lines.{lines_after}
 use Rattle.nut_words.specs.Reader.{read}
 use Rattle.nut_proto.specs.Answers.{answer_of}
 use Rattle.nut_proto.specs.declared.request.ListQuery.{ListQuery}

@@ -1,8 +1,7 @@
 -- How much a link keeps.
-use Rattle.std.specs.Prelude.{ℕ, ◌≤◌, List, length}
+use Rattle.std.specs.Prelude.{ℕ, ◌≤◌, length}
 use Rattle.std.specs.Option.{option_map_or}
 use Rattle.nut_words.specs.Cutter.{kept_of}
-use Rattle.nut_client.specs.declared.exchange.Exchange.{Exchange}
 use Rattle.nut_client.specs.declared.exchange.Stage.{Stage}
 use Rattle.nut_client.specs.declared.exchange.Stage.TheVariants as stages
 use Rattle.nut_client.specs.declared.outcome.Outcome.{Outcome}

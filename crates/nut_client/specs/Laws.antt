@@ -1,12 +1,10 @@
 -- What holds of every link. Each of these is the contract of a function of the crate.
 use Rattle.std.specs.Prelude.{◌≡◌, ℕ, false, List, [], ◌∷◌, ◌++◌, None, Ok, codes}
-use Rattle.std.specs.List.{list_any}
-use Rattle.nut_words.specs.Lines.{Text, lines_after}
+use Rattle.nut_words.specs.Lines.{Text}
 use Rattle.nut_proto.specs.declared.answer.Answer.TheVariants as answers
 use Rattle.nut_proto.specs.declared.reply.Reply.{Reply}
 use Rattle.nut_proto.specs.declared.reply.Reply.TheVariants as replies
 use Rattle.nut_proto.specs.declared.request.ListQuery.{ListQuery}
-use Rattle.nut_proto.specs.declared.request.ListQuery.TheVariants as queries
 use Rattle.nut_proto.specs.declared.request.Request.{Request}
 use Rattle.nut_proto.specs.declared.request.Request.TheVariants as requests
 use Rattle.nut_proto.specs.Lines.{message_words}

@@ -1,5 +1,4 @@
-use Rattle.nut_client.specs.contracts.link.Link.{the_view}
-use Rattle.nut_client.proofs.Feeding.{fed_over, fed_link}
+use Rattle.nut_client.proofs.Feeding.{fed_over}
 use Rattle.nut_client.proofs.link.Link.feed_lines.Goals as goal
 
 pub returns-in-Some : goal.returns-in-Some
