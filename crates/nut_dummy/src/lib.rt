@@ -1,0 +1,16 @@
+//! Dummy drivers of Network UPS Tools: scripts, and the driver that tells them.
+#![tactic(auto)]
+
+mod cut;
+mod fault;
+mod item;
+mod limits;
+mod script;
+mod text;
+mod timeline;
+mod trim;
+
+pub use fault::{ScriptFault, ScriptFaultKind};
+pub use item::ScriptKind;
+pub use limits::{MAX_STEPS, SCRIPT_VARIABLES, TIMER_MAX};
+pub use script::Script;
