@@ -1,2 +1,5 @@
 pub mod CutLemmas
 pub mod ScriptLemmas
+pub mod DueLemmas
+pub mod TextLemmas
+pub mod SweptLemmas

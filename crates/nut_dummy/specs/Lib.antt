@@ -1,3 +1,9 @@
 pub mod Item
 pub mod Script
 pub mod Read
+pub mod Due
+pub mod Writable
+pub mod Command
+pub mod Telling
+pub mod Teller
+pub mod Changes

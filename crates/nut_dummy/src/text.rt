@@ -68,6 +68,13 @@ impl Name {
     }
 }
 
+/// Whether these bytes can be a value.
+pub fn is_value(bytes: &[u8]) -> bool
+    ensures { result ≡ is_value bytes.now }
+{
+    bytes.len() <= VALUE_BYTES && are_printing(bytes)
+}
+
 /// A value: 0 to [`VALUE_BYTES`] printing bytes.
 #[derive(Drop)]
 pub struct Text {
