@@ -3,3 +3,4 @@ pub mod ScriptLemmas
 pub mod DueLemmas
 pub mod TextLemmas
 pub mod SweptLemmas
+pub mod HearLemmas

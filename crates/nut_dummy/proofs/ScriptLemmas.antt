@@ -4,6 +4,7 @@ use Rattle.std.specs.Prelude.{is_some, nat_lt, slice_set, slice_index_or, map, i
 use Rattle.std.specs.List.{insert}
 use Rattle.nut_state.specs.Sorted.{named, put, IsFound, IsFree, IsAscending}
 use Rattle.nut_state.proofs.PutLemmas.{name-named, ascending-put}
+use Rattle.nut_dummy.specs.Dummy.{declared}
 use Rattle.nut_dummy.specs.Script.{Step, Timeline, Script, timeline, steps_of, with_step, with_line, at_line, whole, read_lines, read_script, no_script, IsFaultOf, Fails, Gives}
 use Rattle.nut_dummy.specs.declared.fault.ScriptFaultKind.{ScriptFaultKind}
 use Rattle.nut_dummy.specs.declared.fault.ScriptFaultKind.TheVariants as kinds
@@ -71,3 +72,23 @@ module _ (kind : ScriptKind) where
   pub read_lines-done : (before : Script) (n : ℕ) → read_lines kind before n [] ≡ whole kind before
   unfolding read_lines
   read_lines-done before n = refl
+
+-- ---- the variables with which a driver begins
+
+-- a variable that is there stays as it is
+pub declared_found : (name : List ℕ) (variables : List Timeline) (i : ℕ) → IsFound name_of name variables i → variables ≡ declared name variables
+declared_found name [] i f = absurd (omega (arith, f.within))
+declared_found name (v ∷ vs) i f =
+    ap (λ b. if b then (v ∷ vs) else put name_of name (Some (record { name = name; steps = [] })) (v ∷ vs)) (sym (ap is_some (f.is v)))
+
+pub declared_free : (name : List ℕ) (variables : List Timeline) (i : ℕ) → IsFree name_of name variables i
+    → insert variables i (record { name = name; steps = [] }) ≡ declared name variables
+declared_free name variables i f =
+    sym (f.inserted (record { name = name; steps = [] }))
+    ∙ ap (λ b. if b then variables else put name_of name (Some (record { name = name; steps = [] })) variables) (sym (ap is_some f.is))
+
+pub ascending_free : (name : List ℕ) (variables : List Timeline) (i : ℕ) → IsFree name_of name variables i → IsAscending (map name_of variables)
+    → IsAscending (map name_of (insert variables i (record { name = name; steps = [] })))
+ascending_free name variables i f h =
+    subst (λ vs. IsAscending (map name_of vs)) (f.inserted (record { name = name; steps = [] }))
+    (ascending-put name_of name (Some (record { name = name; steps = [] })) variables refl h)

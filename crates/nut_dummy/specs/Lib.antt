@@ -7,3 +7,5 @@ pub mod Command
 pub mod Telling
 pub mod Teller
 pub mod Changes
+pub mod Dummy
+pub mod Table

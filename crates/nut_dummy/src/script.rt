@@ -78,6 +78,22 @@ impl Script {
         }
     }
 
+    /// How many seconds a round takes.
+    pub(crate) fn round(&self) -> u128
+        ensures { result ≡ self.now.round }
+    {
+        self.round
+    }
+
+    /// Its variables, ascending by name.
+    pub(crate) fn into_timelines(self) -> Vec<Timeline>
+        ensures variables { result.items ≡ self.variables }
+        ensures ascending { IsAscending (map (λ t. t.name) result.items) }
+    {
+        let Script { variables, .. } = self;
+        variables
+    }
+
     /// The script with one value more.
     fn with_setting(self, name: Name, value: Text) -> Result<Script, ScriptFaultKind>
         ensures { Gives (λ s. s) result (taken_in self (Ok (said.Setting name value))) }

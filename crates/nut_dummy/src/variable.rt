@@ -5,6 +5,7 @@ ghost use Rattle.nut_dummy.specs.Due.{at_start};
 ghost use Rattle.nut_dummy.specs.Telling.{text, limits, variable_messages};
 ghost use Rattle.nut_dummy.specs.Teller.{value_after, is_assigned, differ, is_told, lines_of, says, followed, dumped, untold};
 ghost use Rattle.nut_dummy.specs.Changes.{change_of};
+ghost use Rattle.nut_dummy.specs.Dummy.{begun};
 
 use crate::due::latest;
 use crate::text::{Name, Text};
@@ -102,7 +103,34 @@ fn put_variable(
     Ok(())
 }
 
+/// The value that is due at the start.
+fn at_start(steps: &[Step]) -> Option<Text>
+    ensures { result ≡ at_start steps.now }
+{
+    let mut found = None;
+    for step in steps {
+        if step.at == 0 {
+            found = Some(Text::new(step.value.as_bytes()));
+        }
+    }
+    found
+}
+
 impl Variable {
+    /// A variable at the start.
+    pub(crate) fn begin(timeline: Timeline) -> Variable
+        ensures { result ≡ begun timeline }
+    {
+        let Timeline { name, steps } = timeline;
+        let value = at_start(&steps);
+        Variable {
+            name,
+            steps,
+            value,
+            told: false,
+        }
+    }
+
     /// Its name.
     pub fn name(&self) -> &[u8]
         ensures { result.now ≡ self.now.name }
