@@ -4,3 +4,4 @@ pub mod DueLemmas
 pub mod TextLemmas
 pub mod SweptLemmas
 pub mod HearLemmas
+pub mod HistoryLemmas

@@ -9,3 +9,4 @@ pub mod Teller
 pub mod Changes
 pub mod Dummy
 pub mod Table
+pub mod History
