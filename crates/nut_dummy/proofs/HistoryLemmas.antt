@@ -79,7 +79,6 @@ taken_waits n s h = by (nat_lt (length s.teller.waits) n) refl h where
   by false is h = grind (arith, nat_tests)
 
 module _ (script : Script) (start : ℕ) where
-
   record Stands (h : List Call) : Type 0 where
     begins : (driver script start h).start ≡ start
     rounds : (driver script start h).round ≡ script.round
@@ -94,7 +93,10 @@ module _ (script : Script) (start : ℕ) where
       let b = stands h a.0 in
       let vs = all_declared command_variables script.variables in
       record {
-        begins = b.begins; rounds = b.rounds; clock_is = b.clock_is; rest_is = refl;
+        begins = b.begins;
+        rounds = b.rounds;
+        clock_is = b.clock_is;
+        rest_is = refl;
         teller_is = ap relinked b.teller_is ∙ fresh_is vs (deeds script.round start h) (count_taken h);
         room = omega arith;
       }
@@ -105,7 +107,10 @@ module _ (script : Script) (start : ℕ) where
       let change = Passing script.round (clock start h - start) (max (clock start h) t - start) in
       let same : Passing s.round (s.clock - s.start) (max s.clock t - s.start) ≡ change = rw (b.begins, b.rounds, b.clock_is) refl in
       record {
-        begins = b.begins; rounds = b.rounds; clock_is = ap (λ c. max c t) b.clock_is; rest_is = b.rest_is;
+        begins = b.begins;
+        rounds = b.rounds;
+        clock_is = ap (λ c. max c t) b.clock_is;
+        rest_is = b.rest_is;
         teller_is = ap (λ c. changed c s.teller) same ∙ ap (changed change) b.teller_is ∙ change_is vs (deeds script.round start h) (count_taken h) b.room change;
         room = change_room vs (deeds script.round start h) (count_taken h) b.room change;
       }
@@ -115,7 +120,9 @@ module _ (script : Script) (start : ℕ) where
       let s = driver script start h in
       let ls = lines_after (rest (input h)) piece in
       record {
-        begins = b.begins; rounds = b.rounds; clock_is = b.clock_is;
+        begins = b.begins;
+        rounds = b.rounds;
+        clock_is = b.clock_is;
         rest_is = ap (λ r. rest_after r piece) b.rest_is ∙ sym (rest-append (input h) piece);
         teller_is = ap (λ r. heard_all (lines_after r piece) s.teller) b.rest_is ∙ ap (heard_all ls) b.teller_is ∙ lines_are vs ls (deeds script.round start h) (count_taken h) b.room;
         room = lines_room vs ls (deeds script.round start h) (count_taken h) b.room;
@@ -126,7 +133,10 @@ module _ (script : Script) (start : ℕ) where
       let s = driver script start h in
       let ls = take k (lines_after (rest (input h)) piece) in
       record {
-        begins = b.begins; rounds = b.rounds; clock_is = b.clock_is; rest_is = refl;
+        begins = b.begins;
+        rounds = b.rounds;
+        clock_is = b.clock_is;
+        rest_is = refl;
         teller_is = ap relinked (ap (λ r. heard_all (take k (lines_after r piece)) s.teller) b.rest_is ∙ ap (heard_all ls) b.teller_is ∙ lines_are vs ls (deeds script.round start h) (count_taken h) b.room)
             ∙ fresh_is vs (by_lines ls (deeds script.round start h)) (count_taken h);
         room = omega arith;
@@ -139,7 +149,10 @@ module _ (script : Script) (start : ℕ) where
       let past = deeds script.round start h in
       let waited : n ≤ length s.teller.waits = taken_waits n s a.1 in
       record {
-        begins = b.begins; rounds = b.rounds; clock_is = b.clock_is; rest_is = b.rest_is;
+        begins = b.begins;
+        rounds = b.rounds;
+        clock_is = b.clock_is;
+        rest_is = b.rest_is;
         teller_is = ap (λ (t : Teller). record t { waits = drop n t.waits }) b.teller_is
             ∙ ap (λ w. record { variables = map (seen past) vs; asked = has_asked past; waits = w }) (drop-drop n m (told vs past));
         room = omega (arith, waited, ap (λ (t : Teller). length t.waits) b.teller_is, length-drop m (told vs past), b.room);

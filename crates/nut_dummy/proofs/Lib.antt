@@ -5,3 +5,4 @@ pub mod TextLemmas
 pub mod SweptLemmas
 pub mod HearLemmas
 pub mod HistoryLemmas
+pub mod HeardLemmas

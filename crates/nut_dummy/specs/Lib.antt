@@ -10,3 +10,4 @@ pub mod Changes
 pub mod Dummy
 pub mod Table
 pub mod History
+pub mod Heard

@@ -30,8 +30,8 @@ text_limits name most enums =
     ∷ (Word (codes "SETAUX") ∷ Word name ∷ Word most ∷ [])
     ∷ map (λ value. Word (codes "ADDENUM") ∷ Word name ∷ Quoted value ∷ []) enums
 
--- What tells of a writable variable's flags, number, enum values and ranges. That a table follows these lines to just the
--- variable's attributes is a part of what is proved of a dump.
+-- What tells of a writable variable's flags, number, enum values and ranges. That these lines say just the variable's
+-- attributes is the law `told_lines_are_heard`.
 abbrev pub limits_of : Writable → List Message
 limits_of ChargeLow = number_limits (name_of ChargeLow) (codes "100")
 limits_of RuntimeLow = number_limits (name_of RuntimeLow) (codes "86400")

@@ -35,7 +35,7 @@ mod writable;
 pub use dummy::{Dummy, DummyFault};
 pub use fault::{ScriptFault, ScriptFaultKind};
 pub use item::ScriptKind;
-pub use laws::looks_back;
+pub use laws::{looks_back, told_lines_are_heard};
 pub use limits::{MAX_STEPS, SCRIPT_VARIABLES, TIMER_MAX};
 pub use script::Script;
 pub use variable::Variable;
