@@ -4,7 +4,7 @@ use Rattle.std.specs.Option.{option_or}
 use Rattle.std.proofs.Math.Nat.{mul-le-mul_left}
 use Rattle.std.proofs.lemmas.Bool.Decides.{nat_tests}
 use Rattle.nut_dummy.specs.Script.{Step}
-use Rattle.nut_dummy.specs.Due.{due_at, is_due, newest, newest_up_to, latest}
+use Rattle.nut_dummy.specs.Due.{is_due, newest, newest_up_to, latest}
 
 or_assoc : (a b c : Option (List ℕ)) → option_or (option_or a b) c ≡ option_or a (option_or b c)
 or_assoc None b c = refl

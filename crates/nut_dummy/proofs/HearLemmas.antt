@@ -1,15 +1,13 @@
 -- How a piece of bytes is heard: front by front, as the lines that each front completes.
-use Rattle.std.proofs.Common.{◌≡◌, ℕ, ◌+◌, ◌<◌, ◌≤◌, true, false, Bool, List, [], ◌∷◌, ◌++◌, length, take, drop, refl, sym, ap, ◌∙◌, arith, Result, Ok, Err, OnOk, OnErr, is_err, subst, eqb}
+use Rattle.std.proofs.Common.{◌≡◌, ℕ, ◌+◌, ◌<◌, ◌≤◌, true, false, List, [], ◌∷◌, ◌++◌, length, take, drop, refl, sym, ap, ◌∙◌, arith, Result, Ok, Err, OnOk, OnErr, is_err, eqb}
 use Rattle.std.proofs.Math.Seq.{take-add, take-append_seam}
 use Rattle.std.proofs.lemmas.Bool.{false≢true}
 use Rattle.std.proofs.lemmas.List.{append_assoc, append_cancel_left, length-append, take-append-drop}
 use Rattle.std.proofs.lemmas.List.Splits.{length-slice_split}
-use Rattle.std.specs.List.{count_by}
 use Rattle.std.proofs.lemmas.List.Sums.{count_by-le-length}
-use Rattle.nut_words.specs.Lines.{LineText, Text, lines, rest, parts, completed, all_but_last, as_line, lines_after, rest_after}
-use Rattle.nut_words.proofs.StreamGrowth.{lines-append, rest-append}
+use Rattle.nut_words.specs.Lines.{LineText, lines, rest, parts, completed, all_but_last, as_line, lines_after}
+use Rattle.nut_words.proofs.StreamGrowth.{lines-append}
 use Rattle.nut_dummy.specs.Teller.{Teller, heard, heard_all}
-use Rattle.std.specs.Prelude.{map}
 use Rattle.std.proofs.lemmas.List.{length-map}
 
 pub heard_all-append : (ls ms : List LineText) (t : Teller) → heard_all (ls ++ ms) t ≡ heard_all ms (heard_all ls t)

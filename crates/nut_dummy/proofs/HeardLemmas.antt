@@ -1,12 +1,12 @@
 -- The lines told are read as what they say.
-use Rattle.std.proofs.Common.{◌≡◌, ℕ, ◌≤◌, List, [], ◌∷◌, ◌++◌, Option, Some, None, Ok, length, refl, ap, ◌∙◌, arith, map, codes}
+use Rattle.std.proofs.Common.{◌≡◌, ℕ, ◌≤◌, List, [], ◌∷◌, ◌++◌, Some, length, refl, ap, arith, map}
 use Rattle.std.specs.Option.{option_and_then}
 use Rattle.std.specs.Result.{result_ok}
 use Rattle.nut_words.specs.Quoting.{IsPrintable}
 use Rattle.nut_words.specs.Reader.{read}
-use Rattle.nut_proto.specs.Lines.{AreWritable, message, message_words}
+use Rattle.nut_proto.specs.Lines.{AreWritable, message_words}
 use Rattle.nut_proto.proofs.Spelling.{message_spelled}
-use Rattle.nut_state.specs.Change.{Change, set_info, add_command, data_ok, dump_done, asked, heard}
+use Rattle.nut_state.specs.Change.{set_info, add_command, data_ok, dump_done, asked, heard}
 use Rattle.nut_state.specs.Verb.{verb_of}
 use Rattle.nut_dummy.specs.declared.writable.Writable.{Writable}
 use Rattle.nut_dummy.specs.declared.writable.Writable.TheVariants.{ChargeLow, RuntimeLow, Sensitivity, ShutdownDelay, Id}

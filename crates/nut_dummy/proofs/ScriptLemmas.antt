@@ -1,11 +1,11 @@
 -- How a script grows by a line.
-use Rattle.std.proofs.Common.{◌≡◌, ℕ, ◌+◌, ◌∷◌, ◌++◌, List, [], Bool, true, false, ◌||◌, Ok, Err, Some, None, Result, length, refl, sym, ap, ◌∙◌, arith, subst}
-use Rattle.std.specs.Prelude.{is_some, nat_lt, slice_set, slice_index_or, map, if◌then◌else◌}
+use Rattle.std.proofs.Common.{◌≡◌, ℕ, ◌+◌, ◌∷◌, ◌++◌, List, [], Bool, ◌||◌, Ok, Err, Some, refl, sym, ap, ◌∙◌, arith, subst}
+use Rattle.std.specs.Prelude.{is_some, slice_set, slice_index_or, map, if◌then◌else◌}
 use Rattle.std.specs.List.{insert}
-use Rattle.nut_state.specs.Sorted.{named, put, IsFound, IsFree, IsAscending}
+use Rattle.nut_state.specs.Sorted.{put, IsFound, IsFree, IsAscending}
 use Rattle.nut_state.proofs.PutLemmas.{name-named, ascending-put}
 use Rattle.nut_dummy.specs.Dummy.{declared}
-use Rattle.nut_dummy.specs.Script.{Step, Timeline, Script, timeline, steps_of, with_step, with_line, at_line, whole, read_lines, read_script, no_script, IsFaultOf, Fails, Gives}
+use Rattle.nut_dummy.specs.Script.{Step, Timeline, Script, timeline, steps_of, with_step, with_line, at_line, whole, read_lines, IsFaultOf, Fails}
 use Rattle.nut_dummy.specs.declared.fault.ScriptFaultKind.{ScriptFaultKind}
 use Rattle.nut_dummy.specs.declared.fault.ScriptFaultKind.TheVariants as kinds
 use Rattle.nut_dummy.specs.declared.item.ScriptKind.{ScriptKind}

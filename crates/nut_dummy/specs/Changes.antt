@@ -1,5 +1,4 @@
 -- What the changes of the code are in the definitions.
-use Rattle.std.specs.Prelude.{ℕ, List}
 use Rattle.nut_dummy.specs.Teller as T
 use Rattle.nut_dummy.specs.declared.variable.Change.{Change}
 use Rattle.nut_dummy.specs.declared.variable.Change.TheVariants as change

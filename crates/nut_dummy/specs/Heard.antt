@@ -1,5 +1,5 @@
 -- What a server's table hears in the lines told.
-use Rattle.std.specs.Prelude.{◌≡◌, ℕ, ◌==◌, List, [], ◌∷◌, ◌++◌, Option, Some, None, if◌then◌else◌, map}
+use Rattle.std.specs.Prelude.{◌≡◌, ℕ, ◌==◌, List, [], ◌∷◌, ◌++◌, Option, Some, if◌then◌else◌, map}
 use Rattle.nut_words.specs.Quoting.{IsPrintable}
 use Rattle.nut_proto.specs.Lines.{message}
 use Rattle.nut_state.specs.Change.{Change, set_info, set_flags, set_aux, add_enum, add_range, add_command, data_ok, dump_done, heard}

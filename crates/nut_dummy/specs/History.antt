@@ -2,7 +2,7 @@
 -- Histories, and lists of deeds, have the newest first.
 use Rattle.std.specs.Prelude.{◌≡◌, ℕ, ◌+◌, ◌-◌, ◌||◌, ◌&&◌, Bool, true, false, List, [], ◌∷◌, ◌++◌, Option, Some, None, if◌then◌else◌, codes, drop, is_some, map, max, take}
 use Rattle.std.specs.List.{flat_map}
-use Rattle.nut_words.specs.Lines.{LineText, Text, lines_after, rest}
+use Rattle.nut_words.specs.Lines.{LineText, lines_after, rest}
 use Rattle.nut_proto.specs.declared.driver_ask.DriverAsk.{DriverAsk}
 use Rattle.nut_proto.specs.declared.driver_ask.DriverAsk.TheVariants as asks
 use Rattle.nut_dummy.specs.declared.dummy.DummyFault.{DummyFault}

@@ -1,5 +1,4 @@
 -- What the items of the code are in the definitions.
-use Rattle.std.specs.Prelude.{ℕ, List}
 use Rattle.nut_dummy.specs.Item as said
 use Rattle.nut_dummy.specs.declared.item.Item.{Item}
 use Rattle.nut_dummy.specs.declared.item.Item.TheVariants as items

@@ -1,5 +1,5 @@
 -- What a script means: for each variable the values that it gets and when, and how long a round takes.
-use Rattle.std.specs.Prelude.{◌≡◌, ℕ, ◌+◌, ◌==◌, ◌&&◌, ◌||◌, Bool, true, false, List, [], ◌∷◌, ◌++◌, Option, Some, None, Result, Ok, Err, if◌then◌else◌, is_some, length, nat_lt}
+use Rattle.std.specs.Prelude.{◌≡◌, ℕ, ◌+◌, ◌==◌, ◌&&◌, ◌||◌, Bool, true, List, [], ◌∷◌, ◌++◌, Option, Some, Result, Ok, Err, if◌then◌else◌, is_some, length, nat_lt}
 use Rattle.std.specs.Option.{option_map_or}
 use Rattle.nut_words.specs.Lines.{parts}
 use Rattle.nut_state.specs.Sorted.{named, put}

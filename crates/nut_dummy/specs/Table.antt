@@ -1,5 +1,5 @@
 -- The table that a dummy driver holds, as the table of a UPS.
-use Rattle.std.specs.Prelude.{ℕ, true, List, [], ◌∷◌, ◌++◌, Option, Some, None, map}
+use Rattle.std.specs.Prelude.{ℕ, true, List, [], ◌∷◌, Option, Some, None, map}
 use Rattle.std.specs.List.{flat_map}
 use Rattle.nut_state.specs.Table.{Table, Entry}
 use Rattle.nut_dummy.specs.Command.{command_name, all_commands}

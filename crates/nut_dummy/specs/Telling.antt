@@ -8,7 +8,6 @@ use Rattle.nut_proto.specs.Lines.{line}
 use Rattle.nut_dummy.specs.declared.writable.Writable.{Writable}
 use Rattle.nut_dummy.specs.declared.writable.Writable.TheVariants.{ChargeLow, RuntimeLow, Sensitivity, ShutdownDelay, Id}
 use Rattle.nut_dummy.specs.Writable.{name_of, writable_of}
-use Rattle.nut_dummy.specs.declared.command.Command.{Command}
 use Rattle.nut_dummy.specs.Command.{command_name, all_commands}
 
 abbrev pub Message : Type 0

@@ -1,8 +1,7 @@
-use Rattle.std.proofs.Common.{◌≡◌, ℕ, ◌+◌, ◌*◌, ◌<◌, ◌≤◌, ◌∷◌, ◌++◌, [], List, take, get_or, Some, None, Option, refl, sym, ap, ◌∙◌, subst, arith, take_all, length}
+use Rattle.std.proofs.Common.{◌≡◌, ℕ, ◌+◌, ◌<◌, ◌∷◌, ◌++◌, [], List, take, Some, Option, sym, ap, ◌∙◌, subst, arith, take_all}
 use Rattle.std.specs.Prelude.{option_map}
 use Rattle.std.proofs.lemmas.List.{take_more}
 use Rattle.nut_dummy.specs.Script.{Step}
-use Rattle.nut_dummy.specs.Due.{is_due, newest, latest}
 use Rattle.nut_dummy.proofs.DueLemmas.{Known, known_none, known_new, known_old, latest_known, no_round}
 use Rattle.nut_dummy.proofs.due.latest.Goals as goal
 use Rattle.nut_dummy.proofs.due.latest.Goals.{in-Some+then-best_round-k, in-Some+else-best_round-k, in_default}

@@ -1,6 +1,6 @@
 use Rattle.std.proofs.Common.{◌≡◌, [], ◌∷◌, sym, ap, ◌∙◌, subst}
 use Rattle.std.specs.List.{insert}
-use Rattle.std.specs.Prelude.{map, slice_set, length, nat_lt}
+use Rattle.std.specs.Prelude.{map, length, nat_lt}
 use Rattle.nut_state.specs.Sorted.{IsFound, IsFree, IsAscending}
 use Rattle.nut_dummy.specs.declared.limits.TheConstants.{SCRIPT_VARIABLES}
 use Rattle.nut_dummy.proofs.ScriptLemmas.{name_of, step_found, step_free, step_taken, ascending_step}

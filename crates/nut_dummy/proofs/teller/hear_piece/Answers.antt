@@ -1,7 +1,7 @@
-use Rattle.std.proofs.Common.{◌≡◌, ◌+◌, ◌≤◌, ◌<◌, ◌++◌, ◌∷◌, ℕ, List, [], length, take, drop, sym, ap, ◌∙◌, subst, arith, rules}
+use Rattle.std.proofs.Common.{◌≡◌, ◌+◌, ◌≤◌, ◌++◌, ◌∷◌, ℕ, List, [], length, take, drop, sym, ap, ◌∙◌, arith, rules}
 use Rattle.std.proofs.lemmas.Grind.{common_steps}
 use Rattle.std.proofs.lemmas.List.{take_rest, drop-drop, length-drop, length-append}
-use Rattle.nut_words.specs.Lines.{LineText, rest, rest_after, lines_after}
+use Rattle.nut_words.specs.Lines.{rest, rest_after, lines_after}
 use Rattle.nut_words.specs.Cutter.{handed_out, line_of}
 use Rattle.nut_words.proofs.StreamGrowth.{rest-append}
 use Rattle.nut_dummy.specs.Teller.{heard_all}

@@ -1,4 +1,4 @@
-use Rattle.std.proofs.Common.{◌≡◌, ◌++◌, ◌∷◌, [], sym, ap, ◌∙◌, codes}
+use Rattle.std.proofs.Common.{◌≡◌, ◌++◌, ◌∷◌, [], ap, ◌∙◌, codes}
 use Rattle.nut_words.specs.Quoting.{word_text, quoted}
 use Rattle.nut_dummy.proofs.TextLemmas.{put_together}
 use Rattle.nut_dummy.proofs.variable.put_value.Goals as goal

@@ -1,5 +1,5 @@
-use Rattle.std.proofs.Common.{◌≡◌, ◌++◌, true, sym, ap, ◌∙◌, append_assoc}
-use Rattle.nut_dummy.specs.Telling.{text, limits, variable_messages}
+use Rattle.std.proofs.Common.{◌++◌, sym, ap, ◌∙◌, append_assoc}
+use Rattle.nut_dummy.specs.Telling.{text, limits}
 use Rattle.nut_dummy.proofs.TextLemmas.{with_limits}
 use Rattle.nut_dummy.proofs.variable.put_variable.Goals as goal
 
