@@ -1,0 +1,167 @@
+-- What a dummy driver was told, and what looking back over it says: the values, and the lines that are owed to a link.
+-- Histories, and lists of deeds, have the newest first.
+use Rattle.std.specs.Prelude.{◌≡◌, ℕ, ◌+◌, ◌-◌, ◌||◌, ◌&&◌, Bool, true, false, List, [], ◌∷◌, ◌++◌, Option, Some, None, if◌then◌else◌, codes, drop, is_some, map, max, take}
+use Rattle.std.specs.List.{flat_map}
+use Rattle.nut_words.specs.Lines.{LineText, lines_after, rest}
+use Rattle.nut_proto.specs.declared.driver_ask.DriverAsk.{DriverAsk}
+use Rattle.nut_proto.specs.declared.driver_ask.DriverAsk.TheVariants as asks
+use Rattle.nut_dummy.specs.declared.dummy.DummyFault.{DummyFault}
+use Rattle.nut_dummy.specs.declared.command.Command.{Command}
+use Rattle.nut_dummy.specs.Command.{variable_set, value_set, command_of, command_variables}
+use Rattle.nut_dummy.specs.Due.{at_start}
+use Rattle.nut_dummy.specs.Script.{Script, Timeline}
+use Rattle.nut_dummy.specs.Teller.{Variable, Teller, Change, Passing, Assigning, Doing, value_after, is_told, says, dump, asked_by}
+use Rattle.nut_dummy.specs.Dummy.{Content, all_declared, beginning, linked, passed, told_bytes, cut_behind, taken, moment_refusal, bytes_refusal, took_refusal}
+
+-- ---- what was done
+
+-- What calls and lines come to: a new link or a cut, a change, a dump, or the answer to PING.
+pub data Deed : Type 0 where
+  Fresh : Deed
+  Changes : (change : Change) → Deed
+  Dumps : Deed
+  Pongs : Deed
+
+-- whether the link has asked DUMPALL
+abbrev pub has_asked : List Deed → Bool
+has_asked [] = false
+has_asked (Fresh ∷ past) = false
+has_asked (Changes change ∷ past) = has_asked past
+has_asked (Dumps ∷ past) = true
+has_asked (Pongs ∷ past) = has_asked past
+
+-- The value of a variable: the latest of the steps that were due, the SETs and the commands, in the order in which they
+-- were counted; at first the one that is due at the start.
+abbrev pub value : Timeline → List Deed → Option (List ℕ)
+value t [] = at_start t.steps
+value t (Fresh ∷ past) = value t past
+value t (Changes change ∷ past) = value_after change t.name t.steps (value t past)
+value t (Dumps ∷ past) = value t past
+value t (Pongs ∷ past) = value t past
+
+-- whether a variable was told on this link
+abbrev pub was_told : Timeline → List Deed → Bool
+was_told t [] = false
+was_told t (Fresh ∷ past) = false
+was_told t (Changes change ∷ past) = was_told t past || (has_asked past && is_told change t.name t.steps (value t past))
+was_told t (Dumps ∷ past) = was_told t past || is_some (value t past)
+was_told t (Pongs ∷ past) = was_told t past
+
+-- what is seen of a variable
+abbrev pub seen : List Deed → Timeline → Variable
+seen past t = record { name = t.name; steps = t.steps; value = value t past; told = was_told t past }
+
+-- The lines that a deed owes the link: a change is told only once DUMPALL was asked.
+abbrev pub owed : List Timeline → Deed → List Deed → List ℕ
+owed ts Fresh past = []
+owed ts (Changes change) past = if has_asked past then flat_map (says change) (map (seen past) ts) else []
+owed ts Dumps past = dump (map (seen past) ts)
+owed ts Pongs past = codes "PONG\n"
+
+-- The lines owed since the link was made.
+abbrev pub told : List Timeline → List Deed → List ℕ
+told ts [] = []
+told ts (Fresh ∷ past) = []
+told ts (Changes change ∷ past) = told ts past ++ owed ts (Changes change) past
+told ts (Dumps ∷ past) = told ts past ++ owed ts Dumps past
+told ts (Pongs ∷ past) = told ts past ++ owed ts Pongs past
+
+-- ---- what calls do
+
+-- what is asked, done
+abbrev pub by_command : Option Command → List Deed → List Deed
+by_command None past = past
+by_command (Some c) past = Changes (Doing (variable_set c) (value_set c)) ∷ past
+
+abbrev pub by_ask : Option DriverAsk → List Deed → List Deed
+by_ask None past = past
+by_ask (Some asks.Ping) past = Pongs ∷ past
+by_ask (Some asks.DumpAll) past = Dumps ∷ past
+by_ask (Some (asks.Set name text)) past = Changes (Assigning name text) ∷ past
+by_ask (Some (asks.InstCmd name)) past = by_command (command_of name) past
+
+abbrev pub by_lines : List LineText → List Deed → List Deed
+by_lines [] past = past
+by_lines (line ∷ lines) past = by_lines lines (by_ask (asked_by line) past)
+
+pub data Call : Type 0 where
+  Linked : Call
+  Moment : (t : ℕ) → Call
+  Bytes : (piece : List ℕ) → Call
+  -- memory ran out in a piece, behind so many lines
+  Lost : (k : ℕ) (piece : List ℕ) → Call
+  Took : (n : ℕ) → Call
+
+-- the greatest moment, at least the start
+abbrev pub clock : ℕ → List Call → ℕ
+clock start [] = start
+clock start (Moment t ∷ h) = max (clock start h) t
+clock start (Linked ∷ h) = clock start h
+clock start (Bytes piece ∷ h) = clock start h
+clock start (Lost k piece ∷ h) = clock start h
+clock start (Took n ∷ h) = clock start h
+
+-- the bytes that came on this link, joined
+abbrev pub input : List Call → List ℕ
+input [] = []
+input (Linked ∷ h) = []
+input (Lost k piece ∷ h) = []
+input (Bytes piece ∷ h) = input h ++ piece
+input (Moment t ∷ h) = input h
+input (Took n ∷ h) = input h
+
+-- how many bytes were taken on this link
+abbrev pub count_taken : List Call → ℕ
+count_taken [] = 0
+count_taken (Linked ∷ h) = 0
+count_taken (Lost k piece ∷ h) = 0
+count_taken (Took n ∷ h) = count_taken h + n
+count_taken (Moment t ∷ h) = count_taken h
+count_taken (Bytes piece ∷ h) = count_taken h
+
+-- The deeds of a history: a piece stands for the lines that it completes.
+abbrev pub deeds : ℕ → ℕ → List Call → List Deed
+deeds round start [] = []
+deeds round start (Linked ∷ h) = Fresh ∷ deeds round start h
+deeds round start (Moment t ∷ h) = Changes (Passing round (clock start h - start) (max (clock start h) t - start)) ∷ deeds round start h
+deeds round start (Bytes piece ∷ h) = by_lines (lines_after (rest (input h)) piece) (deeds round start h)
+deeds round start (Lost k piece ∷ h) = Fresh ∷ by_lines (take k (lines_after (rest (input h)) piece)) (deeds round start h)
+deeds round start (Took n ∷ h) = deeds round start h
+
+-- ---- the driver after a history
+
+abbrev pub step : Call → Content → Content
+step Linked s = linked s
+step (Moment t) s = passed t s
+step (Bytes piece) s = told_bytes piece s
+step (Lost k piece) s = cut_behind k piece s
+step (Took n) s = taken n s
+
+abbrev pub driver : Script → ℕ → List Call → Content
+driver script start [] = beginning script start
+driver script start (call ∷ h) = step call (driver script start h)
+
+-- No call was refused.
+abbrev pub refusal : Call → Content → Option DummyFault
+refusal Linked s = None
+refusal (Moment t) s = moment_refusal s
+refusal (Bytes piece) s = bytes_refusal piece s
+refusal (Lost k piece) s = bytes_refusal piece s
+refusal (Took n) s = took_refusal n s
+
+abbrev pub IsAccepted : Script → ℕ → List Call → Type 0
+IsAccepted script start [] = Unit {0}
+IsAccepted script start (call ∷ h) = IsAccepted script start h × (refusal call (driver script start h) ≡ None)
+
+-- what is held and told, by looking back over deeds, where so many bytes were taken
+abbrev pub told_by : List Timeline → List Deed → ℕ → Teller
+told_by ts past n = record { variables = map (seen past) ts; asked = has_asked past; waits = drop n (told ts past) }
+
+-- After every history of accepted calls the driver holds the values that looking back gives, and the bytes that wait are
+-- those of the lines owed to the link that were not taken.
+abbrev pub LooksBack : Type 0
+LooksBack =
+    (script : Script) (start : ℕ) (h : List Call) → IsAccepted script start h →
+    ((driver script start h).clock ≡ clock start h)
+    × ((driver script start h).rest ≡ rest (input h))
+    × ((driver script start h).teller ≡ told_by (all_declared command_variables script.variables) (deeds script.round start h) (count_taken h))

@@ -1,0 +1,204 @@
+//! The dummy driver.
+ghost use Rattle.std.specs.Prelude.{◌≡◌, ◌<◌, MatchResult, OnOk, IfErr, length};
+ghost use Rattle.nut_queue.specs.Front.{IsFrontPart};
+ghost use Rattle.nut_dummy.specs.Dummy.{beginning, linked, waits_of, brought, told_bytes, cut, cut_behind, Passes, Hears, Takes};
+
+use crate::begin::into_variables;
+use crate::script::Script;
+use crate::teller::{Teller, hear_piece};
+use crate::variable::{Change, Variable};
+use nut_words::LineCutter;
+use std::alloc::Global;
+use std::marker::Model;
+use thiserror::Error;
+
+/// How many bytes a piece has at most.
+const PIECE_MAX: usize = 512;
+
+/// Why a call of a dummy driver isn't done. All but `Memory` change nothing.
+#[derive(Clone, Copy, Debug, PartialEq, Eq, Error)]
+pub enum DummyFault {
+    /// Memory ran out, in bytes behind so many lines that were done, else behind none. Those lines stand, and the link is
+    /// cut: its waiting bytes are gone. Elsewhere nothing changed.
+    #[error("out of memory")]
+    Memory(usize),
+    /// There is no link: none was made yet, or it was cut.
+    #[error("there is no link")]
+    NotLinked,
+    /// Bytes wait: they have to be taken first.
+    #[error("bytes wait")]
+    Busy,
+    /// More bytes were taken than wait.
+    #[error("more was taken than waits")]
+    TooMuchTaken,
+    /// The piece has more than 512 bytes.
+    #[error("the piece is too long")]
+    PieceTooLong,
+}
+
+/// A dummy driver, which tells a script to one server at a time.
+#[derive(Drop)]
+pub struct Dummy {
+    alloc: Global,
+    start: u64,
+    clock: u64,
+    round: u128,
+    linked: bool,
+    cutter: LineCutter,
+    teller: Teller,
+}
+
+impl Model for Dummy {
+    ghost use Rattle.std.specs.Prelude.{◌≤◌};
+    ghost use Rattle.nut_dummy.specs.Dummy.{Content, IsRest};
+
+    ghost Value = { Content };
+
+    ghost view = { λ d. record {
+      start = d.start;
+      clock = d.clock;
+      round = d.round;
+      linked = d.linked;
+      rest = d.cutter;
+      teller = d.teller;
+    } };
+
+    ghost invariant = { λ d. IsRest d.cutter × (d.start ≤ d.clock) };
+}
+
+impl Dummy {
+    /// A driver that tells this script from `start` on, a moment in whole seconds. No link is there yet.
+    ///
+    /// # Errors
+    ///
+    /// `Memory(0)` where memory was refused.
+    pub fn new(alloc: Global, script: Script, start: u64) -> Result<Dummy, DummyFault>
+        ensures { MatchResult result (λ d. d ≡ beginning script start) (λ fault. fault ≡ DummyFault.Memory 0) }
+    {
+        let round = script.round();
+        let Ok(variables) = into_variables(alloc, script) else {
+            return Err(DummyFault::Memory(0));
+        };
+        Ok(Dummy {
+            alloc,
+            start,
+            clock: start,
+            round,
+            linked: false,
+            cutter: LineCutter::new(),
+            teller: Teller::new(alloc, variables),
+        })
+    }
+
+    /// A new link: waiting bytes and an unfinished line go. It takes no memory.
+    pub fn linked(&mut self)
+        ensures { self.new ≡ linked self.old }
+    {
+        self.linked = true;
+        self.cutter = LineCutter::new();
+        self.teller.relink();
+    }
+
+    /// A moment, in whole seconds; one before the greatest so far changes nothing. Values that became due are told, where
+    /// the link has asked DUMPALL. However far ahead the moment is, it costs what the steps of one round cost.
+    ///
+    /// # Errors
+    ///
+    /// `Busy` exactly while bytes wait. `Memory(0)` where memory was refused. Nothing changed then.
+    pub fn moment(&mut self, t: u64) -> Result<(), DummyFault>
+        ensures { Passes t self.old self.new result }
+    {
+        if self.teller.outbox.len() > 0 {
+            return Err(DummyFault::Busy);
+        }
+        let clock = self.clock.max(t);
+        let change = Change::Passing {
+            round: self.round,
+            after: u128::from(self.clock - self.start),
+            until: u128::from(clock - self.start),
+        };
+        if self.teller.change(&change).is_err() {
+            return Err(DummyFault::Memory(0));
+        }
+        self.clock = clock;
+        Ok(())
+    }
+
+    /// Hears a piece. An `Err` tells how many lines were done when memory ran out; they stand.
+    fn hear(&mut self, piece: &[u8]) -> Result<(), usize>
+        ensures heard { OnOk result (self.new ≡ told_bytes piece.now self.old) }
+        ensures stopped { IfErr result (λ k. (k < length (brought piece.now self.old)) × (cut self.new ≡ cut_behind k piece.now self.old)) }
+    {
+        let alloc = self.alloc;
+        hear_piece(alloc, &mut self.cutter, &mut self.teller, piece)
+    }
+
+    /// The link is cut.
+    fn cut(&mut self)
+        ensures { self.new ≡ cut self.old }
+    {
+        self.linked = false;
+        self.cutter = LineCutter::new();
+        self.teller.relink();
+    }
+
+    /// A piece of the server's bytes: each line that it completes is heard.
+    ///
+    /// # Errors
+    ///
+    /// The first of these that applies: `NotLinked`; `Busy`, exactly while bytes wait; `PieceTooLong` past 512 bytes.
+    /// These change nothing. `Memory` with the number of lines that were done, which stand; then the link is cut.
+    pub fn server_bytes(&mut self, piece: &[u8]) -> Result<(), DummyFault>
+        ensures { Hears piece.now self.old self.new result }
+    {
+        if !self.linked {
+            return Err(DummyFault::NotLinked);
+        }
+        if self.teller.outbox.len() > 0 {
+            return Err(DummyFault::Busy);
+        }
+        if piece.len() > PIECE_MAX {
+            return Err(DummyFault::PieceTooLong);
+        }
+        if let Err(done) = self.hear(piece) {
+            self.cut();
+            return Err(DummyFault::Memory(done));
+        }
+        Ok(())
+    }
+
+    /// The server took the first `n` of the bytes that wait. It takes no memory.
+    ///
+    /// # Errors
+    ///
+    /// `TooMuchTaken` where fewer wait. Nothing changed then.
+    pub fn took(&mut self, n: usize) -> Result<(), DummyFault>
+        ensures { Takes n self.old self.new result }
+    {
+        if !self.teller.outbox.took(n) {
+            return Err(DummyFault::TooMuchTaken);
+        }
+        Ok(())
+    }
+
+    /// A front part of the bytes that wait, empty only where none wait.
+    pub fn waiting(&self) -> &[u8]
+        ensures { IsFrontPart result.now (waits_of self.now) }
+    {
+        self.teller.outbox.front()
+    }
+
+    /// How many bytes wait.
+    pub fn waits(&self) -> usize
+        ensures { result ≡ length (waits_of self.now) }
+    {
+        self.teller.outbox.len()
+    }
+
+    /// The table that the driver holds: its variables, ascending by name. Those that have no value yet aren't in it.
+    pub fn table(&self) -> &[Variable]
+        ensures { result.now ≡ self.now.teller.variables }
+    {
+        self.teller.variables()
+    }
+}

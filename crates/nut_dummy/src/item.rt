@@ -1,0 +1,128 @@
+//! What one line of a script says.
+ghost use Rattle.std.specs.Prelude.{◌≡◌, ◌==◌, IsTrue};
+ghost use Rattle.std.specs.List.{list_all, position};
+ghost use Rattle.nut_words.specs.Spelling.{is_comment};
+ghost use Rattle.nut_words.specs.Reader.{spelled};
+ghost use Rattle.nut_dummy.specs.Item.{is_skipped, timer, timed, setting, item};
+ghost use Rattle.nut_dummy.specs.Read.{item_of};
+ghost use Rattle.nut_dummy.specs.Script.{Gives};
+
+use crate::fault::ScriptFaultKind;
+use crate::limits::{LINE_MAX, TIMER_MAX};
+use crate::text::{Name, Text, are_name_bytes, are_printing};
+use crate::trim::{skip_blanks, trim};
+use nut_state::{NAME_BYTES, VALUE_BYTES, natural};
+use nut_words::{WordFault, split};
+use std::alloc::Global;
+
+/// How a script is told (NUT's manual page dummy-ups).
+#[derive(Clone, Copy, Debug, PartialEq, Eq)]
+pub enum ScriptKind {
+    /// `.dev`: once, at the start. It has no timers.
+    Dev,
+    /// `.seq`: round after round. It has a timer.
+    Seq,
+}
+
+/// What a line says.
+#[derive(Drop)]
+pub enum Item {
+    /// A wait, in seconds.
+    Timer(u32),
+    /// A value for a variable.
+    Setting(Name, Text),
+}
+
+fn is_line_byte(byte: u8) -> bool
+    ensures { result ≡ is_comment byte }
+{
+    matches!(byte, b' '..=b'~' | b'\t' | b'\r')
+}
+
+fn has_line_bytes(line: &[u8]) -> bool
+    ensures { result ≡ list_all is_comment line.now }
+{
+    line.iter().all(|byte| is_line_byte(*byte))
+}
+
+/// Whether the line is blank, or its first byte past blanks is `#`.
+pub fn is_skipped(line: &[u8]) -> bool
+    ensures { result ≡ is_skipped line.now }
+{
+    match skip_blanks(line).first() {
+        Some(first) => *first == b'#',
+        None => true,
+    }
+}
+
+/// The place of the first colon.
+fn colon(line: &[u8]) -> Option<usize>
+    ensures { result ≡ position (λ c. c == 58) line.now }
+{
+    line.iter().position(|byte| *byte == b':')
+}
+
+fn read_seconds(kind: ScriptKind, seconds: Option<u32>) -> Result<Item, ScriptFaultKind>
+    ensures { Gives item_of result (timer kind seconds) }
+{
+    let Some(seconds) = seconds else {
+        return Err(ScriptFaultKind::BadTimer);
+    };
+    if seconds == 0 || seconds > TIMER_MAX {
+        return Err(ScriptFaultKind::BadTimer);
+    }
+    match kind {
+        ScriptKind::Dev => Err(ScriptFaultKind::TimerInDev),
+        ScriptKind::Seq => Ok(Item::Timer(seconds)),
+    }
+}
+
+/// Reads a line without a colon.
+fn read_timer(alloc: Global, kind: ScriptKind, line: &[u8]) -> Result<Item, ScriptFaultKind>
+    ensures { Gives item_of result (timed kind (spelled line.now)) }
+{
+    let words = match split(alloc, line) {
+        Ok(words) => words,
+        Err(WordFault::Memory) => return Err(ScriptFaultKind::Memory),
+        Err(_) => return Err(ScriptFaultKind::BadLine),
+    };
+    if words.len() != 2 || words.get(0) != b"TIMER".as_slice() {
+        return Err(ScriptFaultKind::BadLine);
+    }
+    read_seconds(kind, natural(words.get(1)))
+}
+
+/// Reads a name and a value, without the blanks at their ends.
+fn read_setting(name: &[u8], value: &[u8]) -> Result<Item, ScriptFaultKind>
+    ensures { Gives item_of result (setting name.now value.now) }
+{
+    if name.is_empty() || !are_name_bytes(name) {
+        return Err(ScriptFaultKind::BadName);
+    }
+    if name.len() > NAME_BYTES {
+        return Err(ScriptFaultKind::PastLimit);
+    }
+    if !are_printing(value) {
+        return Err(ScriptFaultKind::BadLine);
+    }
+    if value.len() > VALUE_BYTES {
+        return Err(ScriptFaultKind::PastLimit);
+    }
+    Ok(Item::Setting(Name::new(name), Text::new(value)))
+}
+
+/// Reads a line that isn't one to skip.
+pub fn read_item(alloc: Global, kind: ScriptKind, line: &[u8]) -> Result<Item, ScriptFaultKind>
+    ensures { Gives item_of result (item kind line.now) }
+{
+    if line.len() > LINE_MAX {
+        return Err(ScriptFaultKind::PastLimit);
+    }
+    if !has_line_bytes(line) {
+        return Err(ScriptFaultKind::BadLine);
+    }
+    match colon(line) {
+        Some(at) => read_setting(trim(&line[..at]), trim(&line[at + 1..])),
+        None => read_timer(alloc, kind, line),
+    }
+}

@@ -1,0 +1,17 @@
+//! What is true of a driver after any calls.
+ghost use Rattle.nut_dummy.specs.Heard.{ToldLinesAreHeard};
+ghost use Rattle.nut_dummy.specs.History.{LooksBack};
+
+/// A law, with nothing to run: after any history of accepted calls the driver holds for each variable the latest of the
+/// steps that were due, the settings and the commands, in the order in which they were counted; and the bytes taken on the
+/// link and those that wait are the lines owed to it.
+pub fn looks_back()
+    ensures { LooksBack }
+{}
+
+/// A law, with nothing to run: each line that is told reads as what it says. The line of a value is heard as that value, the
+/// lines that limit a variable as just its flags, number, enum values and ranges, and the end of a dump as all commands,
+/// current data and a dump that is done.
+pub fn told_lines_are_heard()
+    ensures { ToldLinesAreHeard }
+{}

@@ -1,0 +1,185 @@
+//! Scripts: the values that a dummy driver tells, and when.
+ghost use Rattle.std.specs.Prelude.{◌≡◌, ◌+◌, ◌<◌, ◌≤◌, ◌^◌, ◌||◌, List, ℕ, length, map, is_some, nat_lt, if◌then◌else◌, IfOk, Ok, Err};
+ghost use Rattle.nut_state.specs.Sorted.{IsAscending};
+ghost use Rattle.nut_dummy.specs.Item as said;
+ghost use Rattle.nut_dummy.specs.Script.{read_script, no_script, timeline, with_step, taken_in, with_line, whole, Means, Fails, Gives};
+ghost use Rattle.nut_dummy.specs.Read.{item_of};
+
+use crate::cut::cut;
+use crate::fault::{ScriptFault, ScriptFaultKind};
+use crate::item::{Item, ScriptKind, is_skipped, read_item};
+use crate::limits::{MAX_STEPS, SCRIPT_VARIABLES};
+use crate::text::{Name, Text};
+use crate::timeline::{Step, Timeline, place_of};
+use std::alloc::{AllocError, Global};
+use std::marker::Model;
+
+/// A script that was read: for each variable the values that it gets, and when.
+#[derive(Drop)]
+pub struct Script {
+    alloc: Global,
+    /// Ascending by name.
+    variables: Vec<Timeline>,
+    count: usize,
+    round: u128,
+}
+
+impl Model for Script {
+    ghost use Rattle.std.specs.Prelude.{map};
+    ghost use Rattle.nut_state.specs.Sorted.{IsAscending};
+    ghost use Rattle.nut_dummy.specs.Script.{Script as ScriptValue};
+
+    ghost Value = { ScriptValue };
+
+    ghost view = { λ s. record { variables = s.variables.items; count = s.count; round = s.round } };
+
+    ghost invariant = { λ s. IsAscending (map (λ t. t.name) s.variables.items) };
+}
+
+/// The variables with one value more for this one.
+fn with_step(
+    alloc: Global,
+    mut variables: Vec<Timeline>,
+    name: Name,
+    step: Step,
+) -> Result<Vec<Timeline>, ScriptFaultKind>
+    requires { IsAscending (map (λ t. t.name) variables.items) }
+    ensures step { Gives (λ v. v.items) result (if is_some (timeline name variables.items) || nat_lt (length variables.items) SCRIPT_VARIABLES
+        then Ok (with_step name step variables.items) else Err ScriptFaultKind.PastLimit) }
+    ensures ascending { IfOk result (λ v. IsAscending (map (λ t. t.name) v.items)) }
+{
+    match place_of(&variables, name.as_bytes()) {
+        Ok(place) => {
+            variables[place].add(step)?;
+            Ok(variables)
+        }
+        Err(place) => {
+            if variables.len() >= SCRIPT_VARIABLES {
+                return Err(ScriptFaultKind::PastLimit);
+            }
+            let mut timeline = Timeline::new(alloc, name);
+            timeline.add(step)?;
+            variables.insert(place, timeline)?;
+            Ok(variables)
+        }
+    }
+}
+
+impl Script {
+    /// A script without lines.
+    fn new(alloc: Global) -> Script
+        ensures { result ≡ no_script }
+    {
+        Script {
+            alloc,
+            variables: Vec::new(alloc),
+            count: 0,
+            round: 0,
+        }
+    }
+
+    /// How many seconds a round takes.
+    pub(crate) fn round(&self) -> u128
+        ensures { result ≡ self.now.round }
+    {
+        self.round
+    }
+
+    /// Its variables, ascending by name.
+    pub(crate) fn into_timelines(self) -> Vec<Timeline>
+        ensures variables { result.items ≡ self.variables }
+        ensures ascending { IsAscending (map (λ t. t.name) result.items) }
+    {
+        let Script { variables, .. } = self;
+        variables
+    }
+
+    /// The script with one value more.
+    fn with_setting(self, name: Name, value: Text) -> Result<Script, ScriptFaultKind>
+        ensures { Gives (λ s. s) result (taken_in self (Ok (said.Setting name value))) }
+    {
+        let Script {
+            alloc,
+            variables,
+            count,
+            round,
+        } = self;
+        if count >= MAX_STEPS {
+            return Err(ScriptFaultKind::PastLimit);
+        }
+        let variables = with_step(alloc, variables, name, Step::new(round, value))?;
+        Ok(Script {
+            alloc,
+            variables,
+            count: count + 1,
+            round,
+        })
+    }
+
+    /// The script with one wait more.
+    fn with_timer(self, seconds: u32) -> Script
+        requires { self.round < 2 ^ 120 }
+        ensures { Ok result ≡ taken_in self (Ok (said.Timer seconds)) }
+    {
+        let round = self.round + u128::from(seconds);
+        Script { round, ..self }
+    }
+
+    /// The script with one line more.
+    fn with_line(self, kind: ScriptKind, line: &[u8]) -> Result<Script, ScriptFaultKind>
+        requires { self.round < 2 ^ 120 }
+        ensures line { Gives (λ s. s) result (with_line kind self line.now) }
+        ensures round { IfOk result (λ s. s.round ≤ self.round + 86400) }
+    {
+        if is_skipped(line) {
+            return Ok(self);
+        }
+        match read_item(self.alloc, kind, line)? {
+            Item::Timer(seconds) => Ok(self.with_timer(seconds)),
+            Item::Setting(name, value) => self.with_setting(name, value),
+        }
+    }
+
+    /// A script that goes round has a timer.
+    fn check_round(self, kind: ScriptKind) -> Result<Script, ScriptFault>
+        ensures { Means result (whole kind self) }
+    {
+        if kind == ScriptKind::Seq && self.round == 0 {
+            return Err(ScriptFault {
+                line: 0,
+                kind: ScriptFaultKind::NoTimer,
+            });
+        }
+        Ok(self)
+    }
+
+    /// Reads a script (NUT's manual page dummy-ups).
+    ///
+    /// Blank lines are skipped, and those whose first byte past blanks is `#`. Of the others each is a timer, which is
+    /// a line without a colon with the words `TIMER` and one to nine digits, or `name: value`.
+    ///
+    /// # Errors
+    ///
+    /// The first faulty line, and in it the first of these that applies: `PastLimit` past 512 bytes; `BadLine` for a
+    /// byte outside 0x20 to 0x7E, tab and carriage return; of a timer `BadTimer`, then `TimerInDev`; `BadLine` without a
+    /// colon; `BadName`; `PastLimit` for a name past 64 bytes; `BadLine` for a tab or a carriage return in the value;
+    /// `PastLimit` for a value past 128 bytes, and for a 510th variable or a 4,097th value. Without a faulty line,
+    /// `NoTimer` at line 0 for a script that goes round and has none. `Memory` at the line at which memory ran out.
+    pub fn read(alloc: Global, kind: ScriptKind, bytes: &[u8]) -> Result<Script, ScriptFault>
+        ensures { Means result (read_script kind bytes.now) }
+    {
+        let mut script = Script::new(alloc);
+        let mut rest = Some(bytes);
+        let mut number = 0usize;
+        while let Some(text) = rest {
+            let (line, behind) = cut(b'\n', text);
+            rest = behind;
+            number += 1;
+            script = match script.with_line(kind, line) {
+                Ok(script) => script,
+                Err(kind) => return Err(ScriptFault { line: number, kind }),
+            };
+        }
+        script.check_round(kind)
+    }
+}

@@ -1,0 +1,165 @@
+//! What the driver holds and tells.
+ghost use Rattle.std.specs.Prelude.{◌≡◌, ◌<◌, [], false, length, take, OnOk, OnErr, IfErr};
+ghost use Rattle.nut_words.specs.Lines.{lines_after, rest_after};
+ghost use Rattle.nut_words.specs.Cutter.{line_of};
+ghost use Rattle.nut_queue.specs.Front.{IsFrontPart};
+ghost use Rattle.nut_dummy.specs.Teller.{changed, dumped_all, answered, heard, heard_all, relinked};
+ghost use Rattle.nut_dummy.specs.Changes.{change_of};
+ghost use Rattle.nut_dummy.specs.Dummy.{IsRest};
+
+use crate::command::Command;
+use crate::telling::{dump, follow_all, forget_link, mark_all_dumped, say_all};
+use crate::variable::{Change, Variable};
+use nut_proto::DriverAsk;
+use nut_queue::Outbox;
+use nut_words::{Line, LineCutter, WordFault, split};
+use std::alloc::{AllocError, Global};
+use std::marker::Model;
+
+/// The variables, whether this link has asked DUMPALL, and the bytes that wait.
+#[derive(Drop)]
+pub struct Teller {
+    variables: Vec<Variable>,
+    asked: bool,
+    pub outbox: Outbox,
+    scratch: Vec<u8>,
+}
+
+impl Model for Teller {
+    ghost use Rattle.nut_dummy.specs.Teller.{Teller as TellerValue};
+
+    ghost Value = { TellerValue };
+
+    ghost view = { λ t. record { variables = t.variables.items; asked = t.asked; waits = t.outbox } };
+}
+
+impl Teller {
+    /// A teller without a link.
+    pub fn new(alloc: Global, variables: Vec<Variable>) -> Teller
+        ensures { result ≡ record { variables = variables.items; asked = false; waits = [] } }
+    {
+        Teller {
+            variables,
+            asked: false,
+            outbox: Outbox::new(alloc),
+            scratch: Vec::new(alloc),
+        }
+    }
+
+    /// The variables.
+    pub fn variables(&self) -> &[Variable]
+        ensures { result.now ≡ self.now.variables }
+    {
+        &self.variables
+    }
+
+    /// Lets all variables follow a change. What it tells is made first, so that nothing changes where memory runs out.
+    pub fn change(&mut self, change: &Change<'_>) -> Result<(), AllocError>
+        ensures ok { OnOk result (self.new ≡ changed (change_of change.now) self.old) }
+        ensures err { OnErr result (self.new ≡ self.old) }
+    {
+        if self.asked {
+            self.scratch.clear();
+            say_all(&mut self.scratch, &self.variables, change)?;
+            self.outbox.push(self.scratch.as_slice())?;
+        }
+        follow_all(&mut self.variables, change, self.asked);
+        Ok(())
+    }
+
+    /// Tells all there is.
+    fn dump(&mut self) -> Result<(), AllocError>
+        ensures ok { OnOk result (self.new ≡ dumped_all self.old) }
+        ensures err { OnErr result (self.new ≡ self.old) }
+    {
+        self.scratch.clear();
+        dump(&mut self.scratch, &self.variables)?;
+        self.outbox.push(self.scratch.as_slice())?;
+        mark_all_dumped(&mut self.variables);
+        self.asked = true;
+        Ok(())
+    }
+
+    /// Does what is asked.
+    fn answer(&mut self, ask: Option<DriverAsk<'_>>) -> Result<(), AllocError>
+        ensures ok { OnOk result (self.new ≡ answered ask.entry self.old) }
+        ensures err { OnErr result (self.new ≡ self.old) }
+    {
+        match ask {
+            None => Ok(()),
+            Some(DriverAsk::Ping) => self.outbox.push(b"PONG\n"),
+            Some(DriverAsk::DumpAll) => self.dump(),
+            Some(DriverAsk::Set { variable, value }) => self.change(&Change::Assigning {
+                name: variable.as_bytes(),
+                value: value.as_bytes(),
+            }),
+            Some(DriverAsk::InstCmd { command }) => match Command::of(command.as_bytes()) {
+                Some(command) => self.change(&Change::Doing {
+                    name: command.variable(),
+                    value: command.value(),
+                }),
+                None => Ok(()),
+            },
+        }
+    }
+
+    /// Hears a line.
+    fn hear(&mut self, alloc: Global, line: Line<'_>) -> Result<(), AllocError>
+        ensures ok { OnOk result (self.new ≡ heard (line_of line.entry) self.old) }
+        ensures err { OnErr result (self.new ≡ self.old) }
+    {
+        let Line::Text(text) = line else {
+            return Ok(());
+        };
+        match split(alloc, text) {
+            Ok(words) => self.answer(DriverAsk::read(&words)),
+            Err(WordFault::Memory) => Err(AllocError),
+            Err(
+                WordFault::BadByte
+                | WordFault::OpenQuote
+                | WordFault::LoneBackslash
+                | WordFault::QuoteInWord
+                | WordFault::AfterQuote
+                | WordFault::TooManyWords,
+            ) => Ok(()),
+        }
+    }
+
+    /// A link is new, or cut: nothing waits, and nothing was told on it.
+    pub fn relink(&mut self)
+        ensures { self.new ≡ relinked self.old }
+    {
+        forget_link(&mut self.variables);
+        self.asked = false;
+        self.outbox.clear();
+    }
+}
+
+/// Hears a piece of the server's bytes, line by line. An `Err` tells how many lines were done when memory ran out.
+pub fn hear_piece(
+    alloc: Global,
+    cutter: &mut LineCutter,
+    teller: &mut Teller,
+    piece: &[u8],
+) -> Result<(), usize>
+    requires { IsRest cutter.old }
+    ensures rest { OnOk result (cutter.new ≡ rest_after cutter.old piece.now) }
+    ensures stream { IsRest cutter.new }
+    ensures heard { OnOk result (teller.new ≡ heard_all (lines_after cutter.old piece.now) teller.old) }
+    ensures stopped { IfErr result (λ done. (done < length (lines_after cutter.old piece.now))
+        × (teller.new ≡ heard_all (take done (lines_after cutter.old piece.now)) teller.old)) }
+{
+    let mut left = piece;
+    let mut done = 0usize;
+    while !left.is_empty() {
+        let (line, used) = cutter.feed(left);
+        if let Some(line) = line {
+            if teller.hear(alloc, line).is_err() {
+                return Err(done);
+            }
+            done += 1;
+        }
+        left = &left[used..];
+    }
+    Ok(())
+}

@@ -1,0 +1,80 @@
+//! What is told of all variables, in their order.
+ghost use Rattle.std.specs.Prelude.{◌≡◌, ◌++◌, true, map, OnOk};
+ghost use Rattle.std.specs.List.{flat_map};
+ghost use Rattle.nut_dummy.specs.Telling.{text, closing_messages};
+ghost use Rattle.nut_dummy.specs.Teller.{says, followed, lines_of, dump, dumped, untold};
+ghost use Rattle.nut_dummy.specs.Changes.{change_of};
+
+use crate::variable::{Change, Variable};
+use std::alloc::AllocError;
+
+/// What ends a dump: the commands, and that all is told and current.
+const CLOSING: &[u8] =
+    b"ADDCMD beeper.disable\nADDCMD beeper.enable\nADDCMD load.off\nADDCMD load.on\nADDCMD test.battery.start\nADDCMD test.battery.stop\nADDCMD test.failure.start\nADDCMD test.failure.stop\nDATAOK\nDUMPDONE\n";
+
+/// Appends what a change tells.
+pub fn say_all(
+    out: &mut Vec<u8>,
+    variables: &[Variable],
+    change: &Change<'_>,
+) -> Result<(), AllocError>
+    ensures { OnOk result (out.new.items ≡ out.old.items ++ flat_map (says (change_of change.now)) variables.now) }
+{
+    for variable in variables {
+        variable.say(out, change)?;
+    }
+    Ok(())
+}
+
+/// Lets all follow a change.
+pub fn follow_all(variables: &mut [Variable], change: &Change<'_>, asked: bool)
+    ensures { variables.new ≡ map (followed asked (change_of change.now)) variables.old }
+{
+    for variable in variables.iter_mut() {
+        variable.follow(change, asked);
+    }
+}
+
+/// Appends the lines of a dump's variables.
+fn dump_variables(out: &mut Vec<u8>, variables: &[Variable]) -> Result<(), AllocError>
+    ensures { OnOk result (out.new.items ≡ out.old.items ++ flat_map (λ v. lines_of true v.name v.value) variables.now) }
+{
+    for variable in variables {
+        variable.dump(out)?;
+    }
+    Ok(())
+}
+
+/// What ends a dump.
+fn closing() -> &'static [u8]
+    ensures { result.now ≡ text closing_messages }
+{
+    CLOSING
+}
+
+/// Appends a dump.
+pub fn dump(out: &mut Vec<u8>, variables: &[Variable]) -> Result<(), AllocError>
+    ensures { OnOk result (out.new.items ≡ out.old.items ++ dump variables.now) }
+{
+    dump_variables(out, variables)?;
+    out.extend_from_slice(closing())?;
+    Ok(())
+}
+
+/// A dump told all that have a value.
+pub fn mark_all_dumped(variables: &mut [Variable])
+    ensures { variables.new ≡ map dumped variables.old }
+{
+    for variable in variables.iter_mut() {
+        variable.mark_dumped();
+    }
+}
+
+/// None was told on the link.
+pub fn forget_link(variables: &mut [Variable])
+    ensures { variables.new ≡ map untold variables.old }
+{
+    for variable in variables.iter_mut() {
+        variable.forget_link();
+    }
+}

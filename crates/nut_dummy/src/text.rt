@@ -1,0 +1,109 @@
+//! Names and values, which stand in place and take no memory of their own.
+ghost use Rattle.std.specs.Prelude.{◌≡◌, ◌≤◌, List, ℕ, length, IsTrue};
+ghost use Rattle.nut_state.specs.Text.{is_name, is_name_byte};
+ghost use Rattle.nut_dummy.specs.Item.{is_value};
+ghost use Rattle.std.specs.List.{list_all};
+ghost use Rattle.nut_words.specs.Spelling.{is_printing};
+
+use arrayvec::ArrayVec;
+use nut_state::{NAME_BYTES, VALUE_BYTES};
+use std::marker::Model;
+
+fn is_name_byte(byte: u8) -> bool
+    ensures { result ≡ is_name_byte byte }
+{
+    byte.is_ascii_alphanumeric() || byte == b'.' || byte == b'_' || byte == b'-'
+}
+
+/// Whether all bytes may stand in a name.
+pub fn are_name_bytes(bytes: &[u8]) -> bool
+    ensures { result ≡ list_all is_name_byte bytes.now }
+{
+    bytes.iter().all(|byte| is_name_byte(*byte))
+}
+
+fn is_printing_byte(byte: u8) -> bool
+    ensures { result ≡ is_printing byte }
+{
+    matches!(byte, b' '..=b'~')
+}
+
+/// Whether all bytes are printing ones.
+pub fn are_printing(bytes: &[u8]) -> bool
+    ensures { result ≡ list_all is_printing bytes.now }
+{
+    bytes.iter().all(|byte| is_printing_byte(*byte))
+}
+
+/// The name of a variable: 1 to [`NAME_BYTES`] letters, digits, `.`, `_` and `-`.
+#[derive(Drop)]
+pub struct Name {
+    bytes: ArrayVec<u8, NAME_BYTES>,
+}
+
+impl Model for Name {
+    ghost Value = { List ℕ };
+
+    ghost view = { λ name. name.bytes.items };
+
+    ghost invariant = { λ name. IsTrue (is_name name.bytes.items) };
+}
+
+impl Name {
+    pub fn new(bytes: &[u8]) -> Name
+        requires { IsTrue (is_name bytes.now) }
+        ensures { result ≡ bytes.now }
+    {
+        let mut name = ArrayVec::new();
+        name.try_extend_from_slice(bytes).unwrap();
+        Name { bytes: name }
+    }
+
+    /// The bytes of the name.
+    pub fn as_bytes(&self) -> &[u8]
+        ensures value { result.now ≡ self.now }
+        ensures named { IsTrue (is_name result.now) }
+    {
+        self.bytes.as_slice()
+    }
+}
+
+/// Whether these bytes can be a value.
+pub fn is_value(bytes: &[u8]) -> bool
+    ensures { result ≡ is_value bytes.now }
+{
+    bytes.len() <= VALUE_BYTES && are_printing(bytes)
+}
+
+/// A value: 0 to [`VALUE_BYTES`] printing bytes.
+#[derive(Drop)]
+pub struct Text {
+    contents: ArrayVec<u8, VALUE_BYTES>,
+}
+
+impl Model for Text {
+    ghost Value = { List ℕ };
+
+    ghost view = { λ text. text.contents.items };
+
+    ghost invariant = { λ text. IsTrue (is_value text.contents.items) };
+}
+
+impl Text {
+    pub fn new(bytes: &[u8]) -> Text
+        requires { IsTrue (is_value bytes.now) }
+        ensures { result ≡ bytes.now }
+    {
+        let mut text = ArrayVec::new();
+        text.try_extend_from_slice(bytes).unwrap();
+        Text { contents: text }
+    }
+
+    /// The bytes of the value.
+    pub fn as_bytes(&self) -> &[u8]
+        ensures value { result.now ≡ self.now }
+        ensures valued { IsTrue (is_value result.now) }
+    {
+        self.contents.as_slice()
+    }
+}
