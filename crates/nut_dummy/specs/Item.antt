@@ -7,7 +7,7 @@ use Rattle.nut_words.specs.Reader.{spelled}
 use Rattle.nut_words.specs.Spelling.{is_blank, is_comment, is_printing}
 use Rattle.nut_state.specs.declared.limits.TheConstants.{NAME_BYTES, VALUE_BYTES}
 use Rattle.nut_state.specs.Number.{natural}
-use Rattle.nut_state.specs.Text.{is_name_byte}
+use Rattle.nut_words.specs.Name.{is_name_byte}
 use Rattle.nut_dummy.specs.declared.fault.ScriptFaultKind.{ScriptFaultKind}
 use Rattle.nut_dummy.specs.declared.fault.ScriptFaultKind.TheVariants.{BadLine, BadName, BadTimer, TimerInDev, PastLimit}
 use Rattle.nut_dummy.specs.declared.item.ScriptKind.{ScriptKind}

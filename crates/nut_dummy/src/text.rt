@@ -1,6 +1,7 @@
 //! Names and values, which stand in place and take no memory of their own.
 ghost use Rattle.std.specs.Prelude.{◌≡◌, ◌≤◌, List, ℕ, length, IsTrue};
-ghost use Rattle.nut_state.specs.Text.{is_name, is_name_byte};
+ghost use Rattle.nut_state.specs.Text.{is_name};
+ghost use Rattle.nut_words.specs.Name.{is_name_byte};
 ghost use Rattle.nut_dummy.specs.Item.{is_value};
 ghost use Rattle.std.specs.List.{list_all};
 ghost use Rattle.nut_words.specs.Spelling.{is_printing};
