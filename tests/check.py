@@ -29,10 +29,9 @@ def counted(command):
 def main():
     passed, failed = counted(["rt", "ci"])
     if failed == 0:
-        for test, name in (("programs", "upsd"), ("rehearsal", "rehearse")):
-            program = os.path.join("crates", name, "out", name)
-            more, worse = counted([sys.executable, f"tests/{test}.py", program])
-            passed, failed = passed + more, failed + worse
+        program = os.path.join("crates", "upsd", "out", "upsd")
+        more, worse = counted([sys.executable, "tests/programs.py", program])
+        passed, failed = passed + more, failed + worse
     print(f"{passed} passed, {failed} failed")
     return 1 if failed else 0
 
