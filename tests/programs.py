@@ -104,6 +104,21 @@ class Tests:
         count = os.path.join(self.folder, "count")
         return {"LD_PRELOAD": self.shim, "REFUSE": kind, "REFUSE_AT": str(at), "REFUSE_COUNT": count}, count
 
+    def refused_in_turn(self, kind, args, asked, due):
+        """Runs with the first call of a kind failing, then with the second, and so on, and gives the number of each call
+        that failed with what that run gave. It ends at a call that isn't reached, where the answers due must come."""
+        for at in itertools.count(1):
+            env, count = self.refusing(kind, at)
+            found = self.run(args, asked, env)
+            with open(count) as file:
+                calls = int(file.read())
+            if calls < at:
+                expect(found, (0, due, b""), f"{kind} {at}, which isn't reached")
+                break
+            yield at, found
+        if at < 2:
+            raise Failed(f"no {kind} was seen")
+
     def conf(self, **texts):
         """Writes a folder's files, each under its name with '_' for '.', where the text isn't None. It gives the
         arguments of a run by them."""
@@ -293,14 +308,7 @@ class Tests:
 
     def test_each_read_of_a_file_refused(self):
         told = set()
-        for at in itertools.count(1):
-            env, count = self.refusing("file-read", at)
-            status, out, err = self.run(EXAMPLES, b"LIST UPS\n", env)
-            with open(count) as file:
-                calls = int(file.read())
-            if calls < at:
-                expect((status, out, err), (0, LIST, b""), f"read {at}, which isn't reached")
-                break
+        for at, (status, out, err) in self.refused_in_turn("file-read", EXAMPLES, b"LIST UPS\n", LIST):
             expect((status, out, err.endswith(b": cannot read\n")), (1, b"", True), f"read {at}: {err!r}")
             told.add(err)
         expect(len(told), 3, "files of which a read failed")
@@ -321,19 +329,10 @@ class Tests:
         asked = b"".join(it for it, _ in MIXED)
         due = b"".join(it for _, it in MIXED)
         for kind in ("read", "write"):
-            for at in itertools.count(1):
-                env, count = self.refusing(kind, at)
-                status, out, err = self.run(ROOM, asked, env)
-                with open(count) as file:
-                    calls = int(file.read())
-                if calls < at:
-                    expect((status, out, err), (0, due, b""), f"{kind} {at}, which isn't reached")
-                    break
+            for at, (status, out, err) in self.refused_in_turn(kind, ROOM, asked, due):
                 expect((status, err), (1, b"upsd: I/O failed\n"), f"{kind} {at}")
                 if not due.startswith(out):
                     raise Failed(f"{kind} {at}: {out!r} is no front of the answers due")
-            if at < 2:
-                raise Failed(f"no {kind} was seen")
 
     def test_each_allocation_refused(self):
         self.refuse_allocations(ROOM)
@@ -345,23 +344,15 @@ class Tests:
         """Refuses each allocation of a run in turn: it ends before it serves, or after a line."""
         asked = b"".join(it for it, _ in MIXED)
         fronts = list(itertools.accumulate((it for _, it in MIXED), initial=b""))
-        served = 0
-        for at in itertools.count(1):
-            env, count = self.refusing("allocation", at)
-            status, out, err = self.run(args, asked, env)
-            with open(count) as file:
-                calls = int(file.read())
-            if calls < at:
-                expect((status, out, err), (0, fronts[-1], b""), f"allocation {at}, which isn't reached")
-                break
+        refused = served = 0
+        for at, (status, out, err) in self.refused_in_turn("allocation", args, asked, fronts[-1]):
+            refused += 1
             if status == 0:
                 served += 1
                 expect((out in fronts, err), (True, b""), f"allocation {at}: {out!r}")
             else:
                 expect((status, out, err), (1, b"", b"upsd: out of memory\n"), f"allocation {at}")
-        if at < 2:
-            raise Failed("no allocation was seen")
-        print(f"   {at - 1} allocations refused in turn, {served} of them while lines were answered")
+        print(f"   {refused} allocations refused in turn, {served} of them while lines were answered")
 
 
 def main():
