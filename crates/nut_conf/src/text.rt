@@ -54,19 +54,6 @@ fn are_digits(bytes: &[u8]) -> bool
     bytes.iter().all(|byte| is_digit(*byte))
 }
 
-fn is_printing_byte(byte: u8) -> bool
-    ensures { result ≡ is_printing byte }
-{
-    matches!(byte, 0x20..=0x7E)
-}
-
-/// Whether all bytes are printing ones, 0x20 to 0x7E.
-pub fn are_printing(bytes: &[u8]) -> bool
-    ensures { result ≡ list_all is_printing bytes.now }
-{
-    bytes.iter().all(|byte| is_printing_byte(*byte))
-}
-
 fn is_numeral(bytes: &[u8]) -> bool
     ensures { result ≡ numeral bytes.now }
 {

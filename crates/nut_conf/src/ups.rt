@@ -14,8 +14,9 @@ use crate::file::read_draft;
 use crate::line::Line;
 use crate::sections::Sections;
 use crate::slot::once;
-use crate::text::{Name, Text, are_printing};
+use crate::text::{Name, Text};
 use crate::values::Form;
+use nut_words::are_printing;
 use std::alloc::Global;
 
 /// A UPS: a section of ups.conf. What isn't set has its default.
