@@ -16,19 +16,19 @@ use Rattle.nut_history.specs.Effect.{target, request_of}
 
 -- ---- what holds of every refusal and of what comes after a test holds of the answer
 
-require-case : {A : Type 0} (P : Answer → Type 0) (refusal : Refusal) (o : Option A) (next : A → Answer) → P (refused refusal) → ((x : A) → o ≡ Some x → P (next x)) → P (require refusal o next)
+pub require-case : {A : Type 0} (P : Answer → Type 0) (refusal : Refusal) (o : Option A) (next : A → Answer) → P (refused refusal) → ((x : A) → o ≡ Some x → P (next x)) → P (require refusal o next)
 require-case P refusal None next bad good = bad
 require-case P refusal (Some x) next bad good = good x refl
 
-check-case : (P : Answer → Type 0) (refusal : Refusal) (holds : Bool) (next : Answer) → P (refused refusal) → (holds ≡ true → P next) → P (check refusal holds next)
+pub check-case : (P : Answer → Type 0) (refusal : Refusal) (holds : Bool) (next : Answer) → P (refused refusal) → (holds ≡ true → P next) → P (check refusal holds next)
 check-case P refusal true next bad good = good refl
 check-case P refusal false next bad good = bad
 
-unless-case : (P : Answer → Type 0) (o : Option Refusal) (next : Answer) → ((r : Refusal) → P (refused r)) → P next → P (unless o next)
+pub unless-case : (P : Answer → Type 0) (o : Option Refusal) (next : Answer) → ((r : Refusal) → P (refused r)) → P next → P (unless o next)
 unless-case P None next bad good = good
 unless-case P (Some r) next bad good = bad r
 
-with_right-case : (P : Answer → Type 0) (s : Scene) (k : Caller) (right : User → Bool) (name : List ℕ) (next : ℕ → Answer) → ((r : Refusal) → P (refused r))
+pub with_right-case : (P : Answer → Type 0) (s : Scene) (k : Caller) (right : User → Bool) (name : List ℕ) (next : ℕ → Answer) → ((r : Refusal) → P (refused r))
     → ((u : ℕ) → number_of_ups name s.configuration.upses ≡ Some u → P (next u)) → P (with_right s k right name next)
 with_right-case P s k right name next bad good =
     require-case P refusals.UsernameRequired k.user _ (bad refusals.UsernameRequired) (λ user given.

@@ -167,3 +167,17 @@ BoundsHold =
     (first : Configuration) (h : List Event) → IsAccepted first h →
     ((c : ℕ) (k : Session) → session_of c (content first h).sessions ≡ Some k → IsBoundedSession k)
     × ((u : ℕ) (d : Supply) → supply_of u (content first h).supplies ≡ Some d → IsBoundedSupply d)
+
+-- the history before the newest piece of c; where none came, that of nothing
+abbrev pub before_piece : ℕ → List Event → List Event
+before_piece c [] = []
+before_piece c (Bytes d piece ∷ h) = if d == c then h else before_piece c h
+before_piece c (e ∷ h) = before_piece c h
+
+-- What waits for a client is an end of the answers to its newest piece: behind the answers that were due before that piece
+-- come those of its answers that are gone, and then what waits.
+abbrev pub WaitsForOnePiece : Type 0
+WaitsForOnePiece =
+    (first : Configuration) (h : List Event) (c : ℕ) (k : Session) → IsAccepted first h →
+    session_of c (content first h).sessions ≡ Some k →
+    (gone : List ℕ) × (due c (past first h) ≡ due c (past first (before_piece c h)) ++ gone ++ k.waits)

@@ -12,3 +12,4 @@ pub mod Outcome
 pub mod Laws
 pub mod Examples
 pub mod DriverExamples
+pub mod Limits

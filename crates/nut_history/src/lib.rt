@@ -5,8 +5,10 @@
 ghost use Rattle.nut_history.specs.Machine.{KeepsContent};
 ghost use Rattle.nut_history.specs.Examples.{ConnectionExamples};
 ghost use Rattle.nut_history.specs.DriverExamples.{DriverExamples, UserExamples};
-ghost use Rattle.nut_history.specs.Laws.{AnswersKeepContent, BoundsHold, ClosedStaysClosed, CutsDoNotMatter, DriverCutsDoNotMatter, DriverSentAndWaitingIsDue, DriverSentIsReceived, NumbersRise, OpenedIsFresh, OtherDriversStay, OthersStay, SentAndWaitingIsDue, SentIsFrontOfDue, SentIsReceived};
+ghost use Rattle.nut_history.specs.Laws.{AnswersKeepContent, BoundsHold, ClosedStaysClosed, CutsDoNotMatter, DriverCutsDoNotMatter, DriverSentAndWaitingIsDue, DriverSentIsReceived, NumbersRise, OpenedIsFresh, OtherDriversStay, OthersStay, SentAndWaitingIsDue, SentIsFrontOfDue, SentIsReceived, WaitsForOnePiece};
+ghost use Rattle.nut_history.specs.Limits.{WaitsAreBounded};
 
+use nut_state::every_table_holds;
 use thiserror::Error;
 
 /// Where a growth of memory was refused.
@@ -123,6 +125,19 @@ pub fn closed_stays_closed()
 pub fn bounds_hold()
     ensures { BoundsHold }
 {}
+
+/// What waits for a client is an end of the answers to its newest piece: all earlier ones were sent.
+pub fn waits_for_one_piece()
+    ensures { WaitsForOnePiece }
+{}
+
+/// Where the configuration is within the limits that its files have, no more than 47,342,080 bytes wait for a client:
+/// 256 answered lines of one piece, each of at most 184,930 bytes.
+pub fn waits_are_bounded()
+    ensures { WaitsAreBounded }
+{
+    every_table_holds();
+}
 
 /// What is answered in some histories, computed from the definitions.
 pub fn worked_examples()

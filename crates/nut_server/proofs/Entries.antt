@@ -1,50 +1,298 @@
--- The open connections stay in order.
-use Rattle.std.proofs.Common.{◌≡◌, ℕ, zero, suc, ◌<◌, ◌≤◌, List, [], ◌∷◌, ◌++◌, length, refl, sym, subst, ◌∙◌, ap, Some, slice_get, slice_set, slice_index_or, eqb, inl, inr, arith}
-use Rattle.std.proofs.lemmas.Bool.{cases_Bool}
-use Rattle.std.specs.Vec.{with_item}
+-- The open connections, through the keys of their slots.
+use Rattle.std.proofs.Common.{◌≡◌, ◌≢◌, ℕ, zero, suc, ◌+◌, ◌<◌, List, [], ◌∷◌, ◌++◌, length, refl, sym, subst, ◌∙◌, ap, Option, Some, None, slice_get, slice_set, slice_index_or, eqb, inl, inr, arith, true, false, is_some, IsSome, cond, vec_capacity, length-append}
+use Rattle.std.proofs.lemmas.Bool.{cases_Bool, eq-eqb, ne_eqb, eqb-true}
+use Rattle.std.specs.List.{remove}
+use Rattle.std.proofs.lemmas.List.Edits.{length-remove}
+use Rattle.std.proofs.lemmas.Option.{slice_get_read, slice_get_within, get_or_from_slice_get}
+use Rattle.std.proofs.lemmas.List.Sums.{sum_by-set}
+use Rattle.slab.specs.Slab.{Slab, get, ContainsKey, slab_len, with_value, Updates}
+use Rattle.slab.proofs.SlabLemmas.{Updates-with_value, ContainsKey-within}
 use Rattle.nut_history.specs.Content.{Session}
-use Rattle.nut_history.specs.Laws.{IsRising, IsUpTo}
+use Rattle.nut_history.specs.Acceptance.{session_of}
+use Rattle.nut_history.specs.Laws.{IsBelow, IsRising, IsUpTo}
 use Rattle.nut_history.specs.Machine.{without}
+use Rattle.nut_server.specs.declared.connections.Key.{Key}
 use Rattle.nut_server.specs.declared.connections.Connections.TheInside.{Inside}
 use Rattle.nut_server.specs.Inside.{numbers_of}
-use Rattle.nut_server.specs.Entries.{AreEntries}
-use Rattle.nut_server.proofs.Orderly.{IsRising-without, IsRising-push}
+use Rattle.nut_server.specs.Place.{IsPlace, Stands}
+use Rattle.nut_server.specs.Entries.{sessions_of, key_numbers, AreNamed, AreEntries}
+use Rattle.nut_server.proofs.Orderly.{IsRising-without, IsRising-push, none_below}
+
+-- the connection k stands in the slot of this key
+abbrev pub IsNamed : Slab Session → Key → Type 0
+IsNamed slots key = (k : Session) × (get slots key.slot ≡ Some k) × (k.number ≡ key.number)
+
+pub numbers-sessions : (slots : Slab Session) (order : List Key) → AreNamed slots order → numbers_of (sessions_of slots order) ≡ key_numbers order
+numbers-sessions slots [] named = refl
+numbers-sessions slots (key ∷ order) named =
+    let rest = numbers-sessions slots order named.1 in
+    let same : named.0.0.number ≡ key.number = named.0.2 in
+    rw (named.0.1, same, rest) refl
+
+pub length-sessions : (slots : Slab Session) (order : List Key) → AreNamed slots order → length (sessions_of slots order) ≡ length order
+length-sessions slots [] named = refl
+length-sessions slots (key ∷ order) named = rw named.0.1 (ap suc (length-sessions slots order named.1))
+
+-- what stands at a place of the order
+pub named_at : (slots : Slab Session) (order : List Key) (at : ℕ) (key : Key) → AreNamed slots order → slice_get order at ≡ Some key → IsNamed slots key
+named_at slots [] at key named there = absurd (cc)
+named_at slots (x ∷ order) zero key named there = let same : x ≡ key = cc in subst (IsNamed slots) same named.0
+named_at slots (x ∷ order) (suc at) key named there = named_at slots order at key named.1 there
+
+pub session_at : (slots : Slab Session) (order : List Key) (at : ℕ) (key : Key) → AreNamed slots order → slice_get order at ≡ Some key → slice_get (sessions_of slots order) at ≡ get slots key.slot
+session_at slots [] at key named there = absurd (cc)
+session_at slots (x ∷ order) zero key named there =
+    let same : x ≡ key = cc in
+    rw named.0.1 (sym named.0.1 ∙ ap (λ (key : Key). get slots key.slot) same)
+session_at slots (x ∷ order) (suc at) key named there = rw named.0.1 (session_at slots order at key named.1 there)
+
+below_at : (n : ℕ) (order : List Key) (at : ℕ) (key : Key) → IsBelow n (key_numbers order) → slice_get order at ≡ Some key → n < key.number
+below_at n [] at key below there = absurd (cc)
+below_at n (x ∷ order) zero key below there = let same : x.number ≡ key.number = ap (λ o. number_or n o) there in omega (arith, below.0, same) where
+  number_or : ℕ → Option Key → ℕ
+  number_or n None = n
+  number_or n (Some key) = key.number
+below_at n (x ∷ order) (suc at) key below there = below_at n order at key below.1 there
+
+-- none of these keys has the slot
+abbrev pub LeaveOut : ℕ → List Key → Type 0
+LeaveOut slot [] = Unit {0}
+LeaveOut slot (key ∷ order) = (key.slot ≢ slot) × LeaveOut slot order
+
+-- connections of different numbers stand in different slots
+apart : (slots : Slab Session) (key : Key) (slot : ℕ) (k : Session) → IsNamed slots key → get slots slot ≡ Some k → k.number ≢ key.number → key.slot ≢ slot
+apart slots key slot k named there differs same =
+    let one : Some named.0 ≡ Some k = sym named.1 ∙ ap (get slots) same ∙ there in
+    let is : named.0 ≡ k = cc in
+    differs (ap (λ k. k.number) (sym is) ∙ named.2)
+
+above : (slots : Slab Session) (order : List Key) (slot : ℕ) (k : Session) → AreNamed slots order → get slots slot ≡ Some k → IsBelow k.number (key_numbers order) → LeaveOut slot order
+above slots [] slot k named there below = tt
+above slots (x ∷ order) slot k named there below = (apart slots x slot k named.0 there (λ same. omega (arith, below.0, same)), above slots order slot k named.1 there below.1)
+
+free : (slots : Slab Session) (order : List Key) (slot : ℕ) → AreNamed slots order → get slots slot ≡ None → LeaveOut slot order
+free slots [] slot named none = tt
+free slots (x ∷ order) slot named none =
+    (λ same. let bad : Some named.0.0 ≡ None = sym named.0.1 ∙ ap (get slots) same ∙ none in cc, free slots order slot named.1 none)
+
+-- what is done to another slot doesn't touch them
+module _ (old now' : Slab Session) (slot : ℕ) (o : Option Session) (updates : Updates old now' slot o) where
+  sessions_stay : (order : List Key) → LeaveOut slot order → sessions_of now' order ≡ sessions_of old order
+  sessions_stay [] out = refl
+  sessions_stay (x ∷ order) out = rw (updates.others x.slot out.0, sessions_stay order out.1) refl
+
+  named_stay : (order : List Key) → LeaveOut slot order → AreNamed old order → AreNamed now' order
+  named_stay [] out named = tt
+  named_stay (x ∷ order) out named = ((named.0.0, updates.others x.slot out.0 ∙ named.0.1, named.0.2), named_stay order out.1 named.1)
+
+-- one of them is changed, and keeps its number
+pub changed : (old now' : Slab Session) (order : List Key) (at : ℕ) (key : Key) (k k' : Session) → IsRising (key_numbers order) → AreNamed old order
+    → slice_get order at ≡ Some key → get old key.slot ≡ Some k → k'.number ≡ k.number → Updates old now' key.slot (Some k')
+    → (sessions_of now' order ≡ slice_set (sessions_of old order) at k') × AreNamed now' order
+changed old now' [] at key k k' rising named there is same updates = absurd (cc)
+changed old now' (x ∷ order) zero key k k' rising named there is same updates =
+    let here : x ≡ key = cc in
+    let slot : x.slot ≡ key.slot = ap (λ (key : Key). key.slot) here in
+    let one : Some named.0.0 ≡ Some k = sym named.0.1 ∙ ap (get old) slot ∙ is in
+    let is_k : named.0.0 ≡ k = cc in
+    let number : k.number ≡ x.number = ap (λ k. k.number) (sym is_k) ∙ named.0.2 in
+    let out : LeaveOut key.slot order = above old order key.slot k named.1 is (subst (λ n. IsBelow n (key_numbers order)) (sym number) rising.0) in
+    let head : get now' x.slot ≡ Some k' = ap (get now') slot ∙ updates.changed in (
+      rw (named.0.1, head, sessions_stay old now' key.slot (Some k') updates order out) refl,
+      ((k', head, same ∙ number), named_stay old now' key.slot (Some k') updates order out named.1),
+    )
+changed old now' (x ∷ order) (suc at) key k k' rising named there is same updates =
+    let at_key = named_at old order at key named.1 there in
+    let one : Some at_key.0 ≡ Some k = sym at_key.1 ∙ is in
+    let is_k : at_key.0 ≡ k = cc in
+    let number : k.number ≡ key.number = ap (λ k. k.number) (sym is_k) ∙ at_key.2 in
+    let less : x.number < key.number = below_at x.number order at key rising.0 there in
+    let head : get now' x.slot ≡ get old x.slot = updates.others x.slot (apart old x key.slot k named.0 is (λ e. omega (arith, less, number, e))) in
+    let rest = changed old now' order at key k k' rising.1 named.1 there is same updates in (
+      rw (head, named.0.1, rest.0) refl,
+      ((named.0.0, head ∙ named.0.1, named.0.2), rest.1),
+    )
+
+-- without a number that none of them has they are the same
+pub without_none : (c : ℕ) (ks : List Session) → session_of c ks ≡ None → without c ks ≡ ks
+without_none c [] none = refl
+without_none c (k ∷ ks) none = elim (cases_Bool (eqb k.number c)) [
+  | inl e ↦ absurd (let bad : Some k ≡ None = rw e at none in cc)
+  | inr e ↦ rw e (ap (λ ks. k ∷ ks) (without_none c ks (rw e at none)))
+]
+
+-- one of them is gone
+pub removed : (old now' : Slab Session) (order : List Key) (at : ℕ) (key : Key) → IsRising (key_numbers order) → AreNamed old order
+    → slice_get order at ≡ Some key → Updates old now' key.slot None
+    → (sessions_of now' (remove order at) ≡ without key.number (sessions_of old order)) × AreNamed now' (remove order at)
+removed old now' [] at key rising named there updates = absurd (cc)
+removed old now' (x ∷ order) zero key rising named there updates =
+    let here : x ≡ key = cc in
+    let slot : x.slot ≡ key.slot = ap (λ (key : Key). key.slot) here in
+    let number : named.0.0.number ≡ key.number = named.0.2 ∙ ap (λ (key : Key). key.number) here in
+    let below : IsBelow key.number (key_numbers order) = subst (λ (key : Key). IsBelow key.number (key_numbers order)) here rising.0 in
+    let out : LeaveOut key.slot order = above old order key.slot named.0.0 named.1 (ap (get old) (sym slot) ∙ named.0.1) (subst (λ n. IsBelow n (key_numbers order)) (sym number) below) in
+    let test : eqb named.0.0.number key.number ≡ true = eq-eqb named.0.0.number key.number number in
+    let below' : IsBelow key.number (numbers_of (sessions_of old order)) = subst (IsBelow key.number) (sym (numbers-sessions old order named.1)) below in
+    let others : without key.number (sessions_of old order) ≡ sessions_of old order = without_none key.number (sessions_of old order) (none_below key.number key.number (sessions_of old order) below' (omega arith)) in (
+      rw (named.0.1, test, others) (sessions_stay old now' key.slot None updates order out),
+      named_stay old now' key.slot None updates order out named.1,
+    )
+removed old now' (x ∷ order) (suc at) key rising named there updates =
+    let at_key = named_at old order at key named.1 there in
+    let less : x.number < key.number = below_at x.number order at key rising.0 there in
+    let head : get now' x.slot ≡ get old x.slot = updates.others x.slot (apart old x key.slot at_key.0 named.0 at_key.1 (λ e. omega (arith, less, at_key.2, e))) in
+    let test : eqb named.0.0.number key.number ≡ false = ne_eqb named.0.0.number key.number (λ e. omega (arith, less, named.0.2, e)) in
+    let rest = removed old now' order at key rising.1 named.1 there updates in (
+      rw (head, named.0.1, test, rest.0) refl,
+      ((named.0.0, head ∙ named.0.1, named.0.2), rest.1),
+    )
+
+-- one more stands behind them
+pub added : (old now' : Slab Session) (order : List Key) (key : Key) (k : Session) → AreNamed old order → get old key.slot ≡ None → k.number ≡ key.number
+    → Updates old now' key.slot (Some k)
+    → (sessions_of now' (order ++ key ∷ []) ≡ sessions_of old order ++ k ∷ []) × AreNamed now' (order ++ key ∷ [])
+added old now' order key k named none number updates = behind order named (free old order key.slot named none) where
+  behind : (order : List Key) → AreNamed old order → LeaveOut key.slot order → (sessions_of now' (order ++ key ∷ []) ≡ sessions_of old order ++ k ∷ []) × AreNamed now' (order ++ key ∷ [])
+  behind [] named out = (rw updates.changed refl, ((k, updates.changed, number), tt))
+  behind (x ∷ order) named out =
+      let head : get now' x.slot ≡ get old x.slot = updates.others x.slot out.0 in
+      let rest = behind order named.1 out.1 in (
+        rw (head, named.0.1, rest.0) refl,
+        ((named.0.0, head ∙ named.0.1, named.0.2), rest.1),
+      )
+
+-- the numbers rise after each of these
+pub rising_of : (slots : Slab Session) (order : List Key) (ks : List Session) → AreNamed slots order → sessions_of slots order ≡ ks → IsRising (numbers_of ks) → IsRising (key_numbers order)
+rising_of slots order ks named is rising = subst IsRising (ap numbers_of (sym is) ∙ numbers-sessions slots order named) rising
+
+pub sessions_rise : (slots : Slab Session) (order : List Key) → AreNamed slots order → IsRising (key_numbers order) → IsRising (numbers_of (sessions_of slots order))
+sessions_rise slots order named rising = subst IsRising (sym (numbers-sessions slots order named)) rising
+
+-- there are as many keys as connections
+pub as_many : (slots : Slab Session) (order : List Key) (ks : List Session) → AreNamed slots order → sessions_of slots order ≡ ks → length order ≡ length ks
+as_many slots order ks named is = sym (length-sessions slots order named) ∙ ap length is
+
+-- how many values a slab has after one was written over
+len_written : (slots : Slab Session) (slot : ℕ) (k k' : Session) → get slots slot ≡ Some k → ContainsKey slots slot → slab_len (with_value slots slot k') ≡ slab_len slots
+len_written slots slot k k' is contains =
+    let filled : Option Session → ℕ = λ o. cond (is_some o) 1 0 in
+    omega (arith, sum_by-set filled slots.slots slot (Some k') None (ContainsKey-within slots slot contains), ap filled is)
+
+-- the key that is read at a place, and the connection in its slot
+pub record IsRead (e : Inside) (at : ℕ) (key : Key) : Type 0 where
+  pub there : slice_get e.order.items at ≡ Some key
+  pub named : IsNamed e.slots key
+  pub found : ContainsKey e.slots key.slot
+
+pub entry_read : (e : Inside) (ks : List Session) (at : ℕ) (key : Key) → AreEntries e → sessions_of e.slots e.order.items ≡ ks → at < length ks → key ≡ slice_index_or e.order.items at key → IsRead e at key
+entry_read e ks at key are view within read =
+    let there : slice_get e.order.items at ≡ Some key = slice_get_read e.order.items (length ks) at key (sym (as_many e.slots e.order.items ks are.named view)) within read in
+    let named = named_at e.slots e.order.items at key are.named there in
+    record { there = there; named = named; found = let P : Option Session → Type 0 = λ o. IsSome o in subst P (sym named.1) refl }
+
+-- the connection k at a place is changed to k'
+pub record IsChanged (e e' : Inside) (at : ℕ) (k k' : Session) : Type 0 where
+  pub entries : AreEntries e'
+  pub written : sessions_of e'.slots e'.order.items ≡ slice_set (sessions_of e.slots e.order.items) at k'
+  pub read : k ≡ slice_index_or (sessions_of e.slots e.order.items) at k
+
+pub entry_changed : (e : Inside) (at : ℕ) (key : Key) (k k' : Session) → AreEntries e → IsRead e at key → get e.slots key.slot ≡ Some k → k'.number ≡ k.number
+    → IsChanged e (record { slots = with_value e.slots key.slot k'; order = e.order }) at k k'
+entry_changed e at key k k' are read is same =
+    let change = changed e.slots (with_value e.slots key.slot k') e.order.items at key k k' are.rising are.named read.there is same (Updates-with_value e.slots key.slot k' read.found) in
+    record {
+      entries = record {
+        rising = are.rising;
+        named = change.1;
+        counted = len_written e.slots key.slot k k' is read.found ∙ are.counted;
+        few = are.few;
+        room = are.room;
+        room_for_keys = are.room_for_keys;
+      };
+      written = change.0;
+      read = sym (get_or_from_slice_get (sessions_of e.slots e.order.items) at k k (session_at e.slots e.order.items at key are.named read.there ∙ is));
+    }
+
+-- the connection in the slot of the key at a place stands at that place
+pub session_there : (e : Inside) (ks : List Session) (at : ℕ) (key : Key) (k : Session) → AreEntries e → sessions_of e.slots e.order.items ≡ ks → IsRead e at key
+    → get e.slots key.slot ≡ Some k → slice_get ks at ≡ Some k
+session_there e ks at key k are view read is =
+    let P : List Session → Type 0 = λ ks. slice_get ks at ≡ Some k in
+    subst P view (session_at e.slots e.order.items at key are.named read.there ∙ is)
 
 pub numbers-set : (ks : List Session) (at : ℕ) (k k' : Session) → k ≡ slice_index_or ks at k → k'.number ≡ k.number → numbers_of (slice_set ks at k') ≡ numbers_of ks
 numbers-set [] at k k' is same = refl
 numbers-set (x ∷ ks) zero k k' is same = ap (λ n. n ∷ numbers_of ks) (same ∙ ap (λ k. k.number) is)
 numbers-set (x ∷ ks) (suc at) k k' is same = ap (λ ns. x.number ∷ ns) (numbers-set ks at k k' is same)
 
-length-set : (ks : List Session) (at : ℕ) (k' : Session) → length (slice_set ks at k') ≡ length ks
-length-set [] at k' = refl
-length-set (x ∷ ks) zero k' = refl
-length-set (x ∷ ks) (suc at) k' = ap suc (length-set ks at k')
+-- what is done to the slab and the keys where the connection k is added under a key
+pub record IsAdded (e e' : Inside) (key : Key) (k : Session) : Type 0 where
+  pub vacant : get e.slots key.slot ≡ None
+  pub updates : Updates e.slots e'.slots key.slot (Some k)
+  pub len : slab_len e'.slots ≡ slab_len e.slots + 1
+  pub capacity : e'.slots.capacity ≡ e.slots.capacity
+  pub keys : e'.order.items ≡ e.order.items ++ key ∷ []
+  pub room : vec_capacity e'.order ≡ vec_capacity e.order
 
--- one of them is changed, and keeps its number
-pub entries_changed : (e : Inside) (at : ℕ) (k k' : Session) → AreEntries e → k ≡ slice_index_or e.entries.items at k → k'.number ≡ k.number
-    → AreEntries (record { entries = with_item e.entries at k' })
-entries_changed e at k k' are is same = record {
-  rising = subst IsRising (sym (numbers-set e.entries.items at k k' is same)) are.rising;
-  few = omega (arith, are.few, length-set e.entries.items at k');
-  room = are.room;
-}
+-- it still is in order, and these are the connections then
+pub record Are (e : Inside) (ks : List Session) : Type 0 where
+  pub entries : AreEntries e
+  pub sessions : sessions_of e.slots e.order.items ≡ ks
 
--- what is read at a place is what stands there
-pub same_there : (ks : List Session) (at : ℕ) (k j : Session) → k ≡ slice_index_or ks at k → slice_get ks at ≡ Some j → k ≡ j
-same_there [] at k j is there = absurd (cc)
-same_there (x ∷ ks) zero k j is there = let same : x ≡ j = cc in is ∙ same
-same_there (x ∷ ks) (suc at) k j is there = same_there ks at k j is there
+pub entry_added : (e e' : Inside) (ks : List Session) (key : Key) (k : Session) → AreEntries e → sessions_of e.slots e.order.items ≡ ks → length ks < 256
+    → (n : ℕ) × IsUpTo n (numbers_of ks) × (n < k.number) → k.number ≡ key.number → IsAdded e e' key k → Are e' (ks ++ k ∷ [])
+entry_added e e' ks key k are view few above number done =
+    let both = added e.slots e'.slots e.order.items key k are.named done.vacant number done.updates in
+    let named : AreNamed e'.slots e'.order.items = subst (AreNamed e'.slots) (sym done.keys) both.1 in
+    let sessions : sessions_of e'.slots e'.order.items ≡ ks ++ k ∷ [] = ap (sessions_of e'.slots) done.keys ∙ both.0 ∙ ap (λ ks. ks ++ k ∷ []) view in
+    let rising : IsRising (numbers_of ks) = subst (λ ks. IsRising (numbers_of ks)) view (sessions_rise e.slots e.order.items are.named are.rising) in
+    let many = as_many e.slots e.order.items ks are.named view in
+    let more = as_many e'.slots e'.order.items (ks ++ k ∷ []) named sessions in
+    let one_more : length (ks ++ k ∷ []) ≡ length ks + 1 = length-append ks (k ∷ []) in
+    record {
+      entries = record {
+        rising = rising_of e'.slots e'.order.items (ks ++ k ∷ []) named sessions (IsRising-push above.0 k ks rising above.1 above.2);
+        named = named;
+        counted = omega (arith, done.len, are.counted, many, more, one_more);
+        few = omega (arith, many, more, one_more, few);
+        room = omega (arith, done.capacity, are.room);
+        room_for_keys = omega (arith, done.room, are.room_for_keys);
+      };
+      sessions = sessions;
+    }
 
-pub fewer_without : (c : ℕ) (ks ks' : List Session) → ks' ≡ without c ks → length ks' ≤ length ks
-fewer_without c ks ks' is = omega (arith, ap length is, fewer ks) where
-  fewer : (ks : List Session) → length (without c ks) ≤ length ks
-  fewer [] = omega arith
-  fewer (k ∷ ks) = elim (cases_Bool (eqb k.number c)) [ inl e ↦ rw e (omega (arith, fewer ks)) | inr e ↦ rw e (omega (arith, fewer ks)) ]
+-- what is done to them where the connection of the key at a place is removed
+pub record IsRemoved (e e' : Inside) (at : ℕ) (key : Key) : Type 0 where
+  pub updates : Updates e.slots e'.slots key.slot None
+  pub len : slab_len e'.slots + 1 ≡ slab_len e.slots
+  pub capacity : e'.slots.capacity ≡ e.slots.capacity
+  pub keys : e'.order.items ≡ remove e.order.items at
+  pub room : vec_capacity e'.order ≡ vec_capacity e.order
 
-pub rising_without : (c : ℕ) (ks ks' : List Session) → IsRising (numbers_of ks) → ks' ≡ without c ks → IsRising (numbers_of ks')
-rising_without c ks ks' rising is = subst (λ ks. IsRising (numbers_of ks)) (sym is) (IsRising-without c ks rising)
+number_at : (c : ℕ) (ks : List Session) (at : ℕ) (k : Session) → IsPlace c ks at → slice_get ks at ≡ Some k → k.number ≡ c
+number_at c [] at k place there = absurd place
+number_at c (x ∷ ks) zero k place there = let same : x ≡ k = cc in ap (λ k. k.number) (sym same) ∙ eqb-true x.number c place
+number_at c (x ∷ ks) (suc at) k place there = number_at c ks at k place.1 there
 
-pub rising_added : (ks now' ks' : List Session) (k : Session) → ks ≡ now' → IsRising (numbers_of ks) → (n : ℕ) × IsUpTo n (numbers_of now') × (n < k.number) → ks' ≡ ks ++ k ∷ [] → IsRising (numbers_of ks')
-rising_added ks now' ks' k view rising above is =
-    subst (λ ks. IsRising (numbers_of ks)) (sym is)
-    (IsRising-push above.0 k ks rising (subst (λ ks. IsUpTo above.0 (numbers_of ks)) (sym view) above.1) above.2)
+pub entry_removed : (e e' : Inside) (ks : List Session) (at : ℕ) (key : Key) (c : ℕ) → AreEntries e → sessions_of e.slots e.order.items ≡ ks → Stands c ks at → IsRead e at key
+    → IsRemoved e e' at key → Are e' (without c ks)
+entry_removed e e' ks at key c are view stands read done =
+    let both = removed e.slots e'.slots e.order.items at key are.rising are.named read.there done.updates in
+    let named : AreNamed e'.slots e'.order.items = subst (AreNamed e'.slots) (sym done.keys) both.1 in
+    let number : key.number ≡ c = sym read.named.2 ∙ number_at c ks at read.named.0 stands.place (session_there e ks at key read.named.0 are view read read.named.1) in
+    let sessions : sessions_of e'.slots e'.order.items ≡ without c ks = ap (sessions_of e'.slots) done.keys ∙ both.0 ∙ ap (λ n. without n (sessions_of e.slots e.order.items)) number ∙ ap (without c) view in
+    let rising : IsRising (numbers_of ks) = subst (λ ks. IsRising (numbers_of ks)) view (sessions_rise e.slots e.order.items are.named are.rising) in
+    let within : at < length e.order.items = slice_get_within e.order.items at key read.there in
+    let fewer : length e'.order.items + 1 ≡ length e.order.items = omega (arith, ap length done.keys, length-remove e.order.items at within) in
+    record {
+      entries = record {
+        rising = rising_of e'.slots e'.order.items (without c ks) named sessions (IsRising-without c ks rising);
+        named = named;
+        counted = omega (arith, done.len, are.counted, fewer);
+        few = omega (arith, fewer, are.few);
+        room = omega (arith, done.capacity, are.room);
+        room_for_keys = omega (arith, done.room, are.room_for_keys);
+      };
+      sessions = sessions;
+    }

@@ -15,3 +15,5 @@ pub mod Saying
 pub mod ShortNames
 pub mod Arrives
 pub mod Heard
+pub mod Settled
+pub mod Limited

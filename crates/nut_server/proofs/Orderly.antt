@@ -77,7 +77,7 @@ ordered_opened n k ks ks' ordered number is =
     subst P (sym is) (record { rising = IsRising-push n k ks ordered.rising ordered.up_to (omega arith); up_to = IsUpTo-push n k ks ordered.up_to number })
 
 -- no session has a number below all of them
-none_below : (d n : ℕ) (ks : List Session) → IsBelow n (numbers_of ks) → d ≤ n → session_of d ks ≡ None
+pub none_below : (d n : ℕ) (ks : List Session) → IsBelow n (numbers_of ks) → d ≤ n → session_of d ks ≡ None
 none_below d n [] below le = refl
 none_below d n (k ∷ ks) below le = let e : eqb k.number d ≡ false = ne_eqb k.number d (λ is. omega (arith, below.0)) in rw e (none_below d n ks below.1 le)
 

@@ -1,37 +1,9 @@
 -- Laws of the place of a connection.
-use Rattle.std.proofs.Common.{◌≡◌, ℕ, zero, suc, ◌+◌, ◌-◌, ◌<◌, ◌≤◌, true, eqb, List, [], ◌∷◌, length, refl, sym, ◌∙◌, ap, arith, inl, inr, Option, Some, None, slice_get, slice_set, slice_index_or, IfNone, IfSome, subst}
-use Rattle.std.proofs.lemmas.Bool.{cases_Bool}
+use Rattle.std.proofs.Common.{◌≡◌, ℕ, zero, suc, ◌<◌, true, eqb, List, [], ◌∷◌, length, refl, sym, ◌∙◌, ap, arith, Some, slice_get, slice_set, slice_index_or}
 use Rattle.nut_history.specs.Content.{Session}
 use Rattle.nut_history.specs.Acceptance.{session_of}
 use Rattle.nut_history.specs.Machine.{update, without}
-use Rattle.nut_server.specs.Place.{place_from, IsPlace, Stands}
-
--- what is found from i on stands that far behind i
-place_found : (i c : ℕ) (ks : List Session) (at : ℕ) → place_from i c ks ≡ Some at → (i ≤ at) × IsPlace c ks (at - i)
-place_found i c [] at found = cc
-place_found i c (k ∷ ks) at found =
-    elim (cases_Bool (eqb k.number c)) [
-      | inl e ↦
-          let here : Some i ≡ Some at = rw e at found in
-          let same : i ≡ at = cc in
-          let zero' : at - i ≡ 0 = omega arith in
-          (omega arith, let P : ℕ → Type 0 = IsPlace c (k ∷ ks) in subst P (sym zero') e)
-      | inr e ↦
-          let later = place_found (i + 1) c ks at (rw e at found) in
-          let behind : at - i ≡ suc (at - (i + 1)) = omega (arith, later.0) in
-          (omega (arith, later.0), let P : ℕ → Type 0 = IsPlace c (k ∷ ks) in subst P (sym behind) (e, later.1))
-    ]
-
-place_is : (c : ℕ) (ks : List Session) (at : ℕ) → place_from 0 c ks ≡ Some at → IsPlace c ks at
-place_is c ks at found = let e : at - 0 ≡ at = omega arith in let P : ℕ → Type 0 = IsPlace c ks in subst P e (place_found 0 c ks at found).1
-
-place_none : (i c : ℕ) (ks : List Session) → place_from i c ks ≡ None → session_of c ks ≡ None
-place_none i c [] none = refl
-place_none i c (k ∷ ks) none =
-    elim (cases_Bool (eqb k.number c)) [
-      | inl e ↦ absurd (let bad : Some i ≡ None = rw e at none in cc)
-      | inr e ↦ rw e (place_none (i + 1) c ks (rw e at none))
-    ]
+use Rattle.nut_server.specs.Place.{IsPlace, Stands}
 
 pub place_within : (c : ℕ) (ks : List Session) (at : ℕ) → IsPlace c ks at → at < length ks
 place_within c [] at place = absurd place
@@ -48,27 +20,10 @@ place_update c change [] at k place there = absurd place
 place_update c change (k' ∷ ks) zero k place there = let same : k' ≡ k = cc in rw (place, same) refl
 place_update c change (k' ∷ ks) (suc at) k place there = rw place.0 (ap (λ rest. k' ∷ rest) (place_update c change ks at k place.1 there))
 
-stands : (c : ℕ) (ks : List Session) (at : ℕ) → place_from 0 c ks ≡ Some at → Stands c ks at
-stands c ks at found =
-    let place = place_is c ks at found in
-    record { place = place; within = place_within c ks at place; session = place_session c ks at place }
-
 pub get_is : (ks : List Session) (at : ℕ) (k : Session) → at < length ks → k ≡ slice_index_or ks at k → slice_get ks at ≡ Some k
 get_is [] at k lt e = absurd (omega arith)
 get_is (x ∷ ks) zero k lt e = ap (λ y. Some y) (sym e)
 get_is (x ∷ ks) (suc at) k lt e = get_is ks at k (omega arith) e
-
-pub none_found : (c : ℕ) (ks : List Session) (r : Option ℕ) → r ≡ place_from 0 c ks → IfNone r (session_of c ks ≡ None)
-none_found c ks None e = place_none 0 c ks (sym e)
-none_found c ks (Some at) e = tt
-
-pub one_found : (c : ℕ) (ks : List Session) (r : Option ℕ) → r ≡ place_from 0 c ks → IfSome r (Stands c ks)
-one_found c ks None e = tt
-one_found c ks (Some at) e = stands c ks at (sym e)
-
--- an element that is read there is the session
-pub read_session : (c : ℕ) (ks : List Session) (at : ℕ) (k : Session) → Stands c ks at → k ≡ slice_index_or ks at k → session_of c ks ≡ Some k
-read_session c ks at k stands is = stands.session ∙ get_is ks at k stands.within is
 
 -- a write there is the update
 pub written : (c : ℕ) (change : Session → Session) (ks : List Session) (at : ℕ) (k k' : Session) → Stands c ks at → k ≡ slice_index_or ks at k → k' ≡ change k → slice_set ks at k' ≡ update c change ks

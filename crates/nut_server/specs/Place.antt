@@ -1,12 +1,7 @@
 -- Where the connection with a number stands.
-use Rattle.std.specs.Prelude.{ℕ, zero, suc, ◌≡◌, false, true, ◌==◌, if◌then◌else◌, ◌+◌, ◌<◌, length, slice_get, List, [], ◌∷◌, Option, Some, None}
+use Rattle.std.specs.Prelude.{ℕ, zero, suc, ◌≡◌, false, true, ◌==◌, ◌<◌, length, slice_get, List, [], ◌∷◌}
 use Rattle.nut_history.specs.Content.{Session}
 use Rattle.nut_history.specs.Acceptance.{session_of}
-
--- the place of the first session with the number c, counted from i
-abbrev pub place_from : ℕ → ℕ → List Session → Option ℕ
-place_from i c [] = None
-place_from i c (k ∷ sessions) = if k.number == c then Some i else place_from (i + 1) c sessions
 
 -- the session with the number c stands there, and none before it
 abbrev pub IsPlace : ℕ → List Session → ℕ → Type 0

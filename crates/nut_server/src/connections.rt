@@ -1,4 +1,7 @@
 //! The open connections, by rising number.
+//!
+//! They stand in a slab, where none is moved while it is open. Beside it stands the order: the number of each with its
+//! slot, so that one is found by halves, in at most nine steps whatever was opened before.
 
 ghost use Rattle.std.specs.Prelude.{◌≡◌, ◌<◌, ◌≤◌, ℕ, [], ◌∷◌, ◌++◌, Some, None, IfOk, IfNone, IfSome, OnOk, OnErr, drop, find, length, map, option_map, slice_get};
 ghost use Rattle.nut_words.specs.Lines.{Text};
@@ -15,26 +18,36 @@ ghost use Rattle.nut_server.specs.Settling.{IsNextUnsettled, settles};
 use crate::connection::Connection;
 use crate::effect::Effect;
 use nut_words::LineCutter;
+use slab::Slab;
 use std::alloc::{AllocError, Global};
 use std::marker::Model;
 
 /// How many connections may be open at once: the greatest MAXCONN of upsd.conf(5).
 pub const MOST_OPEN: usize = 256;
 
+/// The number of an open connection, and the slot in which it stands.
+#[derive(Clone, Copy)]
+struct Key {
+    number: u64,
+    slot: usize,
+}
+
 /// The open connections, by rising number, with room for [`MOST_OPEN`].
 #[derive(Drop)]
 pub struct Connections {
-    entries: Vec<Connection>,
+    slots: Slab<Connection>,
+    /// By rising number: the newest stands last.
+    order: Vec<Key>,
 }
 
 impl Model for Connections {
     ghost use Rattle.std.specs.Prelude.{List};
     ghost use Rattle.nut_history.specs.Content.{Session};
-    ghost use Rattle.nut_server.specs.Entries.{AreEntries};
+    ghost use Rattle.nut_server.specs.Entries.{AreEntries, sessions_of};
 
     ghost Value = { List Session };
 
-    ghost view = { λ c. c.entries.items };
+    ghost view = { λ c. sessions_of c.slots c.order.items };
 
     ghost invariant = { AreEntries };
 }
@@ -44,8 +57,9 @@ impl Connections {
     pub fn with_room(alloc: Global) -> Result<Connections, AllocError>
         ensures { IfOk result (λ connections. connections ≡ []) }
     {
-        let entries = Vec::with_capacity(alloc, MOST_OPEN)?;
-        Ok(Connections { entries })
+        let slots = Slab::with_capacity(alloc, MOST_OPEN)?;
+        let order = Vec::with_capacity(alloc, MOST_OPEN)?;
+        Ok(Connections { slots, order })
     }
 
     /// How many are open.
@@ -53,7 +67,7 @@ impl Connections {
         ensures length { result ≡ length self.now }
         ensures within { result ≤ MOST_OPEN }
     {
-        self.entries.len()
+        self.order.len()
     }
 
     /// The connection at this place of the order, counted from 0.
@@ -61,7 +75,7 @@ impl Connections {
         requires { index < length self.now }
         ensures { slice_get self.now index ≡ Some result.now }
     {
-        &self.entries[index]
+        &self.slots[self.order[index].slot]
     }
 
     /// Where the connection with this number stands.
@@ -69,22 +83,10 @@ impl Connections {
         ensures none { IfNone result (session_of c self.now ≡ None) }
         ensures some { IfSome result (Stands c self.now) }
     {
-        let entries = self.entries.as_slice();
-        let mut low = 0;
-        let mut high = entries.len();
-        while low < high {
-            let middle = low + (high - low) / 2;
-            let number = entries[middle].number();
-            if number == c {
-                return Some(middle);
-            }
-            if number < c {
-                low = middle + 1;
-            } else {
-                high = middle;
-            }
-        }
-        None
+        self.order
+            .as_slice()
+            .binary_search_by_key(&c, |key| key.number)
+            .ok()
     }
 
     /// The connection with this number.
@@ -98,14 +100,13 @@ impl Connections {
     }
 
     /// How many of them are logged in to a UPS.
-    #[tactic(auto, using(crate::proofs::Logins::logins_more))]
     pub fn logged_in(&self, u: usize) -> usize
         ensures count { result ≡ length (guests_of u (map guest_of self.now)) }
         ensures within { result ≤ MOST_OPEN }
     {
         let mut count = 0;
-        for connection in &self.entries {
-            if connection.is_logged_in(u) {
+        for index in 0..self.len() {
+            if self.at(index).is_logged_in(u) {
                 count += 1;
             }
         }
@@ -117,9 +118,13 @@ impl Connections {
         ensures value { option_map (λ k. k.now) result ≡ find (settles least) self.now }
         ensures rising { IsRising (numbers_of self.now) }
     {
-        self.entries
-            .iter()
-            .find(|k| least <= k.number() && k.is_unsettled())
+        for index in 0..self.order.len() {
+            let connection = self.at(index);
+            if connection.is_unsettled_from(least) {
+                return Some(connection);
+            }
+        }
+        None
     }
 
     /// The least number, from `least` on, of a connection for which bytes wait or that leaves.
@@ -138,14 +143,19 @@ impl Connections {
         requires above { (n : ℕ) × IsUpTo n (numbers_of self.old) × (n < connection.number) }
         ensures { self.new ≡ self.old ++ connection ∷ [] }
     {
-        self.entries.push_reserved(connection);
+        let number = connection.number();
+        let slot = self.slots.insert_reserved(connection);
+        self.order.push_reserved(Key { number, slot });
     }
 
     /// Forgets the connection with this number, and keeps the room.
     pub fn remove(&mut self, c: u64)
         ensures { self.new ≡ without c self.old }
     {
-        self.entries.retain(|k| k.number() != c);
+        if let Some(place) = self.place_of(c) {
+            let key = self.order.remove(place);
+            self.slots.remove(key.slot);
+        }
     }
 
     /// The connection at this place is answered, and changes as its line does. At an `Err` nothing changed.
@@ -156,8 +166,8 @@ impl Connections {
             ≡ update c (λ k. affected effect (said text.now k)) self.old) }
         ensures err { OnErr result (self.new ≡ self.old) }
     {
-        let connection = &mut self.entries[at];
-        connection.answer(text, effect)
+        let key = self.order[at];
+        self.slots[key.slot].answer(text, effect)
     }
 
     /// The connection at this place took the first `n` of the bytes that wait for it.
@@ -168,8 +178,8 @@ impl Connections {
         ensures items { (c : ℕ) → Stands c self.old at → self.new
             ≡ update c (λ k. record k { waits = drop n k.waits }) self.old }
     {
-        let connection = &mut self.entries[at];
-        connection.took(n);
+        let key = self.order[at];
+        self.slots[key.slot].took(n);
     }
 
     /// Takes out the cutter of the connection at this place, which leaves an empty one.
@@ -180,8 +190,8 @@ impl Connections {
         ensures rest { IsRest result }
         ensures left { (c : ℕ) → Stands c self.old at → self.new ≡ update c (with_rest (Text [])) self.old }
     {
-        let connection = &mut self.entries[at];
-        connection.take_cutter()
+        let key = self.order[at];
+        self.slots[key.slot].take_cutter()
     }
 
     /// Puts the cutter of the connection at this place back.
@@ -191,7 +201,7 @@ impl Connections {
         ensures numbers { numbers_of self.new ≡ numbers_of self.old }
         ensures items { (c : ℕ) → Stands c self.old at → self.new ≡ update c (with_rest cutter) self.old }
     {
-        let connection = &mut self.entries[at];
-        connection.put_cutter(cutter);
+        let key = self.order[at];
+        self.slots[key.slot].put_cutter(cutter);
     }
 }

@@ -1,6 +1,6 @@
 //! The server.
 
-ghost use Rattle.std.specs.Prelude.{◌≡◌, ◌<◌, ℕ, List, [], Some, None, Result, Ok, Err, IfOk, IfSome, map, length};
+ghost use Rattle.std.specs.Prelude.{◌≡◌, ◌<◌, ◌≤◌, ℕ, List, [], Some, None, Result, Ok, Err, IfOk, IfSome, map, length};
 ghost use Rattle.nut_queue.specs.Front.{IsFrontPart};
 ghost use Rattle.nut_history.specs.Configuration.{Configuration};
 ghost use Rattle.nut_history.specs.Event.{Event, Moment, Open, Bytes, Took, Close, DriverUp, DriverBytes, DriverTook, DriverDown};
@@ -8,6 +8,7 @@ ghost use Rattle.nut_history.specs.Content.{content};
 ghost use Rattle.nut_history.specs.Trace.{below};
 ghost use Rattle.nut_server.specs.Server.{unheard};
 ghost use Rattle.nut_history.specs.Acceptance.{Tells, refusal, session_of, supply_of, waiting_of, asks_of, may_read, leaves, kept, is_connected};
+ghost use Rattle.nut_history.specs.Limits.{most_waits};
 ghost use Rattle.nut_history.specs.Outcome.{IsAnswer, after, content_after};
 ghost use Rattle.nut_server.specs.Arrival.{event_of};
 ghost use Rattle.nut_server.specs.Settling.{IsNextUnsettled, IsNextWaiting};
@@ -17,7 +18,7 @@ use crate::arrival::Arrival;
 use crate::config::Config;
 use crate::connections::Connections;
 use crate::device::Device;
-use nut_history::Refused;
+use nut_history::{Refused, waits_are_bounded};
 use std::alloc::{AllocError, Global};
 use std::marker::Model;
 use thiserror::Error;
@@ -177,10 +178,15 @@ impl Server {
         self.config.number_of_upses()
     }
 
-    /// How many bytes wait for a connection: 0 where it isn't open.
+    /// How many bytes wait for a connection: 0 where it isn't open, and never more than 47,342,080.
     pub fn waits(&self, c: u64) -> usize
-        ensures { result ≡ length (waiting_of c self.now.sessions) }
+        ensures value { result ≡ length (waiting_of c self.now.sessions) }
+
+        // The bound holds after every history that the server was told.
+        ensures bounded { (first : Configuration) (h : List Event) → Tells first h self.now → result ≤ most_waits }
     {
+        // The law of the bound, which does nothing when it runs.
+        waits_are_bounded();
         match self.connections.get(c) {
             Some(connection) => connection.waits(),
             None => 0,

@@ -1,14 +1,20 @@
-use Rattle.std.proofs.Common.{rules, arith}
-use Rattle.std.proofs.lemmas.Fn.{filter_same}
-use Rattle.nut_server.proofs.Entries.{rising_without, fewer_without}
+use Rattle.std.proofs.Common.{arith, sym}
+use Rattle.nut_server.proofs.Entries.{as_many, entry_read, entry_removed, without_none}
 use Rattle.nut_server.proofs.connections.Connections.remove.Goals as goal
 
-pub invariant_of-self : goal.invariant_of-self
-invariant_of-self c = record {
-  rising = rising_without c.args.c c.self.inside.entries.items c.retain.new.self.items c.self.invariant.rising (filter_same _ _ _ (λ x b f' k. search rules) _ _ c.retain.ensures.filtered);
-  few = omega (arith, fewer_without c.args.c c.self.inside.entries.items c.retain.new.self.items (filter_same _ _ _ (λ x b f' k. search rules) _ _ c.retain.ensures.filtered), c.self.invariant.few);
-  room = omega (arith, c.retain.ensures.capacity, c.self.invariant.room);
-}
+pub remove-key-requires : goal.remove-key-requires
+remove-key-requires c = omega (arith, as_many c.self.inside.slots c.self.inside.order.items c.args.self.now c.self.invariant.named c.self.view_is, c.self.inside.order.ok, c.in-Some.ensures.some.within)
 
-pub returns : goal.returns
-returns c = rw (← c.self.view_is) (filter_same _ _ _ (λ x b f' k. search rules) _ _ c.retain.ensures.filtered)
+pub remove-requires : goal.remove-requires
+remove-requires c = (entry_read c.self.inside c.args.self.now c.in-Some.place c.remove-key.result c.self.invariant c.self.view_is c.in-Some.ensures.some.within c.remove-key.ensures.value).found
+
+pub invariant_of-self : goal.invariant_of-self
+invariant_of-self c = (entry_removed c.self.inside (record { slots = c.remove.new.self; order = c.remove-key.new.self }) c.args.self.now c.in-Some.place c.remove-key.result c.args.c c.self.invariant c.self.view_is c.in-Some.ensures.some (entry_read c.self.inside c.args.self.now c.in-Some.place c.remove-key.result c.self.invariant c.self.view_is c.in-Some.ensures.some.within c.remove-key.ensures.value)
+    (record { updates = c.remove.ensures.updates; len = c.remove.ensures.len; capacity = c.remove.ensures.capacity; keys = c.remove-key.ensures.items; room = c.remove-key.ensures.capacity })).entries
+
+pub returns-in-Some : goal.returns-in-Some
+returns-in-Some c = (entry_removed c.self.inside (record { slots = c.remove.new.self; order = c.remove-key.new.self }) c.args.self.now c.in-Some.place c.remove-key.result c.args.c c.self.invariant c.self.view_is c.in-Some.ensures.some (entry_read c.self.inside c.args.self.now c.in-Some.place c.remove-key.result c.self.invariant c.self.view_is c.in-Some.ensures.some.within c.remove-key.ensures.value)
+    (record { updates = c.remove.ensures.updates; len = c.remove.ensures.len; capacity = c.remove.ensures.capacity; keys = c.remove-key.ensures.items; room = c.remove-key.ensures.capacity })).sessions
+
+pub returns-in_default : goal.returns-in_default
+returns-in_default c = sym (without_none c.args.c c.args.self.now c.in_default.ensures.none)

@@ -1,14 +1,28 @@
-use Rattle.std.proofs.Common.{drop, ap}
+use Rattle.std.proofs.Common.{arith, ap, ◌∙◌, drop}
+use Rattle.nut_server.specs.Inside.{numbers_of}
+use Rattle.nut_server.specs.Entries.{sessions_of}
 use Rattle.nut_server.proofs.Places.{written}
-use Rattle.nut_server.proofs.Entries.{numbers-set, entries_changed}
+use Rattle.nut_server.proofs.Entries.{as_many, entry_read, entry_changed, numbers-set, session_there}
 use Rattle.nut_server.proofs.connections.Connections.took.Goals as goal
 
+pub index-key-requires : goal.index-key-requires
+index-key-requires c = omega (arith, as_many c.self.inside.slots c.self.inside.order.items c.args.self.now c.self.invariant.named c.self.view_is, c.self.inside.order.ok, c.requires.within)
+
+pub index_mut-requires : goal.index_mut-requires
+index_mut-requires c = (entry_read c.self.inside c.args.self.now c.args.at c.index-key.result.now c.self.invariant c.self.view_is c.requires.within c.index-key.ensures).found
+
+pub took-requires : goal.took-requires
+took-requires c = c.requires.waits c.index_mut.result.now (session_there c.self.inside c.args.self.now c.args.at c.index-key.result.now c.index_mut.result.now c.self.invariant c.self.view_is (entry_read c.self.inside c.args.self.now c.args.at c.index-key.result.now c.self.invariant c.self.view_is c.requires.within c.index-key.ensures) c.index_mut.ensures.value)
+
 pub invariant_of-self : goal.invariant_of-self
-invariant_of-self c =
-    entries_changed c.self.inside c.args.at c.index_mut-connection.result.now c.took.new.self c.self.invariant c.index_mut-connection.ensures.value (ap (λ k. k.number) c.took.ensures)
+invariant_of-self c = (entry_changed c.self.inside c.args.at c.index-key.result.now c.index_mut.result.now c.took.new.self c.self.invariant (entry_read c.self.inside c.args.self.now c.args.at c.index-key.result.now c.self.invariant c.self.view_is c.requires.within c.index-key.ensures) c.index_mut.ensures.value (ap (λ k. k.number) c.took.ensures)).entries
 
 pub returns-clause-items : goal.returns-clause-items
-returns-clause-items c = rw (← c.self.view_is) (λ c' stands. written c' (λ k. record k { waits = drop c.args.n k.waits }) c.self.inside.entries.items c.args.at c.index_mut-connection.result.now c.took.new.self stands c.index_mut-connection.ensures.value c.took.ensures)
+returns-clause-items c =
+    let change = entry_changed c.self.inside c.args.at c.index-key.result.now c.index_mut.result.now c.took.new.self c.self.invariant (entry_read c.self.inside c.args.self.now c.args.at c.index-key.result.now c.self.invariant c.self.view_is c.requires.within c.index-key.ensures) c.index_mut.ensures.value (ap (λ k. k.number) c.took.ensures) in
+    rw (← c.self.view_is) (λ c' stands. change.written ∙ written c' (λ k. record k { waits = drop c.args.n k.waits }) (sessions_of c.self.inside.slots c.self.inside.order.items) c.args.at c.index_mut.result.now c.took.new.self stands change.read c.took.ensures)
 
 pub returns-clause-numbers : goal.returns-clause-numbers
-returns-clause-numbers c = rw (← c.self.view_is) (numbers-set c.self.inside.entries.items c.args.at c.index_mut-connection.result.now c.took.new.self c.index_mut-connection.ensures.value (ap (λ k. k.number) c.took.ensures))
+returns-clause-numbers c =
+    let change = entry_changed c.self.inside c.args.at c.index-key.result.now c.index_mut.result.now c.took.new.self c.self.invariant (entry_read c.self.inside c.args.self.now c.args.at c.index-key.result.now c.self.invariant c.self.view_is c.requires.within c.index-key.ensures) c.index_mut.ensures.value (ap (λ k. k.number) c.took.ensures) in
+    rw (← c.self.view_is) (ap numbers_of change.written ∙ numbers-set (sessions_of c.self.inside.slots c.self.inside.order.items) c.args.at c.index_mut.result.now c.took.new.self change.read (ap (λ k. k.number) c.took.ensures))

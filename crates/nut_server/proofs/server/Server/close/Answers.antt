@@ -11,7 +11,7 @@ invariant_of-self c = record {
   up_to = subst (λ ks. IsUpTo c.self.inside.opened (numbers_of ks)) (sym c.remove.ensures) (IsUpTo-without c.args.c c.self.inside.opened c.self.inside.connections c.self.invariant.up_to);
   few = c.self.invariant.few;
   within = omega (arith, numbers-length c.remove.new.self, numbers-length c.self.inside.connections, ap length c.remove.ensures, fewer c.args.c c.self.inside.connections, c.self.invariant.within);
-  most = c.self.invariant.most;
+  limits = c.self.invariant.limits;
   all = c.self.invariant.all;
 }
 

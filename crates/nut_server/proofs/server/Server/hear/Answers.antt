@@ -64,7 +64,7 @@ invariant_of-self-then-is_err c =
       up_to = subst (λ ks. IsUpTo i.opened (numbers_of ks)) (sym c.remove.ensures) (IsUpTo-without c.args.c i.opened i.connections before.up_to);
       few = before.few;
       within = omega (arith, numbers-length c.remove.new.self, numbers-length i.connections, ap length c.remove.ensures, fewer c.args.c i.connections, before.within);
-      most = before.most;
+      limits = before.limits;
       all = before.all;
     }
 

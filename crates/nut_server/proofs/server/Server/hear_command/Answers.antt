@@ -17,7 +17,7 @@ invariant_of-self-2 c =
       up_to = subst P (sym c.answer.ensures.numbers) before.up_to;
       few = before.few;
       within = omega (arith, before.within, ap length c.answer.ensures.numbers);
-      most = before.most;
+      limits = before.limits;
       all = before.all;
     }
 
