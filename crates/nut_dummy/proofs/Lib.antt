@@ -6,3 +6,6 @@ pub mod SweptLemmas
 pub mod HearLemmas
 pub mod HistoryLemmas
 pub mod HeardLemmas
+pub mod LimitLemmas
+pub mod FilledLemmas
+pub mod DumpLemmas

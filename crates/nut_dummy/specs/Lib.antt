@@ -11,3 +11,4 @@ pub mod Dummy
 pub mod Table
 pub mod History
 pub mod Heard
+pub mod Dump

@@ -1,6 +1,7 @@
 //! The dummy driver.
 ghost use Rattle.std.specs.Prelude.{◌≡◌, ◌<◌, MatchResult, OnOk, IfErr, length};
 ghost use Rattle.nut_queue.specs.Front.{IsFrontPart};
+ghost use Rattle.nut_dummy.specs.Dump.{DumpsWhereAsked};
 ghost use Rattle.nut_dummy.specs.Dummy.{beginning, linked, waits_of, brought, told_bytes, cut, cut_behind, Passes, Hears, Takes};
 
 use crate::begin::into_variables;
@@ -142,14 +143,16 @@ impl Dummy {
         self.teller.relink();
     }
 
-    /// A piece of the server's bytes: each line that it completes is heard.
+    /// A piece of the server's bytes: each line that it completes is heard. Where it brings just `DUMPALL`, what waits then
+    /// is a dump: lines that lead a server from an empty table to the driver's own.
     ///
     /// # Errors
     ///
     /// The first of these that applies: `NotLinked`; `Busy`, exactly while bytes wait; `PieceTooLong` past 512 bytes.
     /// These change nothing. `Memory` with the number of lines that were done, which stand; then the link is cut.
     pub fn server_bytes(&mut self, piece: &[u8]) -> Result<(), DummyFault>
-        ensures { Hears piece.now self.old self.new result }
+        ensures heard { Hears piece.now self.old self.new result }
+        ensures dump { OnOk result (DumpsWhereAsked piece.now self.old self.new) }
     {
         if !self.linked {
             return Err(DummyFault::NotLinked);

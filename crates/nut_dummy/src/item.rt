@@ -9,10 +9,10 @@ ghost use Rattle.nut_dummy.specs.Script.{Gives};
 
 use crate::fault::ScriptFaultKind;
 use crate::limits::{LINE_MAX, TIMER_MAX};
-use crate::text::{Name, Text, are_name_bytes, are_printing};
+use crate::text::{Name, Text};
 use crate::trim::{skip_blanks, trim};
 use nut_state::{NAME_BYTES, VALUE_BYTES, natural};
-use nut_words::{WordFault, split};
+use nut_words::{WordFault, are_name_bytes, are_printing, split};
 use std::alloc::Global;
 
 /// How a script is told (NUT's manual page dummy-ups).

@@ -1,4 +1,5 @@
 //! What is true of a driver after any calls.
+ghost use Rattle.nut_dummy.specs.Dump.{DumpIsTheTable};
 ghost use Rattle.nut_dummy.specs.Heard.{ToldLinesAreHeard};
 ghost use Rattle.nut_dummy.specs.History.{LooksBack};
 
@@ -14,4 +15,11 @@ pub fn looks_back()
 /// current data and a dump that is done.
 pub fn told_lines_are_heard()
     ensures { ToldLinesAreHeard }
+{}
+
+/// A law, with nothing to run: whatever calls were made of a driver whose script was read, `DUMPALL` is answered by lines for
+/// each variable that has a value, ascending, with its limits, then `ADDCMD` for each command, ascending, `DATAOK` and
+/// `DUMPDONE`; and in whatever pieces a server gets them, they lead it from an empty table to the driver's own.
+pub fn dump_is_the_table()
+    ensures { DumpIsTheTable }
 {}

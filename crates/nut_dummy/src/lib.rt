@@ -8,8 +8,8 @@
 //!
 //! What a line of a script says is defined in `specs/Item.antt`, what a script means in `specs/Script.antt`, which value is
 //! due in `specs/Due.antt`, what clients may set and what commands do in `specs/Writable.antt` and `specs/Command.antt`,
-//! the lines told in `specs/Telling.antt`, and how each call moves the driver in `specs/Teller.antt` and
-//! `specs/Dummy.antt`.
+//! the lines told in `specs/Telling.antt`, how each call moves the driver in `specs/Teller.antt` and `specs/Dummy.antt`,
+//! and what a server makes of a dump in `specs/Dump.antt`.
 #![tactic(auto)]
 
 mod begin;
@@ -35,7 +35,7 @@ mod writable;
 pub use dummy::{Dummy, DummyFault};
 pub use fault::{ScriptFault, ScriptFaultKind};
 pub use item::ScriptKind;
-pub use laws::{looks_back, told_lines_are_heard};
+pub use laws::{dump_is_the_table, looks_back, told_lines_are_heard};
 pub use limits::{MAX_STEPS, SCRIPT_VARIABLES, TIMER_MAX};
 pub use script::Script;
 pub use variable::Variable;

@@ -1,40 +1,12 @@
 //! Names and values, which stand in place and take no memory of their own.
 ghost use Rattle.std.specs.Prelude.{◌≡◌, ◌≤◌, List, ℕ, length, IsTrue};
 ghost use Rattle.nut_state.specs.Text.{is_name};
-ghost use Rattle.nut_words.specs.Name.{is_name_byte};
 ghost use Rattle.nut_dummy.specs.Item.{is_value};
-ghost use Rattle.std.specs.List.{list_all};
-ghost use Rattle.nut_words.specs.Spelling.{is_printing};
 
 use arrayvec::ArrayVec;
 use nut_state::{NAME_BYTES, VALUE_BYTES};
+use nut_words::are_printing;
 use std::marker::Model;
-
-fn is_name_byte(byte: u8) -> bool
-    ensures { result ≡ is_name_byte byte }
-{
-    byte.is_ascii_alphanumeric() || byte == b'.' || byte == b'_' || byte == b'-'
-}
-
-/// Whether all bytes may stand in a name.
-pub fn are_name_bytes(bytes: &[u8]) -> bool
-    ensures { result ≡ list_all is_name_byte bytes.now }
-{
-    bytes.iter().all(|byte| is_name_byte(*byte))
-}
-
-fn is_printing_byte(byte: u8) -> bool
-    ensures { result ≡ is_printing byte }
-{
-    matches!(byte, b' '..=b'~')
-}
-
-/// Whether all bytes are printing ones.
-pub fn are_printing(bytes: &[u8]) -> bool
-    ensures { result ≡ list_all is_printing bytes.now }
-{
-    bytes.iter().all(|byte| is_printing_byte(*byte))
-}
 
 /// The name of a variable: 1 to [`NAME_BYTES`] letters, digits, `.`, `_` and `-`.
 #[derive(Drop)]

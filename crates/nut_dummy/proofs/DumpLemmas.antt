@@ -1,0 +1,273 @@
+-- A dump is its lines, and leads an empty table to the driver's own.
+use Rattle.std.proofs.Common.{◌≡◌, ℕ, ◌+◌, ◌*◌, ◌≤◌, ◌&&◌, ◌||◌, ◌==◌, Bool, true, false, cond, List, [], ◌∷◌, ◌++◌, Option, Some, None, length, map, nat_le, refl, sym, ap, subst, ◌∙◌, arith, append_assoc, length-append, codes, rules}
+use Rattle.std.specs.List.{AllByRecursion, concat, flat_map, list_all}
+use Rattle.std.specs.Option.{option_map_or}
+use Rattle.std.proofs.lemmas.Bool.Decides.{nat_tests}
+use Rattle.std.proofs.lemmas.List.{append-nil, map-append}
+use Rattle.nut_words.specs.Lines.{LineText, Text, as_line, lines, lines_after, rest, rest_after}
+use Rattle.nut_words.specs.Name.{is_name_byte}
+use Rattle.nut_words.specs.Quoting.{IsPrintable, escaped, quoted, stands_bare, word_text}
+use Rattle.nut_words.specs.Spelling.{is_printing}
+use Rattle.nut_words.proofs.StreamGrowth.{lines-append, rest-append}
+use Rattle.nut_words.proofs.WrittenLine.{line_printable, lines_of_printable, quoted_printable, rest_of_printable}
+use Rattle.nut_proto.specs.declared.driver_ask.DriverAsk.{DriverAsk}
+use Rattle.nut_proto.specs.declared.driver_ask.DriverAsk.TheVariants as asks
+use Rattle.nut_proto.specs.Lines.{line, message}
+use Rattle.nut_state.specs.Change.{Change, set_info}
+use Rattle.nut_state.specs.Step.{after, applied}
+use Rattle.nut_state.specs.Table.{Table, empty}
+use Rattle.nut_state.specs.Text.{is_name}
+use Rattle.nut_dummy.specs.declared.writable.Writable.{Writable}
+use Rattle.nut_dummy.specs.declared.writable.Writable.TheVariants.{ChargeLow, RuntimeLow, Sensitivity, ShutdownDelay, Id}
+use Rattle.nut_dummy.specs.Dummy.{Content, told_bytes, waits_of}
+use Rattle.nut_dummy.specs.Dump.{Listener, table_after, after_piece, after_pieces, LeadTo, dump_messages, IsDump, OwesDump, DumpIsTheTable, DumpsWhereAsked}
+use Rattle.nut_dummy.specs.Heard.{heard_in}
+use Rattle.nut_dummy.specs.History.{driver}
+use Rattle.nut_dummy.specs.Item.{is_value}
+use Rattle.nut_dummy.specs.Table.{table_of}
+use Rattle.nut_dummy.specs.Teller.{Variable, Teller, answered, asked_by, dump, dumped, dumped_all, heard, heard_all, lines_of}
+use Rattle.nut_dummy.specs.Telling.{Message, text, value_message, limits, limits_of, variable_messages, closing_messages}
+use Rattle.nut_dummy.specs.Writable.{writable_of}
+use Rattle.nut_dummy.proofs.FilledLemmas.{followed, limiting, writable_named, changes_of, closing_changes, dump_fills}
+use Rattle.nut_dummy.proofs.HeardLemmas.{told_lines_are_heard}
+use Rattle.nut_dummy.proofs.LimitLemmas.{IsSound, IsValued, AreSound, and_left, and_right, driver_sound, heard_all_sound, answered_sound}
+use Rattle.nut_dummy.proofs.TextLemmas.{text_nil, text_cons, text_append}
+
+-- ---- in pieces
+
+table_after-append : (a b : List LineText) (t : Table) → table_after (a ++ b) t ≡ table_after b (table_after a t)
+table_after-append [] b t = refl
+table_after-append (l ∷ a) b t = table_after-append a b _
+
+-- what a server has after some bytes
+abbrev listening : List ℕ → Listener
+listening b = record { rest = rest b; table = table_after (lines b) empty }
+
+one_piece : (b piece : List ℕ) → after_piece piece (listening b) ≡ listening (b ++ piece)
+one_piece b piece =
+    ap (λ r. record { rest = r; table = table_after (lines_after (rest b) piece) (table_after (lines b) empty) }) (sym (rest-append b piece))
+    ∙ ap (λ t. record { rest = rest (b ++ piece); table = t })
+    (sym (ap (λ ls. table_after ls empty) (lines-append b piece) ∙ table_after-append (lines b) (lines_after (rest b) piece) empty))
+
+all_pieces : (b : List ℕ) (pieces : List (List ℕ)) → after_pieces pieces (listening b) ≡ listening (b ++ concat pieces)
+all_pieces b [] = ap listening (sym (append-nil b))
+all_pieces b (piece ∷ pieces) =
+    ap (after_pieces pieces) (one_piece b piece) ∙ all_pieces (b ++ piece) pieces ∙ ap listening (append_assoc b piece (concat pieces))
+
+in_pieces : (bytes : List ℕ) (table : Table) → listening bytes ≡ record { rest = Text []; table = table } → LeadTo table bytes
+in_pieces bytes table is pieces joined = all_pieces [] pieces ∙ ap listening joined ∙ is
+
+-- ---- lines
+
+-- The text of these messages is their lines.
+abbrev AreLines : List Message → Type 0
+AreLines ms = (lines (text ms) ≡ map (λ m. Text (message m)) ms) × (rest (text ms) ≡ Text [])
+
+lines_behind : (b more : List ℕ) → rest b ≡ Text [] → lines (b ++ more) ≡ lines b ++ lines more
+lines_behind b more is = lines-append b more ∙ ap (λ r. lines b ++ lines_after r more) is ∙ ap (λ ls. lines b ++ ls) (sym (lines-append [] more))
+
+rest_behind : (b more : List ℕ) → rest b ≡ Text [] → rest (b ++ more) ≡ rest more
+rest_behind b more is = rest-append b more ∙ ap (λ r. rest_after r more) is ∙ sym (rest-append [] more)
+
+no_lines : AreLines []
+no_lines = (ap lines text_nil, ap rest text_nil)
+
+more_lines : (ms ns : List Message) → AreLines ms → AreLines ns → AreLines (ms ++ ns)
+more_lines ms ns h k = (
+  ap lines (text_append ms ns) ∙ lines_behind (text ms) (text ns) h.1 ∙ ap (λ ls. ls ++ lines (text ns)) h.0
+      ∙ ap (λ ls. map (λ m. Text (message m)) ms ++ ls) k.0 ∙ sym (map-append (λ m. Text (message m)) ms ns),
+  ap rest (text_append ms ns) ∙ rest_behind (text ms) (text ns) h.1 ∙ k.1,
+)
+
+-- a printable message that is short enough is one line
+one_line : (m : Message) → IsPrintable (message m) → length (message m) ≤ 512 → AreLines (m ∷ [])
+unfolding line
+one_line m printable short =
+    let is : text (m ∷ []) ≡ message m ++ 10 ∷ [] = text_cons m [] ∙ ap (λ t. line m ++ t) text_nil ∙ append-nil (line m) in
+    let fits : as_line (message m) ≡ Text (message m) = fitting (message m) short in
+    (ap lines is ∙ lines_of_printable [] (message m) printable ∙ ap (λ l. l ∷ []) fits, ap rest is ∙ rest_of_printable [] (message m) printable)
+  where
+    fitting : (t : List ℕ) → length t ≤ 512 → as_line t ≡ Text t
+    fitting t h = let small : nat_le (length t) 512 ≡ true = grind (arith, nat_tests) in rw small refl
+
+-- ---- the line of a value
+
+printable_more : (xs ys : List ℕ) → IsPrintable xs → IsPrintable ys → IsPrintable (xs ++ ys)
+printable_more [] ys h k = k
+printable_more (x ∷ xs) ys h k = (h.0, printable_more xs ys h.1 k)
+
+name_byte_printing : (c : ℕ) → is_name_byte c ≡ true → is_printing c ≡ true
+name_byte_printing c h = grind (arith, nat_tests)
+
+name_bytes_printable : (name : List ℕ) → list_all is_name_byte name ≡ true → IsPrintable name
+name_bytes_printable [] h = tt
+name_bytes_printable (c ∷ cs) h = (name_byte_printing c (and_left _ _ h), name_bytes_printable cs (and_right (is_name_byte c) _ h))
+
+bytes_printable : (value : List ℕ) → list_all is_printing value ≡ true → IsPrintable value
+bytes_printable [] h = tt
+bytes_printable (c ∷ cs) h = (and_left _ _ h, bytes_printable cs (and_right (is_printing c) _ h))
+
+module _ (name value : List ℕ) (named_so : is_name name ≡ true) (valued : is_value value ≡ true) where
+  name_printable : IsPrintable name
+  name_printable = name_bytes_printable name (and_right (nat_le 1 (length name) && nat_le (length name) 64) (list_all is_name_byte name) named_so)
+
+  value_printable : IsPrintable value
+  value_printable = bytes_printable value (and_right (nat_le (length value) 128) (list_all is_printing value) valued)
+
+  message_printable : IsPrintable (message (value_message name value))
+  message_printable =
+      printable_more (codes "SETINFO ") _ (refl, (refl, (refl, (refl, (refl, (refl, (refl, (refl, tt))))))))
+      (printable_more (word_text name) _ (line_printable (name ∷ []) (name_printable, tt)) (refl, printable_more (quoted value) [] (quoted_printable value value_printable) tt))
+
+length-escape : (b : Bool) (c : ℕ) → length (cond b (92 ∷ c ∷ []) (c ∷ [])) ≤ 2
+length-escape true c = omega arith
+length-escape false c = omega arith
+
+length-escaped : (t : List ℕ) → length (flat_map escaped t) ≤ 2 * length t
+length-escaped [] = omega arith
+length-escaped (c ∷ cs) =
+    omega (arith, length-append (escaped c) (flat_map escaped cs), length-escape (c == 34 || c == 92 || c == 35) c, length-escaped cs)
+
+length-quoted : (t : List ℕ) → length (quoted t) ≤ 2 * length t + 2
+length-quoted t = omega (arith, length-append (flat_map escaped t) (34 ∷ []), length-escaped t)
+
+length-word : (t : List ℕ) → length (word_text t) ≤ 2 * length t + 2
+length-word t = by (stands_bare t) where
+  by : (b : Bool) → length (cond b t (quoted t)) ≤ 2 * length t + 2
+  by true = omega arith
+  by false = length-quoted t
+
+at_most : (a b : ℕ) → nat_le a b ≡ true → a ≤ b
+at_most a b h = grind (arith, nat_tests)
+
+value_line : (name value : List ℕ) → is_name name ≡ true → is_value value ≡ true → AreLines (value_message name value ∷ [])
+value_line name value named_so valued =
+    let some_name : length name ≤ 64 = at_most _ _ (and_right (nat_le 1 (length name)) (nat_le (length name) 64) (and_left _ _ named_so)) in
+    let some_value : length value ≤ 128 = at_most _ _ (and_left _ _ valued) in
+    one_line (value_message name value) (message_printable name value named_so valued)
+    (omega (arith, length-append (word_text name) (32 ∷ (quoted value ++ [])), length-append (quoted value) [], length-word name, length-quoted value))
+
+limits_lines : (w : Writable) → AreLines (limits_of w)
+unfolding text line
+limits_lines ChargeLow = (refl, refl)
+limits_lines RuntimeLow = (refl, refl)
+limits_lines Sensitivity = (refl, refl)
+limits_lines ShutdownDelay = (refl, refl)
+limits_lines Id = (refl, refl)
+
+closing_lines : AreLines closing_messages
+unfolding text line
+closing_lines = (refl, refl)
+
+-- ---- what they are heard as
+
+abbrev AreHeard : List Message → List Change → Type 0
+AreHeard ms changes = map heard_in ms ≡ map (λ change. Some change) changes
+
+more_heard : (ms ns : List Message) (cs ds : List Change) → AreHeard ms cs → AreHeard ns ds → AreHeard (ms ++ ns) (cs ++ ds)
+more_heard ms ns cs ds h k =
+    map-append heard_in ms ns ∙ ap (λ xs. xs ++ map heard_in ns) h ∙ ap (λ xs. map (λ change. Some change) cs ++ xs) k ∙ sym (map-append (λ change. Some change) cs ds)
+
+table_follows : (ms : List Message) (changes : List Change) (t : Table) → AreHeard ms changes → table_after (map (λ m. Text (message m)) ms) t ≡ followed changes t
+unfolding applied
+table_follows [] [] t is = refl
+table_follows [] (change ∷ changes) t is = cc
+table_follows (m ∷ ms) [] t is = cc
+table_follows (m ∷ ms) (change ∷ changes) t is =
+    let first : heard_in m ≡ Some change = cc in
+    let later : AreHeard ms changes = cc in
+    ap (λ o. table_after (map (λ m. Text (message m)) ms) (option_map_or (after t) o t)) first ∙ table_follows ms changes (after t change) later
+
+-- ---- a variable in a dump
+
+abbrev messages_of : List ℕ → Option (List ℕ) → List Message
+messages_of name value = option_map_or (variable_messages true name) value []
+
+limits_said : (name : List ℕ) → AreLines (limits name) × AreHeard (limits name) (limiting name (writable_of name))
+limits_said name = by (writable_of name) refl where
+  by : (w : Option Writable) → writable_of name ≡ w → AreLines (option_map_or limits_of w []) × AreHeard (option_map_or limits_of w []) (limiting name w)
+  by None is = (no_lines, refl)
+  by (Some w) is =
+      (limits_lines w, subst (λ n. AreHeard (limits_of w) (limiting n (Some w))) (writable_named name w is) (told_lines_are_heard.1 w))
+
+variable_said : (name : List ℕ) (value : Option (List ℕ)) → is_name name ≡ true → IsValued value
+    → AreLines (messages_of name value) × AreHeard (messages_of name value) (changes_of name value) × (lines_of true name value ≡ text (messages_of name value))
+variable_said name None named_so valued = (no_lines, refl, sym text_nil)
+variable_said name (Some value) named_so valued =
+    let said = limits_said name in
+    let heard_so : heard_in (value_message name value) ≡ Some (set_info name value) =
+    told_lines_are_heard.0 name value (name_printable name value named_so valued) (value_printable name value named_so valued) in (
+      more_lines (value_message name value ∷ []) (limits name) (value_line name value named_so valued) said.0,
+      more_heard (value_message name value ∷ []) (limits name) (set_info name value ∷ []) (limiting name (writable_of name)) (ap (λ o. o ∷ []) heard_so) said.1,
+      refl,
+    )
+
+variables_said : (variables : List Variable) → AllByRecursion IsSound variables
+    → AreLines (flat_map (λ v. messages_of v.name v.value) variables)
+    × AreHeard (flat_map (λ v. messages_of v.name v.value) variables) (flat_map (λ v. changes_of v.name v.value) variables)
+    × (flat_map (λ v. lines_of true v.name v.value) variables ≡ text (flat_map (λ v. messages_of v.name v.value) variables))
+variables_said [] h = (no_lines, refl, sym text_nil)
+variables_said (v ∷ variables) h =
+    let first = variable_said v.name v.value h.0.0 h.0.2 in
+    let later = variables_said variables h.1 in
+    let ms = messages_of v.name v.value in
+    let ns = flat_map (λ (v : Variable). messages_of v.name v.value) variables in (
+      more_lines ms ns first.0 later.0,
+      more_heard ms ns (changes_of v.name v.value) (flat_map (λ v. changes_of v.name v.value) variables) first.1 later.1,
+      ap (λ t. t ++ flat_map (λ v. lines_of true v.name v.value) variables) first.2 ∙ ap (λ t. text ms ++ t) later.2 ∙ sym (text_append ms ns),
+    )
+
+-- ---- the dump
+
+dump_is : (variables : List Variable) → AreSound variables → IsDump variables (dump variables)
+dump_is variables h =
+    let said = variables_said variables h.each in
+    let ms = flat_map (λ (v : Variable). messages_of v.name v.value) variables in
+    let cs = flat_map (λ (v : Variable). changes_of v.name v.value) variables in
+    let are = more_lines ms closing_messages said.0 closing_lines in
+    let is : dump variables ≡ text (dump_messages variables) = ap (λ t. t ++ text closing_messages) said.2 ∙ sym (text_append ms closing_messages) in
+    let in_order : lines (dump variables) ≡ map (λ m. Text (message m)) (dump_messages variables) = ap lines is ∙ are.0 in
+    let ended : rest (dump variables) ≡ Text [] = ap rest is ∙ are.1 in
+    let heard_so = more_heard ms closing_messages cs closing_changes said.1 told_lines_are_heard.2 in
+    let led : table_after (lines (dump variables)) empty ≡ table_of variables =
+    ap (λ ls. table_after ls empty) in_order ∙ table_follows (dump_messages variables) (cs ++ closing_changes) empty heard_so ∙ dump_fills variables h in
+    record {
+      in_order = in_order;
+      variables_ascend = h.ascending;
+      commands_ascend = search rules;
+      is_table = in_pieces (dump variables) (table_of variables)
+          (ap (λ r. record { rest = r; table = table_after (lines (dump variables)) empty }) ended ∙ ap (λ t. record { rest = Text []; table = t }) led);
+    }
+
+-- a dump marks variables as told, and tells nothing else of them
+dump_marked : (variables : List Variable) → flat_map (λ v. lines_of true v.name v.value) (map dumped variables) ≡ flat_map (λ v. lines_of true v.name v.value) variables
+dump_marked [] = refl
+dump_marked (v ∷ variables) = ap (λ t. lines_of true v.name v.value ++ t) (dump_marked variables)
+
+owes_dump : (t : Teller) → AreSound (dumped_all t).variables → OwesDump t (dumped_all t)
+owes_dump t h =
+    (dump t.variables, refl, subst (IsDump (dumped_all t).variables) (ap (λ b. b ++ text closing_messages) (dump_marked t.variables)) (dump_is (dumped_all t).variables h))
+
+line_owes : (t : Teller) (line : LineText) → asked_by line ≡ Some asks.DumpAll → AreSound t.variables → OwesDump t (heard line t)
+line_owes t line is h =
+    subst (λ (ask : Option DriverAsk). OwesDump t (answered ask t)) (sym is) (owes_dump t (answered_sound (Some asks.DumpAll) t h))
+
+pub dump_is_the_table : DumpIsTheTable
+dump_is_the_table kind script_text script start h before line reads is =
+    let t = (driver script start h).teller in
+    line_owes (heard_all before t) line is (heard_all_sound before t (driver_sound kind script_text script start h reads))
+
+-- ---- at a call
+
+nothing_waits : (waits : List ℕ) → length waits ≤ 0 → waits ≡ []
+nothing_waits [] h = refl
+nothing_waits (c ∷ waits) h = absurd (omega arith)
+
+pub dumps_where_asked : (piece : List ℕ) (old new : Content) → length (waits_of old) ≤ 0 → new ≡ told_bytes piece old → DumpsWhereAsked piece old new
+dumps_where_asked piece old new none is kind script_text script start h line reads was brings asks_it =
+    let sound : AreSound old.teller.variables = subst (λ (s : Content). AreSound s.teller.variables) (sym was) (driver_sound kind script_text script start h reads) in
+    let owes : OwesDump old.teller (heard line old.teller) = line_owes old.teller line asks_it sound in
+    let now : new.teller ≡ heard line old.teller = ap (λ (s : Content). s.teller) is ∙ ap (λ ls. heard_all ls old.teller) brings in
+    let alone : owes.0 ≡ waits_of new =
+    ap (λ w. w ++ owes.0) (sym (nothing_waits (waits_of old) none)) ∙ sym owes.1 ∙ ap (λ (t : Teller). t.waits) (sym now) in
+    subst (λ (t : Teller). IsDump t.variables (waits_of new)) (sym now) (subst (IsDump (heard line old.teller).variables) alone owes.2)

@@ -1,0 +1,355 @@
+-- What a script that reads says, and what a driver that tells it holds, is within the limits of a table.
+use Rattle.std.proofs.Common.{◌≡◌, ℕ, zero, suc, ◌+◌, ◌-◌, ◌==◌, ◌<◌, ◌≤◌, ◌&&◌, ◌||◌, Bool, true, false, not, cond, List, [], ◌∷◌, ◌++◌, Option, Some, None, Result, Ok, Err, drop, length, map, max, take, nat_lt, nat_le, refl, sym, ap, subst, arith}
+use Rattle.std.specs.Prelude.{is_some, if◌then◌else◌}
+use Rattle.std.specs.List.{All, AllByRecursion, list_all, position}
+use Rattle.std.specs.Option.{option_map_or, option_or}
+use Rattle.std.specs.Str.{bytes_eq}
+use Rattle.std.proofs.lemmas.Bool.Decides.{nat_tests}
+use Rattle.std.proofs.lemmas.List.{length-map}
+use Rattle.std.proofs.lemmas.List.Elements.{All-nil, All-cons, recursion_from_All}
+use Rattle.nut_words.specs.declared.words.WordFault.{WordFault}
+use Rattle.nut_words.specs.Lines.{LineText}
+use Rattle.nut_words.specs.Name.{is_name_byte}
+use Rattle.nut_words.specs.Reader.{spelled}
+use Rattle.nut_words.specs.Spelling.{is_comment, is_printing}
+use Rattle.nut_proto.specs.declared.driver_ask.DriverAsk.{DriverAsk}
+use Rattle.nut_proto.specs.declared.driver_ask.DriverAsk.TheVariants as asks
+use Rattle.nut_state.specs.Number.{natural}
+use Rattle.nut_state.specs.Sorted.{put, IsAscending}
+use Rattle.nut_state.specs.Text.{is_name}
+use Rattle.nut_state.proofs.PutLemmas.{All-put, All-named, ascending-put, length-put, length-put_found}
+use Rattle.nut_dummy.specs.declared.command.Command.{Command}
+use Rattle.nut_dummy.specs.declared.command.Command.TheVariants.{BeeperDisable, BeeperEnable, LoadOff, LoadOn, BatteryTestStart, BatteryTestStop, FailureStart, FailureStop}
+use Rattle.nut_dummy.specs.declared.fault.ScriptFaultKind.{ScriptFaultKind}
+use Rattle.nut_dummy.specs.declared.fault.ScriptFaultKind.TheVariants as kinds
+use Rattle.nut_dummy.specs.declared.item.ScriptKind.{ScriptKind}
+use Rattle.nut_dummy.specs.declared.item.ScriptKind.TheVariants.{Dev, Seq}
+use Rattle.nut_dummy.specs.declared.writable.Writable.{Writable}
+use Rattle.nut_dummy.specs.declared.limits.TheConstants.{LINE_MAX}
+use Rattle.nut_dummy.specs.Command.{command_of, command_variables, variable_set, value_set}
+use Rattle.nut_dummy.specs.Dummy.{all_declared, beginning, begun, brought, declared}
+use Rattle.nut_dummy.specs.Due.{is_due, latest, newest, newest_up_to}
+use Rattle.nut_dummy.specs.History.{Call, Linked, Moment, Bytes, Lost, Took, driver}
+use Rattle.nut_dummy.specs.Item.{Item, Timer, Setting, is_skipped, is_value, item, parted, setting, timed, timer, timer_in, trimmed}
+use Rattle.nut_dummy.specs.Script.{Script, Step, Timeline, at_line, extended, has_room, no_script, read_lines, read_script, steps_of, taken_in, timeline, whole, with_line, with_step}
+use Rattle.nut_dummy.specs.Teller.{Change, Passing, Assigning, Doing, Teller, Variable, answered, asked_by, changed, commanded, dumped, followed, heard, heard_all, is_assigned, relinked, untold, value_after}
+use Rattle.nut_dummy.specs.Writable.{attributes, fits, may_be, writable_of}
+
+-- ---- tests
+
+pub and_left : (a b : Bool) → (a && b) ≡ true → a ≡ true
+and_left true b h = refl
+and_left false b h = h
+
+pub and_right : (a b : Bool) → (a && b) ≡ true → b ≡ true
+and_right true b h = h
+and_right false b h = cc
+
+-- what is said behind a refusal, or before one
+module _ {X E : Type 0} where
+  behind : (b : Bool) (e : E) (r : Result X E) (x : X) → cond b (Err e) r ≡ Ok x → (b ≡ false) × (r ≡ Ok x)
+  behind true e r x h = cc
+  behind false e r x h = (refl, h)
+
+  before : (b : Bool) (e : E) (r : Result X E) (x : X) → cond b r (Err e) ≡ Ok x → (b ≡ true) × (r ≡ Ok x)
+  before true e r x h = (refl, h)
+  before false e r x h = cc
+
+-- ---- one line of a script
+
+is_name_from : (n : ℕ) (named_so : Bool) → not (nat_lt 0 n && named_so) ≡ false → nat_lt 64 n ≡ false → (nat_le 1 n && nat_le n 64 && named_so) ≡ true
+is_name_from n true some few = grind (arith, nat_tests)
+is_name_from n false some few = grind (arith, nat_tests)
+
+is_value_from : (n : ℕ) (printing : Bool) → not printing ≡ false → nat_lt 128 n ≡ false → (nat_le n 128 && printing) ≡ true
+is_value_from n true some few = grind (arith, nat_tests)
+is_value_from n false some few = cc
+
+abbrev IsSetting : List ℕ → List ℕ → Type 0
+IsSetting name value = (is_name name ≡ true) × (is_value value ≡ true)
+
+setting_good : (a b name value : List ℕ) → setting a b ≡ Ok (Setting name value) → IsSetting name value
+setting_good a b name value h =
+    let some = behind _ _ _ _ h in
+    let few = behind _ _ _ _ some.1 in
+    let printing = behind _ _ _ _ few.1 in
+    let short = behind _ _ _ _ printing.1 in
+    let own : a ≡ name = cc (short.1) in
+    let given : b ≡ value = cc (short.1) in (
+      subst (λ n. is_name n ≡ true) own (is_name_from (length a) (list_all is_name_byte a) some.0 few.0),
+      subst (λ v. is_value v ≡ true) given (is_value_from (length b) (list_all is_printing b) printing.0 short.0),
+    )
+
+no_setting_in : (kind : ScriptKind) (seconds : ℕ) (name value : List ℕ) → timer_in kind seconds ≡ Ok (Setting name value) → ⊥
+no_setting_in Dev seconds name value h = cc
+no_setting_in Seq seconds name value h = cc
+
+no_timer_setting : (kind : ScriptKind) (seconds : Option ℕ) (name value : List ℕ) → timer kind seconds ≡ Ok (Setting name value) → ⊥
+no_timer_setting kind None name value h = cc
+no_timer_setting kind (Some seconds) name value h = no_setting_in kind seconds name value (before _ _ _ _ h).1
+
+no_timed_setting : (kind : ScriptKind) (words : Result (List (List ℕ)) WordFault) (name value : List ℕ) → timed kind words ≡ Ok (Setting name value) → ⊥
+no_timed_setting kind (Ok (first ∷ second ∷ [])) name value h = no_timer_setting kind (natural second) name value (before _ _ _ _ h).1
+no_timed_setting kind (Ok []) name value h = cc
+no_timed_setting kind (Ok (first ∷ [])) name value h = cc
+no_timed_setting kind (Ok (first ∷ second ∷ third ∷ more)) name value h = cc
+no_timed_setting kind (Err fault) name value h = cc
+
+parted_good : (kind : ScriptKind) (line : List ℕ) (at : Option ℕ) (name value : List ℕ) → parted kind line at ≡ Ok (Setting name value) → IsSetting name value
+parted_good kind line None name value h = absurd (no_timed_setting kind (spelled line) name value h)
+parted_good kind line (Some at) name value h = setting_good (trimmed (take at line)) (trimmed (drop (at + 1) line)) name value h
+
+item_good : (kind : ScriptKind) (line name value : List ℕ) → item kind line ≡ Ok (Setting name value) → IsSetting name value
+item_good kind line name value h =
+    let at = position (λ c. c == 58) line in
+    let short = behind (nat_lt LINE_MAX (length line)) kinds.PastLimit (if not (list_all is_comment line) then Err kinds.BadLine else parted kind line at) (Setting name value) h in
+    parted_good kind line at name value (behind (not (list_all is_comment line)) kinds.BadLine (parted kind line at) (Setting name value) short.1).1
+
+-- ---- a script
+
+abbrev AreValues : List Step → Type 0
+AreValues steps = AllByRecursion (λ (s : Step). is_value s.value ≡ true) steps
+
+abbrev IsGood : Timeline → Type 0
+IsGood t = (is_name t.name ≡ true) × AreValues t.steps
+
+record AreGood (variables : List Timeline) : Type 0 where
+  ascending : IsAscending (map (λ t. t.name) variables)
+  each : All IsGood variables
+
+values_more : (steps : List Step) (step : Step) → AreValues steps → is_value step.value ≡ true → AreValues (steps ++ step ∷ [])
+values_more [] step h is = (is, tt)
+values_more (s ∷ steps) step h is = (h.0, values_more steps step h.1 is)
+
+steps_good : (found : Option Timeline) → ((t : Timeline) → found ≡ Some t → IsGood t) → AreValues (steps_of found)
+steps_good None h = tt
+steps_good (Some t) h = (h t refl).1
+
+abbrev name_of : Timeline → List ℕ
+name_of t = t.name
+
+-- a variable more, or another under the name of one that is there
+put_good : (t : Timeline) (variables : List Timeline) → IsGood t → AreGood variables → AreGood (put name_of t.name (Some t) variables)
+put_good t variables good h = record {
+  ascending = ascending-put name_of t.name (Some t) variables refl h.ascending;
+  each = All-put name_of IsGood t.name (Some t) variables (All-cons IsGood t [] good (All-nil IsGood)) h.each;
+}
+
+with_step_good : (name : List ℕ) (step : Step) (variables : List Timeline) → is_name name ≡ true → is_value step.value ≡ true → AreGood variables → AreGood (with_step name step variables)
+with_step_good name step variables named_so valued h =
+    put_good (record { name = name; steps = steps_of (timeline name variables) ++ step ∷ [] }) variables
+    (named_so, values_more (steps_of (timeline name variables)) step (steps_good (timeline name variables) (λ t is. All-named name_of IsGood name variables t h.each is)) valued) h
+
+room_for : (name : List ℕ) (t : Timeline) (variables : List Timeline) (most : ℕ) → (is_some (timeline name variables) || nat_lt (length variables) most) ≡ true → length variables ≤ most
+    → length (put name_of name (Some t) variables) ≤ most
+room_for name t variables most room h = by (is_some (timeline name variables)) refl room where
+  by : (b : Bool) → is_some (timeline name variables) ≡ b → (b || nat_lt (length variables) most) ≡ true → length (put name_of name (Some t) variables) ≤ most
+  by true is room = omega (arith, length-put_found name_of name (Some t) variables is, h)
+  by false is room = let few : length variables < most = grind (arith, nat_tests) in omega (arith, length-put name_of name (Some t) variables, few)
+
+record IsGoodScript (s : Script) : Type 0 where
+  good : AreGood s.variables
+  few : length s.variables ≤ 509
+
+taken_in_good : (s more : Script) (said : Result Item ScriptFaultKind) → ((name value : List ℕ) → said ≡ Ok (Setting name value) → IsSetting name value)
+    → taken_in s said ≡ Ok more → IsGoodScript s → IsGoodScript more
+taken_in_good s more (Err fault) proper is h = cc
+taken_in_good s more (Ok (Timer seconds)) proper is h =
+    let same : extended s (Timer seconds) ≡ more = cc is in
+    subst IsGoodScript same (record { good = h.good; few = h.few })
+taken_in_good s more (Ok (Setting name value)) proper is h =
+    let fits = before (has_room s (Setting name value)) kinds.PastLimit (Ok (extended s (Setting name value))) more is in
+    let same : extended s (Setting name value) ≡ more = cc (fits.1) in
+    let own = proper name value refl in
+    subst IsGoodScript same (record {
+      good = with_step_good name (record { at = s.round; value = value }) s.variables own.0 own.1 h.good;
+      few = room_for name (record { name = name; steps = steps_of (timeline name s.variables) ++ (record { at = s.round; value = value }) ∷ [] }) s.variables 509 (and_right _ _ fits.0) h.few;
+    })
+
+with_line_good : (kind : ScriptKind) (s more : Script) (line : List ℕ) → with_line kind s line ≡ Ok more → IsGoodScript s → IsGoodScript more
+with_line_good kind s more line is h = by (is_skipped line) is where
+  by : (b : Bool) → cond b (Ok s) (taken_in s (item kind line)) ≡ Ok more → IsGoodScript more
+  by true is = let same : s ≡ more = cc is in subst IsGoodScript same h
+  by false is = taken_in_good s more (item kind line) (item_good kind line) is h
+
+whole_good : (kind : ScriptKind) (s script : Script) → whole kind s ≡ Ok script → IsGoodScript s → IsGoodScript script
+whole_good Dev s script is h = let same : s ≡ script = cc is in subst IsGoodScript same h
+whole_good Seq s script is h = let same : s ≡ script = cc ((behind (s.round == 0) (0, kinds.NoTimer) (Ok s) script is).1) in subst IsGoodScript same h
+
+lines_good : (kind : ScriptKind) (s script : Script) (n : ℕ) (lines : List (List ℕ)) → read_lines kind s n lines ≡ Ok script → IsGoodScript s → IsGoodScript script
+unfolding read_lines
+lines_good kind s script n [] is h = whole_good kind s script is h
+lines_good kind s script n (line ∷ lines) is h = by (with_line kind s line) refl is (λ more. lines_good kind more script (n + 1) lines) where
+  by : (r : Result Script ScriptFaultKind) → with_line kind s line ≡ r → at_line n r (λ more. read_lines kind more (n + 1) lines) ≡ Ok script
+      → ((more : Script) → read_lines kind more (n + 1) lines ≡ Ok script → IsGoodScript more → IsGoodScript script) → IsGoodScript script
+  by (Ok more) so is rest = rest more is (with_line_good kind s more line so h)
+  by (Err fault) so is rest = cc
+
+script_good : (kind : ScriptKind) (text : List ℕ) (script : Script) → read_script kind text ≡ Ok script → IsGoodScript script
+script_good kind text script is =
+    lines_good kind no_script script 1 _ is (record { good = record { ascending = tt; each = All-nil IsGood }; few = omega arith })
+
+-- ---- the variables that commands set
+
+declared_good : (name : List ℕ) (variables : List Timeline) → is_name name ≡ true → AreGood variables → AreGood (declared name variables)
+declared_good name variables named_so h = by (is_some (timeline name variables)) where
+  by : (b : Bool) → AreGood (cond b variables (put name_of name (Some (record { name = name; steps = [] })) variables))
+  by true = h
+  by false = put_good (record { name = name; steps = [] }) variables (named_so, tt) h
+
+declared_few : (name : List ℕ) (variables : List Timeline) → length (declared name variables) ≤ length variables + 1
+declared_few name variables = by (is_some (timeline name variables)) where
+  by : (b : Bool) → length (cond b variables (put name_of name (Some (record { name = name; steps = [] })) variables)) ≤ length variables + 1
+  by true = omega arith
+  by false = length-put name_of name (Some (record { name = name; steps = [] })) variables
+
+all_declared_good : (names : List (List ℕ)) (variables : List Timeline) → AllByRecursion (λ name. is_name name ≡ true) names → AreGood variables
+    → AreGood (all_declared names variables) × (length (all_declared names variables) ≤ length variables + length names)
+all_declared_good [] variables named_so h = (h, omega arith)
+all_declared_good (name ∷ names) variables named_so h =
+    let more = all_declared_good names (declared name variables) named_so.1 (declared_good name variables named_so.0 h) in
+    (more.0, omega (arith, more.1, declared_few name variables))
+
+-- ---- what a driver holds
+
+abbrev pub IsValued : Option (List ℕ) → Type 0
+IsValued None = Unit {0}
+IsValued (Some value) = is_value value ≡ true
+
+-- A variable has a name, and its value, if it has one, and those that it gets are values.
+abbrev pub IsSound : Variable → Type 0
+IsSound v = (is_name v.name ≡ true) × AreValues v.steps × IsValued v.value
+
+-- Variables ascend by name, are no more than a table holds, and each is sound.
+pub record AreSound (variables : List Variable) : Type 0 where
+  pub ascending : IsAscending (map (λ v. v.name) variables)
+  pub few : length variables ≤ 512
+  pub each : AllByRecursion IsSound variables
+
+or_valued : (a b : Option (List ℕ)) → IsValued a → IsValued b → IsValued (option_or a b)
+or_valued None b h k = k
+or_valued (Some x) b h k = h
+
+newest_valued : (test : Step → Bool) (steps : List Step) → AreValues steps → IsValued (newest test steps)
+newest_valued test [] h = tt
+newest_valued test (step ∷ steps) h = or_valued (newest test steps) _ (newest_valued test steps h.1) (by (test step)) where
+  by : (b : Bool) → IsValued (cond b (Some step.value) None)
+  by true = h.0
+  by false = tt
+
+newest_up_to_valued : (round after until : ℕ) (steps : List Step) (k : ℕ) → AreValues steps → IsValued (newest_up_to round after until steps k)
+newest_up_to_valued round after until steps zero h = newest_valued (is_due round after until 0) steps h
+newest_up_to_valued round after until steps (suc k) h =
+    or_valued (newest (is_due round after until (suc k)) steps) _ (newest_valued (is_due round after until (suc k)) steps h) (newest_up_to_valued round after until steps k h)
+
+latest_valued : (round after until : ℕ) (steps : List Step) → AreValues steps → IsValued (latest round after until steps)
+unfolding latest
+latest_valued round after until steps h = by (round == 0) where
+  by : (b : Bool) → IsValued (cond b None (newest_up_to round after until steps until))
+  by true = tt
+  by false = newest_up_to_valued round after until steps until h
+
+may_be_valued : (name value : List ℕ) → may_be name value ≡ true → is_value value ≡ true
+may_be_valued name value h = by (writable_of name) h where
+  by : (w : Option Writable) → option_map_or (λ w. fits (attributes w) value) w false ≡ true → is_value value ≡ true
+  by None h = cc
+  by (Some w) h = and_left _ _ h
+
+-- a change that sets a value
+abbrev IsProper : Change → Type 0
+IsProper (Passing round after until) = Unit {0}
+IsProper (Assigning name value) = Unit {0}
+IsProper (Doing name value) = is_value value ≡ true
+
+after_valued : (change : Change) (own : List ℕ) (steps : List Step) (before : Option (List ℕ)) → IsProper change → AreValues steps → IsValued before
+    → IsValued (value_after change own steps before)
+after_valued (Passing round after until) own steps before proper h k = or_valued (latest round after until steps) before (latest_valued round after until steps h) k
+after_valued (Assigning name value) own steps before proper h k = by (is_assigned name value own before) refl where
+  by : (b : Bool) → is_assigned name value own before ≡ b → IsValued (cond b (Some value) before)
+  by true is = may_be_valued own value (and_right (bytes_eq own name && is_some before) (may_be own value) is)
+  by false is = k
+after_valued (Doing name value) own steps before proper h k = by (bytes_eq own name) where
+  by : (b : Bool) → IsValued (cond b (Some value) before)
+  by true = proper
+  by false = k
+
+-- what changes neither names nor soundness
+module _ (f : Variable → Variable) (same_name : (v : Variable) → (f v).name ≡ v.name) (same : (v : Variable) → IsSound v → IsSound (f v)) where
+  names_kept : (variables : List Variable) → map (λ v. v.name) (map f variables) ≡ map (λ v. v.name) variables
+  names_kept [] = refl
+  names_kept (v ∷ variables) = (λ i. same_name v i ∷ names_kept variables i)
+
+  each_kept : (variables : List Variable) → AllByRecursion IsSound variables → AllByRecursion IsSound (map f variables)
+  each_kept [] h = tt
+  each_kept (v ∷ variables) h = (same v h.0, each_kept variables h.1)
+
+  kept : (variables : List Variable) → AreSound variables → AreSound (map f variables)
+  kept variables h = record {
+    ascending = subst IsAscending (sym (names_kept variables)) h.ascending;
+    few = omega (arith, h.few, length-map variables f);
+    each = each_kept variables h.each;
+  }
+
+changed_sound : (change : Change) (t : Teller) → IsProper change → AreSound t.variables → AreSound (changed change t).variables
+changed_sound change t proper h =
+    kept (followed t.asked change) (λ v. refl) (λ v s. (s.0, s.1, after_valued change v.name v.steps v.value proper s.1 s.2)) t.variables h
+
+proper_command : (c : Command) → is_value (value_set c) ≡ true
+proper_command BeeperDisable = refl
+proper_command BeeperEnable = refl
+proper_command LoadOff = refl
+proper_command LoadOn = refl
+proper_command BatteryTestStart = refl
+proper_command BatteryTestStop = refl
+proper_command FailureStart = refl
+proper_command FailureStop = refl
+
+commanded_sound : (command : Option Command) (t : Teller) → AreSound t.variables → AreSound (commanded command t).variables
+commanded_sound None t h = h
+commanded_sound (Some c) t h = changed_sound (Doing (variable_set c) (value_set c)) t (proper_command c) h
+
+pub answered_sound : (ask : Option DriverAsk) (t : Teller) → AreSound t.variables → AreSound (answered ask t).variables
+answered_sound None t h = h
+answered_sound (Some asks.Ping) t h = h
+answered_sound (Some asks.DumpAll) t h = kept dumped (λ v. refl) (λ v s. s) t.variables h
+answered_sound (Some (asks.Set name value)) t h = changed_sound (Assigning name value) t tt h
+answered_sound (Some (asks.InstCmd name)) t h = commanded_sound (command_of name) t h
+
+pub heard_all_sound : (lines : List LineText) (t : Teller) → AreSound t.variables → AreSound (heard_all lines t).variables
+heard_all_sound [] t h = h
+heard_all_sound (line ∷ lines) t h = heard_all_sound lines (heard line t) (answered_sound (asked_by line) t h)
+
+relinked_sound : (t : Teller) → AreSound t.variables → AreSound (relinked t).variables
+relinked_sound t h = kept untold (λ v. refl) (λ v s. s) t.variables h
+
+begun_each : (variables : List Timeline) → AllByRecursion IsGood variables → AllByRecursion IsSound (map begun variables)
+begun_each [] h = tt
+begun_each (t ∷ variables) h = ((h.0.0, h.0.1, newest_valued _ t.steps h.0.1), begun_each variables h.1)
+
+begun_names : (variables : List Timeline) → map (λ v. v.name) (map begun variables) ≡ map (λ t. t.name) variables
+begun_names [] = refl
+begun_names (t ∷ variables) = ap (λ names. t.name ∷ names) (begun_names variables)
+
+beginning_sound : (script : Script) (start : ℕ) → IsGoodScript script → AreSound (beginning script start).teller.variables
+beginning_sound script start h =
+    let all = all_declared_good command_variables script.variables (refl, (refl, (refl, tt))) h.good in
+    let variables = all_declared command_variables script.variables in
+    record {
+      ascending = subst IsAscending (sym (begun_names variables)) all.0.ascending;
+      few = omega (arith, all.1, h.few, length-map variables begun);
+      each = begun_each variables (recursion_from_All IsGood variables all.0.each);
+    }
+
+-- Whatever calls are made, what a driver holds is sound.
+pub driver_sound : (kind : ScriptKind) (text : List ℕ) (script : Script) (start : ℕ) (h : List Call) → read_script kind text ≡ Ok script → AreSound (driver script start h).teller.variables
+driver_sound kind text script start [] is = beginning_sound script start (script_good kind text script is)
+driver_sound kind text script start (Linked ∷ h) is = relinked_sound (driver script start h).teller (driver_sound kind text script start h is)
+driver_sound kind text script start (Moment t ∷ h) is =
+    let s = driver script start h in
+    changed_sound (Passing s.round (s.clock - s.start) (max s.clock t - s.start)) s.teller tt (driver_sound kind text script start h is)
+driver_sound kind text script start (Bytes piece ∷ h) is =
+    heard_all_sound (brought piece (driver script start h)) (driver script start h).teller (driver_sound kind text script start h is)
+driver_sound kind text script start (Lost k piece ∷ h) is =
+    relinked_sound (heard_all (take k (brought piece (driver script start h))) (driver script start h).teller)
+    (heard_all_sound (take k (brought piece (driver script start h))) (driver script start h).teller (driver_sound kind text script start h is))
+driver_sound kind text script start (Took n ∷ h) is = driver_sound kind text script start h is
