@@ -4,3 +4,9 @@ pub mod Advancing
 pub mod Feeding
 pub mod Matches
 pub mod Bounded
+pub mod Runs
+pub mod Turns
+pub mod Tasks
+pub mod Writing
+pub mod Sendings
+pub mod Hearings

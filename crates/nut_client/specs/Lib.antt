@@ -5,4 +5,12 @@ pub mod Link
 pub mod Hearing
 pub mod Parts
 pub mod Bounds
+pub mod Stream
+pub mod Unread
+pub mod Script
+pub mod Tool
+pub mod Task
+pub mod Conversation
+pub mod Sending
+pub mod Between
 pub mod Laws

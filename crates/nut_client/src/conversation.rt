@@ -1,93 +1,115 @@
-//! Asking queries over a stream, one after the other.
-use crate::copied::{Fields, Rows};
+//! Asking queries over a connection, one after the other.
+ghost use Rattle.std.specs.Prelude.{◌≡◌, [], IfErr, OnOk};
+ghost use Rattle.std.specs.Io.KnownBytes.{prepend_known};
+ghost use Rattle.nut_client.specs.Conversation.{Answered, Hears, IsWaiting, Sends};
+ghost use Rattle.nut_client.specs.Link.{fresh};
+ghost use Rattle.nut_client.specs.Rests.{IsRest};
+ghost use Rattle.nut_client.specs.declared.failure.Failure.TheVariants.{ConnectionLost};
+
 use crate::failure::Failure;
 use crate::link::Link;
 use crate::outcome::Outcome;
+use crate::stream::{Moved, Stream};
 use crate::unread::Unread;
-use nut_proto::{ListQuery, Request};
+use nut_proto::Request;
 use std::alloc::Global;
-use std::io::{ErrorKind, Read, Write};
 use std::sync::Wait;
 
-/// A link over a stream. What was read behind an answer waits until the next query was sent.
+/// A link over a connection. What was read behind an answer waits until the next query was sent.
 #[derive(Drop)]
-pub(crate) struct Conversation<'a, T> {
-    stream: &'a mut T,
+pub(crate) struct Conversation {
     link: Link,
     unread: Unread,
 }
 
-impl<'a, T: Read + Write> Conversation<'a, T> {
-    pub(crate) fn new(alloc: Global, stream: &'a mut T) -> Self {
+impl Conversation {
+    /// One in which nothing was said.
+    pub(crate) fn new(alloc: Global) -> Self
+        ensures link { result.link ≡ fresh }
+        ensures unread { result.unread ≡ [] }
+    {
         Conversation {
-            stream,
             link: Link::new(alloc),
             unread: Unread::new(),
         }
     }
 
-    /// Asks for a list.
-    pub(crate) fn list(&mut self, rt: &impl Wait, query: ListQuery<'_>) -> Result<Rows, Failure> {
-        match self.ask(rt, &Request::List(query))? {
-            Outcome::List(rows) => Ok(rows),
-            Outcome::Refused(name) => Err(Failure::Refused(name)),
-            Outcome::Done | Outcome::Said(_) => Err(Failure::BadAnswer),
-        }
-    }
-
-    /// Asks for one line.
-    pub(crate) fn get(&mut self, rt: &impl Wait, request: &Request<'_>) -> Result<Fields, Failure> {
-        match self.ask(rt, request)? {
-            Outcome::Said(fields) => Ok(fields),
-            Outcome::Refused(name) => Err(Failure::Refused(name)),
-            Outcome::Done | Outcome::List(_) => Err(Failure::BadAnswer),
-        }
-    }
-
-    /// Asks the server to do something.
-    pub(crate) fn command(&mut self, rt: &impl Wait, request: &Request<'_>) -> Result<(), Failure> {
-        match self.ask(rt, request)? {
-            Outcome::Done => Ok(()),
-            Outcome::Refused(name) => Err(Failure::Refused(name)),
-            Outcome::Said(_) | Outcome::List(_) => Err(Failure::BadAnswer),
-        }
-    }
-
     /// Sends a query and waits for its answer. The link is given one line at a time.
-    fn ask(&mut self, rt: &impl Wait, request: &Request<'_>) -> Result<Outcome, Failure> {
-        self.link.ask(request)?;
-        self.send(rt)?;
+    pub(crate) fn ask<S: Stream>(
+        &mut self,
+        rt: &impl Wait,
+        stream: &mut S,
+        request: &Request<'_>,
+    ) -> Result<Outcome, Failure>
+        requires { self.old.link ≡ fresh }
+        ensures answered { Answered request.now result
+            (prepend_known self.old.unread (S.remaining stream.old)) (prepend_known self.new.unread (S.remaining stream.new))
+            (S.taken stream.old) (S.taken stream.new) }
+        ensures rests { OnOk result (self.new.link ≡ fresh) }
+        ensures lost { IfErr result (λ failure. failure ≡ ConnectionLost → S.has_ended stream.new) }
+    {
+        if let Err(failure) = self.send(rt, stream, request) {
+            return Err(failure);
+        }
         for _ in rt.forever() {
-            self.unread.fill(rt, self.stream)?;
-            let used = {
-                let part = self.unread.line_part();
-                self.link.feed(part)?;
-                part.len()
-            };
-            self.unread.take(used);
-            if let Some(outcome) = self.link.answer() {
-                return Ok(outcome);
+            match self.hear(rt, stream) {
+                Ok(Some(outcome)) => return Ok(outcome),
+                Ok(None) => {}
+                Err(failure) => return Err(failure),
             }
         }
         unreachable!()
     }
 
-    /// Sends all bytes of the query.
-    fn send(&mut self, rt: &impl Wait) -> Result<(), Failure> {
+    /// Sends all bytes of a query.
+    fn send<S: Stream>(
+        &mut self,
+        rt: &impl Wait,
+        stream: &mut S,
+        request: &Request<'_>,
+    ) -> Result<(), Failure>
+        requires { self.old.link ≡ fresh }
+        ensures sends { Sends request.now result self.new.link (S.taken stream.old) (S.taken stream.new) (S.has_ended stream.new) }
+        ensures unread { self.new.unread ≡ self.old.unread }
+        ensures remaining { S.remaining stream.new ≡ S.remaining stream.old }
+    {
+        self.link.ask(request)?;
         for _ in rt.forever() {
             if self.link.waiting().is_empty() {
                 break;
             }
-            match self.stream.write(self.link.waiting()) {
-                Ok(0) => return Err(Failure::ConnectionLost),
-                Ok(n) => self.link.took(n)?,
-                Err(error) if error.kind() == ErrorKind::Interrupted => {}
-                Err(_) => return Err(Failure::ConnectionLost),
+            match stream.write(self.link.waiting()) {
+                Moved::Bytes(n) => self.link.took(n)?,
+                Moved::Again => {}
+                Moved::Lost => return Err(Failure::ConnectionLost),
             }
         }
-        match self.stream.flush() {
-            Ok(()) => Ok(()),
-            Err(_) => Err(Failure::ConnectionLost),
+        Ok(())
+    }
+
+    /// Gives the link the next part of a line, and takes out the answer where it is complete.
+    fn hear<S: Stream>(
+        &mut self,
+        rt: &impl Wait,
+        stream: &mut S,
+    ) -> Result<Option<Outcome>, Failure>
+        requires waits { IsWaiting self.old.link.exchange }
+        requires rest { IsRest self.old.link.rest }
+        ensures hears { Hears self.old.link result self.new.link
+            (prepend_known self.old.unread (S.remaining stream.old)) (prepend_known self.new.unread (S.remaining stream.new))
+            (S.has_ended stream.new) }
+        ensures taken { S.taken stream.new ≡ S.taken stream.old }
+    {
+        if let Err(failure) = self.unread.fill(rt, stream) {
+            return Err(failure);
         }
+        let part = self.unread.line_part();
+        let used = part.len();
+        let fed = self.link.feed(part);
+        self.unread.take(used);
+        if let Err(fault) = fed {
+            return Err(Failure::from(fault));
+        }
+        Ok(self.link.answer())
     }
 }

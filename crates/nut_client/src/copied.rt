@@ -20,6 +20,13 @@ impl Model for Text {
 }
 
 impl Text {
+    /// These bytes.
+    pub(crate) fn of(bytes: Vec<u8>) -> Text
+        ensures { result ≡ bytes.items }
+    {
+        Text { bytes }
+    }
+
     /// A copy of these bytes. An `Err` is for want of memory.
     pub(crate) fn copy(alloc: Global, bytes: &[u8]) -> Result<Text, AllocError>
         ensures { IfOk result (λ t. t ≡ bytes.now) }

@@ -1,18 +1,168 @@
-//! How a tool ends.
-use crate::failure::Failure;
-use std::io::Write;
+//! How a tool runs.
+ghost use Rattle.std.specs.Prelude.{◌≡◌, ◌≤◌, IfErr, IsTrue, drop, is_some, length};
+ghost use Rattle.std.specs.Io.KnownBytes.{Appends};
+ghost use Rattle.nut_client.specs.Script.{script};
+ghost use Rattle.nut_client.specs.Tool.{AppendsFront, Ends, error_text, IsResult, RunsAs, Tells};
+ghost use Rattle.nut_client.specs.declared.failure.Failure.TheVariants.{ConnectionLost};
 
-/// Writes a tool's output, or says why there is none, and gives the exit status: 1 where the output can't be written.
-pub(crate) fn run<O: Write, E: Write>(
-    printed: Result<Vec<u8>, Failure>,
+use crate::command_line::{Options, Refusal};
+use crate::conversation::Conversation;
+use crate::copied::Text;
+use crate::failure::Failure;
+use crate::stream::Stream;
+use crate::task::{Next, Task};
+use crate::wanted::Wanted;
+use nut_proto::Word;
+use std::alloc::Global;
+use std::io;
+use std::io::{ErrorKind, Write};
+use std::sync::Wait;
+
+/// Asks a server what is wanted of the UPS of this name, and gives the text to print once the last answer came.
+pub fn ask_server<S: Stream>(
+    rt: &impl Wait,
+    alloc: Global,
+    ups: Word<'_>,
+    wanted: Wanted<'_>,
+    stream: &mut S,
+) -> Result<Text, Failure>
+    ensures ends { Ends (script ups.entry wanted.entry) result
+        (S.remaining stream.old) (S.remaining stream.new) (S.taken stream.old) (S.taken stream.new) }
+    ensures lost { IfErr result (λ failure. failure ≡ ConnectionLost → S.has_ended stream.new) }
+{
+    let mut conversation = Conversation::new(alloc);
+    let mut task = Task::new(alloc, ups, wanted);
+    for _ in rt.forever() {
+        let asked = match task.next() {
+            Next::Asks(request) => conversation.ask(rt, stream, &request),
+            Next::Prints => break,
+        };
+        let outcome = match asked {
+            Ok(outcome) => outcome,
+            Err(failure) => return Err(failure),
+        };
+        task = match task.hear(outcome) {
+            Ok(task) => task,
+            Err(failure) => return Err(failure),
+        };
+    }
+    Ok(task.into_text())
+}
+
+/// What stands from this place on.
+fn rest_from(bytes: &[u8], at: usize) -> &[u8]
+    requires { at ≤ length bytes.now }
+    ensures { result.now ≡ drop at bytes.now }
+{
+    &bytes[at..]
+}
+
+/// Writes these bytes, and says whether all were written. Else a beginning of them was.
+fn put_all<W: Write>(rt: &impl Wait, writer: &mut W, bytes: &[u8]) -> bool
+    ensures front { AppendsFront (W.contents writer.old) (W.contents writer.new) bytes.now }
+    ensures whole { IsTrue result → Appends (W.contents writer.old) (W.contents writer.new) bytes.now }
+{
+    let mut at = 0usize;
+    for _ in rt.forever() {
+        if at == bytes.len() {
+            break;
+        }
+        match writer.write(rest_from(bytes, at)) {
+            Ok(0) => return false,
+            Ok(n) => at += n,
+            Err(error) if error.kind() == ErrorKind::Interrupted => {}
+            Err(_) => return false,
+        }
+    }
+    writer.flush().is_ok()
+}
+
+/// Says why there is no output, as far as that can be written.
+fn put_failure<E: Write>(rt: &impl Wait, err: &mut E, failure: &Failure)
+    ensures { AppendsFront (E.contents err.old) (E.contents err.new) (error_text failure.now) }
+{
+    if !put_all(rt, err, b"Error: ") {
+        return;
+    }
+    if !put_all(rt, err, failure.reason()) {
+        return;
+    }
+    put_all(rt, err, b"\n");
+}
+
+/// Prints what a tool came to, and gives the exit status.
+fn tell<O: Write, E: Write>(
+    rt: &impl Wait,
+    printed: Result<Text, Failure>,
     out: &mut O,
     err: &mut E,
-) -> u8 {
+) -> u8
+    ensures { Tells printed result (O.contents out.old) (O.contents out.new) (E.contents err.old) (E.contents err.new) }
+{
     match printed {
-        Ok(text) => {
-            let is_written = out.write_all(text.as_slice()).is_ok() && out.flush().is_ok();
-            u8::from(!is_written)
+        Ok(text) => u8::from(!put_all(rt, out, text.as_bytes())),
+        Err(failure) => {
+            put_failure(rt, err, &failure);
+            failure.status()
         }
-        Err(failure) => failure.tell(out, err),
     }
+}
+
+/// What is printed of the answers to what is wanted.
+fn answered<S: Stream>(
+    rt: &impl Wait,
+    alloc: Global,
+    ups: Word<'_>,
+    wanted: Wanted<'_>,
+    stream: Option<&mut S>,
+) -> Result<Text, Failure>
+    ensures { IsResult (script ups.entry wanted.entry) (is_some stream.entry) result }
+{
+    match stream {
+        Some(stream) => ask_server(rt, alloc, ups, wanted, stream),
+        None => Err(Failure::NoConnection),
+    }
+}
+
+/// Runs a tool with what was read of its command line, and gives the exit status.
+pub(crate) fn run<S: Stream, O: Write, E: Write>(
+    rt: &impl Wait,
+    alloc: Global,
+    options: Result<Options<'_>, Refusal>,
+    stream: Option<&mut S>,
+    out: &mut O,
+    err: &mut E,
+) -> u8
+    ensures { RunsAs (is_some stream.entry) result (O.contents out.old) (O.contents out.new) (E.contents err.old) (E.contents err.new) }
+{
+    match options {
+        Ok(Options { target, wanted }) => {
+            let ups = Word::new(target.ups.as_bytes());
+            let printed = answered(rt, alloc, ups, wanted, stream);
+            tell(rt, printed, out, err)
+        }
+        Err(Refusal::Failed(failure)) => tell(rt, Err(failure), out, err),
+        Err(Refusal::Usage(error)) => tell_usage(&error, out, err),
+    }
+}
+
+/// Writes clap's text: the help and the version to `out`, with status 0, and a fault to `err`, with status 2.
+fn tell_usage<O: Write, E: Write>(error: &clap::Error, out: &mut O, err: &mut E) -> u8 {
+    if error.use_stderr() {
+        let _ = write!(err, "{error}");
+        return 2;
+    }
+    u8::from(write!(out, "{error}").is_err())
+}
+
+/// Says why the words of the command line can't be had, and gives the exit status: 1 for want of memory, and 2 where a word
+/// isn't UTF-8.
+pub fn refuse_words<E: Write>(rt: &impl Wait, error: &io::Error, err: &mut E) -> u8 {
+    let failure = if error.kind() == ErrorKind::OutOfMemory {
+        Failure::Memory
+    } else {
+        Failure::BadArguments
+    };
+    put_failure(rt, err, &failure);
+    failure.status()
 }

@@ -1,15 +1,15 @@
 //! Why a tool ends without its output.
+ghost use Rattle.std.specs.Prelude.{◌≡◌};
+ghost use Rattle.nut_client.specs.Tool.{failure_of, reason, status_of};
+ghost use Rattle.nut_client.specs.declared.failure.Failure.TheVariants.{Memory};
+
 use crate::copied::Text;
 use crate::fault::LinkFault;
 use std::alloc::{AllocError, AllocFailed};
-use std::io;
-use std::io::Write;
 
 /// Why a tool ends without its output.
-#[derive(Drop)]
-pub(crate) enum Failure {
-    /// The command line doesn't read, or asks for the help or the version: the text is clap's.
-    CommandLine(clap::Error),
+#[derive(Debug, Drop)]
+pub enum Failure {
     /// The words of the command line read, but make no combination that the tool knows.
     BadArguments,
     /// The name of the UPS, its host or its port doesn't read.
@@ -28,29 +28,25 @@ pub(crate) enum Failure {
     Memory,
 }
 
-impl From<clap::Error> for Failure {
-    fn from(error: clap::Error) -> Self {
-        if error.kind() == clap::error::ErrorKind::OutOfMemory {
-            Failure::Memory
-        } else {
-            Failure::CommandLine(error)
-        }
-    }
-}
-
 impl From<AllocError> for Failure {
+    ghost from_gives = { λ _ failure. failure ≡ Memory };
+
     fn from(_: AllocError) -> Self {
         Failure::Memory
     }
 }
 
 impl<T: Drop> From<AllocFailed<T>> for Failure {
+    ghost from_gives = { λ _ failure. failure ≡ Memory };
+
     fn from(_: AllocFailed<T>) -> Self {
         Failure::Memory
     }
 }
 
 impl From<LinkFault> for Failure {
+    ghost from_gives = { λ fault failure. failure ≡ failure_of fault };
+
     fn from(fault: LinkFault) -> Self {
         match fault {
             LinkFault::NotMine
@@ -64,44 +60,35 @@ impl From<LinkFault> for Failure {
 }
 
 impl Failure {
-    /// Says why on the stream where it belongs, and gives the exit status.
-    pub(crate) fn tell<O: Write, E: Write>(self, out: &mut O, err: &mut E) -> u8 {
+    /// What is said of it on standard error, behind `Error: `.
+    pub(crate) fn reason(&self) -> &[u8]
+        ensures { result.now ≡ reason self.now }
+    {
         match self {
-            Failure::CommandLine(error) => tell_usage(&error, out, err),
-            Failure::BadArguments => {
-                let _ = err.write_all(b"Error: bad arguments\n");
-                2
-            }
-            Failure::Refused(name) => {
-                let _ = tell_refusal(name.as_bytes(), err);
-                1
-            }
-            Failure::BadName => tell_text(b"Error: bad UPS name\n", err),
-            Failure::NoConnection => tell_text(b"Error: connection failed\n", err),
-            Failure::ConnectionLost => tell_text(b"Error: connection lost\n", err),
-            Failure::BadAnswer => tell_text(b"Error: bad answer\n", err),
-            Failure::BadQuery => tell_text(b"Error: bad query\n", err),
-            Failure::Memory => tell_text(b"Error: out of memory\n", err),
+            Failure::BadArguments => b"bad arguments",
+            Failure::BadName => b"bad UPS name",
+            Failure::NoConnection => b"connection failed",
+            Failure::ConnectionLost => b"connection lost",
+            Failure::Refused(name) => name.as_bytes(),
+            Failure::BadAnswer => b"bad answer",
+            Failure::BadQuery => b"bad query",
+            Failure::Memory => b"out of memory",
         }
     }
-}
 
-/// Writes clap's text: the help and the version to `out`, with status 0, and a fault to `err`, with status 2.
-fn tell_usage<O: Write, E: Write>(error: &clap::Error, out: &mut O, err: &mut E) -> u8 {
-    if error.use_stderr() {
-        let _ = write!(err, "{error}");
-        return 2;
+    /// The exit status.
+    pub(crate) fn status(&self) -> u8
+        ensures { result ≡ status_of self.now }
+    {
+        match self {
+            Failure::BadArguments => 2,
+            Failure::BadName
+            | Failure::NoConnection
+            | Failure::ConnectionLost
+            | Failure::Refused(_)
+            | Failure::BadAnswer
+            | Failure::BadQuery
+            | Failure::Memory => 1,
+        }
     }
-    u8::from(write!(out, "{error}").is_err())
-}
-
-fn tell_text<E: Write>(text: &[u8], err: &mut E) -> u8 {
-    let _ = err.write_all(text);
-    1
-}
-
-fn tell_refusal<E: Write>(name: &[u8], err: &mut E) -> io::Result<()> {
-    err.write_all(b"Error: ")?;
-    err.write_all(name)?;
-    err.write_all(b"\n")
 }

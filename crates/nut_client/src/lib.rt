@@ -5,9 +5,11 @@
 //! and each line moves it in `specs/Link.antt`.
 #![tactic(auto)]
 
+mod command_line;
 mod conversation;
 mod copied;
 mod destination;
+mod dialing;
 mod engine;
 mod exchange;
 mod expected;
@@ -16,28 +18,36 @@ mod fault;
 mod heading;
 mod laws;
 mod link;
-mod login;
 mod outcome;
 mod printing;
 mod query;
+mod stream;
+mod task;
 mod unread;
 mod upsc;
 mod upscmd;
 mod upsrw;
+mod wanted;
 
 pub use copied::{Fields, Rows, Text};
 pub use destination::Destination;
+pub use dialing::dial;
+pub use engine::{ask_server, refuse_words};
 pub use exchange::{Exchange, Stage};
 pub use expected::{Expected, More};
+pub use failure::Failure;
 pub use fault::LinkFault;
 pub use heading::{Heading, Name};
 pub use laws::{bounds_stay, cuts_do_not_matter, ok_takes_no_memory, replies_match, rests_stay};
 pub use link::Link;
 pub use outcome::Outcome;
+pub use printing::{Form, Values};
 pub use query::Query;
+pub use stream::{ByteStream, MemoryStream, Moved, Stream};
 pub use upsc::{run_upsc, upsc_target};
 pub use upscmd::{run_upscmd, upscmd_target};
 pub use upsrw::{run_upsrw, upsrw_target};
+pub use wanted::{Deed, Wanted};
 
 #[cfg(test)]
 mod tests;

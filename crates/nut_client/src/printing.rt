@@ -1,8 +1,34 @@
 //! Lines for people.
 ghost use Rattle.std.specs.Prelude.{◌≡◌, ◌++◌, ◌∷◌, [], OnOk};
 ghost use Rattle.std.specs.List.{flat_map};
+ghost use Rattle.nut_client.specs.Script.{has_word, row_line, row_lines, type_line, values_of, with_heading};
 
+use crate::copied::{Fields, Text};
 use std::alloc::AllocError;
+
+/// How a row is printed.
+#[derive(Clone, Copy, Debug)]
+pub enum Form {
+    /// Its two words, `: ` between them.
+    Pairs,
+    /// Its first word.
+    Firsts,
+    /// A value that a variable takes.
+    Options,
+    /// A range of numbers that a variable takes.
+    Ranges,
+}
+
+/// What a variable takes.
+#[derive(Clone, Copy, Debug)]
+pub enum Values {
+    /// The values that the server lists.
+    Enum,
+    /// The ranges that the server lists.
+    Range,
+    /// Anything else.
+    Free,
+}
 
 /// Appends a line of these parts.
 pub(crate) fn put_line(out: &mut Vec<u8>, parts: &[&[u8]]) -> Result<(), AllocError>
@@ -13,4 +39,78 @@ pub(crate) fn put_line(out: &mut Vec<u8>, parts: &[&[u8]]) -> Result<(), AllocEr
     }
     out.push(b'\n')?;
     Ok(())
+}
+
+/// Appends the line that is printed of a row.
+fn put_row(out: &mut Vec<u8>, form: Form, row: &Fields) -> Result<(), AllocError>
+    ensures { OnOk result (out.new.items ≡ out.old.items ++ row_line form row.now) }
+{
+    match form {
+        Form::Pairs => put_line(out, &[row.get(0), b": ", row.get(1)])?,
+        Form::Firsts => put_line(out, &[row.get(0)])?,
+        Form::Options => put_line(out, &[b"Option: ", row.get(0)])?,
+        Form::Ranges => put_line(out, &[b"Range: ", row.get(0), b"..", row.get(1)])?,
+    }
+    Ok(())
+}
+
+/// Appends the lines of all rows.
+pub(crate) fn put_rows(out: &mut Vec<u8>, form: Form, rows: &[Fields]) -> Result<(), AllocError>
+    ensures { OnOk result (out.new.items ≡ out.old.items ++ row_lines form rows.now) }
+{
+    for row in rows {
+        put_row(out, form, row)?;
+    }
+    Ok(())
+}
+
+/// Appends the words of a variable's type, each behind a blank.
+fn put_words(out: &mut Vec<u8>, words: &[Text]) -> Result<(), AllocError>
+    ensures { OnOk result (out.new.items ≡ out.old.items ++ flat_map (λ w. 32 ∷ w) words.now) }
+{
+    for word in words {
+        out.push(b' ')?;
+        out.extend_from_slice(word.as_bytes())?;
+    }
+    Ok(())
+}
+
+/// Appends the line of a variable's type.
+fn put_type(out: &mut Vec<u8>, kind: &Fields) -> Result<(), AllocError>
+    ensures { OnOk result (out.new.items ≡ out.old.items ++ type_line kind.now) }
+{
+    out.extend_from_slice(b"Type:")?;
+    put_words(out, kind.as_slice())?;
+    out.push(b'\n')?;
+    Ok(())
+}
+
+/// Appends what stands above the values that a variable takes: its name, its type and its value.
+pub(crate) fn put_heading(out: &mut Vec<u8>, row: &Fields, kind: &Fields) -> Result<(), AllocError>
+    ensures { OnOk result (out.new.items ≡ with_heading row.now kind.now out.old.items) }
+{
+    put_line(out, &[b"[", row.get(0), b"]"])?;
+    put_type(out, kind)?;
+    put_line(out, &[b"Value: ", row.get(1)])?;
+    Ok(())
+}
+
+/// Whether one of the words is this one.
+fn has_word(words: &Fields, wanted: &[u8]) -> bool
+    ensures { result ≡ has_word wanted.now words.now }
+{
+    words.as_slice().iter().any(|w| w.as_bytes() == wanted)
+}
+
+/// What a variable of this type takes.
+pub(crate) fn values_of(kind: &Fields) -> Values
+    ensures { result ≡ values_of kind.now }
+{
+    if has_word(kind, b"ENUM") {
+        Values::Enum
+    } else if has_word(kind, b"RANGE") {
+        Values::Range
+    } else {
+        Values::Free
+    }
 }

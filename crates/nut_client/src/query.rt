@@ -13,6 +13,7 @@ use crate::fault::LinkFault;
 use crate::outcome::Outcome;
 use arrayvec::ArrayVec;
 use nut_proto::{Answer, Request, Rest};
+use nut_words::are_printing;
 use std::alloc::Global;
 use std::marker::Model;
 use std::mem;
@@ -42,24 +43,12 @@ impl Model for Query {
     ghost invariant = { λ q. (q.taken ≤ array_vec_len q.line) × (array_vec_len q.line ≤ 513) × HasFewRows q.rows };
 }
 
-fn is_printing_byte(byte: u8) -> bool
-    ensures { result ≡ is_printing byte }
-{
-    matches!(&byte, 0x20..=0x7e)
-}
-
-fn is_printing(text: &[u8]) -> bool
-    ensures { result ≡ list_all is_printing text.now }
-{
-    text.iter().all(|byte| is_printing_byte(*byte))
-}
-
 /// Whether the bytes of a line before its line feed are 0x20 to 0x7E.
 fn is_printing_line(line: &[u8]) -> bool
     ensures { (text : List ℕ) → line.now ≡ text ++ 10 ∷ [] → result ≡ list_all is_printing text }
 {
     match line {
-        [text @ .., _] => is_printing(text),
+        [text @ .., _] => are_printing(text),
         [] => false,
     }
 }

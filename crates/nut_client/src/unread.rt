@@ -1,16 +1,20 @@
-//! What was read from a stream and not used yet.
-ghost use Rattle.std.specs.Prelude.{◌≡◌, []};
+//! What was read from a connection and not used yet.
+ghost use Rattle.std.specs.Prelude.{◌≡◌, [], IfErr, IfOk, OnErr, drop};
+ghost use Rattle.std.specs.Io.KnownBytes.{prepend_known};
+ghost use Rattle.nut_client.specs.Unread.{IsLinePart};
+ghost use Rattle.nut_client.specs.declared.failure.Failure.TheVariants.{ConnectionLost};
 
 use crate::failure::Failure;
+use crate::stream::{Moved, Stream};
 use arrayvec::ArrayVec;
-use std::io::{ErrorKind, Read};
+use memchr::memchr;
 use std::marker::Model;
 use std::sync::Wait;
 
 /// How many bytes are read at once.
 const PIECE: usize = 512;
 
-/// What was read from a stream and not used yet.
+/// What was read from a connection and not used yet.
 #[derive(Drop)]
 pub(crate) struct Unread {
     bytes: ArrayVec<u8, 512>,
@@ -38,38 +42,62 @@ impl Unread {
         }
     }
 
+    fn as_slice(&self) -> &[u8]
+        ensures { result.now ≡ self.now }
+    {
+        &self.bytes.as_slice()[self.used..]
+    }
+
     /// The bytes through the first line feed, or all of them where there is none.
-    pub(crate) fn line_part(&self) -> &[u8] {
-        let bytes = &self.bytes.as_slice()[self.used..];
-        match bytes.iter().position(|byte| *byte == b'\n') {
+    pub(crate) fn line_part(&self) -> &[u8]
+        ensures { IsLinePart self.now result.now }
+    {
+        let bytes = self.as_slice();
+        match memchr(b'\n', bytes) {
             Some(at) => &bytes[..at + 1],
             None => bytes,
         }
     }
 
     /// Lets the first `n` bytes go, or all where there are fewer.
-    pub(crate) fn take(&mut self, n: usize) {
+    pub(crate) fn take(&mut self, n: usize)
+        ensures { self.new ≡ drop n self.old }
+    {
         self.used = self.used.saturating_add(n).min(self.bytes.len());
     }
 
-    /// Reads from the stream, where nothing is unread. It waits for at least one byte.
-    pub(crate) fn fill<T: Read>(&mut self, rt: &impl Wait, stream: &mut T) -> Result<(), Failure> {
+    /// Reads from the connection, where nothing is unread. It waits for at least one byte.
+    pub(crate) fn fill<S: Stream>(&mut self, rt: &impl Wait, stream: &mut S) -> Result<(), Failure>
+        ensures same { prepend_known self.old (S.remaining stream.old) ≡ prepend_known self.new (S.remaining stream.new) }
+        ensures taken { S.taken stream.new ≡ S.taken stream.old }
+        ensures lost { IfErr result (λ failure. (failure ≡ ConnectionLost) × S.has_ended stream.new) }
+    {
         if self.used < self.bytes.len() {
             return Ok(());
         }
-        let mut bytes = ArrayVec::from([0; PIECE]);
-        for _ in rt.forever() {
-            match stream.read(bytes.as_mut_slice()) {
-                Ok(0) => return Err(Failure::ConnectionLost),
-                Ok(n) => {
-                    bytes.truncate(n);
-                    *self = Unread { bytes, used: 0 };
-                    return Ok(());
-                }
-                Err(error) if error.kind() == ErrorKind::Interrupted => {}
-                Err(_) => return Err(Failure::ConnectionLost),
-            }
-        }
-        unreachable!()
+        let bytes = read_some(rt, stream)?;
+        *self = Unread { bytes, used: 0 };
+        Ok(())
     }
+}
+
+/// Reads from the connection. It waits for at least one byte.
+fn read_some<S: Stream>(rt: &impl Wait, stream: &mut S) -> Result<ArrayVec<u8, 512>, Failure>
+    ensures some { IfOk result (λ bytes. S.remaining stream.old ≡ prepend_known bytes.items (S.remaining stream.new)) }
+    ensures none { OnErr result (S.remaining stream.new ≡ S.remaining stream.old) }
+    ensures taken { S.taken stream.new ≡ S.taken stream.old }
+    ensures lost { IfErr result (λ failure. (failure ≡ ConnectionLost) × S.has_ended stream.new) }
+{
+    for _ in rt.forever() {
+        let mut bytes = ArrayVec::from([0; PIECE]);
+        match stream.read(bytes.as_mut_slice()) {
+            Moved::Bytes(n) => {
+                bytes.truncate(n);
+                return Ok(bytes);
+            }
+            Moved::Again => {}
+            Moved::Lost => return Err(Failure::ConnectionLost),
+        }
+    }
+    unreachable!()
 }

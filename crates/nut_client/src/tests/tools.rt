@@ -56,7 +56,7 @@ fn run_tool(
     rt: &impl Wait,
     alloc: Global,
     words: &[&str],
-    stream: Option<&mut Server<'_>>,
+    stream: Option<&mut ByteStream<Server<'_>>>,
     out: &mut Sink,
     err: &mut Sink,
 ) -> u8 {
@@ -71,7 +71,7 @@ fn run_tool(
 fn first_wrong(rt: &impl Wait, alloc: Global, runs: &[Run<'_>]) -> Option<usize> {
     for (number, wanted) in runs.iter().enumerate() {
         for most in [1, 5, 512] {
-            let mut server = server_of(alloc, wanted, most);
+            let mut stream = ByteStream::new(server_of(alloc, wanted, most));
             let mut out = sink_with(alloc, wanted.way.prints);
             let mut err = sink_with(alloc, usize::MAX);
             let status = if wanted.way.is_connected {
@@ -79,13 +79,14 @@ fn first_wrong(rt: &impl Wait, alloc: Global, runs: &[Run<'_>]) -> Option<usize>
                     rt,
                     alloc,
                     wanted.words,
-                    Some(&mut server),
+                    Some(&mut stream),
                     &mut out,
                     &mut err,
                 )
             } else {
                 run_tool(rt, alloc, wanted.words, None, &mut out, &mut err)
             };
+            let server = stream.into_inner();
             let is_right = status == wanted.status
                 && server.asked.as_slice() == wanted.queries
                 && out.bytes.as_slice() == wanted.out
@@ -96,6 +97,25 @@ fn first_wrong(rt: &impl Wait, alloc: Global, runs: &[Run<'_>]) -> Option<usize>
         }
     }
     None
+}
+
+#[test]
+fn upsc_over_memory(rt: HostRuntime) {
+    let mut server = MemoryStream::new(rt.alloc(), b"VAR u v \"1\"\nVER\n", 3);
+    let mut out = sink_with(rt.alloc(), usize::MAX);
+    let mut err = sink_with(rt.alloc(), usize::MAX);
+    let words = ["upsc", "u", "v"];
+    let status = run_upsc(
+        &rt,
+        rt.alloc(),
+        &words,
+        Some(&mut server),
+        &mut out,
+        &mut err,
+    );
+    assert_eq!(rt; status, 0);
+    assert_eq!(rt; server.asked(), b"GET VAR u v\n".as_slice());
+    assert_eq!(rt; out.bytes.as_slice(), b"1\n".as_slice());
 }
 
 const VARIABLES: &[u8] =

@@ -1,0 +1,10 @@
+use Rattle.std.proofs.Common.{◌≡◌}
+use Rattle.nut_client.specs.Sending.{IsSending}
+use Rattle.nut_client.proofs.conversation.Conversation.send.Given as goal
+
+abbrev pub invariant-loop : goal.invariant-loop
+invariant-loop g l = record {
+  sending : IsSending l.request l.self.link (g.S.Stream.taken l.fn.stream) (g.S.Stream.taken l.stream);
+  unread : l.self.unread ≡ l.fn.self.unread;
+  remaining : g.S.Stream.remaining l.stream ≡ g.S.Stream.remaining l.fn.stream;
+}

@@ -1,0 +1,126 @@
+-- What each tool asks and prints: one query after the other, the next one chosen by the answers so far, and the text that
+-- is printed once the last answer came (upsc(8), upsrw(8), upscmd(8), in the forms of docs/tools.md).
+use Rattle.std.specs.Prelude.{ℕ, Bool, List, [], ◌∷◌, ◌++◌, codes, slice_index_or, if◌then◌else◌}
+use Rattle.std.specs.List.{flat_map, list_any}
+use Rattle.std.specs.Str.{bytes_eq}
+use Rattle.nut_proto.specs.declared.request.ListQuery.TheVariants as queries
+use Rattle.nut_proto.specs.declared.request.Request.{Request}
+use Rattle.nut_proto.specs.declared.request.Request.TheVariants as requests
+use Rattle.nut_client.specs.declared.failure.Failure.{Failure}
+use Rattle.nut_client.specs.declared.failure.Failure.TheVariants as failures
+use Rattle.nut_client.specs.declared.outcome.Outcome.{Outcome}
+use Rattle.nut_client.specs.declared.outcome.Outcome.TheVariants as outcomes
+use Rattle.nut_client.specs.declared.printing.Form.{Form}
+use Rattle.nut_client.specs.declared.printing.Form.TheVariants.{Pairs, Firsts, Options, Ranges}
+use Rattle.nut_client.specs.declared.printing.Values.{Values}
+use Rattle.nut_client.specs.declared.printing.Values.TheVariants as values
+use Rattle.nut_client.specs.declared.wanted.Deed.{Deed}
+use Rattle.nut_client.specs.declared.wanted.Deed.TheVariants as deeds
+use Rattle.nut_client.specs.declared.wanted.Wanted.{Wanted}
+use Rattle.nut_client.specs.declared.wanted.Wanted.TheVariants as wanteds
+
+-- What is left to do: to print a text, to fail, or to ask a query and go on by what came of it.
+pub data Script : Type 0 where
+  Prints : List ℕ → Script
+  Fails : Failure → Script
+  Asks : Request → (Outcome → Script) → Script
+
+-- Goes on with the rows of a list. A refusal ends the tool; another kind of answer never answers a LIST.
+abbrev pub on_rows : (List (List (List ℕ)) → Script) → Outcome → Script
+on_rows next (outcomes.List rows) = next rows
+on_rows next (outcomes.Refused name) = Fails (failures.Refused name)
+on_rows next outcomes.Done = Fails failures.BadAnswer
+on_rows next (outcomes.Said words) = Fails failures.BadAnswer
+
+-- Goes on with the words that answer a GET, in the same way.
+abbrev pub on_words : (List (List ℕ) → Script) → Outcome → Script
+on_words next (outcomes.Said words) = next words
+on_words next (outcomes.Refused name) = Fails (failures.Refused name)
+on_words next outcomes.Done = Fails failures.BadAnswer
+on_words next (outcomes.List rows) = Fails failures.BadAnswer
+
+-- Goes on once the server has said OK, in the same way.
+abbrev pub on_done : Script → Outcome → Script
+on_done next outcomes.Done = next
+on_done next (outcomes.Refused name) = Fails (failures.Refused name)
+on_done next (outcomes.Said words) = Fails failures.BadAnswer
+on_done next (outcomes.List rows) = Fails failures.BadAnswer
+
+-- the word with this number, counted from 0
+abbrev pub word : ℕ → List (List ℕ) → List ℕ
+word number words = slice_index_or words number []
+
+-- a printed line of these parts
+abbrev pub line : List (List ℕ) → List ℕ
+line parts = flat_map (λ part. part) parts ++ 10 ∷ []
+
+-- the line that is printed of a row
+abbrev pub row_line : Form → List (List ℕ) → List ℕ
+row_line Pairs row = line (word 0 row ∷ codes ": " ∷ word 1 row ∷ [])
+row_line Firsts row = line (word 0 row ∷ [])
+row_line Options row = line (codes "Option: " ∷ word 0 row ∷ [])
+row_line Ranges row = line (codes "Range: " ∷ word 0 row ∷ codes ".." ∷ word 1 row ∷ [])
+
+abbrev pub row_lines : Form → List (List (List ℕ)) → List ℕ
+row_lines form rows = flat_map (row_line form) rows
+
+-- a list whose rows are printed
+abbrev pub lists : Request → Form → Script
+lists query form = Asks query (on_rows (λ rows. Prints (row_lines form rows)))
+
+-- `Type:`, and each word of a variable's type behind a blank
+abbrev pub type_line : List (List ℕ) → List ℕ
+type_line kind = codes "Type:" ++ flat_map (λ w. 32 ∷ w) kind ++ 10 ∷ []
+
+abbrev pub has_word : List ℕ → List (List ℕ) → Bool
+has_word wanted words = list_any (λ w. bytes_eq w wanted) words
+
+-- whether a variable of this type takes listed values or ranges
+abbrev pub values_of : List (List ℕ) → Values
+values_of kind = if has_word (codes "ENUM") kind then values.Enum else (if has_word (codes "RANGE") kind then values.Range else values.Free)
+
+-- Asks for what a variable takes, and goes on with that behind the text.
+abbrev pub with_values : List ℕ → List ℕ → Values → List ℕ → (List ℕ → Script) → Script
+with_values ups variable values.Enum text next = Asks (requests.List (queries.Enum ups variable)) (on_rows (λ rows. next (text ++ row_lines Options rows)))
+with_values ups variable values.Range text next = Asks (requests.List (queries.Range ups variable)) (on_rows (λ rows. next (text ++ row_lines Ranges rows)))
+with_values ups variable values.Free text next = next text
+
+-- what stands above the values that a variable takes: its name, its type, its value
+abbrev pub with_heading : List (List ℕ) → List (List ℕ) → List ℕ → List ℕ
+with_heading row kind text = text ++ line (codes "[" ∷ word 0 row ∷ codes "]" ∷ []) ++ type_line kind ++ line (codes "Value: " ∷ word 1 row ∷ [])
+
+-- Shows each variable that may be set, behind the text so far.
+abbrev pub settings : List ℕ → List ℕ → List (List (List ℕ)) → Script
+settings ups text [] = Prints text
+settings ups text (row ∷ rows) =
+    Asks (requests.GetType ups (word 0 row)) (on_words (λ kind.
+    with_values ups (word 0 row) (values_of kind) (with_heading row kind text) (λ shown. settings ups (shown ++ line []) rows)))
+
+-- Shows each command with its description, behind the text so far.
+abbrev pub commands : List ℕ → List ℕ → List (List (List ℕ)) → Script
+commands ups text [] = Prints text
+commands ups text (row ∷ rows) =
+    Asks (requests.GetCmdDesc ups (word 0 row)) (on_words (λ words.
+    commands ups (text ++ line (word 0 row ∷ codes " - " ∷ word 0 words ∷ [])) rows))
+
+-- the query that has the UPS do something
+abbrev pub deed_query : List ℕ → Deed → Request
+deed_query ups (deeds.Set variable value) = requests.SetVar ups variable value
+deed_query ups (deeds.Command command) = requests.InstCmd ups command
+
+abbrev pub does : List ℕ → Deed → Script
+does ups deed = Asks (deed_query ups deed) (on_done (Prints (line (codes "OK" ∷ []))))
+
+abbrev pub gives_password : List ℕ → List ℕ → Deed → Script
+gives_password ups password deed = Asks (requests.Password password) (on_done (does ups deed))
+
+-- What a tool does that is asked for this of a UPS.
+abbrev pub script : List ℕ → Wanted → Script
+script ups wanteds.Variables = lists (requests.List (queries.Var ups)) Pairs
+script ups (wanteds.Value variable) = Asks (requests.GetVar ups variable) (on_words (λ words. Prints (line (word 0 words ∷ []))))
+script ups wanteds.Names = lists (requests.List queries.Ups) Firsts
+script ups wanteds.Descriptions = lists (requests.List queries.Ups) Pairs
+script ups wanteds.Clients = lists (requests.List (queries.Client ups)) Firsts
+script ups wanteds.Settings = Asks (requests.List (queries.Rw ups)) (on_rows (settings ups []))
+script ups wanteds.Commands = Asks (requests.List (queries.Cmd ups)) (on_rows (commands ups []))
+script ups (wanteds.Does user password deed) = Asks (requests.Username user) (on_done (gives_password ups password deed))

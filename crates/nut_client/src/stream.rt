@@ -1,0 +1,157 @@
+//! The connection to a server, as a tool sees it.
+ghost use Rattle.std.specs.Prelude.{◌≡◌, ◌⊎◌, ◌<◌, length, ⊤, ℕ, List, [], Option, Some, None, false, true};
+ghost use Rattle.nut_client.specs.Stream.{Gave, IsWithin, Took};
+ghost use Rattle.nut_client.specs.declared.stream.Moved.TheVariants.{Lost};
+
+use std::alloc::Global;
+use std::io;
+use std::io::{ErrorKind, Read, Write};
+
+/// What became of a read or a write.
+#[derive(Clone, Copy, Debug, PartialEq, Eq)]
+pub enum Moved {
+    /// The first so many bytes went over, at least one.
+    Bytes(usize),
+    /// None went over, and it can be tried again.
+    Again,
+    /// None went over, and none will: the connection has ended, or it failed.
+    Lost,
+}
+
+/// The connection to a server.
+pub trait Stream {
+    /// The bytes that the server will have sent, where they are known.
+    ghost remaining: { Self → Option (List ℕ) };
+
+    /// The bytes that it took so far, where they are known.
+    ghost taken: { Self → Option (List ℕ) };
+
+    /// It has ended, or it failed.
+    ghost has_ended: { Self → Type 0 };
+
+    /// Reads some of the bytes that the server sent into a place that isn't empty. It may wait for them.
+    fn read(&mut self, place: &mut [u8]) -> Moved
+        requires room { 0 < length place.old }
+        ensures gave { Gave result place.new (remaining self.old) (remaining self.new) }
+        ensures kept { taken self.new ≡ taken self.old }
+        ensures lost { result ≡ Lost → has_ended self.new };
+
+    /// Sends some of these bytes, of which there is at least one.
+    fn write(&mut self, bytes: &[u8]) -> Moved
+        ensures took { Took result bytes.now (taken self.old) (taken self.new) }
+        ensures kept { remaining self.new ≡ remaining self.old }
+        ensures lost { result ≡ Lost → has_ended self.new };
+}
+
+/// A connection over a socket, a pipe or the like. It tells nothing of its bytes.
+#[derive(Drop)]
+pub struct ByteStream<T> {
+    inner: T,
+}
+
+impl<T: Read + Write> ByteStream<T> {
+    /// A connection over this.
+    pub fn new(inner: T) -> Self {
+        ByteStream { inner }
+    }
+
+    /// What it is over.
+    pub fn into_inner(self) -> T {
+        self.inner
+    }
+}
+
+/// What a read or a write that ended so has moved, of at most so many bytes.
+fn what_moved(count: io::Result<usize>, most: usize) -> Moved
+    ensures { IsWithin result most }
+{
+    match count {
+        Ok(0) => Moved::Lost,
+        Ok(n) => Moved::Bytes(n.min(most)),
+        Err(error) if error.kind() == ErrorKind::Interrupted => Moved::Again,
+        Err(_) => Moved::Lost,
+    }
+}
+
+impl<T: Read + Write> Stream for ByteStream<T> {
+    ghost remaining = { λ s. None };
+
+    ghost taken = { λ s. None };
+
+    ghost has_ended = { λ s. ⊤ };
+
+    fn read(&mut self, place: &mut [u8]) -> Moved {
+        let count = self.inner.read(place);
+        what_moved(count, place.len())
+    }
+
+    fn write(&mut self, bytes: &[u8]) -> Moved {
+        let moved = what_moved(self.inner.write(bytes), bytes.len());
+        match self.inner.flush() {
+            Ok(()) => moved,
+            Err(_) => Moved::Lost,
+        }
+    }
+}
+
+/// A connection in memory, to a server that sends these bytes, in pieces of at most so many, and then ends. It takes what
+/// is sent to it in pieces of the same length.
+#[derive(Drop)]
+pub struct MemoryStream<'a> {
+    rest: &'a [u8],
+    most: usize,
+    asked: Vec<u8>,
+    is_lost: bool,
+}
+
+impl<'a> MemoryStream<'a> {
+    /// A connection to a server that sends these bytes, in pieces of at most `most`, or of one where that is 0.
+    pub fn new(alloc: Global, bytes: &'a [u8], most: usize) -> Self
+        ensures remaining { result.rest.now ≡ bytes.now }
+        ensures taken { result.asked.items ≡ [] }
+        ensures whole { result.is_lost ≡ false }
+    {
+        MemoryStream {
+            rest: bytes,
+            most: most.max(1),
+            asked: Vec::new(alloc),
+            is_lost: false,
+        }
+    }
+
+    /// What was sent to the server.
+    pub fn asked(&self) -> &[u8]
+        ensures { result.now ≡ self.now.asked.items }
+    {
+        self.asked.as_slice()
+    }
+}
+
+impl<'a> Stream for MemoryStream<'a> {
+    ghost remaining = { λ s. Some s.rest.now };
+
+    ghost taken = { λ s. Some s.asked.items };
+
+    // Its end, or a growth that was refused.
+    ghost has_ended = { λ s. (s.rest.now ≡ []) ⊎ (s.is_lost ≡ true) };
+
+    fn read(&mut self, place: &mut [u8]) -> Moved {
+        let [_, ..] = self.rest else {
+            return Moved::Lost;
+        };
+        let n = self.rest.len().min(place.len()).min(self.most);
+        let (part, rest) = self.rest.split_at(n);
+        place[..n].copy_from_slice(part);
+        self.rest = rest;
+        Moved::Bytes(n)
+    }
+
+    fn write(&mut self, bytes: &[u8]) -> Moved {
+        let n = bytes.len().min(self.most);
+        if self.asked.extend_from_slice(&bytes[..n]).is_err() {
+            self.is_lost = true;
+            return Moved::Lost;
+        }
+        Moved::Bytes(n)
+    }
+}

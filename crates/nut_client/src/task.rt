@@ -1,0 +1,391 @@
+//! What is left of a tool's work, step by step: a query to ask, or a text to print.
+ghost use Rattle.std.specs.Prelude.{◌≡◌, ◌∷◌, List, ℕ, [], codes};
+ghost use Rattle.nut_client.specs.Script.{Prints, deed_query, line, on_done, on_rows, on_words, row_lines, script, word};
+ghost use Rattle.nut_client.specs.Task.{GivesRows, GivesWords, GoesOn, IsDone, Leads, Says, ShowsRow, answered, first_query, first_question, left_at, left_of, row_query, showing, showing_of};
+
+use crate::copied::{Fields, Rows, Text};
+use crate::failure::Failure;
+use crate::outcome::Outcome;
+use crate::printing::{Form, Values, put_heading, put_line, put_rows, values_of};
+use crate::wanted::{Deed, Wanted};
+use nut_proto::{ListQuery, Request, Word};
+use std::alloc::Global;
+
+/// What is asked about a row next.
+#[derive(Clone, Copy)]
+pub(crate) enum Question {
+    /// The type of this variable.
+    Kind,
+    /// The values that it takes. Its name, type and value are shown.
+    Values,
+    /// The ranges that it takes. Its name, type and value are shown.
+    Ranges,
+    /// The description of this command.
+    Description,
+}
+
+/// Rows of which so many were shown, and the text so far.
+#[derive(Drop)]
+pub(crate) struct Shown {
+    rows: Rows,
+    count: usize,
+    text: Vec<u8>,
+}
+
+impl Shown {
+    /// The text so far.
+    fn into_text(self) -> Vec<u8>
+        ensures { result ≡ self.text }
+    {
+        let Shown {
+            rows: _rows,
+            count: _count,
+            text,
+        } = self;
+        text
+    }
+}
+
+/// How far the work is.
+#[derive(Drop)]
+pub(crate) enum Step<'a> {
+    /// Nothing was answered yet.
+    Begun(Wanted<'a>),
+    /// The user's name was taken. The password and the deed are left.
+    Password(Word<'a>, Deed<'a>),
+    /// The user was taken. The deed is left.
+    Deed(Deed<'a>),
+    /// This is asked about the first row that wasn't shown yet.
+    Shows(Question, Shown),
+    /// The text is complete.
+    Done(Vec<u8>),
+}
+
+/// What a tool does next.
+#[derive(Drop)]
+pub(crate) enum Next<'t> {
+    /// It asks this query.
+    Asks(Request<'t>),
+    /// It prints its text.
+    Prints,
+}
+
+/// What is left of a tool's work for the UPS of this name.
+#[derive(Drop)]
+pub(crate) struct Task<'a> {
+    ups: Word<'a>,
+    step: Step<'a>,
+    alloc: Global,
+}
+
+/// The same word once more.
+fn again<'t>(word: &'t Word<'_>) -> Word<'t>
+    ensures { result ≡ word.now }
+{
+    Word::new(word.as_bytes())
+}
+
+/// The query that has the UPS do something.
+fn deed_query<'t>(ups: &'t Word<'_>, deed: &'t Deed<'_>) -> Request<'t>
+    ensures { result ≡ deed_query ups.now deed.now }
+{
+    match deed {
+        Deed::Set(variable, value) => Request::SetVar {
+            ups: again(ups),
+            variable: again(variable),
+            value: again(value),
+        },
+        Deed::Command(command) => Request::InstCmd {
+            ups: again(ups),
+            command: again(command),
+        },
+    }
+}
+
+/// The first query.
+fn first_query<'t>(ups: &'t Word<'_>, wanted: &'t Wanted<'_>) -> Request<'t>
+    ensures { result ≡ first_query ups.now wanted.now }
+{
+    match wanted {
+        Wanted::Variables => Request::List(ListQuery::Var { ups: again(ups) }),
+        Wanted::Value(variable) => Request::GetVar {
+            ups: again(ups),
+            variable: again(variable),
+        },
+        Wanted::Names | Wanted::Descriptions => Request::List(ListQuery::Ups),
+        Wanted::Clients => Request::List(ListQuery::Client { ups: again(ups) }),
+        Wanted::Settings => Request::List(ListQuery::Rw { ups: again(ups) }),
+        Wanted::Commands => Request::List(ListQuery::Cmd { ups: again(ups) }),
+        Wanted::Does(user, _, _) => Request::Username { name: again(user) },
+    }
+}
+
+/// The query about the variable or the command that a row names.
+fn row_query<'t>(ups: &'t Word<'_>, question: Question, name: &'t [u8]) -> Request<'t>
+    ensures { result ≡ row_query ups.now question name.now }
+{
+    let ups = again(ups);
+    match question {
+        Question::Kind => Request::GetType {
+            ups,
+            variable: Word::new(name),
+        },
+        Question::Values => Request::List(ListQuery::Enum {
+            ups,
+            variable: Word::new(name),
+        }),
+        Question::Ranges => Request::List(ListQuery::Range {
+            ups,
+            variable: Word::new(name),
+        }),
+        Question::Description => Request::GetCmdDesc {
+            ups,
+            command: Word::new(name),
+        },
+    }
+}
+
+/// The rows of an answer to a LIST.
+fn rows_of(outcome: Outcome) -> Result<Rows, Failure>
+    ensures { GivesRows outcome result }
+{
+    match outcome {
+        Outcome::List(rows) => Ok(rows),
+        Outcome::Refused(name) => Err(Failure::Refused(name)),
+        Outcome::Done | Outcome::Said(_) => Err(Failure::BadAnswer),
+    }
+}
+
+/// The words of an answer to a GET.
+fn words_of(outcome: Outcome) -> Result<Fields, Failure>
+    ensures { GivesWords outcome result }
+{
+    match outcome {
+        Outcome::Said(words) => Ok(words),
+        Outcome::Refused(name) => Err(Failure::Refused(name)),
+        Outcome::Done | Outcome::List(_) => Err(Failure::BadAnswer),
+    }
+}
+
+/// Whether it was done.
+fn done_of(outcome: Outcome) -> Result<(), Failure>
+    ensures { IsDone outcome result }
+{
+    match outcome {
+        Outcome::Done => Ok(()),
+        Outcome::Refused(name) => Err(Failure::Refused(name)),
+        Outcome::Said(_) | Outcome::List(_) => Err(Failure::BadAnswer),
+    }
+}
+
+/// Prints the rows that answer a list.
+fn print_rows<'a>(alloc: Global, form: Form, outcome: Outcome) -> Result<Step<'a>, Failure>
+    ensures { (ups : List ℕ) → Leads ups (on_rows (λ rows. Prints (row_lines form rows)) outcome) result }
+{
+    let rows = rows_of(outcome)?;
+    let mut text = Vec::new(alloc);
+    put_rows(&mut text, form, rows.as_slice())?;
+    Ok(Step::Done(text))
+}
+
+/// Prints the first of the words that answer a query.
+fn print_word<'a>(alloc: Global, outcome: Outcome) -> Result<Step<'a>, Failure>
+    ensures { (ups : List ℕ) → Leads ups (on_words (λ words. Prints (line (word 0 words ∷ []))) outcome) result }
+{
+    let words = words_of(outcome)?;
+    let mut text = Vec::new(alloc);
+    put_line(&mut text, &[words.get(0)])?;
+    Ok(Step::Done(text))
+}
+
+/// Shows the rows that answer a list, each by further queries.
+fn show_rows<'a>(alloc: Global, question: Question, outcome: Outcome) -> Result<Step<'a>, Failure>
+    ensures { (ups : List ℕ) → Leads ups (on_rows (showing ups question []) outcome) result }
+{
+    let rows = rows_of(outcome)?;
+    let shown = Shown {
+        rows,
+        count: 0,
+        text: Vec::new(alloc),
+    };
+    Ok(Step::Shows(question, shown))
+}
+
+/// Hears the answer to the first query.
+fn hear_first<'a>(alloc: Global, wanted: Wanted<'a>, outcome: Outcome) -> Result<Step<'a>, Failure>
+    ensures { (ups : List ℕ) → Leads ups (answered outcome (script ups wanted.entry)) result }
+{
+    match wanted {
+        Wanted::Variables => print_rows(alloc, Form::Pairs, outcome),
+        Wanted::Names => print_rows(alloc, Form::Firsts, outcome),
+        Wanted::Descriptions => print_rows(alloc, Form::Pairs, outcome),
+        Wanted::Clients => print_rows(alloc, Form::Firsts, outcome),
+        Wanted::Value(_) => print_word(alloc, outcome),
+        Wanted::Settings => show_rows(alloc, Question::Kind, outcome),
+        Wanted::Commands => show_rows(alloc, Question::Description, outcome),
+        Wanted::Does(_, password, deed) => {
+            done_of(outcome)?;
+            Ok(Step::Password(password, deed))
+        }
+    }
+}
+
+/// Hears the answer to the deed.
+fn hear_deed<'a>(alloc: Global, outcome: Outcome) -> Result<Step<'a>, Failure>
+    ensures { (ups : List ℕ) → Leads ups (on_done (Prints (line (codes "OK" ∷ []))) outcome) result }
+{
+    done_of(outcome)?;
+    let mut text = Vec::new(alloc);
+    put_line(&mut text, &[b"OK"])?;
+    Ok(Step::Done(text))
+}
+
+/// What is asked about the next row, where this was asked about the last one at its end.
+fn first_question(question: Question) -> Question
+    ensures { result ≡ first_question question }
+{
+    match question {
+        Question::Kind | Question::Values | Question::Ranges => Question::Kind,
+        Question::Description => Question::Description,
+    }
+}
+
+/// Shows what answers a question about a row. It gives what is asked about the row next, or none where all is shown.
+fn put_answer(
+    text: &mut Vec<u8>,
+    question: Question,
+    row: &Fields,
+    outcome: Outcome,
+) -> Result<Option<Question>, Failure>
+    ensures { (ups : List ℕ) (rows : List (List (List ℕ))) → ShowsRow ups question text.old.items row.now rows outcome text.new.items result }
+{
+    match question {
+        Question::Kind => {
+            let kind = words_of(outcome)?;
+            put_heading(text, row, &kind)?;
+            match values_of(&kind) {
+                Values::Enum => return Ok(Some(Question::Values)),
+                Values::Range => return Ok(Some(Question::Ranges)),
+                Values::Free => put_line(text, &[])?,
+            }
+        }
+        Question::Values => {
+            let rows = rows_of(outcome)?;
+            put_rows(text, Form::Options, rows.as_slice())?;
+            put_line(text, &[])?;
+        }
+        Question::Ranges => {
+            let rows = rows_of(outcome)?;
+            put_rows(text, Form::Ranges, rows.as_slice())?;
+            put_line(text, &[])?;
+        }
+        Question::Description => {
+            let words = words_of(outcome)?;
+            put_line(text, &[row.get(0), b" - ", words.get(0)])?;
+        }
+    }
+    Ok(None)
+}
+
+/// Hears the answer to a question about the first row that wasn't shown yet.
+fn hear_row<'a>(question: Question, shown: Shown, outcome: Outcome) -> Result<Step<'a>, Failure>
+    ensures { (ups : List ℕ) → Leads ups (answered outcome (showing_of ups question shown)) result }
+{
+    let Shown {
+        rows,
+        count,
+        mut text,
+    } = shown;
+    let Some(row) = rows.as_slice().get(count) else {
+        return Ok(Step::Shows(question, Shown { rows, count, text }));
+    };
+    let next = put_answer(&mut text, question, row, outcome)?;
+    match next {
+        Some(question) => Ok(Step::Shows(question, Shown { rows, count, text })),
+        None => Ok(Step::Shows(
+            first_question(question),
+            Shown {
+                rows,
+                count: count + 1,
+                text,
+            },
+        )),
+    }
+}
+
+/// Hears what came of the query of a step.
+fn hear_step<'a>(alloc: Global, step: Step<'a>, outcome: Outcome) -> Result<Step<'a>, Failure>
+    ensures { (ups : List ℕ) → Leads ups (answered outcome (left_at ups step.entry)) result }
+{
+    match step {
+        Step::Begun(wanted) => hear_first(alloc, wanted, outcome),
+        Step::Password(_, deed) => {
+            done_of(outcome)?;
+            Ok(Step::Deed(deed))
+        }
+        Step::Deed(_) => hear_deed(alloc, outcome),
+        Step::Shows(question, shown) => hear_row(question, shown, outcome),
+        Step::Done(text) => Ok(Step::Done(text)),
+    }
+}
+
+impl<'a> Task<'a> {
+    /// All that is to be done for what is wanted.
+    pub(crate) fn new(alloc: Global, ups: Word<'a>, wanted: Wanted<'a>) -> Task<'a>
+        ensures { left_of result ≡ script ups.entry wanted.entry }
+    {
+        Task {
+            ups,
+            step: Step::Begun(wanted),
+            alloc,
+        }
+    }
+
+    /// What is done next.
+    pub(crate) fn next(&self) -> Next<'_>
+        ensures { Says (left_of self.now) result }
+    {
+        let ups = &self.ups;
+        match &self.step {
+            Step::Begun(wanted) => Next::Asks(first_query(ups, wanted)),
+            Step::Password(password, _) => Next::Asks(Request::Password {
+                password: again(password),
+            }),
+            Step::Deed(deed) => Next::Asks(deed_query(ups, deed)),
+            Step::Shows(question, shown) => match shown.rows.as_slice().get(shown.count) {
+                Some(row) => Next::Asks(row_query(ups, *question, row.get(0))),
+                None => Next::Prints,
+            },
+            Step::Done(_) => Next::Prints,
+        }
+    }
+
+    /// Hears what came of the query.
+    pub(crate) fn hear(self, outcome: Outcome) -> Result<Task<'a>, Failure>
+        ensures { GoesOn (answered outcome (left_of self.entry)) result }
+    {
+        let Task { ups, step, alloc } = self;
+        match hear_step(alloc, step, outcome) {
+            Ok(step) => Ok(Task { ups, step, alloc }),
+            Err(failure) => Err(failure),
+        }
+    }
+
+    /// The text, where it is complete.
+    pub(crate) fn into_text(self) -> Text
+        ensures { (text : List ℕ) → left_of self.entry ≡ Prints text → result ≡ text }
+    {
+        let Task {
+            ups: _ups,
+            step,
+            alloc,
+        } = self;
+        match step {
+            Step::Done(text) => Text::of(text),
+            Step::Shows(_question, shown) => Text::of(shown.into_text()),
+            Step::Begun(_wanted) => Text::of(Vec::new(alloc)),
+            Step::Password(_password, _deed) => Text::of(Vec::new(alloc)),
+            Step::Deed(_deed) => Text::of(Vec::new(alloc)),
+        }
+    }
+}
