@@ -1,6 +1,1 @@
-pub mod Record
-pub mod Served
-pub mod Memory
-pub mod MemoryLaws
-pub mod ServedAll
 pub mod UpsOption

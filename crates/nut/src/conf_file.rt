@@ -7,7 +7,7 @@ use std::alloc::Global;
 use std::fs::File;
 use std::io;
 use std::io::{ErrorKind, Read};
-use std::path::Path;
+use std::path::{AsPath, Path};
 use std::rt::Files;
 use thiserror::Error;
 
@@ -83,11 +83,21 @@ pub fn read_conf<C: ConfFile>(
     }
 }
 
-/// The bytes of a file. Of one that is too long for a configuration it takes no more than show that.
+/// The bytes of a configuration file in its folder. Of one that is too long it takes no more than show that.
 fn contents(files: &impl Files, alloc: Global, folder: &str, name: &str) -> io::Result<Vec<u8>> {
     let path = Path::new(folder).join(alloc, name)?;
+    read_file(files, alloc, path, FILE_MAX as u64 + 1)
+}
+
+/// The first so many bytes of a file.
+pub(crate) fn read_file<P: AsPath>(
+    files: &impl Files,
+    alloc: Global,
+    path: P,
+    most: u64,
+) -> io::Result<Vec<u8>> {
     let file = File::open(files, path)?;
     let mut bytes = Vec::new(alloc);
-    file.take(FILE_MAX as u64 + 1).read_to_end(&mut bytes)?;
+    file.take(most).read_to_end(&mut bytes)?;
     Ok(bytes)
 }

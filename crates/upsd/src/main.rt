@@ -8,7 +8,7 @@ fn main(rt: HostRuntime) -> ExitCode {
     let stderr = rt.stderr();
     let mut err = io::writer(&stderr);
     let status = match words(&rt) {
-        Ok(words) => nut::run_stdio(
+        Ok(words) => nut::run_upsd(
             &rt,
             rt.alloc(),
             words.as_slice(),

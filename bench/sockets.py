@@ -1,0 +1,149 @@
+#!/usr/bin/env python3
+"""Measures upsd over sockets, and beside it NUT's own upsd where Debian's package has put it: the same table, told by two
+of this project's dummy drivers, the same machine, one after the other in turn.
+
+    bench/sockets.py UPSD DUMMY_UPS [SECONDS]
+
+SECONDS (2 where none is given) is how long each measurement takes. For answers a second more is better, for the time to
+an answer and for memory less."""
+
+import getpass
+import os
+import shutil
+import socket
+import subprocess
+import sys
+import tempfile
+import time
+
+HERE = os.path.dirname(os.path.abspath(__file__))
+NUT_UPSD = "/lib/nut/upsd"
+VARIABLES = 60
+ROUNDS = 3
+
+# what is asked: a name, the request, the lines of its answer, connections, requests sent at once on each
+LOADS = [
+    ("GET VAR, 1 client", "GET VAR su700 ups.status", 1, 1, 1),
+    ("GET VAR, 50 clients", "GET VAR su700 ups.status", 1, 50, 1),
+    ("GET VAR, 200 clients", "GET VAR su700 ups.status", 1, 200, 1),
+    ("GET VAR, 1 client, 8 at a time", "GET VAR su700 ups.status", 1, 1, 8),
+    ("LIST VAR, 1 client", "LIST VAR su700", VARIABLES + 3, 1, 1),
+]
+
+
+def script():
+    return "ups.status: OL\n" + "".join(f"ambient.{i}.temperature: 21.{i}\n" for i in range(VARIABLES))
+
+
+def free_port():
+    with socket.socket() as found:
+        found.bind(("127.0.0.1", 0))
+        return found.getsockname()[1]
+
+
+class Server:
+    """An upsd with its driver."""
+
+    def __init__(self, name, folder, dummy, command, environment=None):
+        self.name = name
+        self.port = free_port()
+        self.folder = os.path.join(folder, name)
+        os.mkdir(self.folder)
+        for file, text in (
+            ("ups.conf", "[su700]\ndriver = dummy-ups\nport = su700.dev\n"),
+            ("upsd.users", ""),
+            ("upsd.conf", f"LISTEN 127.0.0.1 {self.port}\nMAXCONN 256\n"),
+            ("su700.dev", script()),
+        ):
+            with open(os.path.join(self.folder, file), "w") as out:
+                out.write(text)
+        self.driver = subprocess.Popen([dummy, os.path.join(self.folder, "su700.dev"), os.path.join(self.folder, "dummy-ups-su700")])
+        time.sleep(0.5)
+        words = [word.replace("FOLDER", self.folder) for word in command]
+        variables = {name: self.folder for name in environment or ()}
+        quiet = {"stdout": subprocess.DEVNULL, "stderr": subprocess.DEVNULL}
+        self.process = subprocess.Popen(words, env={**os.environ, **variables}, **quiet)
+        self.wait()
+
+    def connect(self):
+        return socket.create_connection(("127.0.0.1", self.port))
+
+    def wait(self):
+        for _ in range(200):
+            try:
+                with self.connect() as client:
+                    client.sendall(b"GET VAR su700 ups.status\n")
+                    if client.recv(100).startswith(b"VAR"):
+                        return
+            except OSError:
+                pass
+            time.sleep(0.05)
+        sys.exit(f"{self.name} doesn't serve")
+
+    def load(self, program, seconds, request, lines, clients, in_flight):
+        """Answers a second, median and 99th percentile in microseconds."""
+        words = [program, self.port, clients, in_flight, lines, seconds, request]
+        done = subprocess.run([str(word) for word in words], stdout=subprocess.PIPE, check=True)
+        return [int(word) for word in done.stdout.split()]
+
+    def resident(self):
+        """The resident memory in KiB."""
+        with open(f"/proc/{self.process.pid}/status") as status:
+            return next(int(line.split()[1]) for line in status if line.startswith("VmRSS:"))
+
+    def stop(self):
+        for process in (self.process, self.driver):
+            process.kill()
+            process.wait()
+
+
+def median(values):
+    return sorted(values)[len(values) // 2]
+
+
+def measure(servers, program, seconds):
+    for name, request, lines, clients, in_flight in LOADS:
+        found = {server.name: [] for server in servers}
+        for _ in range(ROUNDS):
+            for server in servers:
+                found[server.name].append(server.load(program, seconds, request, lines, clients, in_flight))
+        rows = {it: [median(column) for column in zip(*values)] for it, values in found.items()}
+        for it, (rate, middle, worst) in rows.items():
+            print(f"{name:32} {it:6} {rate:8} answers/s, median {middle:6} us, 99th percentile {worst:6} us")
+        if len(rows) == 2:
+            (ours, _, our_worst), (theirs, _, their_worst) = rows["upsd"], rows["nut"]
+            print(f"{'':32} ratio  {ours / theirs:8.2f} of the answers/s, {our_worst / max(their_worst, 1):.2f} of the 99th percentile")
+
+
+def main():
+    upsd, dummy = (os.path.abspath(it) for it in sys.argv[1:3])
+    seconds = float(sys.argv[3]) if len(sys.argv) > 3 else 2.0
+    compiler = shutil.which("cc") or shutil.which("clang")
+    if compiler is None:
+        sys.exit("a C compiler is missing: the load comes from a program in C (cc or clang)")
+    with tempfile.TemporaryDirectory() as folder:
+        program = os.path.join(folder, "load")
+        subprocess.run([compiler, "-O2", "-o", program, os.path.join(HERE, "load.c")], check=True)
+        servers = [Server("upsd", folder, dummy, [upsd, "--conf", "FOLDER", "-s", "FOLDER", "-q"])]
+        if os.access(NUT_UPSD, os.X_OK):
+            places = ("NUT_CONFPATH", "NUT_STATEPATH", "NUT_ALTPIDPATH")
+            servers.append(Server("nut", folder, dummy, [NUT_UPSD, "-F", "-u", getpass.getuser()], places))
+        else:
+            print("NUT's upsd isn't installed (Debian's package nut-server): no ratios")
+        try:
+            for server in servers:
+                print(f"{server.name}: {server.resident()} KiB resident, idle")
+                clients = [server.connect() for _ in range(256)]
+                time.sleep(1)
+                print(f"{server.name}: {server.resident()} KiB resident, with 256 idle connections")
+                for client in clients:
+                    client.close()
+            time.sleep(1)
+            measure(servers, program, seconds)
+        finally:
+            for server in servers:
+                server.stop()
+
+
+if __name__ == "__main__":
+    main()

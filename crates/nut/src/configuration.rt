@@ -1,0 +1,51 @@
+//! What the command line of upsd configures.
+
+use crate::conf_file::{FileFault, read_conf};
+use crate::failure::Failure;
+use crate::read_ups_options;
+use clap::ArgMatches;
+use nut_conf::{UpsConf, UpsdConf, UsersConf};
+use nut_server::Config;
+use std::alloc::Global;
+use std::rt::Files;
+
+/// What ups.conf, upsd.users and upsd.conf set.
+#[derive(Drop)]
+pub struct Settings {
+    pub ups: UpsConf,
+    pub users: UsersConf,
+    pub upsd: UpsdConf,
+}
+
+impl Settings {
+    /// The configuration of a server.
+    pub fn into_config(self) -> Config {
+        let Settings { ups, users, upsd } = self;
+        Config::new(ups, users, upsd)
+    }
+}
+
+/// What the files of `--conf` set, and without it the UPSes of `--ups`.
+pub fn read_options(
+    files: &impl Files,
+    alloc: Global,
+    matches: &ArgMatches<'_>,
+) -> Result<Settings, Failure> {
+    if let Some(folder) = matches.get_str("conf") {
+        return Ok(read_settings(files, alloc, folder)?);
+    }
+    Ok(Settings {
+        ups: read_ups_options(alloc, matches.get_strs("ups").unwrap_or(&[]))?,
+        users: UsersConf::new(alloc),
+        upsd: UpsdConf::new(alloc),
+    })
+}
+
+/// What the files of a folder set.
+fn read_settings(files: &impl Files, alloc: Global, folder: &str) -> Result<Settings, FileFault> {
+    Ok(Settings {
+        ups: read_conf(files, alloc, folder)?,
+        users: read_conf(files, alloc, folder)?,
+        upsd: read_conf(files, alloc, folder)?,
+    })
+}

@@ -1,0 +1,131 @@
+//! upsd: a server over sockets, or over standard streams.
+
+ghost use Rattle.std.specs.Prelude.{◌≡◌, ◌<◌, ◌-◌, ◌^◌, [], IfSome};
+ghost use Rattle.nut_history.specs.Content.{content};
+
+use crate::command_line::upsd_command;
+use crate::configuration::{Settings, read_options};
+use crate::drivers::Driver;
+use crate::failure::Failure;
+use crate::listeners::listen;
+use crate::mio_world::MioWorld;
+use crate::notices::{Notice, Notices};
+use crate::stdio::serve_client;
+use mio::net::TcpListener;
+use nut_serve::{ServeFault, World, serve};
+use nut_server::{Config, Server};
+use std::alloc::{AllocError, Global};
+use std::convert::AsStr;
+use std::io::{Read, Write};
+use std::net::Net;
+use std::rt::Files;
+use std::sync::Wait;
+use std::time::Clock;
+
+/// Runs upsd, and gives its exit status.
+///
+/// The words are those of the command line, with the program's name first. `upsd --stdio ..` is [`run_stdio`]'s, which
+/// says what becomes of words that don't read and of files with faults. `upsd --conf DIR -s SOCKDIR` serves clients over
+/// TCP wherever upsd.conf says, and dials the driver of each UPS at the socket `SOCKDIR/DRIVER-NAME`, again each second
+/// until it is there; it ends where a wait for the sockets or the clock fails, which is told as `upsd: I/O failed`, with
+/// status 1.
+///
+/// What is listened on, which UPSes are served and which drivers come and go is told on `err`, a line each; with `-q` it
+/// isn't. Where nobody can listen at an address, `upsd: cannot listen on ADDRESS:PORT` is told, and the status is 1.
+///
+/// [`run_stdio`]: crate::run_stdio
+pub fn run_upsd<S: AsStr, I: Read, O: Write, E: Write>(
+    rt: &(impl Wait + Files + Net + Clock),
+    alloc: Global,
+    words: &[S],
+    input: &mut I,
+    out: &mut O,
+    err: &mut E,
+) -> u8 {
+    match run(rt, alloc, words, input, out, err) {
+        Ok(()) => 0,
+        Err(failure) => failure.tell(out, err),
+    }
+}
+
+fn run<S: AsStr, I: Read, O: Write, E: Write>(
+    rt: &(impl Wait + Files + Net + Clock),
+    alloc: Global,
+    words: &[S],
+    input: &mut I,
+    out: &mut O,
+    err: &mut E,
+) -> Result<(), Failure> {
+    let matches = upsd_command(alloc)?.try_get_matches_from(words)?;
+    let settings = read_options(rt, alloc, &matches)?;
+    match matches.get_str("sockets") {
+        Some(folder) => {
+            let is_quiet = matches.get_flag("quiet");
+            serve_sockets(rt, alloc, settings, folder, is_quiet, err)
+        }
+        None => serve_client(rt, alloc, settings.into_config(), input, out),
+    }
+}
+
+/// Serves clients over sockets, and tells the operator of it on `err` but where that is to be quiet. It ends where the
+/// world fails.
+fn serve_sockets<R: Wait + Net + Clock, E: Write>(
+    rt: &R,
+    alloc: Global,
+    settings: Settings,
+    folder: &str,
+    is_quiet: bool,
+    err: &mut E,
+) -> Result<(), Failure> {
+    let listeners = listen(rt, alloc, &settings.upsd)?;
+    let mut server = Server::new(alloc, settings.into_config())?;
+    let drivers = drivers_of(alloc, server.config(), folder)?;
+    tell_start(&listeners, &drivers, is_quiet, err);
+    let notices = Notices::new(err, !is_quiet);
+    let world = MioWorld::new(rt, alloc, listeners, drivers, notices)?;
+    serve_world(rt, &mut server, world)?;
+    Ok(())
+}
+
+/// Serves a world to its end.
+fn serve_world<W: World + Drop>(
+    rt: &impl Wait,
+    server: &mut Server,
+    mut world: W,
+) -> Result<(), ServeFault>
+    requires fresh { server.old ≡ content server.old.configuration [] }
+    requires blank { IfSome (W.log world) (λ r. r ≡ []) }
+    requires few { W.fault_count world < 2 ^ 64 - 1 }
+{
+    serve(rt, server, &mut world)
+}
+
+/// The drivers of the UPSes, by their numbers.
+fn drivers_of(alloc: Global, config: &Config, folder: &str) -> Result<Vec<Driver>, AllocError> {
+    let mut drivers = Vec::new(alloc);
+    for u in 0..config.number_of_upses() {
+        let Some(ups) = config.ups_at(u) else {
+            break;
+        };
+        drivers.push(Driver::new(alloc, folder, ups.driver, ups.name)?)?;
+    }
+    Ok(drivers)
+}
+
+/// Tells what is listened on, and which UPSes are served.
+fn tell_start<E: Write>(
+    listeners: &[TcpListener],
+    drivers: &[Driver],
+    is_quiet: bool,
+    err: &mut E,
+) {
+    let mut notices = Notices::new(err, !is_quiet);
+    for listener in listeners {
+        if let Ok(address) = listener.local_addr() {
+            notices.tell(Notice::Listening(address));
+        }
+    }
+    for driver in drivers {
+        notices.tell(Notice::Serving(driver.name(), driver.path()));
+    }
+}

@@ -1,0 +1,20 @@
+//! The outer loop of a server over a world that gives arrivals and takes bytes, and the worlds over memory and over
+//! standard streams.
+#![tactic(auto)]
+
+mod memory;
+mod replay;
+mod serving;
+mod streams;
+mod types;
+mod world;
+
+pub use memory::MemoryWorld;
+pub use replay::serve_memory;
+pub use serving::serve;
+pub use streams::{StreamWorld, read_piece, write_some};
+pub use types::{Address, Fault, Given, Next, Note, Piece, ServeFault, Written};
+pub use world::World;
+
+#[cfg(test)]
+mod tests;

@@ -1,0 +1,27 @@
+//! The loop over a world in memory.
+
+ghost use Rattle.std.specs.Prelude.{◌≡◌, ◌<◌, ◌-◌, ◌^◌, [], OnOk, OnErr};
+ghost use Rattle.nut_history.specs.Content.{content};
+ghost use Rattle.nut_serve.specs.ServedAll.{ServedAll};
+
+use crate::{MemoryWorld, ServeFault, serve};
+use nut_server::Server;
+use std::sync::Wait;
+
+/// Serves a list of arrivals to its end: all are given but bytes of connections that may not be read.
+///
+/// # Errors
+/// `ServeFault::World` where memory for a note was refused.
+pub fn serve_memory(
+    rt: &impl Wait,
+    server: &mut Server,
+    world: &mut MemoryWorld,
+) -> Result<(), ServeFault>
+    requires fresh { server.old ≡ content server.old.configuration [] }
+    requires blank { world.old.log ≡ [] }
+    requires few { world.old.faults < 2 ^ 64 - 1 }
+    ensures all { OnOk result (ServedAll server.old.configuration world.old world.new server.new) }
+    ensures fault { OnErr result (world.old.faults < world.new.faults) }
+{
+    serve(rt, server, world)
+}
