@@ -9,6 +9,15 @@ import sys
 
 ROOT = os.path.dirname(os.path.dirname(os.path.abspath(__file__)))
 
+# The tests of built programs, and the programs that each is given.
+TESTS = (
+    ("programs.py", ("upsd",)),
+    ("rehearsal.py", ("rehearse",)),
+    ("dummy_rehearsal.py", ("dummy_rehearsal",)),
+    ("tools.py", ("upsc", "upsrw", "upscmd")),
+    ("sockets.py", ("upsd", "dummy_ups")),
+)
+
 
 def counted(command):
     """Runs a command, shows what it prints, and gives the counts of its last line."""
@@ -29,9 +38,10 @@ def counted(command):
 def main():
     passed, failed = counted(["rt", "ci"])
     if failed == 0:
-        program = os.path.join("crates", "upsd", "out", "upsd")
-        more, worse = counted([sys.executable, "tests/programs.py", program])
-        passed, failed = passed + more, failed + worse
+        for test, programs in TESTS:
+            built = [os.path.join("crates", program, "out", program) for program in programs]
+            more, worse = counted([sys.executable, os.path.join("tests", test), *built])
+            passed, failed = passed + more, failed + worse
     print(f"{passed} passed, {failed} failed")
     return 1 if failed else 0
 

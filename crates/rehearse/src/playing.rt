@@ -1,0 +1,115 @@
+//! A step of a schedule is played on a server.
+
+ghost use Rattle.std.specs.Prelude.{◌≤◌, IfOk};
+
+use crate::step::{Peer, Step};
+use nut_server::{Arrival, Server};
+use percent_encoding::{AsciiSet, CONTROLS, ascii_set, percent_encode};
+use std::io;
+use std::io::Write;
+
+/// What stands as `%XX` where it is printed, beside the bytes past ASCII.
+const ESCAPED: AsciiSet = ascii_set!(CONTROLS.add(b'%'));
+
+/// Plays a step, and writes a line on how it was answered.
+pub fn play<W: Write>(step: Step<'_>, server: &mut Server, out: &mut W) -> io::Result<()> {
+    match step {
+        Step::Tell(arrival) => tell(arrival, server, out)?,
+        Step::Take(peer, most) => take(peer, most, server, out)?,
+        Step::Next(least) => match server.next_unsettled(least) {
+            Some(c) => write!(out, "connection {c}")?,
+            None => write!(out, "none")?,
+        },
+        Step::NextDriver(least) => match server.next_driver_waiting(least) {
+            Some(u) => write!(out, "driver {u}")?,
+            None => write!(out, "none")?,
+        },
+    }
+    writeln!(out)
+}
+
+/// Tells the server an arrival, and writes its answer and what then waits where the arrival came from.
+fn tell<W: Write>(arrival: Arrival<'_>, server: &mut Server, out: &mut W) -> io::Result<()> {
+    match server.arrive(arrival) {
+        Ok(()) => write!(out, "ok")?,
+        Err(refused) => write!(out, "{refused:?}")?,
+    }
+    match arrival {
+        Arrival::Moment(_) => {
+            for u in 0..server.number_of_upses() {
+                write!(out, " {}", server.waits_for_driver(u))?;
+            }
+            Ok(())
+        }
+        Arrival::Open(_) => write!(out, " opened={}", server.opened()),
+        Arrival::Bytes(c, _) | Arrival::Took(c, _) | Arrival::Close(c) | Arrival::WriteFailed(c) =>
+            show_connection(c, server, out),
+        Arrival::DriverUp(u)
+        | Arrival::DriverBytes(u, _)
+        | Arrival::DriverTook(u, _)
+        | Arrival::DriverDown(u) => show_driver(u, server, out),
+    }
+}
+
+/// Writes what the server says of a connection.
+fn show_connection<W: Write>(c: u64, server: &Server, out: &mut W) -> io::Result<()> {
+    let (waits, kept) = (server.waits(c), server.kept(c));
+    let (reads, leaves) = (server.may_read(c), server.leaves(c));
+    write!(
+        out,
+        " waits={waits} kept={kept} reads={reads} leaves={leaves}"
+    )
+}
+
+/// Writes what the server says of a driver.
+fn show_driver<W: Write>(u: usize, server: &Server, out: &mut W) -> io::Result<()> {
+    let (waits, connected) = (server.waits_for_driver(u), server.is_connected(u));
+    write!(out, " waits={waits} connected={connected}")
+}
+
+/// One for whom bytes wait takes them, at most so many, and they are written.
+fn take<W: Write>(peer: Peer, most: usize, server: &mut Server, out: &mut W) -> io::Result<()> {
+    let mut left = most;
+    for _ in 0..u64::MAX {
+        let taken = take_front(peer, left, server, out)?;
+        if taken == 0 {
+            break;
+        }
+        left -= taken;
+    }
+    Ok(())
+}
+
+/// Takes a front part of what waits for one, and says how many bytes that was.
+fn take_front<W: Write>(
+    peer: Peer,
+    most: usize,
+    server: &mut Server,
+    out: &mut W,
+) -> io::Result<usize>
+    ensures { IfOk result (λ taken. taken ≤ most) }
+{
+    let front = waiting(server, peer);
+    let taken = front.len().min(most);
+    if taken == 0 {
+        return Ok(0);
+    }
+    write!(out, "{}", percent_encode(&front[..taken], ESCAPED))?;
+    let arrival = match peer {
+        Peer::Connection(c) => Arrival::Took(c, taken),
+        Peer::Driver(u) => Arrival::DriverTook(u, taken),
+    };
+    if let Err(refused) = server.arrive(arrival) {
+        write!(out, "{refused:?}")?;
+        return Ok(0);
+    }
+    Ok(taken)
+}
+
+/// A front part of what waits for one.
+fn waiting(server: &Server, peer: Peer) -> &[u8] {
+    match peer {
+        Peer::Connection(c) => server.waiting(c),
+        Peer::Driver(u) => server.waiting_for_driver(u),
+    }
+}

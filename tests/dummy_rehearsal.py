@@ -1,0 +1,122 @@
+#!/usr/bin/env python3
+"""Runs the rehearsal of dummy drivers with each allocation refused in turn.
+
+    tests/dummy_rehearsal.py DUMMY_REHEARSAL
+
+A line of a run that begins with '!' tells of the refusal and of what stands after it; the run then makes the refused call
+once more, and all its other lines have to be those of a run in which nothing is refused. The last line is 'N passed, M
+failed'."""
+
+import itertools
+import os
+import re
+import subprocess
+import sys
+import tempfile
+
+HERE = os.path.dirname(os.path.abspath(__file__))
+WANTED = os.path.join(os.path.dirname(HERE), "crates", "dummy_rehearsal", "stdout")
+
+# the lines of a refusal, by what was refused
+SCRIPT = re.compile(r"! no script: out of memory at line [1-9][0-9]*\n")
+DRIVER = re.compile(r"! no driver: out of memory\n")
+CALL = re.compile(r"! out of memory behind ([0-9]+) lines, linked (true|false), 0 bytes wait\n! (= .*\n)")
+ROOM = re.compile(r"! a call was refused\n")
+ROOM_BEGINS = "A driver and a server\n"
+
+# what the first line changes of the one piece that has two
+FIRST_OF_TWO = ('ups.delay.shutdown "60"', 'ups.delay.shutdown "5"')
+
+
+class Failed(Exception):
+    pass
+
+
+def expect(holds, what):
+    if not holds:
+        raise Failed(what)
+
+
+def standing(step, table, refusal):
+    """Whether the link and the table after a refused call are what they have to be: a moment changes nothing, and a
+    piece leaves the lines done and cuts the link. It gives a word for what was seen."""
+    lines, linked, left = refusal.groups()
+    if step.startswith("> moment"):
+        expect((lines, linked, left) == ("0", "true", table), f"{step!r} changed something: {refusal[0]!r}")
+        return "moment"
+    wanted = table if lines == "0" else table.replace(*FIRST_OF_TWO)
+    expect(lines == "0" or (lines == "1" and wanted != table), f"so many lines weren't in {step!r}: {refusal[0]!r}")
+    expect((linked, left) == ("false", wanted), f"after {step!r}: {refusal[0]!r}")
+    return f"piece behind {lines}"
+
+
+def kind_of(before, refusal):
+    """What was refused, from the lines before the refusal and its own."""
+    if SCRIPT.fullmatch(refusal):
+        return "script"
+    if DRIVER.fullmatch(refusal):
+        return "driver"
+    call = CALL.fullmatch(refusal)
+    expect(call is not None, f"what is {refusal!r}?")
+    # a step may have several lines, and the table before it is the last
+    table = max(at for at, line in enumerate(before) if line.startswith("= "))
+    return standing(before[table + 1], before[table], call)
+
+
+def check(at, status, out, wanted):
+    """Whether a run with a refusal gave what it has to. It gives a word for what was refused."""
+    lines = out.splitlines(keepends=True)
+    told = [place for place, line in enumerate(lines) if line.startswith("!")]
+    rest = "".join(line for line in lines if not line.startswith("!"))
+    if not told:
+        expect((status, rest) == (0, wanted), f"allocation {at} changed what is told")
+        return "nothing"
+    refusal = "".join(lines[told[0] : told[-1] + 1])
+    if status != 0:
+        # beside a server a rehearsal ends where memory runs out
+        in_room = ROOM_BEGINS in rest and wanted.startswith(rest) and told == [len(lines) - 1]
+        expect(in_room and ROOM.fullmatch(refusal), f"allocation {at} ended a run by {refusal!r}")
+        return "room"
+    expect(told == list(range(told[0], told[-1] + 1)), f"allocation {at} was refused twice")
+    expect(rest == wanted, f"allocation {at} changed what is told later")
+    return kind_of(lines[: told[0]], refusal)
+
+
+def refused_in_turn(program, folder, wanted):
+    """Runs with the first allocation refused, then with the second, and so on, up to one that isn't reached."""
+    count = os.path.join(folder, "count")
+    env = {**os.environ, "LD_PRELOAD": os.path.join(folder, "refuse.so"), "REFUSE": "allocation", "REFUSE_COUNT": count}
+    seen = set()
+    for at in itertools.count(1):
+        done = subprocess.run([program], env={**env, "REFUSE_AT": str(at)}, capture_output=True, timeout=60)
+        out = done.stdout.decode()
+        with open(count) as file:
+            calls = int(file.read())
+        if calls < at:
+            expect((done.returncode, out) == (0, wanted), "a run without a refusal")
+            break
+        seen.add(check(at, done.returncode, out, wanted))
+    missing = {"script", "driver", "moment", "piece behind 0", "piece behind 1", "room"} - seen
+    expect(not missing, f"never refused: {', '.join(sorted(missing))}")
+
+
+def main():
+    program = os.path.abspath(sys.argv[1])
+    with open(WANTED) as file:
+        wanted = file.read()
+    try:
+        with tempfile.TemporaryDirectory() as folder:
+            shim = os.path.join(folder, "refuse.so")
+            subprocess.run(["cc", "-shared", "-fPIC", "-O2", "-o", shim, os.path.join(HERE, "refuse.c"), "-ldl"], check=True)
+            refused_in_turn(program, folder, wanted)
+    except (Failed, OSError, subprocess.SubprocessError) as fault:
+        print(f"FAILED: each allocation refused in turn: {fault}")
+        print("0 passed, 1 failed")
+        return 1
+    print("passed: each allocation refused in turn")
+    print("1 passed, 0 failed")
+    return 0
+
+
+if __name__ == "__main__":
+    sys.exit(main())

@@ -1,0 +1,673 @@
+"""A plain model of the server, written from the protocol's text alone, for programs to be compared with.
+
+It keeps dictionaries and lists, cuts lines out of the bytes so far, and reads words by regular expressions. All names and
+texts are bytes."""
+
+import copy
+import re
+
+LINE_MAX = 512
+PIECE_MAX = 512
+WORDS_MAX = 32
+NAME_MAX = 64
+VALUE_MAX = 128
+VARIABLES_MAX = 512
+COMMANDS_MAX = 128
+ENUMS_MAX = 64
+RANGES_MAX = 16
+ASKS_MAX = 4096
+
+VARIABLES_DESCRIBED = {
+    b"battery.charge": b"Battery charge (percent)",
+    b"battery.charge.low": b"Low battery level (percent)",
+    b"battery.runtime.low": b"Low battery runtime (seconds)",
+    b"input.sensitivity": b"Input sensitivity",
+    b"ups.beeper.status": b"Beeper status",
+    b"ups.delay.shutdown": b"Delay before shutdown (seconds)",
+    b"ups.id": b"Identifier of the UPS",
+    b"ups.status": b"Status of the UPS",
+    b"ups.test.result": b"Result of the last test",
+}
+COMMANDS_DESCRIBED = {
+    b"beeper.disable": b"Disable the beeper",
+    b"beeper.enable": b"Enable the beeper",
+    b"load.off": b"Turn off the load",
+    b"load.on": b"Turn on the load",
+    b"test.battery.start": b"Start a battery test",
+    b"test.battery.stop": b"Stop the battery test",
+    b"test.failure.start": b"Simulate a power failure",
+    b"test.failure.stop": b"Stop the simulated failure",
+}
+NO_DESCRIPTION = b"Description unavailable"
+
+HELP = b"Commands: GET LIST SET INSTCMD USERNAME PASSWORD LOGIN PRIMARY FSD LOGOUT VER NETVER HELP STARTTLS"
+
+BLANK = rb"[ \t\r]+"
+BARE = rb"(?:[!$-<>-\[\]-~]|\\[ -~])+"
+QUOTED = rb'"(?:[ !#-\[\]-~]|\\[ -~])*"'
+PART = re.compile(rb"(?P<blank>" + BLANK + rb")|(?P<bare>" + BARE + rb")|(?P<quoted>" + QUOTED + rb")|(?P<equals>=)|(?P<comment>#[ -~\t\r]*\Z)")
+ESCAPE = re.compile(rb"\\(.)")
+NAME = re.compile(rb"[A-Za-z0-9._-]{1,64}")
+ADDRESS = re.compile(rb"[!$-<>-\[\]-~]{1,64}")
+WHOLE = re.compile(rb"-?[0-9]{1,9}")
+COUNT = re.compile(rb"[0-9]{1,9}")
+
+
+def fits(pattern, text):
+    # `$` would also match before a last line feed
+    return pattern.fullmatch(text) is not None
+
+
+def words_of(line):
+    """The words that a line spells, or None where it spells none (an empty list is a line without words)."""
+    words = []
+    at, before = 0, "blank"
+    while at < len(line):
+        part = PART.match(line, at)
+        if part is None:
+            return None
+        kind = part.lastgroup
+        if kind == "quoted" and before not in ("blank", "equals"):
+            return None
+        if before == "quoted" and kind in ("bare", "quoted"):
+            return None
+        if kind == "bare":
+            words.append(ESCAPE.sub(rb"\1", part[0]))
+        elif kind == "quoted":
+            words.append(ESCAPE.sub(rb"\1", part[0][1:-1]))
+        elif kind == "equals":
+            words.append(b"=")
+        if len(words) > WORDS_MAX:
+            return None
+        at, before = part.end(), kind
+    return words
+
+
+def quoted(text):
+    return b'"' + re.sub(rb'(["\\#])', rb"\\\1", text) + b'"'
+
+
+class Refused(Exception):
+    """An answer `ERR ..`."""
+
+
+def error(name):
+    return Refused(name)
+
+
+class User:
+    def __init__(self, password=None, actions=(), commands=(), upsmon=None):
+        self.password = password
+        self.actions = actions
+        self.commands = commands
+        self.upsmon = upsmon
+
+    def may(self, right, command):
+        if right == "LOGIN":
+            return self.upsmon is not None
+        if right == "PRIMARY":
+            return self.upsmon == "primary"
+        if right == "FSD":
+            return self.upsmon == "primary" or "FSD" in self.actions
+        if right == "SET":
+            return "SET" in self.actions
+        return any(it.lower() == b"all" or it == command for it in self.commands)
+
+
+class Config:
+    """What the configuration files say: (name, description) of each UPS, users by name, and two numbers."""
+
+    def __init__(self, upses, users, max_age=15, max_conn=256):
+        self.upses = upses
+        self.users = users
+        self.max_age = max_age
+        self.max_conn = max_conn
+
+
+class Variable:
+    def __init__(self, value):
+        self.value = value
+        self.flags = set()
+        self.aux = None
+        self.enums = []
+        self.ranges = []
+
+    def kind(self):
+        if self.enums:
+            return "ENUM"
+        if self.ranges:
+            return "RANGE"
+        return "STRING" if "STRING" in self.flags else "NUMBER"
+
+    def refuse(self, value):
+        """Raises what a SET to this value is refused with, if it is."""
+        if "RW" not in self.flags:
+            raise error("READONLY")
+        if len(value) > VALUE_MAX:
+            raise error("TOO-LONG")
+        kind = self.kind()
+        if kind == "ENUM" and value not in self.enums:
+            raise error("INVALID-VALUE")
+        if kind == "RANGE":
+            number = int(value) if fits(WHOLE, value) else None
+            if number is None or not any(least <= number <= most for least, most in self.ranges):
+                raise error("INVALID-VALUE")
+        if kind == "STRING" and len(value) > (self.aux or 0):
+            raise error("TOO-LONG")
+
+
+class Ups:
+    def __init__(self, name, description):
+        self.name = name
+        self.description = description
+        self.is_forced = False
+        self.is_connected = False
+        self.forget()
+
+    def forget(self):
+        """What a driver told is gone, and what waits for it."""
+        self.variables = {}
+        self.commands = set()
+        self.is_dumped = False
+        self.is_data_ok = False
+        self.last_heard = 0
+        self.last_ping = None
+        self.rest = b""
+        self.asks = b""
+
+    def hear(self, line):
+        """Applies a line of the driver, and says whether it counts as a word of it."""
+        words = words_of(line) if len(line) <= LINE_MAX else None
+        if not words:
+            return False
+        verb, *rest = words
+        row = DRIVER_LINES.get(verb.upper())
+        if row is None or not row[0](len(rest)):
+            return False
+        row[1](self, *rest)
+        return True
+
+    def size(self):
+        """How many entries its table has."""
+        lists = sum(len(it.enums) + len(it.ranges) for it in self.variables.values())
+        return len(self.variables) + len(self.commands) + lists
+
+    def set_info(self, name, value):
+        if not fits(NAME, name) or len(value) > VALUE_MAX:
+            return
+        if name in self.variables:
+            self.variables[name].value = value
+        elif len(self.variables) < VARIABLES_MAX:
+            self.variables[name] = Variable(value)
+
+    def del_info(self, name):
+        self.variables.pop(name, None)
+
+    def add_enum(self, name, value):
+        variable = self.variables.get(name)
+        if variable and len(value) <= VALUE_MAX and value not in variable.enums and len(variable.enums) < ENUMS_MAX:
+            variable.enums.append(value)
+
+    def del_enum(self, name, value):
+        variable = self.variables.get(name)
+        if variable and value in variable.enums:
+            variable.enums.remove(value)
+
+    def add_range(self, name, least, most):
+        variable = self.variables.get(name)
+        if not variable or not fits(WHOLE, least) or not fits(WHOLE, most):
+            return
+        pair = int(least), int(most)
+        if pair[0] <= pair[1] and pair not in variable.ranges and len(variable.ranges) < RANGES_MAX:
+            variable.ranges.append(pair)
+
+    def del_range(self, name, least, most):
+        variable = self.variables.get(name)
+        if not variable or not fits(WHOLE, least) or not fits(WHOLE, most):
+            return
+        pair = int(least), int(most)
+        if pair in variable.ranges:
+            variable.ranges.remove(pair)
+
+    def set_aux(self, name, number):
+        variable = self.variables.get(name)
+        if variable and fits(COUNT, number) and int(number) <= VALUE_MAX:
+            variable.aux = int(number)
+
+    def set_flags(self, name, *flags):
+        variable = self.variables.get(name)
+        if variable:
+            named = {flag.upper() for flag in flags}
+            variable.flags = {it.decode() for it in (b"RW", b"STRING", b"NUMBER") if it in named}
+
+    def add_command(self, name):
+        if fits(NAME, name) and len(self.commands) < COMMANDS_MAX:
+            self.commands.add(name)
+
+    def del_command(self, name):
+        self.commands.discard(name)
+
+    def dump_done(self):
+        self.is_dumped = True
+
+    def data_ok(self):
+        self.is_data_ok = True
+
+    def data_stale(self):
+        self.is_data_ok = False
+
+    def pong(self):
+        pass
+
+    def ask(self, line):
+        """Puts a request in the driver's queue, and says whether it fitted."""
+        if len(self.asks) + len(line) > ASKS_MAX:
+            return False
+        self.asks += line
+        return True
+
+
+# how many words behind the first a line of a driver has, and what it does
+DRIVER_LINES = {
+    b"SETINFO": (lambda n: n == 2, Ups.set_info),
+    b"DELINFO": (lambda n: n == 1, Ups.del_info),
+    b"ADDENUM": (lambda n: n == 2, Ups.add_enum),
+    b"DELENUM": (lambda n: n == 2, Ups.del_enum),
+    b"ADDRANGE": (lambda n: n == 3, Ups.add_range),
+    b"DELRANGE": (lambda n: n == 3, Ups.del_range),
+    b"SETAUX": (lambda n: n == 2, Ups.set_aux),
+    b"SETFLAGS": (lambda n: n >= 1, Ups.set_flags),
+    b"ADDCMD": (lambda n: n == 1, Ups.add_command),
+    b"DELCMD": (lambda n: n == 1, Ups.del_command),
+    b"DUMPDONE": (lambda n: n == 0, Ups.dump_done),
+    b"DATAOK": (lambda n: n == 0, Ups.data_ok),
+    b"DATASTALE": (lambda n: n == 0, Ups.data_stale),
+    b"PONG": (lambda n: n == 0, Ups.pong),
+}
+
+
+class Connection:
+    def __init__(self, address):
+        self.address = address
+        self.user = None
+        self.password = None
+        self.login = None
+        self.is_logged_out = False
+        self.rest = b""
+        self.waits = b""
+
+
+def cut(rest, piece):
+    """The lines that a piece completes, and the unfinished line. An endless line is kept just long enough to be seen
+    as too long."""
+    *lines, rest = (rest + piece).split(b"\n")
+    return lines, rest[: LINE_MAX + 1]
+
+
+class Server:
+    def __init__(self, config):
+        self.config = config
+        self.now = 0
+        self.opened = 0
+        self.connections = {}
+        self.upses = [Ups(name, description) for name, description in config.upses]
+
+    # What a server is told. Each call gives the name of the refusal, or None.
+
+    def moment(self, at):
+        self.now = max(self.now, at)
+        pause = self.config.max_age // 3
+        for ups in self.upses:
+            if not ups.is_connected or self.now - ups.last_heard <= pause:
+                continue
+            if ups.last_ping is not None and self.now - ups.last_ping <= pause:
+                continue
+            if ups.ask(b"PING\n"):
+                ups.last_ping = self.now
+
+    def open(self, address):
+        if not fits(ADDRESS, address):
+            return "BadAddress"
+        if len(self.connections) >= self.config.max_conn:
+            return "Full"
+        self.opened += 1
+        self.connections[self.opened] = Connection(address)
+
+    def bytes(self, number, piece, lost=None):
+        """With `lost`, a growth is refused behind so many lines of the piece."""
+        connection = self.connections.get(number)
+        if connection is None:
+            return "NoSuchConnection"
+        if len(piece) > PIECE_MAX:
+            return "PieceTooLong"
+        if connection.waits:
+            return "Busy"
+        lines, connection.rest = cut(connection.rest, piece)
+        for line in lines[:lost]:
+            connection.waits += self.answer(connection, line)
+        if lost is not None:
+            del self.connections[number]
+
+    def may_lack(self, number, piece):
+        """The lines of an accepted piece, as their numbers from 0, at which memory may be lacking."""
+        connection = self.connections[number]
+        gone = connection.is_logged_out
+        found = set()
+        for at, line in enumerate(cut(connection.rest, piece)[0]):
+            words = words_of(line) if len(line) <= LINE_MAX else None
+            if not gone and (words != [] or b"\\" in line):
+                found.add(at)
+            gone = gone or (words is not None and [it.upper() for it in words] == [b"LOGOUT"])
+        return found
+
+    def driver_may_lack(self, number, piece):
+        """The same of an accepted piece of a driver."""
+        ups = copy.deepcopy(self.upses[number])
+        found = set()
+        for at, line in enumerate(cut(ups.rest, piece)[0]):
+            before = ups.size()
+            ups.hear(line)
+            if b"\\" in line or ups.size() > before:
+                found.add(at)
+        return found
+
+    def took(self, number, count):
+        connection = self.connections.get(number)
+        if connection is None:
+            return "NoSuchConnection"
+        if count > len(connection.waits):
+            return "TooMuchTaken"
+        connection.waits = connection.waits[count:]
+
+    def close(self, number):
+        if number not in self.connections:
+            return "NoSuchConnection"
+        del self.connections[number]
+
+    def driver_up(self, number):
+        if number >= len(self.upses):
+            return "NotConnected"
+        ups = self.upses[number]
+        ups.forget()
+        ups.is_connected = True
+        ups.last_heard = self.now
+        ups.ask(b"DUMPALL\n")
+
+    def connected(self, number):
+        return self.upses[number] if number < len(self.upses) and self.upses[number].is_connected else None
+
+    def driver_bytes(self, number, piece, lost=None):
+        ups = self.connected(number)
+        if ups is None:
+            return "NotConnected"
+        if len(piece) > PIECE_MAX:
+            return "PieceTooLong"
+        lines, ups.rest = cut(ups.rest, piece)
+        for line in lines[:lost]:
+            if ups.hear(line):
+                ups.last_heard = self.now
+        if lost is not None:
+            self.driver_down(number)
+
+    def driver_took(self, number, count):
+        ups = self.connected(number)
+        if ups is None:
+            return "NotConnected"
+        if count > len(ups.asks):
+            return "TooMuchTaken"
+        ups.asks = ups.asks[count:]
+
+    def driver_down(self, number):
+        ups = self.connected(number)
+        if ups is None:
+            return "NotConnected"
+        ups.forget()
+        ups.is_connected = False
+
+    # What it says of itself.
+
+    def waits(self, number):
+        return self.connections[number].waits if number in self.connections else b""
+
+    def waits_for_driver(self, number):
+        return self.upses[number].asks if number < len(self.upses) else b""
+
+    def may_read(self, number):
+        connection = self.connections.get(number)
+        return connection is not None and not connection.waits and not connection.is_logged_out
+
+    def leaves(self, number):
+        connection = self.connections.get(number)
+        return connection is not None and not connection.waits and connection.is_logged_out
+
+    def kept(self, number):
+        kept = len(self.connections[number].rest) if number in self.connections else 0
+        return kept if kept <= LINE_MAX else 0
+
+    # How a line is answered.
+
+    def answer(self, connection, line):
+        if connection.is_logged_out:
+            return b""
+        words = words_of(line) if len(line) <= LINE_MAX else None
+        if words == []:
+            return b""
+        try:
+            if words is None:
+                raise error("INVALID-ARGUMENT")
+            return self.reply(connection, words)
+        except Refused as refused:
+            return b"ERR " + str(refused).encode() + b"\n"
+
+    def reply(self, connection, words):
+        first = words[0].upper()
+        if first in (b"GET", b"LIST", b"SET"):
+            second = words[1].upper() if len(words) > 1 else b""
+            key, rest = first + b" " + second, words[2:]
+        elif first in FIRST_WORDS:
+            key, rest = first, words[1:]
+        else:
+            raise error("UNKNOWN-COMMAND")
+        form = FORMS.get(key)
+        if form is None or form[0] != len(rest):
+            raise error("INVALID-ARGUMENT")
+        return form[1](self, connection, *rest)
+
+    def ups(self, name):
+        for ups in self.upses:
+            if ups.name == name:
+                return ups
+        raise error("UNKNOWN-UPS")
+
+    def live(self, name):
+        ups = self.ups(name)
+        self.refuse_unless_live(ups)
+        return ups
+
+    def refuse_unless_live(self, ups):
+        if not ups.is_connected:
+            raise error("DRIVER-NOT-CONNECTED")
+        if not ups.is_dumped or not ups.is_data_ok or self.now - ups.last_heard > self.config.max_age:
+            raise error("DATA-STALE")
+
+    def variable(self, ups, name):
+        if name not in ups.variables:
+            raise error("VAR-NOT-SUPPORTED")
+        return ups.variables[name]
+
+    def permitted(self, connection, name, right, command=None):
+        """The UPS of this name, once the client may do this to it."""
+        if connection.user is None:
+            raise error("USERNAME-REQUIRED")
+        if connection.password is None:
+            raise error("PASSWORD-REQUIRED")
+        ups = self.ups(name)
+        user = self.config.users.get(connection.user)
+        if user is None or user.password is None or user.password != connection.password or not user.may(right, command):
+            raise error("ACCESS-DENIED")
+        return ups
+
+    def shown(self, ups, name):
+        value = ups.variables[name].value
+        return b"FSD " + value if ups.is_forced and name == b"ups.status" else value
+
+    def logins(self, ups):
+        return [it for _, it in sorted(self.connections.items()) if it.login is ups]
+
+    # One method a form.
+
+    def get_numlogins(self, _, u):
+        return b"NUMLOGINS %s %d\n" % (u, len(self.logins(self.live(u))))
+
+    def get_upsdesc(self, _, u):
+        return b"UPSDESC %s %s\n" % (u, quoted(self.ups(u).description))
+
+    def get_var(self, _, u, v):
+        ups = self.live(u)
+        self.variable(ups, v)
+        return b"VAR %s %s %s\n" % (u, v, quoted(self.shown(ups, v)))
+
+    def get_type(self, _, u, v):
+        variable = self.variable(self.live(u), v)
+        text = b" RW" if "RW" in variable.flags else b""
+        kind = variable.kind()
+        text += b" " + kind.encode()
+        if kind == "STRING":
+            text += b":%d" % (variable.aux or 0)
+        return b"TYPE %s %s%s\n" % (u, v, text)
+
+    def get_desc(self, _, u, v):
+        self.variable(self.live(u), v)
+        return b"DESC %s %s %s\n" % (u, v, quoted(VARIABLES_DESCRIBED.get(v, NO_DESCRIPTION)))
+
+    def get_cmddesc(self, _, u, k):
+        if k not in self.live(u).commands:
+            raise error("CMD-NOT-SUPPORTED")
+        return b"CMDDESC %s %s %s\n" % (u, k, quoted(COMMANDS_DESCRIBED.get(k, NO_DESCRIPTION)))
+
+    def listed(self, query, rows):
+        return b"BEGIN LIST %s\n%sEND LIST %s\n" % (query, b"".join(row + b"\n" for row in rows), query)
+
+    def list_ups(self, _):
+        return self.listed(b"UPS", (b"UPS %s %s" % (it.name, quoted(it.description)) for it in self.upses))
+
+    def list_var(self, _, u):
+        ups = self.live(u)
+        return self.listed(b"VAR " + u, (b"VAR %s %s %s" % (u, v, quoted(self.shown(ups, v))) for v in sorted(ups.variables)))
+
+    def list_rw(self, _, u):
+        ups = self.live(u)
+        names = sorted(v for v in ups.variables if "RW" in ups.variables[v].flags)
+        return self.listed(b"RW " + u, (b"RW %s %s %s" % (u, v, quoted(self.shown(ups, v))) for v in names))
+
+    def list_cmd(self, _, u):
+        return self.listed(b"CMD " + u, (b"CMD %s %s" % (u, k) for k in sorted(self.live(u).commands)))
+
+    def list_enum(self, _, u, v):
+        variable = self.variable(self.live(u), v)
+        return self.listed(b"ENUM %s %s" % (u, v), (b"ENUM %s %s %s" % (u, v, quoted(it)) for it in variable.enums))
+
+    def list_range(self, _, u, v):
+        variable = self.variable(self.live(u), v)
+        rows = (b'RANGE %s %s "%d" "%d"' % (u, v, least, most) for least, most in variable.ranges)
+        return self.listed(b"RANGE %s %s" % (u, v), rows)
+
+    def list_client(self, _, u):
+        ups = self.live(u)
+        return self.listed(b"CLIENT " + u, (b"CLIENT %s %s" % (u, it.address) for it in self.logins(ups)))
+
+    def set_var(self, connection, u, v, x):
+        ups = self.permitted(connection, u, "SET")
+        self.refuse_unless_live(ups)
+        self.variable(ups, v).refuse(x)
+        if not ups.ask(b"SET %s %s\n" % (v, quoted(x))):
+            raise error("SET-FAILED")
+        return b"OK\n"
+
+    def instcmd(self, connection, u, k):
+        ups = self.permitted(connection, u, "INSTCMD", k)
+        self.refuse_unless_live(ups)
+        if k not in ups.commands:
+            raise error("CMD-NOT-SUPPORTED")
+        if not ups.ask(b"INSTCMD %s\n" % k):
+            raise error("INSTCMD-FAILED")
+        return b"OK\n"
+
+    def username(self, connection, x):
+        if not 1 <= len(x) <= VALUE_MAX:
+            raise error("INVALID-ARGUMENT")
+        if connection.user is not None:
+            raise error("ALREADY-SET-USERNAME")
+        connection.user = x
+        return b"OK\n"
+
+    def password(self, connection, x):
+        if not 1 <= len(x) <= VALUE_MAX:
+            raise error("INVALID-ARGUMENT")
+        if connection.password is not None:
+            raise error("ALREADY-SET-PASSWORD")
+        connection.password = x
+        return b"OK\n"
+
+    def login(self, connection, u):
+        ups = self.permitted(connection, u, "LOGIN")
+        if connection.login is not None:
+            raise error("ALREADY-LOGGED-IN")
+        connection.login = ups
+        return b"OK\n"
+
+    def primary(self, connection, u):
+        self.permitted(connection, u, "PRIMARY")
+        return b"OK\n"
+
+    def fsd(self, connection, u):
+        self.permitted(connection, u, "FSD").is_forced = True
+        return b"OK FSD-SET\n"
+
+    def logout(self, connection):
+        connection.is_logged_out = True
+        connection.login = None
+        return b"OK Goodbye\n"
+
+    def ver(self, _):
+        return b"Network UPS Tools upsd profile 1.2\n"
+
+    def netver(self, _):
+        return b"1.2\n"
+
+    def help(self, _):
+        return HELP + b"\n"
+
+    def starttls(self, _):
+        raise error("FEATURE-NOT-CONFIGURED")
+
+
+# how many words follow the words of a form, and what answers it
+FORMS = {
+    b"GET NUMLOGINS": (1, Server.get_numlogins),
+    b"GET UPSDESC": (1, Server.get_upsdesc),
+    b"GET VAR": (2, Server.get_var),
+    b"GET TYPE": (2, Server.get_type),
+    b"GET DESC": (2, Server.get_desc),
+    b"GET CMDDESC": (2, Server.get_cmddesc),
+    b"LIST UPS": (0, Server.list_ups),
+    b"LIST VAR": (1, Server.list_var),
+    b"LIST RW": (1, Server.list_rw),
+    b"LIST CMD": (1, Server.list_cmd),
+    b"LIST ENUM": (2, Server.list_enum),
+    b"LIST RANGE": (2, Server.list_range),
+    b"LIST CLIENT": (1, Server.list_client),
+    b"SET VAR": (3, Server.set_var),
+    b"INSTCMD": (2, Server.instcmd),
+    b"USERNAME": (1, Server.username),
+    b"PASSWORD": (1, Server.password),
+    b"LOGIN": (1, Server.login),
+    b"PRIMARY": (1, Server.primary),
+    b"FSD": (1, Server.fsd),
+    b"LOGOUT": (0, Server.logout),
+    b"VER": (0, Server.ver),
+    b"NETVER": (0, Server.netver),
+    b"HELP": (0, Server.help),
+    b"STARTTLS": (0, Server.starttls),
+}
+FIRST_WORDS = {key.split()[0] for key in FORMS}

@@ -1,0 +1,300 @@
+#!/usr/bin/env python3
+"""Plays schedules of arrivals on the server, and compares each answer with that of the plain model in model.py.
+
+    tests/rehearsal.py REHEARSE
+
+The schedules are made from fixed seeds, so that each run of this test plays the same. The last line is
+'N passed, M failed'."""
+
+import array
+import contextlib
+import fcntl
+import itertools
+import os
+import random
+import re
+import shutil
+import subprocess
+import sys
+import tempfile
+import termios
+import time
+
+from model import Config
+from player import Player, escaped, line_of, write_conf
+from rows import PROBE, ROWS
+from schedules import UPSES, USERS, ScheduleMaker, shifted
+
+HERE = os.path.dirname(os.path.abspath(__file__))
+
+# how much more memory a schedule may take that is played ten times over: far less than a record of it
+GROWTH_MAX_KIB = 256
+ERRORS = """ACCESS-DENIED UNKNOWN-UPS VAR-NOT-SUPPORTED CMD-NOT-SUPPORTED INVALID-ARGUMENT INSTCMD-FAILED SET-FAILED READONLY
+    TOO-LONG INVALID-VALUE FEATURE-NOT-CONFIGURED DRIVER-NOT-CONNECTED DATA-STALE ALREADY-LOGGED-IN ALREADY-SET-PASSWORD
+    ALREADY-SET-USERNAME USERNAME-REQUIRED PASSWORD-REQUIRED UNKNOWN-COMMAND""".split()
+REFUSALS = "NoSuchConnection NotConnected PieceTooLong Busy TooMuchTaken BadAddress Full".split()
+
+
+class Failed(Exception):
+    pass
+
+
+class Schedule:
+    """A schedule in its file, and what the program is to print of it."""
+
+    def __init__(self, path, config, steps):
+        self.path = path
+        self.player = Player(config)
+        self.due = []
+        self.most_open = 0
+        self.ends = [0]
+        with open(path, "wb") as file:
+            for step in steps:
+                file.write(line_of(step))
+                self.ends.append(file.tell())
+                self.due.append(self.player.play(step))
+                self.most_open = max(self.most_open, len(self.player.server.connections))
+
+    def line(self, number):
+        with open(self.path, "rb") as file:
+            file.seek(self.ends[number])
+            return file.read(self.ends[number + 1] - self.ends[number])
+
+    def compare(self, found):
+        found = found.splitlines(keepends=True)
+        for number, (it, due) in enumerate(zip(found, self.due)):
+            if it != due:
+                raise Failed(f"line {number + 1}: {self.line(number)!r} gives {it!r}, wanted {due!r}")
+        expect(len(found), len(self.due), "lines")
+
+
+def expect(found, wanted, what):
+    if found != wanted:
+        raise Failed(f"{what}: found {found!r}, wanted {wanted!r}")
+
+
+def answered(name, config, steps, out):
+    """Compares a run in which the server answered one refusal of memory with a model to which it is told: so nothing
+    differs but what it says of one connection or driver. It gives the answer, if the program couldn't do without."""
+    player = Player(config)
+    told = None
+    found = out.splitlines(keepends=True)
+    expect(len(found), len(steps), f"{name}: lines")
+    for step, line in zip(steps, found):
+        refused = re.match(rb"Memory\((?:Line|Report)\(\d+, (\d+)\)\)", line)
+        lost = int(refused[1]) if refused else None
+        if refused:
+            expect(told, None, f"{name}: a refusal before this one")
+            told = refused[0]
+            if lost not in player.may_lack(step):
+                raise Failed(f"{name}: {line!r} of {step}, which takes no memory there")
+        expect(line, player.play(step, lost), f"{name}: {step}")
+    return told
+
+
+def greatest_memory(process):
+    """The greatest memory, in KiB, of a process that has read all of its input, which is still open. (What the system
+    says of it once it has ended would count the memory of this test too, from which it was forked.)"""
+    while process.poll() is None:
+        unread = array.array("i", [0])
+        fcntl.ioctl(process.stdin, termios.FIONREAD, unread)
+        with open(f"/proc/{process.pid}/status") as file:
+            status = dict(line.split(":", 1) for line in file if ":" in line)
+        if unread[0] == 0 and status["State"].split()[0] == "S":
+            return int(status["VmHWM"].split()[0])
+        time.sleep(0.001)
+    return 0
+
+
+class Tests:
+    def __init__(self, program, folder):
+        self.program = program
+        self.folder = folder
+        self.shim = os.path.join(folder, "refuse.so")
+
+    def run(self, conf, path, env=None):
+        """Plays a schedule: the status, what is printed, what is said of a failure, and the greatest memory in KiB."""
+        out_path, err_path = (os.path.join(self.folder, it) for it in ("out", "err"))
+        with open(path, "rb") as schedule, open(out_path, "wb") as out, open(err_path, "wb") as err:
+            command = [self.program, "--conf", conf]
+            streams = {"stdin": subprocess.PIPE, "stdout": out, "stderr": err}
+            process = subprocess.Popen(command, env={**os.environ, **(env or {})}, **streams)
+            memory = 0
+            # it may end before its schedule does
+            with contextlib.suppress(BrokenPipeError):
+                shutil.copyfileobj(schedule, process.stdin)
+                process.stdin.flush()
+                memory = greatest_memory(process)
+            with contextlib.suppress(BrokenPipeError):
+                process.stdin.close()
+            status = process.wait(timeout=60)
+        with open(out_path, "rb") as out, open(err_path, "rb") as err:
+            return status, out.read(), err.read(), memory
+
+    def refusing(self, at):
+        """The environment of a run in which an allocation fails."""
+        count = os.path.join(self.folder, "count")
+        if os.path.exists(count):
+            os.remove(count)
+        return {"LD_PRELOAD": self.shim, "REFUSE": "allocation", "REFUSE_AT": str(at), "REFUSE_COUNT": count}
+
+    def is_reached(self, env):
+        """Whether there were so many allocations. (Behind the last comes one that counts them.)"""
+        if not os.path.exists(env["REFUSE_COUNT"]):
+            return False
+        with open(env["REFUSE_COUNT"]) as file:
+            return int(file.read()) >= int(env["REFUSE_AT"])
+
+    def refuse_in_turn(self, name, config, steps):
+        """Plays a schedule with the first allocation refused, then with the second, and so on. It gives the refusals
+        that were answered, and counts the runs that ended before their schedule."""
+        conf = os.path.join(self.folder, "conf")
+        write_conf(conf, config)
+        path = conf + ".schedule"
+        with open(path, "wb") as file:
+            file.writelines(map(line_of, steps))
+        player = Player(config)
+        due = b"".join(player.play(step) for step in steps)
+        told, ended = [], 0
+        for at in itertools.count(1):
+            env = self.refusing(at)
+            status, out, err, _ = self.run(conf, path, env)
+            if not self.is_reached(env):
+                expect((status, out, err), (0, due, b""), f"{name}, without a refusal")
+                return told, ended
+            if status == 0:
+                told += filter(None, [answered(f"{name}, allocation {at}", config, steps, out)])
+                continue
+            ended += 1
+            expect((status, err), (1, b"rehearse: out of memory\n"), f"{name}, allocation {at}")
+            expect(out, due[: len(out)], f"{name}, allocation {at}, up to the refusal")
+
+    def rehearse(self, config, steps):
+        """Plays a schedule, and compares it with the model. It gives the schedule, and the memory taken."""
+        conf = os.path.join(self.folder, "conf")
+        write_conf(conf, config)
+        schedule = Schedule(conf + ".schedule", config, steps)
+        status, out, err, memory = self.run(conf, schedule.path)
+        if (status, err) != (0, b""):
+            raise Failed(f"status {status}: {err!r}, after {out.count(10)} lines")
+        schedule.compare(out)
+        return schedule, memory
+
+    def play_row(self, row):
+        """Plays a worked row, and compares what is printed with the model, and both with the row's answers."""
+        schedule, _ = self.rehearse(row.config, row.steps)
+        for step, printed, due in zip(row.steps, schedule.due, row.due):
+            if due is not None:
+                expect(printed, escaped(due) + b"\n", f"{row.name}: {step}")
+
+    # Each method from here on whose name begins with 'test_' is a test.
+
+    def test_256_connections_and_100000_arrivals(self):
+        begun = time.monotonic()
+        config = Config(UPSES, USERS)
+        schedule, memory = self.rehearse(config, ScheduleMaker(1, config).steps(100_000))
+        expect(schedule.most_open, 256, "connections that were open at once")
+        due = b"".join(schedule.due)
+        for it in [f"ERR {it}%0A" for it in ERRORS] + [f"\n{it} " for it in REFUSALS]:
+            if it.encode() not in due:
+                raise Failed(f"{it!r} isn't in the schedule")
+        print(f"   {schedule.player.server.opened} connections, 256 at once, in {memory} KiB; {time.monotonic() - begun:.1f} s")
+
+    def test_memory_does_not_grow(self):
+        config = Config(UPSES, USERS)
+        maker = ScheduleMaker(9, config)
+        steps = [*maker.steps(10_000), *(("close", c) for c in maker.server.connections)]
+        opened, now = maker.server.opened, maker.server.now
+        _, once = self.rehearse(config, steps)
+        again = (shifted(step, turn * opened, turn * now) for turn in range(10) for step in steps)
+        _, ten_times = self.rehearse(config, again)
+        print(f"   {once} KiB for {len(steps)} arrivals, {ten_times} KiB for ten times as many")
+        if not 0 < ten_times <= once + GROWTH_MAX_KIB:
+            raise Failed(f"{once} KiB for {len(steps)} arrivals, {ten_times} KiB for ten times as many")
+
+    def test_other_configurations(self):
+        for seed, upses, max_age, max_conn in (
+            (2, UPSES[:1], 15, 2),
+            (3, UPSES, 1, 5),
+            (4, [], 15, 3),
+            (5, UPSES[:2], 86_400, 40),
+            (6, [(b"u%d" % it, b"") for it in range(32)], 2, 8),
+        ):
+            config = Config(upses, USERS, max_age, max_conn)
+            self.rehearse(config, ScheduleMaker(seed, config, forced=0.02).steps(6_000))
+
+    def test_lines_that_are_no_steps(self):
+        conf, path = (os.path.join(self.folder, it) for it in ("conf", "conf.schedule"))
+        write_conf(conf, Config(UPSES, USERS))
+        for line in ("wait 5", "moment", "moment -1", "bytes x VER", "took 1", "took 1 x", "up 18446744073709551616"):
+            with open(path, "w") as file:
+                file.write(f"# a comment\n\nopen a\n{line}\nopen b\n")
+            status, out, err, _ = self.run(conf, path)
+            wanted = (1, b"# a comment\n\nok opened=1\n", b"rehearse: line 4 isn't a step\n")
+            expect((status, out, err), wanted, line)
+
+    def test_endless_line(self):
+        steps = [("open", b"a"), *[("bytes", 1, b"a" * 500)] * 4000, ("bytes", 1, b"\n"), ("take", 1)]
+        schedule, _ = self.rehearse(Config(UPSES, USERS), steps)
+        kept = [b"ok waits=0 kept=%d reads=true leaves=false\n" % it for it in [500] + [0] * 3999]
+        expect(schedule.due[1:4001], kept, "pieces of a line of 2,000,000 bytes")
+        expect(schedule.due[4002], b"ERR INVALID-ARGUMENT%0A\n", "the answer to it")
+
+    def test_bytes_without_sense(self):
+        chance = random.Random(10)
+        steps = [("open", b"a"), ("open", b"b"), ("up", 0), ("up", 1)]
+        for _ in range(10_000):
+            piece = bytes(chance.choices(range(256), k=chance.randrange(513)))
+            number = chance.randrange(2)
+            if chance.random() < 0.5:
+                steps.append(("driver", number, piece))
+            else:
+                steps += [("bytes", 1 + number, piece), ("take", 1 + number)]
+        self.rehearse(Config(UPSES, USERS), steps)
+
+    def test_worked_rows(self):
+        for row in ROWS:
+            self.play_row(row)
+
+    def test_worked_rows_with_each_allocation_refused(self):
+        answers = ends = 0
+        for row in ROWS:
+            told, ended = self.refuse_in_turn(row.name, row.config, row.steps + PROBE)
+            for it in row.wanted:
+                if it not in told:
+                    raise Failed(f"{row.name}: {it!r} isn't among {sorted(set(told))}")
+            answers, ends = answers + len(told), ends + ended
+        print(f"   {answers} refusals were answered, {ends} ended the program")
+
+    def test_random_schedules_with_each_allocation_refused(self):
+        for seed in (7, 8):
+            config = Config(UPSES[:2], USERS, 15, 4)
+            steps = list(ScheduleMaker(seed, config, forced=0.02).steps(400))
+            told, ended = self.refuse_in_turn(f"seed {seed}", config, steps)
+            print(f"   {len(told)} refusals were answered, {ended} ended the program")
+
+
+def main():
+    passed = failed = 0
+    with tempfile.TemporaryDirectory() as folder:
+        tests = Tests(os.path.abspath(sys.argv[1]), folder)
+        compiler = shutil.which("cc") or shutil.which("clang")
+        if compiler is None:
+            print("a C compiler is missing: the tests that make calls fail need one (cc or clang)")
+        else:
+            source = os.path.join(HERE, "refuse.c")
+            subprocess.run([compiler, "-shared", "-fPIC", "-o", tests.shim, source, "-ldl"], check=True)
+        for name in sorted(it for it in dir(tests) if it.startswith("test_")):
+            try:
+                getattr(tests, name)()
+                passed += 1
+                print(f"ok {name[5:].replace('_', ' ')}", flush=True)
+            except (Failed, OSError, subprocess.SubprocessError, ValueError) as error_found:
+                failed += 1
+                print(f"FAILED {name[5:].replace('_', ' ')}: {error_found}", flush=True)
+    print(f"{passed} passed, {failed} failed")
+    return 1 if failed else 0
+
+
+if __name__ == "__main__":
+    sys.exit(main())
