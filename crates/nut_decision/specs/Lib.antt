@@ -1,0 +1,11 @@
+pub mod Configuration
+pub mod Event
+pub mod Query
+pub mod Decision
+pub mod Trace
+pub mod Content
+pub mod Acceptance
+pub mod Machine
+pub mod Examples
+pub mod Outcome
+pub mod Laws

@@ -1,0 +1,11 @@
+pub mod CutLemmas
+pub mod FlagLemmas
+pub mod Loops
+pub mod Counts
+pub mod Writables
+pub mod Links
+pub mod Steps
+pub mod Marks
+pub mod Bytes
+pub mod Arrives
+pub mod Begun

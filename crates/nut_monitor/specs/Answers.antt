@@ -1,0 +1,16 @@
+-- The content of a monitor that was told nothing.
+use Rattle.std.specs.Prelude.{[], map, None}
+use Rattle.nut_decision.specs.Configuration.{Configuration}
+use Rattle.nut_decision.specs.Content.{Content}
+use Rattle.nut_monitor.specs.Inside.{unwatched}
+
+-- a monitor that was told nothing
+abbrev pub beginning : Configuration → Content
+beginning configuration = record {
+  configuration = configuration;
+  clock = 0;
+  begun = None;
+  ended = None;
+  notices = [];
+  watches = map (λ line. unwatched) configuration.lines;
+}

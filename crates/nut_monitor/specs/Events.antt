@@ -1,0 +1,12 @@
+-- What the events of the code are in the definitions.
+use Rattle.nut_decision.specs.Event as E
+use Rattle.nut_monitor.specs.declared.event.Event.{Event}
+use Rattle.nut_monitor.specs.declared.event.Event.TheVariants as events
+
+-- the event that is told
+abbrev pub event_of : Event → E.Event
+event_of (events.Moment t) = E.Moment t
+event_of (events.Linked i) = E.Linked i
+event_of (events.LinkBytes i piece) = E.LinkBytes i piece.now
+event_of (events.LinkLost i) = E.LinkLost i
+event_of (events.LinkTook i n) = E.LinkTook i n

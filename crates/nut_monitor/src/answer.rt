@@ -1,0 +1,227 @@
+//! What an answer does to what is known of a UPS, and what it tells.
+ghost use Rattle.std.specs.Prelude.{◌≡◌, ◌+◌, ◌≤◌, ◌++◌, [], if◌then◌else◌, length};
+ghost use Rattle.nut_decision.specs.declared.Query.TheVariants as queries;
+ghost use Rattle.nut_client.specs.declared.outcome.Outcome.TheVariants as outcomes;
+ghost use Rattle.nut_decision.specs.Configuration.{configuration_of};
+ghost use Rattle.nut_decision.specs.Decision.{answer_notices, had, is_bad as bad, loss_notices, status_notices, tells_replace, told};
+ghost use Rattle.nut_decision.specs.Machine.{known_answered, newer};
+ghost use Rattle.nut_decision.specs.Query.{logins_in};
+ghost use Rattle.nut_monitor.specs.Sound.{IsCount, with_flags};
+ghost use Rattle.nut_decision.specs.declared.Communication.TheVariants as communications;
+
+use crate::flags::{no_flags, read_flags};
+use crate::notices::Notices;
+use crate::time::is_over;
+use nut_client::{Fields, Outcome};
+use nut_conf::{Notice as Kind, Number, UpsmonConf};
+use nut_decision::{Communication, Known, Notice, Query, StatusFlags};
+
+/// Where and when an answer is heard.
+#[derive(Clone, Copy)]
+pub struct Scene {
+    /// The number of the MONITOR line.
+    pub line: usize,
+    pub clock: u64,
+    /// Whether no shutdown began.
+    pub watching: bool,
+}
+
+/// A notice of this type on a line.
+pub fn on_line(kind: Kind, line: usize) -> Notice
+    ensures { result ≡ told kind line }
+{
+    Notice {
+        kind,
+        line: Some(line),
+    }
+}
+
+fn is_bad(communication: Communication) -> bool
+    ensures { result ≡ bad communication }
+{
+    matches!(communication, Communication::Bad)
+}
+
+/// What the last status said; before the first nothing is there.
+fn earlier(known: Known) -> StatusFlags
+    ensures on_line { result.on_line ≡ had (λ f. f.on_line) known.flags }
+    ensures on_battery { result.on_battery ≡ had (λ f. f.on_battery) known.flags }
+    ensures low_battery { result.low_battery ≡ had (λ f. f.low_battery) known.flags }
+    ensures forced { result.forced_shutdown ≡ had (λ f. f.forced_shutdown) known.flags }
+    ensures replace { result.replace_battery ≡ had (λ f. f.replace_battery) known.flags }
+{
+    match known.flags {
+        Some(flags) => flags,
+        None => no_flags(),
+    }
+}
+
+/// Whether a status tells that the battery needs to be replaced.
+fn is_worn(config: &UpsmonConf, clock: u64, known: Known, flags: StatusFlags) -> bool
+    ensures { result ≡ tells_replace (configuration_of config.now) clock known.replace_told known.flags flags }
+{
+    let earlier = earlier(known);
+    flags.replace_battery
+        && (!earlier.replace_battery
+            || is_over(u64::from(config.rb_warn_time()), clock, known.replace_told))
+}
+
+/// Tells what a status tells.
+fn tell_status(
+    config: &UpsmonConf,
+    scene: Scene,
+    known: Known,
+    flags: StatusFlags,
+    notices: &mut Notices,
+)
+    requires { length notices.old ≤ 8 }
+    ensures few { length notices.new ≤ length notices.old + 6 }
+    ensures told { notices.new ≡ notices.old ++ status_notices (configuration_of config.now) scene.clock scene.line known flags }
+{
+    let earlier = earlier(known);
+    let line = scene.line;
+    let restored = known.flags.is_some() && flags.on_line && !earlier.on_line;
+    let worn = is_worn(config, scene.clock, known, flags);
+    notices.tell_when(is_bad(known.communication), on_line(Kind::Commok, line));
+    notices.tell_when(restored, on_line(Kind::Online, line));
+    notices.tell_when(
+        flags.on_battery && !earlier.on_battery,
+        on_line(Kind::Onbatt, line),
+    );
+    notices.tell_when(
+        flags.low_battery && !earlier.low_battery,
+        on_line(Kind::Lowbatt, line),
+    );
+    notices.tell_when(
+        flags.forced_shutdown && !earlier.forced_shutdown,
+        on_line(Kind::Fsd, line),
+    );
+    notices.tell_when(worn, on_line(Kind::Replbatt, line));
+}
+
+/// What is known after a status.
+fn with_status(config: &UpsmonConf, scene: Scene, known: Known, flags: StatusFlags) -> Known
+    ensures { result ≡ with_flags (configuration_of config.now) scene.clock scene.watching flags known }
+{
+    let worn = scene.watching && is_worn(config, scene.clock, known, flags);
+    let calm = !(flags.on_battery && flags.low_battery);
+    Known {
+        flags: Some(flags),
+        polled: scene.clock,
+        calm: if known.flags.is_none() || calm {
+            scene.clock
+        } else {
+            known.calm
+        },
+        communication: Communication::Good,
+        replace_told: if worn {
+            Some(scene.clock)
+        } else {
+            known.replace_told
+        },
+        silence_told: known.silence_told,
+        forced: known.forced,
+        logins: known.logins,
+    }
+}
+
+/// Tells that communication is disturbed, where it wasn't.
+pub fn tell_disturbed(scene: Scene, known: Known, notices: &mut Notices)
+    requires { length notices.old ≤ 120 }
+    ensures few { length notices.new ≤ length notices.old + 1 }
+    ensures told { notices.new ≡ notices.old ++ (if scene.watching then loss_notices scene.line known.communication else []) }
+{
+    notices.tell_when(
+        scene.watching && !is_bad(known.communication),
+        on_line(Kind::Commbad, scene.line),
+    );
+}
+
+/// What is known once communication is disturbed.
+pub fn disturbed(known: Known) -> Known
+    ensures { result ≡ record known { communication = communications.Bad } }
+{
+    Known {
+        communication: Communication::Bad,
+        ..known
+    }
+}
+
+/// Hears the words of a status, and tells what they tell.
+fn hear_status(
+    config: &UpsmonConf,
+    scene: Scene,
+    known: Known,
+    fields: &Fields,
+    notices: &mut Notices,
+) -> Known
+    requires { length notices.old ≤ 8 }
+    ensures few { length notices.new ≤ length notices.old + 7 }
+    ensures known { result ≡ known_answered (configuration_of config.now) scene.clock scene.watching queries.Status (outcomes.Said fields.now) known }
+    ensures told { notices.new ≡ notices.old ++ (if scene.watching then answer_notices (configuration_of config.now) scene.clock scene.line known queries.Status (outcomes.Said fields.now) else []) }
+{
+    let Some(value) = fields.as_slice().first() else {
+        return known;
+    };
+    let flags = read_flags(value.as_bytes());
+    if scene.watching {
+        tell_status(config, scene, known, flags, notices);
+    }
+    with_status(config, scene, known, flags)
+}
+
+/// How many are logged in, by the words of an answer, and else by the answer before.
+fn count_said(fields: &Fields, before: Option<u32>) -> Option<u32>
+    requires { IsCount queries.NumLogins (outcomes.Said fields.now) }
+    ensures { result ≡ newer (logins_in queries.NumLogins (outcomes.Said fields.now)) before }
+{
+    let Some(digits) = fields.as_slice().first() else {
+        return before;
+    };
+    match Number::<0, 999_999_999>::read(digits.as_bytes()) {
+        Ok(number) => Some(number.value),
+        Err(_) => before,
+    }
+}
+
+/// Hears what came of a query, and tells what it tells.
+pub fn hear(
+    config: &UpsmonConf,
+    scene: Scene,
+    known: Known,
+    query: Query,
+    outcome: &Outcome,
+    notices: &mut Notices,
+) -> Known
+    requires few { length notices.old ≤ 8 }
+    requires count { IsCount query outcome.now }
+    ensures few { length notices.new ≤ length notices.old + 7 }
+    ensures known { result ≡ known_answered (configuration_of config.now) scene.clock scene.watching query outcome.now known }
+    ensures told { notices.new ≡ notices.old ++ (if scene.watching then answer_notices (configuration_of config.now) scene.clock scene.line known query outcome.now else []) }
+{
+    match query {
+        Query::Status => match outcome {
+            Outcome::Said(fields) => hear_status(config, scene, known, fields, notices),
+            Outcome::Refused(_) => {
+                tell_disturbed(scene, known, notices);
+                disturbed(known)
+            }
+            Outcome::Done | Outcome::List(_) => known,
+        },
+        Query::Fsd => match outcome {
+            Outcome::Done => Known {
+                forced: true,
+                ..known
+            },
+            Outcome::Said(_) | Outcome::List(_) | Outcome::Refused(_) => known,
+        },
+        Query::NumLogins => match outcome {
+            Outcome::Said(fields) => Known {
+                logins: count_said(fields, known.logins),
+                ..known
+            },
+            Outcome::Done | Outcome::List(_) | Outcome::Refused(_) => known,
+        },
+        Query::Username | Query::Password | Query::Login | Query::Primary => known,
+    }
+}

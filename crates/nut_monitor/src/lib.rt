@@ -1,0 +1,21 @@
+//! A monitor of UPSes (upsmon(8)): what it is told, one event at a time, and what it asks, tells and decides.
+#![tactic(auto)]
+
+mod answer;
+mod cut;
+mod event;
+mod flags;
+mod line;
+mod message;
+mod monitor;
+mod notices;
+mod query;
+mod shutdown;
+mod state;
+#[cfg(test)]
+mod tests;
+mod time;
+
+pub use event::{Event, PIECE_MAX};
+pub use monitor::Monitor;
+pub use nut_decision::{MonitorFault, Notice, Phase};

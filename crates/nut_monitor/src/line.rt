@@ -1,0 +1,254 @@
+//! A MONITOR line: its link, and what is known of its UPS.
+ghost use Rattle.std.specs.Prelude.{◌≡◌, ◌+◌, ◌≤◌, ◌++◌, [], None, Some, if◌then◌else◌, is_some, length};
+ghost use Rattle.nut_client.specs.Link.{LinkValue, is_idle, with_exchange};
+ghost use Rattle.nut_client.specs.Asking.{query_of};
+ghost use Rattle.nut_client.specs.declared.exchange.Stage.TheVariants as stages;
+ghost use Rattle.nut_decision.specs.Query.{request as request_of};
+ghost use Rattle.nut_conf.specs.declared.notice.Notice.TheVariants as kinds;
+ghost use Rattle.nut_decision.specs.Acceptance.{waits_on};
+ghost use Rattle.nut_decision.specs.Configuration.{configuration_of, line_of};
+ghost use Rattle.nut_decision.specs.Decision.{tells_silence, told as told_of, when};
+ghost use Rattle.nut_decision.specs.Machine.{answer_told, asked_next, is_silent, known_after, loss_told, lost, made, silent, took as taken_by};
+ghost use Rattle.nut_monitor.specs.Hearing.{HearsPiece, IsFed};
+ghost use Rattle.nut_monitor.specs.Inside.{to_lose, unwatched};
+ghost use Rattle.nut_monitor.specs.Sound.{IsCountAfter, IsSound};
+
+use crate::answer::{Scene, disturbed, hear, on_line, tell_disturbed};
+use crate::notices::Notices;
+use crate::query::{next_query, request};
+use crate::time::{is_over, is_past};
+use nut_client::{Link, LinkFault, Outcome};
+use nut_conf::{Monitored, Notice as Kind, UpsmonConf};
+use nut_decision::{Communication, Known, LastQuery, Phase, Query};
+use std::alloc::Global;
+use std::marker::Model;
+
+/// A MONITOR line: its link, while that is there, the query that was put on it last, and what is known of its UPS.
+#[derive(Drop)]
+pub struct MonitorLine {
+    link: Option<Link>,
+    last: Option<LastQuery>,
+    known: Known,
+}
+
+impl Model for MonitorLine {
+    ghost use Rattle.nut_decision.specs.Content.{Watch};
+    ghost use Rattle.nut_monitor.specs.Sound.{IsSound};
+
+    ghost Value = { Watch };
+
+    ghost view = { λ w. record { link = w.link; last = w.last; known = w.known } };
+
+    ghost invariant = { λ w. IsSound w.last w.link };
+}
+
+/// Puts a query on a link, unless one is outstanding there. It says whether it was put.
+fn ask_on(link: &mut Link, line: &Monitored, query: Query) -> bool
+    requires { link.old.exchange.fault ≡ None }
+    ensures put { result ≡ is_idle link.old.exchange.stage }
+    ensures link { link.new ≡ (if result then with_exchange (record link.old.exchange { stage = stages.Asked (query_of (request_of (line_of line.now) query)) }) link.old else link.old) }
+{
+    link.ask(&request(line, query)).is_ok()
+}
+
+/// Feeds a link a piece, and takes out the answer that is complete then. A link that failed is let go. It tells how many
+/// lines of the piece were done, and the fault with which the link failed, if it did.
+fn feed(
+    link: &mut Option<Link>,
+    last: Option<LastQuery>,
+    piece: &[u8],
+) -> (usize, Result<(), LinkFault>, Option<Outcome>)
+    requires { IsSound last link.old }
+    ensures feeds { (v : LinkValue) → link.old ≡ Some v → IsFed v piece.now result.0 result.1 result.2 link.new }
+    ensures count { IsCountAfter last result.2 }
+    ensures sound { IsSound last link.new }
+{
+    let Some(going) = link else {
+        return (0, Ok(()), None);
+    };
+    let (done, heard) = going.feed_lines(piece);
+    let outcome = going.answer();
+    if heard.is_err() {
+        let _failed = link.take();
+        return (done, heard, outcome);
+    }
+    (done, heard, outcome)
+}
+
+/// What is known after the answer, if there is one, to the last query, if there is one; and tells what it tells.
+fn hear_answer(
+    config: &UpsmonConf,
+    scene: Scene,
+    known: Known,
+    last: Option<LastQuery>,
+    outcome: Option<Outcome>,
+    notices: &mut Notices,
+) -> Known
+    requires few { length notices.old ≤ 8 }
+    requires count { IsCountAfter last outcome }
+    ensures few { length notices.new ≤ length notices.old + 7 }
+    ensures known { result ≡ known_after (configuration_of config.now) scene.clock scene.watching last outcome known }
+    ensures told { notices.new ≡ notices.old ++ (if scene.watching then answer_told (configuration_of config.now) scene.clock scene.line last outcome known else []) }
+{
+    let Some(last) = last else {
+        return known;
+    };
+    match &outcome {
+        Some(outcome) => hear(config, scene, known, last.query, outcome, notices),
+        None => known,
+    }
+}
+
+/// Tells that a UPS is unavailable, and says whether it does.
+fn tell_silence(
+    config: &UpsmonConf,
+    clock: u64,
+    line: usize,
+    known: Known,
+    notices: &mut Notices,
+) -> bool
+    requires { length notices.old ≤ 120 }
+    ensures silent { result ≡ tells_silence (configuration_of config.now) clock known.polled known.silence_told }
+    ensures few { length notices.new ≤ length notices.old + 1 }
+    ensures told { notices.new ≡ notices.old ++ when result (told_of kinds.Nocomm line) }
+{
+    let warning = u64::from(config.no_comm_warn_time());
+    let silent = is_past(warning, clock, known.polled)
+        && is_over(warning, clock, known.silence_told);
+    notices.tell_when(silent, on_line(Kind::Nocomm, line));
+    silent
+}
+
+impl MonitorLine {
+    /// A line without a link, of whose UPS nothing is known.
+    pub fn new() -> MonitorLine
+        ensures { result ≡ unwatched }
+    {
+        MonitorLine {
+            link: None,
+            last: None,
+            known: Known {
+                flags: None,
+                polled: 0,
+                calm: 0,
+                communication: Communication::Never,
+                replace_told: None,
+                silence_told: None,
+                forced: false,
+                logins: None,
+            },
+        }
+    }
+
+    /// Whether its link is there.
+    pub fn is_linked(&self) -> bool
+        ensures { result ≡ is_some self.now.link }
+    {
+        self.link.is_some()
+    }
+
+    /// The bytes that wait for its server.
+    pub fn waiting(&self) -> &[u8]
+        ensures { result.now ≡ waits_on self.now.link }
+    {
+        match &self.link {
+            Some(link) => link.waiting(),
+            None => &[],
+        }
+    }
+
+    /// What is known of its UPS.
+    pub fn known(&self) -> Known
+        ensures { result ≡ self.now.known }
+    {
+        self.known
+    }
+
+    /// Its link is made.
+    pub fn link(&mut self, alloc: Global)
+        ensures { self.new ≡ made self.old }
+    {
+        self.last = None;
+        self.link = Some(Link::new(alloc));
+    }
+
+    /// Its link is lost, which is told.
+    pub fn lose(&mut self, scene: Scene, notices: &mut Notices)
+        requires { length notices.old ≤ 120 }
+        ensures line { self.new ≡ lost self.old }
+        ensures told { notices.new ≡ notices.old ++ (if scene.watching then loss_told scene.line self.old else []) }
+        ensures few { length notices.new + to_lose self.new ≤ length notices.old + to_lose self.old }
+    {
+        tell_disturbed(scene, self.known, notices);
+        self.known = disturbed(self.known);
+        self.link = None;
+    }
+
+    /// Its server took the first `n` of the bytes that wait.
+    pub fn took(&mut self, n: usize)
+        ensures { self.new ≡ taken_by n self.old }
+    {
+        if let Some(link) = &mut self.link {
+            let _ = link.took(n);
+        }
+    }
+
+    /// Its server sent a piece: an answer that it completes is heard, and where the link fails at a line it is lost. It tells
+    /// how many lines of the piece were done, and the fault with which the link failed, if it did.
+    pub fn hear(
+        &mut self,
+        config: &UpsmonConf,
+        scene: Scene,
+        piece: &[u8],
+        notices: &mut Notices,
+    ) -> (usize, Result<(), LinkFault>)
+        requires { length notices.old ≤ 8 }
+        ensures few { length notices.new ≤ length notices.old + 8 }
+        ensures hears { (v : LinkValue) → self.old.link ≡ Some v → HearsPiece (configuration_of config.now) scene piece.now v self.old notices.old result self.new notices.new }
+    {
+        let (done, heard, outcome) = feed(&mut self.link, self.last, piece);
+        self.known = hear_answer(config, scene, self.known, self.last, outcome, notices);
+        if heard.is_err() {
+            tell_disturbed(scene, self.known, notices);
+            self.known = disturbed(self.known);
+        }
+        (done, heard)
+    }
+
+    /// Tells that its UPS is unavailable, where it was silent for so long.
+    pub fn tell_silence(
+        &mut self,
+        config: &UpsmonConf,
+        clock: u64,
+        line: usize,
+        notices: &mut Notices,
+    )
+        requires { length notices.old ≤ 120 }
+        ensures line { self.new ≡ silent (configuration_of config.now) clock self.old }
+        ensures few { length notices.new ≤ length notices.old + 1 }
+        ensures told { notices.new ≡ notices.old ++ when (is_silent (configuration_of config.now) clock self.old) (told_of kinds.Nocomm line) }
+    {
+        if tell_silence(config, clock, line, self.known, notices) {
+            self.known.silence_told = Some(clock);
+        }
+    }
+
+    /// Puts the next query on its link, where one may be.
+    pub fn ask(&mut self, config: &UpsmonConf, clock: u64, phase: Phase, line: &Monitored)
+        ensures { self.new ≡ asked_next (configuration_of config.now) clock phase (line_of line.now) self.old }
+    {
+        let Some(link) = &mut self.link else {
+            return;
+        };
+        let Some(query) = next_query(config, line, clock, phase, self.last, self.known.forced)
+        else {
+            return;
+        };
+        if ask_on(link, line, query) {
+            self.last = Some(LastQuery {
+                query,
+                moment: clock,
+            });
+        }
+    }
+}

@@ -1,0 +1,169 @@
+//! The monitor.
+ghost use Rattle.std.specs.Prelude.{◌≡◌, ◌++◌, List, Some, Err, IfOk, OnOk, OnErr, [], drop, length};
+ghost use Rattle.nut_decision.specs.declared.MonitorFault.{MonitorFault as AnyFault};
+ghost use Rattle.nut_decision.specs.Acceptance.{Tells, is_linked, refusal, waiting_on, watch_at};
+ghost use Rattle.nut_decision.specs.Configuration.{Configuration, configuration_of};
+ghost use Rattle.nut_decision.specs.Content.{content, phase_of};
+ghost use Rattle.nut_decision.specs.Event.{Event as Events};
+ghost use Rattle.nut_decision.specs.Outcome.{IsAnswer, after, content_after};
+ghost use Rattle.nut_monitor.specs.Answers.{beginning};
+ghost use Rattle.nut_monitor.specs.Events.{event_of};
+ghost use Rattle.nut_monitor.specs.Sound.{first_of};
+ghost use Rattle.nut_monitor.specs.Texts.{text_of};
+
+use crate::event::Event;
+use crate::message::put_text;
+use crate::state::State;
+use nut_conf::UpsmonConf;
+use nut_decision::{MonitorFault, Notice, Phase};
+use std::alloc::{AllocError, Global};
+use std::marker::Model;
+
+/// A monitor: its configuration, and what it knows and has decided.
+#[derive(Drop)]
+pub struct Monitor {
+    config: UpsmonConf,
+    state: State,
+    alloc: Global,
+}
+
+impl Model for Monitor {
+    ghost use Rattle.nut_monitor.specs.Monitors.{MonitorValue};
+
+    ghost Value = { MonitorValue };
+
+    ghost use Rattle.nut_monitor.specs.Steps.{content_in};
+    ghost use Rattle.nut_decision.specs.Configuration.{configuration_of};
+    ghost use Rattle.nut_monitor.specs.Inside.{IsOrderly};
+
+    ghost view = { λ m. record { config = m.config; content = content_in (configuration_of m.config) m.state } };
+
+    ghost invariant = { λ m. IsOrderly (content_in (configuration_of m.config) m.state) };
+}
+
+impl Monitor {
+    /// A monitor that was told nothing. It takes the memory for what it keeps of each line and for the notices that may wait,
+    /// so that events other than `LinkBytes` take none.
+    ///
+    /// # Errors
+    ///
+    /// `Memory` without a link, where that memory isn't to be had.
+    pub fn new(alloc: Global, config: UpsmonConf) -> Result<Monitor, MonitorFault>
+        ensures made { IfOk result (λ monitor. monitor ≡ record { config = config; content = beginning (configuration_of config) }) }
+        ensures fresh { IfOk result (λ monitor. monitor.content ≡ content (configuration_of config) []) }
+    {
+        match State::new(alloc, &config) {
+            Ok(state) => Ok(Monitor {
+                config,
+                state,
+                alloc,
+            }),
+            Err(_) => Err(MonitorFault::Memory {
+                link: None,
+                lines: 0,
+            }),
+        }
+    }
+
+    /// What the monitor was made with.
+    pub fn config(&self) -> &UpsmonConf
+        ensures { result.now ≡ self.now.config }
+    {
+        &self.config
+    }
+
+    /// How many MONITOR lines there are.
+    pub fn lines(&self) -> usize
+        ensures { result ≡ length self.now.content.watches }
+    {
+        self.state.watches.len()
+    }
+
+    /// Whether the link of the MONITOR line with this number is there.
+    pub fn linked(&self, i: usize) -> bool
+        ensures { result ≡ is_linked (watch_at i self.now.content.watches) }
+    {
+        self.state.is_linked(i)
+    }
+
+    /// The bytes that wait for the server of that link.
+    pub fn waiting(&self, i: usize) -> &[u8]
+        ensures { result.now ≡ waiting_on (watch_at i self.now.content.watches) }
+    {
+        self.state.waiting(i)
+    }
+
+    /// How far the shutdown is.
+    pub fn phase(&self) -> Phase
+        ensures { result ≡ phase_of self.now.content }
+    {
+        self.state.phase(&self.config)
+    }
+
+    /// The oldest notice that waits, if one does.
+    pub fn first_notice(&self) -> Option<Notice>
+        ensures { result ≡ first_of self.now.content.notices }
+    {
+        self.state.notices.first()
+    }
+
+    /// Takes the oldest notice out, if one waits.
+    pub fn take_notice(&mut self) -> Option<Notice>
+        ensures taken { result ≡ first_of self.old.content.notices }
+        ensures left { self.new ≡ record { config = self.old.config; content = record self.old.content { notices = drop 1 self.old.content.notices } } }
+    {
+        self.state.notices.take()
+    }
+
+    /// Appends the text of a notice: that of its type, with its first `%s` replaced by the target as upsmon.conf has it. In
+    /// the text of a shutdown it stays.
+    ///
+    /// # Errors
+    ///
+    /// Where memory is refused, and then `out` is as before.
+    pub fn notice_text(&self, notice: Notice, out: &mut Vec<u8>) -> Result<(), AllocError>
+        ensures ok { OnOk result (out.new.items ≡ out.old.items ++ text_of self.now.config notice) }
+        ensures err { OnErr result (out.new.items ≡ out.old.items) }
+    {
+        put_text(&self.config, notice, out)
+    }
+
+    /// Takes one event.
+    fn step(&mut self, event: Event<'_>) -> Result<(), MonitorFault>
+        ensures answered { IsAnswer self.old.content (event_of event.entry) result }
+        ensures content { self.new ≡ record { config = self.old.config; content = content_after result self.old.content (event_of event.entry) } }
+    {
+        match event {
+            Event::Moment(t) => self.state.moment(&self.config, t),
+            Event::Linked(i) => self.state.link(&self.config, self.alloc, i),
+            Event::LinkBytes(i, piece) => self.state.link_bytes(&self.config, i, piece),
+            Event::LinkLost(i) => self.state.link_lost(&self.config, i),
+            Event::LinkTook(i, n) => self.state.link_took(i, n),
+        }
+    }
+
+    /// Takes one event.
+    ///
+    /// No event takes memory but `LinkBytes`, and of these only one that completes a line other than `OK`.
+    ///
+    /// # Errors
+    ///
+    /// The first test that refuses it, in this order: `NoSuchLink`, `WrongLinkState`, `PieceTooLong`, `TooMuchTaken`; `Busy`
+    /// for a moment or a piece while a notice waits. Where memory runs out in a piece: `Memory`. The lines before stand, and
+    /// the link is lost.
+    pub fn arrive(&mut self, event: Event<'_>) -> Result<(), MonitorFault>
+        // The answer is the one of the first test that refuses; memory may be lacking where none does.
+        ensures answered { IsAnswer self.old.content (event_of event.entry) result }
+
+        // What stands then is what the history says, which goes on by the answer.
+        ensures stands { (configuration : Configuration) (events : List Events) → Tells configuration events self.old.content
+            → Tells configuration (after result (event_of event.entry) events) self.new.content }
+        ensures content { self.new ≡ record { config = self.old.config; content = content_after result self.old.content (event_of event.entry) } }
+
+        // A refused event changes nothing.
+        ensures unchanged { (fault : AnyFault) → refusal self.old.content (event_of event.entry) ≡ Some fault
+            → (result ≡ Err fault) × (self.new ≡ self.old) }
+    {
+        self.step(event)
+    }
+}

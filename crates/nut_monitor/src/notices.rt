@@ -1,0 +1,74 @@
+//! Notices that wait.
+ghost use Rattle.std.specs.Prelude.{◌≡◌, ◌+◌, ◌<◌, ◌≤◌, ◌==◌, ◌++◌, [], IfOk, drop, length};
+ghost use Rattle.nut_decision.specs.Decision.{when};
+ghost use Rattle.nut_monitor.specs.Sound.{first_of};
+
+use nut_decision::Notice;
+use std::alloc::{AllocError, Global};
+use std::collections::VecDeque;
+use std::marker::Model;
+
+/// How many notices may wait.
+const MOST_NOTICES: usize = 128;
+
+/// The notices that wait, the oldest first. There is room for all that may wait.
+#[derive(Drop)]
+pub struct Notices {
+    queue: VecDeque<Notice>,
+}
+
+impl Model for Notices {
+    ghost use Rattle.std.specs.Prelude.{◌≤◌, List};
+    ghost use Rattle.std.specs.VecDeque.{deque_capacity};
+    ghost use Rattle.nut_decision.specs.declared.Notice.{Notice};
+
+    ghost Value = { List Notice };
+
+    ghost view = { λ n. n.queue.items };
+
+    ghost invariant = { λ n. 128 ≤ deque_capacity n.queue };
+}
+
+impl Notices {
+    /// None, with room for as many as may wait.
+    pub fn new(alloc: Global) -> Result<Notices, AllocError>
+        ensures { IfOk result (λ n. n ≡ []) }
+    {
+        Ok(Notices {
+            queue: VecDeque::with_capacity(alloc, MOST_NOTICES)?,
+        })
+    }
+
+    /// Whether none waits.
+    pub fn is_empty(&self) -> bool
+        ensures { result ≡ (length self.now == 0) }
+    {
+        self.queue.is_empty()
+    }
+
+    /// Tells this behind the others, where the test holds.
+    pub fn tell_when(&mut self, test: bool, notice: Notice)
+        requires { length self.old < 128 }
+        ensures told { self.new ≡ self.old ++ when test notice }
+        ensures few { length self.new ≤ length self.old + 1 }
+    {
+        if test {
+            self.queue.push_back_reserved(notice);
+        }
+    }
+
+    /// The oldest, if one waits.
+    pub fn first(&self) -> Option<Notice>
+        ensures { result ≡ first_of self.now }
+    {
+        self.queue.front().copied()
+    }
+
+    /// Takes the oldest out, if one waits.
+    pub fn take(&mut self) -> Option<Notice>
+        ensures taken { result ≡ first_of self.old }
+        ensures left { self.new ≡ drop 1 self.old }
+    {
+        self.queue.pop_front()
+    }
+}

@@ -1,0 +1,121 @@
+//! Whether a shutdown begins and goes on, by what is known of all UPSes.
+ghost use Rattle.std.specs.Prelude.{◌≡◌, length, nat_lt};
+ghost use Rattle.std.specs.List.{list_any};
+ghost use Rattle.nut_decision.specs.Configuration.{configuration_of, has_primary as some_primary, line_of};
+ghost use Rattle.nut_decision.specs.Decision.{is_critical as critical, is_over_by, phase_at};
+ghost use Rattle.nut_decision.specs.Machine.{all_alone, supply_of};
+ghost use Rattle.nut_monitor.specs.Inside.{lets_halt, power_of};
+
+use crate::line::MonitorLine;
+use crate::query::is_primary;
+use crate::time::{is_past, is_within};
+use nut_conf::{Monitored, UpsmonConf};
+use nut_decision::{Known, Phase};
+
+/// Whether the last status of a line's UPS, if there is one, makes it critical.
+fn is_critical(config: &UpsmonConf, line: &Monitored, clock: u64, known: Known) -> bool
+    ensures { result ≡ critical (configuration_of config.now) (line_of line.now) clock known.calm known.polled known.flags }
+{
+    let Some(flags) = known.flags else {
+        return false;
+    };
+    let low = flags.on_battery && flags.low_battery && !flags.calibrating;
+    let waited = is_primary(line) || is_past(u64::from(config.host_sync()), clock, known.calm);
+    let dead = is_past(u64::from(config.dead_time()), clock, known.polled);
+    flags.forced_shutdown || (low && waited) || (flags.on_battery && dead)
+}
+
+/// The power that the UPS of a line gives, as far as it isn't critical.
+fn power(config: &UpsmonConf, line: &Monitored, clock: u64, known: Known) -> u32
+    ensures { result ≡ power_of (configuration_of config.now) clock (line_of line.now) known }
+{
+    if is_critical(config, line, clock, known) {
+        0
+    } else {
+        line.power.value
+    }
+}
+
+/// Whether the power of the UPSes that aren't critical is less than what is needed.
+pub fn is_short(config: &UpsmonConf, clock: u64, watches: &[MonitorLine]) -> bool
+    requires { length watches.now ≡ length (configuration_of config.now).lines }
+    ensures { result ≡ nat_lt (supply_of (configuration_of config.now) clock (configuration_of config.now).lines watches.now) (configuration_of config.now).min_supplies }
+{
+    let monitors = &config.monitors;
+    let lines = monitors.lines.as_slice();
+    let mut missing = config.min_supplies();
+    for i in 0..watches.len() {
+        missing = missing.saturating_sub(power(config, &lines[i], clock, watches[i].known()));
+    }
+    missing > 0
+}
+
+/// Whether a line doesn't keep this machine from halting: it isn't primary, or by the last answer nobody else is logged in.
+fn is_free(line: &Monitored, known: Known) -> bool
+    ensures { result ≡ lets_halt (line_of line.now) known }
+{
+    let alone = match known.logins {
+        Some(logins) => logins <= 1,
+        None => false,
+    };
+    !is_primary(line) || alone
+}
+
+/// Whether nobody else is logged in where this machine is the primary.
+pub fn is_alone(config: &UpsmonConf, watches: &[MonitorLine]) -> bool
+    requires { length watches.now ≡ length (configuration_of config.now).lines }
+    ensures { result ≡ all_alone (configuration_of config.now).lines watches.now }
+{
+    let monitors = &config.monitors;
+    let lines = monitors.lines.as_slice();
+    for i in 0..watches.len() {
+        if !is_free(&lines[i], watches[i].known()) {
+            return false;
+        }
+    }
+    true
+}
+
+/// Whether Forcing is over.
+pub fn is_forced(config: &UpsmonConf, clock: u64, alone: bool, begun: Option<u64>) -> bool
+    ensures { result ≡ is_over_by (configuration_of config.now) clock alone begun }
+{
+    match begun {
+        Some(begun) => alone || is_past(u64::from(config.host_sync()), clock, begun),
+        None => false,
+    }
+}
+
+/// Whether a line is primary.
+fn any_primary(lines: &[Monitored]) -> bool
+    ensures { result ≡ list_any (λ m. (line_of m).primary) lines.now }
+{
+    lines.iter().any(is_primary)
+}
+
+/// Whether this machine is the primary of a UPS.
+fn has_primary(config: &UpsmonConf) -> bool
+    ensures { result ≡ some_primary (configuration_of config.now).lines }
+{
+    let monitors = &config.monitors;
+    any_primary(monitors.lines.as_slice())
+}
+
+/// The phase, by the moments at which the shutdown began and at which Final did.
+pub fn phase(config: &UpsmonConf, clock: u64, begun: Option<u64>, ended: Option<u64>) -> Phase
+    ensures { result ≡ phase_at (configuration_of config.now) clock begun ended }
+{
+    let Some(ended) = ended else {
+        return if begun.is_some() {
+            Phase::Forcing
+        } else {
+            Phase::Watching
+        };
+    };
+    if is_within(u64::from(config.final_delay()), clock, ended) {
+        return Phase::Final;
+    }
+    Phase::Halted {
+        flag: has_primary(config),
+    }
+}

@@ -1,0 +1,288 @@
+//! What a monitor knows and has decided, and how events move it.
+ghost use Rattle.std.specs.Prelude.{◌≡◌, ◌≤◌, ◌<◌, ◌+◌, ◌++◌, Some, IfOk, MatchResult, is_none, length, map};
+ghost use Rattle.nut_decision.specs.Acceptance.{is_linked, waiting_on, watch_at};
+ghost use Rattle.nut_decision.specs.Configuration.{Configuration, configuration_of};
+ghost use Rattle.nut_decision.specs.Content.{phase_of};
+ghost use Rattle.nut_decision.specs.Event as E;
+ghost use Rattle.nut_decision.specs.Machine.{all_asked, all_silent, clock_set, phase_moved, settled, shutdown_judged, silences_heard, silences_told};
+ghost use Rattle.nut_monitor.specs.Answers.{beginning};
+ghost use Rattle.nut_monitor.specs.Inside.{IsOrderly, unwatched};
+ghost use Rattle.nut_monitor.specs.Sound.{lacks_memory};
+ghost use Rattle.nut_monitor.specs.Steps.{Steps, checked_fault, content_in};
+
+use crate::answer::Scene;
+use crate::event::{Event, PIECE_MAX};
+use crate::line::MonitorLine;
+use crate::notices::Notices;
+use crate::shutdown::{is_alone, is_forced, is_short, phase};
+use nut_client::LinkFault;
+use nut_conf::{Monitored, Notice as Kind, UpsmonConf};
+use nut_decision::{MonitorFault, Notice, Phase};
+use std::alloc::{AllocError, Global};
+
+/// What a monitor knows and has decided: the time, the moments at which its shutdown began and at which Final did, the
+/// notices that wait, and each MONITOR line.
+#[derive(Drop)]
+pub struct State {
+    pub clock: u64,
+    pub begun: Option<u64>,
+    pub ended: Option<u64>,
+    pub notices: Notices,
+    pub watches: Vec<MonitorLine>,
+}
+
+/// These lines without links.
+fn unlinked(alloc: Global, lines: &[Monitored]) -> Result<Vec<MonitorLine>, AllocError>
+    ensures { IfOk result (λ ws. ws.items ≡ map (λ line. unwatched) lines.now) }
+{
+    let mut watches = Vec::new(alloc);
+    for _ in lines {
+        watches.push(MonitorLine::new())?;
+    }
+    Ok(watches)
+}
+
+/// Whether a link failed for want of memory.
+fn ran_out(heard: Result<(), LinkFault>) -> bool
+    ensures { result ≡ lacks_memory heard }
+{
+    matches!(heard, Err(LinkFault::Memory))
+}
+
+/// Tells of the lines that were silent for so long.
+fn tell_silences(
+    config: &UpsmonConf,
+    clock: u64,
+    watches: &mut Vec<MonitorLine>,
+    notices: &mut Notices,
+)
+    requires { length notices.old + length watches.old.items ≤ 120 }
+    ensures watches { watches.new.items ≡ all_silent (configuration_of config.now) clock watches.old.items }
+    ensures few { length notices.new ≤ length notices.old + length watches.old.items }
+    ensures told { notices.new ≡ notices.old ++ silences_told (configuration_of config.now) clock 0 watches.old.items }
+{
+    for i in 0..watches.len() {
+        watches[i].tell_silence(config, clock, i, notices);
+    }
+}
+
+/// Puts the next query on each link on which one may be put.
+fn ask_all(config: &UpsmonConf, clock: u64, phase: Phase, watches: &mut Vec<MonitorLine>)
+    requires { length watches.old.items ≡ length (configuration_of config.now).lines }
+    ensures { watches.new.items ≡ all_asked (configuration_of config.now) clock phase (configuration_of config.now).lines watches.old.items }
+{
+    let monitors = &config.monitors;
+    let lines = monitors.lines.as_slice();
+    for i in 0..watches.len() {
+        watches[i].ask(config, clock, phase, &lines[i]);
+    }
+}
+
+impl State {
+    /// That of a monitor that was told nothing.
+    pub fn new(alloc: Global, config: &UpsmonConf) -> Result<State, AllocError>
+        ensures { IfOk result (λ s. content_in (configuration_of config.now) s ≡ beginning (configuration_of config.now)) }
+    {
+        let monitors = &config.monitors;
+        let watches = unlinked(alloc, monitors.lines.as_slice())?;
+        let notices = Notices::new(alloc)?;
+        Ok(State {
+            clock: 0,
+            begun: None,
+            ended: None,
+            notices,
+            watches,
+        })
+    }
+
+    /// The phase.
+    pub fn phase(&self, config: &UpsmonConf) -> Phase
+        ensures { result ≡ phase_of (content_in (configuration_of config.now) self.now) }
+    {
+        phase(config, self.clock, self.begun, self.ended)
+    }
+
+    /// Where and when an answer on a line is heard.
+    fn scene(&self, line: usize) -> Scene
+        ensures { result ≡ record { line = line; clock = self.now.clock; watching = is_none self.now.begun } }
+    {
+        Scene {
+            line,
+            clock: self.clock,
+            watching: self.begun.is_none(),
+        }
+    }
+
+    /// Begins the shutdown where the power is short.
+    fn judge_shutdown(&mut self, config: &UpsmonConf)
+        requires { length self.old.watches.items ≡ length (configuration_of config.now).lines }
+        ensures content { content_in (configuration_of config.now) self.new ≡ shutdown_judged (content_in (configuration_of config.now) self.old) }
+        ensures orderly { IsOrderly (content_in (configuration_of config.now) self.old) → IsOrderly (content_in (configuration_of config.now) self.new) }
+    {
+        let short = is_short(config, self.clock, self.watches.as_slice());
+        if self.begun.is_none() && short {
+            self.begun = Some(self.clock);
+        }
+    }
+
+    /// Begins Final where Forcing is over.
+    fn move_phase(&mut self, config: &UpsmonConf)
+        requires all { length self.old.watches.items ≡ length (configuration_of config.now).lines }
+        requires few { length self.old.notices < 128 }
+        ensures content { content_in (configuration_of config.now) self.new ≡ phase_moved (content_in (configuration_of config.now) self.old) }
+        ensures orderly { IsOrderly (content_in (configuration_of config.now) self.old) → IsOrderly (content_in (configuration_of config.now) self.new) }
+    {
+        let alone = is_alone(config, self.watches.as_slice());
+        let over = is_forced(config, self.clock, alone, self.begun);
+        if self.ended.is_none() && over {
+            self.ended = Some(self.clock);
+            self.notices.tell_when(
+                true,
+                Notice {
+                    kind: Kind::Shutdown,
+                    line: None,
+                },
+            );
+        }
+    }
+
+    /// Ends an event: the shutdown is judged, the phase moves, and the next queries are put.
+    fn settle(&mut self, config: &UpsmonConf)
+        requires { IsOrderly (content_in (configuration_of config.now) self.old) }
+        ensures content { content_in (configuration_of config.now) self.new ≡ settled (content_in (configuration_of config.now) self.old) }
+        ensures orderly { IsOrderly (content_in (configuration_of config.now) self.new) }
+    {
+        self.judge_shutdown(config);
+        self.move_phase(config);
+        let phase = self.phase(config);
+        ask_all(config, self.clock, phase, &mut self.watches);
+    }
+
+    /// Whether the link of a line is there.
+    pub fn is_linked(&self, i: usize) -> bool
+        ensures { result ≡ is_linked (watch_at i self.now.watches.items) }
+    {
+        match self.watches.get(i) {
+            Some(watch) => watch.is_linked(),
+            None => false,
+        }
+    }
+
+    /// The bytes that wait on the link of a line.
+    pub fn waiting(&self, i: usize) -> &[u8]
+        ensures { result.now ≡ waiting_on (watch_at i self.now.watches.items) }
+    {
+        match self.watches.get(i) {
+            Some(watch) => watch.waiting(),
+            None => &[],
+        }
+    }
+
+    /// Refuses what is told of a link that isn't there, or is in another state.
+    fn check(&self, i: usize, linked: bool) -> Result<(), MonitorFault>
+        ensures { MatchResult result (λ _. (i < length self.now.watches.items) × (is_linked (watch_at i self.now.watches.items) ≡ linked))
+            (λ fault. checked_fault linked (watch_at i self.now.watches.items) ≡ Some fault) }
+    {
+        match self.watches.get(i) {
+            Some(watch) => {
+                if watch.is_linked() == linked {
+                    Ok(())
+                } else {
+                    Err(MonitorFault::WrongLinkState)
+                }
+            }
+            None => Err(MonitorFault::NoSuchLink),
+        }
+    }
+
+    /// The clock shows the greatest moment so far, and lines that were silent are told.
+    fn tick(&mut self, config: &UpsmonConf, t: u64)
+        requires orderly { IsOrderly (content_in (configuration_of config.now) self.old) }
+        requires free { length self.old.notices ≡ 0 }
+        ensures content { content_in (configuration_of config.now) self.new ≡ silences_heard (clock_set t (content_in (configuration_of config.now) self.old)) }
+        ensures orderly { IsOrderly (content_in (configuration_of config.now) self.new) }
+    {
+        self.clock = self.clock.max(t);
+        if self.begun.is_some() {
+            return;
+        }
+        tell_silences(config, self.clock, &mut self.watches, &mut self.notices);
+    }
+
+    /// So many seconds have passed since the start, or more.
+    pub fn moment(&mut self, config: &UpsmonConf, t: u64) -> Result<(), MonitorFault>
+        requires { IsOrderly (content_in (configuration_of config.now) self.old) }
+        ensures step { Steps (configuration_of config.now) self.old (E.Moment t) result self.new }
+    {
+        if !self.notices.is_empty() {
+            return Err(MonitorFault::Busy);
+        }
+        self.tick(config, t);
+        self.settle(config);
+        Ok(())
+    }
+
+    /// The link of a line is made.
+    pub fn link(&mut self, config: &UpsmonConf, alloc: Global, i: usize) -> Result<(), MonitorFault>
+        requires { IsOrderly (content_in (configuration_of config.now) self.old) }
+        ensures step { Steps (configuration_of config.now) self.old (E.Linked i) result self.new }
+    {
+        self.check(i, false)?;
+        self.watches[i].link(alloc);
+        self.settle(config);
+        Ok(())
+    }
+
+    /// The server of a link sent a piece. Where memory runs out in it, the link is lost.
+    pub fn link_bytes(
+        &mut self,
+        config: &UpsmonConf,
+        i: usize,
+        piece: &[u8],
+    ) -> Result<(), MonitorFault>
+        requires { IsOrderly (content_in (configuration_of config.now) self.old) }
+        ensures step { Steps (configuration_of config.now) self.old (E.LinkBytes i piece.now) result self.new }
+    {
+        self.check(i, true)?;
+        if piece.len() > PIECE_MAX {
+            return Err(MonitorFault::PieceTooLong);
+        }
+        if !self.notices.is_empty() {
+            return Err(MonitorFault::Busy);
+        }
+        let scene = self.scene(i);
+        let (done, heard) = self.watches[i].hear(config, scene, piece, &mut self.notices);
+        self.settle(config);
+        if ran_out(heard) {
+            return Err(MonitorFault::Memory {
+                link: Some(i),
+                lines: done,
+            });
+        }
+        Ok(())
+    }
+
+    /// The link of a line is lost.
+    pub fn link_lost(&mut self, config: &UpsmonConf, i: usize) -> Result<(), MonitorFault>
+        requires { IsOrderly (content_in (configuration_of config.now) self.old) }
+        ensures step { Steps (configuration_of config.now) self.old (E.LinkLost i) result self.new }
+    {
+        self.check(i, true)?;
+        let scene = self.scene(i);
+        self.watches[i].lose(scene, &mut self.notices);
+        self.settle(config);
+        Ok(())
+    }
+
+    /// The server of a link took the first `n` of the bytes that wait.
+    pub fn link_took(&mut self, i: usize, n: usize) -> Result<(), MonitorFault>
+        ensures step { (c : Configuration) → IsOrderly (content_in c self.old) → Steps c self.old (E.LinkTook i n) result self.new }
+    {
+        self.check(i, true)?;
+        if n > self.watches[i].waiting().len() {
+            return Err(MonitorFault::TooMuchTaken);
+        }
+        self.watches[i].took(n);
+        Ok(())
+    }
+}
