@@ -1,28 +1,34 @@
-# make          proves and builds every program into bin/
-# make check    passes all tests; its last line is 'N passed, M failed'
-# make bench    measures the programs in bin/ on this machine
-# make clean    removes what was built
+# make               proves and builds every program into bin/
+# make check         passes all tests; its last line is 'N passed, M failed'
+# make check-peers   joins the programs in bin/ with NUT's own, where those are installed
+# make bench         measures the programs in bin/ on this machine
+# make clean         removes what was built
 
-PROGRAMS := upsd
+PROGRAMS := upsd dummy_ups upsc upsrw upscmd
 
-.PHONY: all check bench clean toolchain $(PROGRAMS)
+.PHONY: all check check-peers bench clean toolchain $(PROGRAMS)
 
 all: $(PROGRAMS)
 
 # rt builds a program only once it and every crate below it are proved. It keeps its work in out/, so that a second
-# build takes seconds.
+# build takes seconds. A crate's name has no dash, but the program's name has.
 $(PROGRAMS): toolchain
 	@mkdir -p bin
 	@cd crates/$@ && rt run -- --version > ../../bin/$@.log 2>&1 < /dev/null || { cat ../../bin/$@.log; exit 1; }
 	@rm -f bin/$@.log
-	@cp crates/$@/out/$@ bin/$@
-	@echo "bin/$@ is proved and built"
+	@cp crates/$@/out/$@ bin/$(subst _,-,$@)
+	@echo "bin/$(subst _,-,$@) is proved and built"
 
 check: toolchain
 	@python3 tests/check.py
 
+check-peers: all
+	@python3 tests/peers_server.py bin/upsd bin/dummy-ups
+	@python3 tests/peers_tools.py bin/upsc bin/upsrw bin/upscmd
+
 bench: all
 	@python3 bench/stdio.py bin/upsd
+	@python3 bench/sockets.py bin/upsd bin/dummy-ups
 
 clean:
 	rm -rf bin crates/*/out
