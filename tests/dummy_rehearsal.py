@@ -14,6 +14,8 @@ import subprocess
 import sys
 import tempfile
 
+from harness import Failed, build_shim, run_tests
+
 HERE = os.path.dirname(os.path.abspath(__file__))
 WANTED = os.path.join(os.path.dirname(HERE), "crates", "dummy_rehearsal", "stdout")
 
@@ -28,11 +30,7 @@ ROOM_BEGINS = "A driver and a server\n"
 FIRST_OF_TWO = ('ups.delay.shutdown "60"', 'ups.delay.shutdown "5"')
 
 
-class Failed(Exception):
-    pass
-
-
-def expect(holds, what):
+def ensure(holds, what):
     if not holds:
         raise Failed(what)
 
@@ -42,11 +40,11 @@ def standing(step, table, refusal):
     piece leaves the lines done and cuts the link. It gives a word for what was seen."""
     lines, linked, left = refusal.groups()
     if step.startswith("> moment"):
-        expect((lines, linked, left) == ("0", "true", table), f"{step!r} changed something: {refusal[0]!r}")
+        ensure((lines, linked, left) == ("0", "true", table), f"{step!r} changed something: {refusal[0]!r}")
         return "moment"
     wanted = table if lines == "0" else table.replace(*FIRST_OF_TWO)
-    expect(lines == "0" or (lines == "1" and wanted != table), f"so many lines weren't in {step!r}: {refusal[0]!r}")
-    expect((linked, left) == ("false", wanted), f"after {step!r}: {refusal[0]!r}")
+    ensure(lines == "0" or (lines == "1" and wanted != table), f"so many lines weren't in {step!r}: {refusal[0]!r}")
+    ensure((linked, left) == ("false", wanted), f"after {step!r}: {refusal[0]!r}")
     return f"piece behind {lines}"
 
 
@@ -57,7 +55,7 @@ def kind_of(before, refusal):
     if DRIVER.fullmatch(refusal):
         return "driver"
     call = CALL.fullmatch(refusal)
-    expect(call is not None, f"what is {refusal!r}?")
+    ensure(call is not None, f"what is {refusal!r}?")
     # a step may have several lines, and the table before it is the last
     table = max(at for at, line in enumerate(before) if line.startswith("= "))
     return standing(before[table + 1], before[table], call)
@@ -69,53 +67,48 @@ def check(at, status, out, wanted):
     told = [place for place, line in enumerate(lines) if line.startswith("!")]
     rest = "".join(line for line in lines if not line.startswith("!"))
     if not told:
-        expect((status, rest) == (0, wanted), f"allocation {at} changed what is told")
+        ensure((status, rest) == (0, wanted), f"allocation {at} changed what is told")
         return "nothing"
     refusal = "".join(lines[told[0] : told[-1] + 1])
     if status != 0:
         # beside a server a rehearsal ends where memory runs out
         in_room = ROOM_BEGINS in rest and wanted.startswith(rest) and told == [len(lines) - 1]
-        expect(in_room and ROOM.fullmatch(refusal), f"allocation {at} ended a run by {refusal!r}")
+        ensure(in_room and ROOM.fullmatch(refusal), f"allocation {at} ended a run by {refusal!r}")
         return "room"
-    expect(told == list(range(told[0], told[-1] + 1)), f"allocation {at} was refused twice")
-    expect(rest == wanted, f"allocation {at} changed what is told later")
+    ensure(told == list(range(told[0], told[-1] + 1)), f"allocation {at} was refused twice")
+    ensure(rest == wanted, f"allocation {at} changed what is told later")
     return kind_of(lines[: told[0]], refusal)
 
 
-def refused_in_turn(program, folder, wanted):
-    """Runs with the first allocation refused, then with the second, and so on, up to one that isn't reached."""
-    count = os.path.join(folder, "count")
-    env = {**os.environ, "LD_PRELOAD": os.path.join(folder, "refuse.so"), "REFUSE": "allocation", "REFUSE_COUNT": count}
-    seen = set()
-    for at in itertools.count(1):
-        done = subprocess.run([program], env={**env, "REFUSE_AT": str(at)}, capture_output=True, timeout=60)
-        out = done.stdout.decode()
-        with open(count) as file:
-            calls = int(file.read())
-        if calls < at:
-            expect((done.returncode, out) == (0, wanted), "a run without a refusal")
-            break
-        seen.add(check(at, done.returncode, out, wanted))
-    missing = {"script", "driver", "moment", "piece behind 0", "piece behind 1", "room"} - seen
-    expect(not missing, f"never refused: {', '.join(sorted(missing))}")
+class Tests:
+    def __init__(self, program, folder):
+        self.program = program
+        self.folder = folder
+        self.shim = build_shim(folder)
+        with open(WANTED) as file:
+            self.wanted = file.read()
+
+    def test_each_allocation_refused_in_turn(self):
+        """Runs with the first allocation refused, then with the second, and so on, up to one that isn't reached."""
+        count = os.path.join(self.folder, "count")
+        env = {**os.environ, "LD_PRELOAD": self.shim, "REFUSE": "allocation", "REFUSE_COUNT": count}
+        seen = set()
+        for at in itertools.count(1):
+            done = subprocess.run([self.program], env={**env, "REFUSE_AT": str(at)}, capture_output=True, timeout=60)
+            out = done.stdout.decode()
+            with open(count) as file:
+                calls = int(file.read())
+            if calls < at:
+                ensure((done.returncode, out) == (0, self.wanted), "a run without a refusal")
+                break
+            seen.add(check(at, done.returncode, out, self.wanted))
+        missing = {"script", "driver", "moment", "piece behind 0", "piece behind 1", "room"} - seen
+        ensure(not missing, f"never refused: {', '.join(sorted(missing))}")
 
 
 def main():
-    program = os.path.abspath(sys.argv[1])
-    with open(WANTED) as file:
-        wanted = file.read()
-    try:
-        with tempfile.TemporaryDirectory() as folder:
-            shim = os.path.join(folder, "refuse.so")
-            subprocess.run(["cc", "-shared", "-fPIC", "-O2", "-o", shim, os.path.join(HERE, "refuse.c"), "-ldl"], check=True)
-            refused_in_turn(program, folder, wanted)
-    except (Failed, OSError, subprocess.SubprocessError) as fault:
-        print(f"FAILED: each allocation refused in turn: {fault}")
-        print("0 passed, 1 failed")
-        return 1
-    print("passed: each allocation refused in turn")
-    print("1 passed, 0 failed")
-    return 0
+    with tempfile.TemporaryDirectory() as folder:
+        return run_tests(Tests(os.path.abspath(sys.argv[1]), folder))
 
 
 if __name__ == "__main__":

@@ -14,7 +14,8 @@ import subprocess
 import sys
 import tempfile
 
-from sockets import DEVICE, ONLINE, STATUS, Failed, Room, expect, until
+from harness import Failed, Missing, expect, run_tests
+from sockets import DEVICE, ONLINE, STATUS, Room, until
 
 # where Debian keeps NUT's daemons and drivers
 NUT_FOLDER = "/lib/nut"
@@ -24,10 +25,6 @@ def installed(name):
     """The path of one of NUT's programs, or None."""
     path = os.path.join(NUT_FOLDER, name)
     return path if os.access(path, os.X_OK) else shutil.which(name)
-
-
-class Missing(Exception):
-    pass
 
 
 def needed(name, package):
@@ -148,28 +145,10 @@ class Tests:
 
 
 def main():
-    passed = failed = skipped = 0
     upsd, dummy, *names = sys.argv[1:]
     with tempfile.TemporaryDirectory() as folder:
         tests = Tests(os.path.abspath(upsd), os.path.abspath(dummy), folder)
-        for name in sorted(it for it in dir(tests) if it.startswith("test_")):
-            if names and not any(it in name for it in names):
-                continue
-            shown = name[5:].replace("_", " ")
-            try:
-                getattr(tests, name)()
-                passed += 1
-                print(f"ok {shown}", flush=True)
-            except Missing as missing:
-                skipped += 1
-                print(f"skipped {shown}: {missing}", flush=True)
-            except (Failed, OSError, subprocess.SubprocessError, ValueError) as error_found:
-                failed += 1
-                print(f"FAILED {shown}: {error_found}", flush=True)
-    if skipped:
-        print(f"{skipped} skipped: 'apt-get install nut-client nut-server' installs what they need")
-    print(f"{passed} passed, {failed} failed")
-    return 1 if failed else 0
+        return run_tests(tests, names, "'apt-get install nut-client nut-server' installs what they need")
 
 
 if __name__ == "__main__":

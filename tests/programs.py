@@ -13,6 +13,8 @@ import sys
 import tempfile
 import time
 
+from harness import Failed, build_shim, expect, run_tests
+
 HERE = os.path.dirname(os.path.abspath(__file__))
 ROOM = ["--stdio", "--ups", "su700=Server room"]
 EXAMPLES = ["--stdio", "--conf", os.path.join(os.path.dirname(HERE), "examples")]
@@ -77,20 +79,11 @@ CONF_FAULTS = [
 ]
 
 
-class Failed(Exception):
-    pass
-
-
-def expect(found, wanted, what):
-    if found != wanted:
-        raise Failed(f"{what}: found {found!r}, wanted {wanted!r}")
-
-
 class Tests:
     def __init__(self, upsd, folder):
         self.upsd = upsd
         self.folder = folder
-        self.shim = os.path.join(folder, "refuse.so")
+        self.shim = build_shim(folder)
 
     def run(self, args, data=b"", env=None, **streams):
         streams = {"stdout": subprocess.PIPE, "stderr": subprocess.PIPE, **streams}
@@ -356,25 +349,8 @@ class Tests:
 
 
 def main():
-    passed = failed = 0
     with tempfile.TemporaryDirectory() as folder:
-        tests = Tests(os.path.abspath(sys.argv[1]), folder)
-        compiler = shutil.which("cc") or shutil.which("clang")
-        if compiler is None:
-            print("a C compiler is missing: the tests that make calls fail need one (cc or clang)")
-        else:
-            source = os.path.join(HERE, "refuse.c")
-            subprocess.run([compiler, "-shared", "-fPIC", "-o", tests.shim, source, "-ldl"], check=True)
-        for name in sorted(it for it in dir(tests) if it.startswith("test_")):
-            try:
-                getattr(tests, name)()
-                passed += 1
-                print(f"ok {name[5:].replace('_', ' ')}", flush=True)
-            except (Failed, OSError, subprocess.SubprocessError, ValueError) as error_found:
-                failed += 1
-                print(f"FAILED {name[5:].replace('_', ' ')}: {error_found}", flush=True)
-    print(f"{passed} passed, {failed} failed")
-    return 1 if failed else 0
+        return run_tests(Tests(os.path.abspath(sys.argv[1]), folder))
 
 
 if __name__ == "__main__":

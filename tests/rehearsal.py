@@ -20,12 +20,11 @@ import tempfile
 import termios
 import time
 
+from harness import Failed, build_shim, expect, run_tests
 from model import Config
 from player import Player, escaped, line_of, write_conf
 from rows import PROBE, ROWS
 from schedules import UPSES, USERS, ScheduleMaker, shifted
-
-HERE = os.path.dirname(os.path.abspath(__file__))
 
 # how much more memory a schedule may take that is played ten times over: far less than a record of it
 GROWTH_MAX_KIB = 256
@@ -33,10 +32,6 @@ ERRORS = """ACCESS-DENIED UNKNOWN-UPS VAR-NOT-SUPPORTED CMD-NOT-SUPPORTED INVALI
     TOO-LONG INVALID-VALUE FEATURE-NOT-CONFIGURED DRIVER-NOT-CONNECTED DATA-STALE ALREADY-LOGGED-IN ALREADY-SET-PASSWORD
     ALREADY-SET-USERNAME USERNAME-REQUIRED PASSWORD-REQUIRED UNKNOWN-COMMAND""".split()
 REFUSALS = "NoSuchConnection NotConnected PieceTooLong Busy TooMuchTaken BadAddress Full".split()
-
-
-class Failed(Exception):
-    pass
 
 
 class Schedule:
@@ -66,11 +61,6 @@ class Schedule:
             if it != due:
                 raise Failed(f"line {number + 1}: {self.line(number)!r} gives {it!r}, wanted {due!r}")
         expect(len(found), len(self.due), "lines")
-
-
-def expect(found, wanted, what):
-    if found != wanted:
-        raise Failed(f"{what}: found {found!r}, wanted {wanted!r}")
 
 
 def answered(name, config, steps, out):
@@ -110,7 +100,7 @@ class Tests:
     def __init__(self, program, folder):
         self.program = program
         self.folder = folder
-        self.shim = os.path.join(folder, "refuse.so")
+        self.shim = build_shim(folder)
 
     def run(self, conf, path, env=None):
         """Plays a schedule: the status, what is printed, what is said of a failure, and the greatest memory in KiB."""
@@ -275,25 +265,8 @@ class Tests:
 
 
 def main():
-    passed = failed = 0
     with tempfile.TemporaryDirectory() as folder:
-        tests = Tests(os.path.abspath(sys.argv[1]), folder)
-        compiler = shutil.which("cc") or shutil.which("clang")
-        if compiler is None:
-            print("a C compiler is missing: the tests that make calls fail need one (cc or clang)")
-        else:
-            source = os.path.join(HERE, "refuse.c")
-            subprocess.run([compiler, "-shared", "-fPIC", "-o", tests.shim, source, "-ldl"], check=True)
-        for name in sorted(it for it in dir(tests) if it.startswith("test_")):
-            try:
-                getattr(tests, name)()
-                passed += 1
-                print(f"ok {name[5:].replace('_', ' ')}", flush=True)
-            except (Failed, OSError, subprocess.SubprocessError, ValueError) as error_found:
-                failed += 1
-                print(f"FAILED {name[5:].replace('_', ' ')}: {error_found}", flush=True)
-    print(f"{passed} passed, {failed} failed")
-    return 1 if failed else 0
+        return run_tests(Tests(os.path.abspath(sys.argv[1]), folder))
 
 
 if __name__ == "__main__":

@@ -15,6 +15,8 @@ import sys
 import tempfile
 import time
 
+from harness import Failed, expect, run_tests
+
 DEVICE = b"ups.status: OL\nups.id: x\nbattery.charge: 100\n"
 USERS = b'[admin]\npassword = pw\nactions = SET\ninstcmds = ALL\n[mon]\npassword = m1\nupsmon primary\n'
 VERSION = b"Network UPS Tools upsd profile 1.2\n"
@@ -23,15 +25,6 @@ ONLINE = b'VAR su700 ups.status "OL"\n'
 NOT_CONNECTED = b"ERR DRIVER-NOT-CONNECTED\n"
 # how long a thing may take that is to come soon, in seconds: a driver is dialled once a second
 SOON = 10.0
-
-
-class Failed(Exception):
-    pass
-
-
-def expect(found, wanted, what):
-    if found != wanted:
-        raise Failed(f"{what}: found {found!r}, wanted {wanted!r}")
 
 
 def until(test, what, within=SOON):
@@ -638,25 +631,12 @@ class Tests:
 
 
 def main():
-    passed = failed = 0
     upsd, dummy, *names = sys.argv[1:]
     # 256 clients and what else is open
     resource.setrlimit(resource.RLIMIT_NOFILE, (1024, resource.getrlimit(resource.RLIMIT_NOFILE)[1]))
     signal.signal(signal.SIGPIPE, signal.SIG_IGN)
     with tempfile.TemporaryDirectory() as folder:
-        tests = Tests(os.path.abspath(upsd), os.path.abspath(dummy), folder)
-        for name in sorted(it for it in dir(tests) if it.startswith("test_")):
-            if names and not any(it in name for it in names):
-                continue
-            try:
-                getattr(tests, name)()
-                passed += 1
-                print(f"ok {name[5:].replace('_', ' ')}", flush=True)
-            except (Failed, OSError, subprocess.SubprocessError, ValueError) as error_found:
-                failed += 1
-                print(f"FAILED {name[5:].replace('_', ' ')}: {error_found}", flush=True)
-    print(f"{passed} passed, {failed} failed")
-    return 1 if failed else 0
+        return run_tests(Tests(os.path.abspath(upsd), os.path.abspath(dummy), folder), names)
 
 
 if __name__ == "__main__":

@@ -14,7 +14,7 @@ import tempfile
 import threading
 import time
 
-HERE = os.path.dirname(os.path.abspath(__file__))
+from harness import Failed, build_shim, expect, run_tests
 
 # what the server answers to each query; any other is an unknown command
 ANSWERS = {
@@ -114,15 +114,6 @@ BAD = [
 ]
 
 
-class Failed(Exception):
-    pass
-
-
-def expect(found, wanted, what):
-    if found != wanted:
-        raise Failed(f"{what}: found {found!r}, wanted {wanted!r}")
-
-
 class Server:
     """A listener on loopback that answers one client after the other. `queries` are the lines of the last client; `ready`
     is called with what is to be sent and gives the pieces, where None closes the connection."""
@@ -199,7 +190,7 @@ class Tests:
         self.server.left.wait(10)
         return self.server.queries
 
-    def answers_whole_and_byte_by_byte(self):
+    def test_answers_whole_and_byte_by_byte(self):
         for mode in (self.server.whole, self.server.byte_by_byte):
             mode()
             for tool, arguments, queries, output in GOOD:
@@ -207,7 +198,7 @@ class Tests:
                 expect(self.run(tool, arguments), (0, output, b""), what)
                 expect(self.heard(), queries, f"the queries of {what}")
 
-    def failures(self):
+    def test_failures(self):
         self.server.whole()
         for tool, arguments, queries, text, status in BAD:
             what = f"{tool} {' '.join(arguments)}"
@@ -215,7 +206,7 @@ class Tests:
             if queries is not None:
                 expect(self.heard(), queries, f"the queries of {what}")
 
-    def cut_and_ended_at_every_place(self):
+    def test_cut_and_ended_at_every_place(self):
         for tool, arguments, queries, output in GOOD:
             if tool == "upsc" and output != VARIABLES:
                 continue
@@ -230,24 +221,24 @@ class Tests:
             self.server.ends_at(length)
             expect(self.run(tool, arguments), (0, output, b""), f"{what}, ended behind the last answer")
 
-    def bytes_behind_the_last_answer_are_ignored(self):
+    def test_bytes_behind_the_last_answer_are_ignored(self):
         self.server.pieces = lambda sent, reply: [reply + b"FOO\n\xff"]
         expect(self.run("upsc", ["su700@AT"]), (0, VARIABLES, b""), "bytes behind the answer")
 
-    def nobody_listens(self):
+    def test_nobody_listens(self):
         with socket.create_server(("127.0.0.1", 0)) as unused:
             port = unused.getsockname()[1]
         for host in ("127.0.0.1", "localhost", "nowhere.invalid"):
             found = self.run("upsc", [f"su700@{host}:{port}"])
             expect(found, (1, b"", b"Error: connection failed\n"), host)
 
-    def output_that_fails(self):
+    def test_output_that_fails(self):
         self.server.whole()
         with open("/dev/full", "wb") as full:
             expect(self.run("upsc", ["su700@AT"], stdout=full), (1, None, b""), "output to /dev/full")
             expect(self.run("upsc", ["stale@AT"], stderr=full), (1, b"", None), "errors to /dev/full")
 
-    def options_that_are_not_there(self):
+    def test_options_that_are_not_there(self):
         for tool, option in (("upsc", "-j"), ("upsc", "-W"), ("upsrw", "-w"), ("upscmd", "-w")):
             status, output, text = self.run(tool, [option, "su700@AT"])
             expect((status, output, text != b""), (2, b"", True), f"{tool} {option}")
@@ -256,10 +247,8 @@ class Tests:
             status, output, text = self.run(tool, ["--help"])
             expect((status, tool.encode() in output, text), (0, True, b""), f"{tool} --help")
 
-    def refused_memory(self):
-        shim = os.path.join(self.folder, "refuse.so")
-        built = subprocess.run(["cc", "-shared", "-fPIC", "-o", shim, os.path.join(HERE, "refuse.c"), "-ldl"])
-        expect(built.returncode, 0, "cc")
+    def test_refused_memory(self):
+        shim = build_shim(self.folder)
         self.server.whole()
         for tool, arguments, _, output in GOOD:
             what = f"{tool} {' '.join(arguments)}"
@@ -284,28 +273,8 @@ def main():
     if len(sys.argv) != 4:
         sys.exit(__doc__)
     tools = dict(zip(("upsc", "upsrw", "upscmd"), map(os.path.abspath, sys.argv[1:])))
-    passed = failed = 0
     with tempfile.TemporaryDirectory() as folder:
-        tests = Tests(tools, folder)
-        for test in (
-            tests.answers_whole_and_byte_by_byte,
-            tests.failures,
-            tests.cut_and_ended_at_every_place,
-            tests.bytes_behind_the_last_answer_are_ignored,
-            tests.nobody_listens,
-            tests.output_that_fails,
-            tests.options_that_are_not_there,
-            tests.refused_memory,
-        ):
-            try:
-                test()
-                passed += 1
-                print(f"passed: {test.__name__}", flush=True)
-            except Failed as error:
-                failed += 1
-                print(f"FAILED: {test.__name__}: {error}", flush=True)
-    print(f"{passed} passed, {failed} failed")
-    return 1 if failed else 0
+        return run_tests(Tests(tools, folder))
 
 
 if __name__ == "__main__":

@@ -1,0 +1,56 @@
+"""What the tests of built programs share: how a check fails, how calls of a program are made to fail, and how tests are
+run and counted."""
+
+import os
+import shutil
+import subprocess
+
+HERE = os.path.dirname(os.path.abspath(__file__))
+
+
+class Failed(Exception):
+    """A program does something else than it has to."""
+
+
+class Missing(Exception):
+    """What a test needs isn't installed here."""
+
+
+def expect(found, wanted, what):
+    if found != wanted:
+        raise Failed(f"{what}: found {found!r}, wanted {wanted!r}")
+
+
+def build_shim(folder):
+    """Builds the library that makes a program's calls fail, out of refuse.c, and gives its path."""
+    shim = os.path.join(folder, "refuse.so")
+    compiler = shutil.which("cc") or shutil.which("clang")
+    if compiler is None:
+        print("a C compiler is missing: the tests that make calls fail need one (cc or clang)")
+    else:
+        subprocess.run([compiler, "-shared", "-fPIC", "-o", shim, os.path.join(HERE, "refuse.c"), "-ldl"], check=True)
+    return shim
+
+
+def run_tests(tests, names=(), install=""):
+    """Runs each test_.. method, or those with one of these names in theirs, and prints a line for each, and last
+    'N passed, M failed'. It gives the exit status."""
+    passed = failed = skipped = 0
+    for name in sorted(it for it in dir(tests) if it.startswith("test_")):
+        if names and not any(it in name for it in names):
+            continue
+        shown = name[5:].replace("_", " ")
+        try:
+            getattr(tests, name)()
+            passed += 1
+            print(f"ok {shown}", flush=True)
+        except Missing as missing:
+            skipped += 1
+            print(f"skipped {shown}: {missing}", flush=True)
+        except (Failed, OSError, subprocess.SubprocessError, ValueError) as found:
+            failed += 1
+            print(f"FAILED {shown}: {found}", flush=True)
+    if skipped:
+        print(f"{skipped} skipped: {install}")
+    print(f"{passed} passed, {failed} failed")
+    return 1 if failed else 0
