@@ -7,14 +7,13 @@ A line of a run that begins with '!' tells of the refusal and of what stands aft
 once more, and all its other lines have to be those of a run in which nothing is refused. The last line is 'N passed, M
 failed'."""
 
-import itertools
 import os
 import re
 import subprocess
 import sys
 import tempfile
 
-from harness import Failed, build_shim, run_tests
+from harness import Failed, build_shim, refusals, run_tests
 
 HERE = os.path.dirname(os.path.abspath(__file__))
 WANTED = os.path.join(os.path.dirname(HERE), "crates", "dummy_rehearsal", "stdout")
@@ -90,15 +89,11 @@ class Tests:
 
     def test_each_allocation_refused_in_turn(self):
         """Runs with the first allocation refused, then with the second, and so on, up to one that isn't reached."""
-        count = os.path.join(self.folder, "count")
-        env = {**os.environ, "LD_PRELOAD": self.shim, "REFUSE": "allocation", "REFUSE_COUNT": count}
         seen = set()
-        for at in itertools.count(1):
-            done = subprocess.run([self.program], env={**env, "REFUSE_AT": str(at)}, capture_output=True, timeout=60)
+        for at, env, is_reached in refusals(self.shim):
+            done = subprocess.run([self.program], env={**os.environ, **env}, capture_output=True, timeout=60)
             out = done.stdout.decode()
-            with open(count) as file:
-                calls = int(file.read())
-            if calls < at:
+            if not is_reached():
                 ensure((done.returncode, out) == (0, self.wanted), "a run without a refusal")
                 break
             seen.add(check(at, done.returncode, out, self.wanted))

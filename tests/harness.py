@@ -1,6 +1,8 @@
 """What the tests of built programs share: how a check fails, how calls of a program are made to fail, and how tests are
 run and counted."""
 
+import functools
+import itertools
 import os
 import shutil
 import subprocess
@@ -30,6 +32,30 @@ def build_shim(folder):
     else:
         subprocess.run([compiler, "-shared", "-fPIC", "-o", shim, os.path.join(HERE, "refuse.c"), "-ldl"], check=True)
     return shim
+
+
+def was_reached(count, at):
+    """Whether a run, which left the number of its calls in this file, came to the call with this number."""
+    if not os.path.exists(count):
+        return False
+    with open(count) as file:
+        return int(file.read()) >= at
+
+
+def refusing(shim, kind, at):
+    """The environment of a run in which a call fails, by its kind and its number from 1 on, and a function that says after
+    that run whether the run came to it."""
+    count = shim + ".count"
+    if os.path.exists(count):
+        os.remove(count)
+    env = {"LD_PRELOAD": shim, "REFUSE": kind, "REFUSE_AT": str(at), "REFUSE_COUNT": count}
+    return env, functools.partial(was_reached, count, at)
+
+
+def refusals(shim, kind="allocation"):
+    """The number of each call of a kind in turn, with what `refusing` gives of it."""
+    for at in itertools.count(1):
+        yield at, *refusing(shim, kind, at)
 
 
 def run_tests(tests, names=(), install=""):

@@ -13,7 +13,7 @@ import sys
 import tempfile
 import time
 
-from harness import Failed, build_shim, expect, run_tests
+from harness import Failed, build_shim, expect, refusals, refusing, run_tests
 
 HERE = os.path.dirname(os.path.abspath(__file__))
 ROOM = ["--stdio", "--ups", "su700=Server room"]
@@ -92,20 +92,12 @@ class Tests:
         done = subprocess.run([self.upsd, *args], env={**os.environ, **(env or {})}, timeout=60, **streams)
         return done.returncode, done.stdout, done.stderr
 
-    def refusing(self, kind, at):
-        """Gives a run's environment in which a call fails, and the file that will hold how many such calls there were."""
-        count = os.path.join(self.folder, "count")
-        return {"LD_PRELOAD": self.shim, "REFUSE": kind, "REFUSE_AT": str(at), "REFUSE_COUNT": count}, count
-
     def refused_in_turn(self, kind, args, asked, due):
         """Runs with the first call of a kind failing, then with the second, and so on, and gives the number of each call
         that failed with what that run gave. It ends at a call that isn't reached, where the answers due must come."""
-        for at in itertools.count(1):
-            env, count = self.refusing(kind, at)
+        for at, env, is_reached in refusals(self.shim, kind):
             found = self.run(args, asked, env)
-            with open(count) as file:
-                calls = int(file.read())
-            if calls < at:
+            if not is_reached():
                 expect(found, (0, due, b""), f"{kind} {at}, which isn't reached")
                 break
             yield at, found
@@ -156,9 +148,9 @@ class Tests:
     def test_requests_byte_by_byte(self):
         asked = b"".join(it for it, _ in MIXED)
         due = b"".join(it for _, it in MIXED)
-        env, _ = self.refusing("short-read", 1)
+        env, _ = refusing(self.shim, "short-read", 1)
         expect(self.run(ROOM, asked, env), (0, due, b""), "read byte by byte")
-        env, _ = self.refusing("short-write", 1)
+        env, _ = refusing(self.shim, "short-write", 1)
         expect(self.run(ROOM, asked, env), (0, due, b""), "written byte by byte")
 
     def test_unfinished_line(self):
@@ -296,7 +288,7 @@ class Tests:
         expect(found, (1, b"", b"upsd: upsd.users:0: PastLimit\n"), "a file of 1 TiB")
 
     def test_conf_byte_by_byte(self):
-        env, _ = self.refusing("short-file-read", 1)
+        env, _ = refusing(self.shim, "short-file-read", 1)
         expect(self.run(EXAMPLES, b"LIST UPS\n", env), (0, LIST, b""), "files read byte by byte")
 
     def test_each_read_of_a_file_refused(self):

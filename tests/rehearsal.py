@@ -9,7 +9,6 @@ The schedules are made from fixed seeds, so that each run of this test plays the
 import array
 import contextlib
 import fcntl
-import itertools
 import os
 import random
 import re
@@ -20,7 +19,7 @@ import tempfile
 import termios
 import time
 
-from harness import Failed, build_shim, expect, run_tests
+from harness import Failed, build_shim, expect, refusals, run_tests
 from model import Config
 from player import Player, escaped, line_of, write_conf
 from rows import PROBE, ROWS
@@ -121,20 +120,6 @@ class Tests:
         with open(out_path, "rb") as out, open(err_path, "rb") as err:
             return status, out.read(), err.read(), memory
 
-    def refusing(self, at):
-        """The environment of a run in which an allocation fails."""
-        count = os.path.join(self.folder, "count")
-        if os.path.exists(count):
-            os.remove(count)
-        return {"LD_PRELOAD": self.shim, "REFUSE": "allocation", "REFUSE_AT": str(at), "REFUSE_COUNT": count}
-
-    def is_reached(self, env):
-        """Whether there were so many allocations. (Behind the last comes one that counts them.)"""
-        if not os.path.exists(env["REFUSE_COUNT"]):
-            return False
-        with open(env["REFUSE_COUNT"]) as file:
-            return int(file.read()) >= int(env["REFUSE_AT"])
-
     def refuse_in_turn(self, name, config, steps):
         """Plays a schedule with the first allocation refused, then with the second, and so on. It gives the refusals
         that were answered, and counts the runs that ended before their schedule."""
@@ -146,10 +131,9 @@ class Tests:
         player = Player(config)
         due = b"".join(player.play(step) for step in steps)
         told, ended = [], 0
-        for at in itertools.count(1):
-            env = self.refusing(at)
+        for at, env, is_reached in refusals(self.shim):
             status, out, err, _ = self.run(conf, path, env)
-            if not self.is_reached(env):
+            if not is_reached():
                 expect((status, out, err), (0, due, b""), f"{name}, without a refusal")
                 return told, ended
             if status == 0:

@@ -5,7 +5,6 @@
 
 The last line is 'N passed, M failed'."""
 
-import itertools
 import os
 import socket
 import subprocess
@@ -14,7 +13,7 @@ import tempfile
 import threading
 import time
 
-from harness import Failed, build_shim, expect, run_tests
+from harness import Failed, build_shim, expect, refusals, run_tests
 
 # what the server answers to each query; any other is an unknown command
 ANSWERS = {
@@ -252,13 +251,9 @@ class Tests:
         self.server.whole()
         for tool, arguments, _, output in GOOD:
             what = f"{tool} {' '.join(arguments)}"
-            for at in itertools.count(1):
-                count = os.path.join(self.folder, "count")
-                env = {"LD_PRELOAD": shim, "REFUSE": "allocation", "REFUSE_AT": str(at), "REFUSE_COUNT": count}
+            for at, env, is_reached in refusals(shim):
                 found = self.run(tool, arguments, env)
-                with open(count) as file:
-                    calls = int(file.read())
-                if calls < at:
+                if not is_reached():
                     expect(found, (0, output, b""), f"{what}, allocation {at}, which isn't reached")
                     break
                 # the C library may do without some memory, as where it flushes a stream unbuffered
