@@ -13,7 +13,7 @@ use Rattle.nut_conf.specs.Sections.{Section, section_name, sections, last, is_na
 use Rattle.nut_conf.specs.Laws.{HasDistinctNames}
 use Rattle.nut_conf.specs.declared.fault.FaultKind.{FaultKind}
 use Rattle.nut_conf.specs.declared.fault.FaultKind.TheVariants.{OutsideSection, Repeated, PastLimit}
-use Rattle.nut_conf.proofs.CutLemmas.{false-from_not_true}
+use Rattle.nut_words.proofs.CutLemmas.{false-from_not_true}
 use Rattle.nut_conf.proofs.SectionLemmas.{sections-opens, sections-more, with_line_in, name-same}
 
 abbrev Taken : List Words → Result (List Words) FaultKind

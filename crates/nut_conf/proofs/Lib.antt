@@ -1,5 +1,4 @@
 pub mod Numbers
-pub mod CutLemmas
 pub mod PrintingWords
 pub mod FileLemmas
 pub mod FirstFaultLemmas

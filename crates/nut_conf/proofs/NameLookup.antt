@@ -13,7 +13,7 @@ use Rattle.nut_conf.specs.Sections.{is_named, names_in}
 use Rattle.nut_conf.specs.declared.text.Name.{Name}
 use Rattle.nut_conf.specs.declared.fault.FaultKind.{FaultKind}
 use Rattle.std.specs.Str.{bytes_eq}
-use Rattle.nut_conf.proofs.CutLemmas.{false-from_not_true}
+use Rattle.nut_words.proofs.CutLemmas.{false-from_not_true}
 use Rattle.nut_conf.proofs.SlotLemmas.{length-map}
 
 -- what is a name reads as one

@@ -4,10 +4,10 @@ ghost use Rattle.nut_conf.specs.Faults.{Fails};
 ghost use Rattle.nut_conf.specs.Values.{Words as LineWords};
 ghost use Rattle.nut_conf.specs.Files.{Means, read_file, with_line};
 
-use crate::cut::cut;
 use crate::draft::Draft;
 use crate::fault::{ConfFault, FaultKind};
 use crate::line::Line;
+use nut_words::cut;
 use std::alloc::Global;
 
 /// How many bytes a configuration file has at most.

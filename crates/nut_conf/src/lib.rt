@@ -3,7 +3,6 @@
 //! Each reader takes a whole file. It gives the configuration that the file's lines set, or the first fault with its line.
 #![tactic(auto)]
 
-mod cut;
 mod draft;
 mod fault;
 mod file;
@@ -16,8 +15,6 @@ mod notice;
 mod sections;
 mod slot;
 mod target;
-#[cfg(test)]
-mod tests;
 mod text;
 mod ups;
 mod upsd;

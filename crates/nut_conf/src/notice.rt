@@ -7,11 +7,11 @@ ghost use Rattle.nut_conf.specs.Faults.{Reads};
 ghost use Rattle.nut_conf.specs.Values.{one_of};
 ghost use Rattle.nut_conf.specs.Notices.{all_notices, notice_word, notice_words, default_text as usual_text, flags, flags_in, with_flag, is_flag as flag_word, default_flags as usual_flags, is_text_of, is_handling_of};
 
-use crate::cut::cut;
 use crate::fault::FaultKind;
 use crate::slot::{Clashes, FromValues};
 use crate::text::Text;
 use crate::values::Values;
+use nut_words::cut;
 
 /// A type of notice.
 #[derive(Clone, Copy, Debug, PartialEq, Eq)]

@@ -1,4 +1,3 @@
-pub mod CutLemmas
 pub mod ScriptLemmas
 pub mod DueLemmas
 pub mod TextLemmas

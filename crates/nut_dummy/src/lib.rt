@@ -14,7 +14,6 @@
 
 mod begin;
 mod command;
-mod cut;
 mod due;
 mod dummy;
 mod fault;
@@ -24,8 +23,6 @@ mod limits;
 mod script;
 mod teller;
 mod telling;
-#[cfg(test)]
-mod tests;
 mod text;
 mod timeline;
 mod trim;

@@ -5,12 +5,12 @@ ghost use Rattle.nut_dummy.specs.Item as said;
 ghost use Rattle.nut_dummy.specs.Script.{read_script, no_script, timeline, with_step, taken_in, with_line, whole, Means, Fails, Gives};
 ghost use Rattle.nut_dummy.specs.Read.{item_of};
 
-use crate::cut::cut;
 use crate::fault::{ScriptFault, ScriptFaultKind};
 use crate::item::{Item, ScriptKind, is_skipped, read_item};
 use crate::limits::{MAX_STEPS, SCRIPT_VARIABLES};
 use crate::text::{Name, Text};
 use crate::timeline::{Step, Timeline, place_of};
+use nut_words::cut;
 use std::alloc::{AllocError, Global};
 use std::marker::Model;
 

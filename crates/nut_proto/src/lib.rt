@@ -29,6 +29,3 @@ pub use refusal::Refusal;
 pub use reply::{Reply, VariableKind};
 pub use request::{ListQuery, Request};
 pub use word::Word;
-
-#[cfg(test)]
-mod tests;

@@ -16,8 +16,6 @@ mod limits;
 mod number;
 mod sorted;
 mod state;
-#[cfg(test)]
-mod tests;
 mod text;
 mod variable;
 mod verb;

@@ -1,6 +1,6 @@
 use Rattle.std.proofs.Common.{◌≡◌, ℕ, ◌+◌, ◌≤◌, ◌∷◌, length, sym, ap, ◌∙◌, subst, arith}
 use Rattle.nut_conf.specs.Files.{read_lines, read_file, IsFaultOf}
-use Rattle.nut_conf.proofs.CutLemmas.{pending, left, left-shorter}
+use Rattle.nut_words.proofs.CutLemmas.{pending, left, left-shorter}
 use Rattle.nut_conf.proofs.FileLemmas.{read_lines-more, read_lines-fault, read_lines-done, read_file-lines}
 use Rattle.nut_conf.proofs.file.read_draft.Goals as goal
 

@@ -1,7 +1,7 @@
 use Rattle.std.proofs.Common.{◌≡◌, ◌+◌, ◌≤◌, List, [], length}
 use Rattle.nut_conf.specs.Values.{Words}
 use Rattle.nut_conf.specs.Files.{lines_of, read_lines}
-use Rattle.nut_conf.proofs.CutLemmas.{pending, left}
+use Rattle.nut_words.proofs.CutLemmas.{pending, left}
 use Rattle.nut_conf.proofs.file.read_draft.Given as goal
 
 -- what the lines so far set, with the lines that are left, completes the file

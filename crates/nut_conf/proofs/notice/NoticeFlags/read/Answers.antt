@@ -1,6 +1,6 @@
 use Rattle.std.proofs.Common.{[], ◌∷◌, ◌++◌, append_assoc, sym, ap, ◌∙◌}
 use Rattle.nut_conf.specs.Notices.{with_flag}
-use Rattle.nut_conf.proofs.CutLemmas.{pending}
+use Rattle.nut_words.proofs.CutLemmas.{pending}
 use Rattle.nut_conf.proofs.FlagLemmas.{flags_in-more, known_more}
 use Rattle.nut_conf.proofs.notice.NoticeFlags.read.Goals as goal
 

@@ -2,7 +2,7 @@ use Rattle.std.proofs.Common.{◌≡◌, ◌++◌, true}
 use Rattle.std.specs.List.{list_all}
 use Rattle.nut_conf.specs.Values.{Words}
 use Rattle.nut_conf.specs.Notices.{plus_parts, flags_in, is_flag}
-use Rattle.nut_conf.proofs.CutLemmas.{pending, left}
+use Rattle.nut_words.proofs.CutLemmas.{pending, left}
 use Rattle.nut_conf.proofs.notice.NoticeFlags.read.Given as goal
 
 -- the flags are those of the parts so far, and all of them are known

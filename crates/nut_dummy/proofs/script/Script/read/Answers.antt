@@ -1,6 +1,6 @@
 use Rattle.std.proofs.Common.{◌≡◌, ℕ, ◌+◌, ◌≤◌, ◌∷◌, length, sym, ap, ◌∙◌, subst, arith}
 use Rattle.nut_dummy.specs.Script.{read_lines, read_script, IsFaultOf, Means}
-use Rattle.nut_dummy.proofs.CutLemmas.{pending, left, left-shorter}
+use Rattle.nut_words.proofs.CutLemmas.{pending, left, left-shorter}
 use Rattle.nut_dummy.proofs.ScriptLemmas.{read_lines-more, read_lines-fault, read_lines-done}
 use Rattle.nut_dummy.proofs.script.Script.read.Goals as goal
 

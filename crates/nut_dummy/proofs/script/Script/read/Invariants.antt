@@ -1,7 +1,7 @@
 use Rattle.std.proofs.Common.{◌≡◌, ◌+◌, ◌*◌, ◌≤◌, length}
 use Rattle.nut_words.specs.Lines.{parts}
 use Rattle.nut_dummy.specs.Script.{read_lines, no_script}
-use Rattle.nut_dummy.proofs.CutLemmas.{pending, left}
+use Rattle.nut_words.proofs.CutLemmas.{pending, left}
 use Rattle.nut_dummy.proofs.script.Script.read.Given as goal
 
 -- the script so far, with the lines that are left, completes the text

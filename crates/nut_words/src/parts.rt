@@ -5,7 +5,7 @@ ghost use Rattle.std.specs.Option.{option_map_or};
 
 use memchr::memchr;
 
-/// What stands before the first such byte, and what follows it.
+/// What stands before the first such byte, and what follows it; without such a byte all of them, and nothing behind.
 pub fn cut(byte: u8, bytes: &[u8]) -> (&[u8], Option<&[u8]>)
     ensures parts { slice_split (λ c. c == byte) bytes.now
         ≡ result.0.now ∷ option_map_or (λ rest. slice_split (λ c. c == byte) rest.now) result.1 [] }

@@ -1,6 +1,6 @@
 use Rattle.std.proofs.Common.{arith, ◌+◌, ◌-◌, length, drop, take_all, length-drop}
-use Rattle.nut_dummy.proofs.CutLemmas.{cut-first, cut-only}
-use Rattle.nut_dummy.proofs.cut.cut.Goals as goal
+use Rattle.nut_words.proofs.CutLemmas.{cut-first, cut-only}
+use Rattle.nut_words.proofs.parts.cut.Goals as goal
 
 pub returns-in-Some-clause-parts : goal.returns-in-Some-clause-parts
 returns-in-Some-clause-parts c =

@@ -1,0 +1,78 @@
+//! What a driver is asked, as it is written and read.
+use super::word;
+use arrayvec::ArrayVec;
+use nut_proto::DriverAsk;
+use nut_words::{WordFault, split};
+use std::alloc::{AllocError, Global};
+
+/// Whether a request is written where it just fits, and not at all where it doesn't.
+fn fits_exactly(setting: &DriverAsk<'_>) -> bool {
+    let mut exact: ArrayVec<u8, 17> = ArrayVec::new();
+    setting.put_in(&mut exact)
+        && exact.as_slice() == b"SET ups.id \"abc\"\n".as_slice()
+        && !DriverAsk::Ping.put_in(&mut exact)
+}
+
+/// Whether each request is written, behind what was there.
+fn is_written(alloc: Global, setting: &DriverAsk<'_>) -> Result<bool, AllocError> {
+    let mut out = Vec::new(alloc);
+    setting.put(&mut out)?;
+    DriverAsk::DumpAll.put(&mut out)?;
+    DriverAsk::Ping.put(&mut out)?;
+    let command = DriverAsk::InstCmd {
+        command: word(b"load.off"),
+    };
+    command.put(&mut out)?;
+    let lines: &[u8] = b"SET ups.id \"abc\"\nDUMPALL\nPING\nINSTCMD load.off\n";
+    Ok(out.as_slice() == lines)
+}
+
+#[test]
+fn written(rt: HostRuntime) {
+    let setting = DriverAsk::Set {
+        variable: word(b"ups.id"),
+        value: word(b"abc"),
+    };
+    assert!(rt; fits_exactly(&setting));
+    assert!(rt; is_written(rt.alloc(), &setting) == Ok(true));
+}
+
+/// The line that is written of what a line asks, or nothing.
+fn rewritten(alloc: Global, line: &[u8]) -> Result<ArrayVec<u8, 64>, WordFault> {
+    let words = split(alloc, line)?;
+    let mut out = ArrayVec::new();
+    if let Some(ask) = DriverAsk::read(&words) {
+        let _ = ask.put_in(&mut out);
+    }
+    Ok(out)
+}
+
+fn first_wrong(alloc: Global, rows: &[(&[u8], &[u8])]) -> Option<usize> {
+    for (index, (line, written)) in rows.iter().enumerate() {
+        match rewritten(alloc, line) {
+            Ok(found) if found.as_slice() == *written => {}
+            _ => return Some(index),
+        }
+    }
+    None
+}
+
+const LINES: [(&[u8], &[u8]); 12] = [
+    (b"PING", b"PING\n"),
+    (b"dumpall", b"DUMPALL\n"),
+    (b"Set ups.ID Abc", b"SET ups.ID \"Abc\"\n"),
+    (b"instcmd load.Off", b"INSTCMD load.Off\n"),
+    (b"", b""),
+    (b"PING x", b""),
+    (b"DUMPALL x", b""),
+    (b"SET ups.id", b""),
+    (b"SET ups.id a b", b""),
+    (b"INSTCMD", b""),
+    (b"INSTCMD a b", b""),
+    (b"PONG", b""),
+];
+
+#[test]
+fn read_back(rt: HostRuntime) {
+    assert_eq!(rt; first_wrong(rt.alloc(), &LINES), None);
+}
