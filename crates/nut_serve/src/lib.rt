@@ -15,6 +15,3 @@ pub use serving::serve;
 pub use streams::{StreamWorld, read_piece, write_some};
 pub use types::{Address, Fault, Given, Next, Note, Piece, ServeFault, Written};
 pub use world::World;
-
-#[cfg(test)]
-mod tests;

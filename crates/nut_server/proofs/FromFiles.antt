@@ -17,7 +17,7 @@ use Rattle.nut_conf.specs.declared.ups.Ups as the_ups
 use Rattle.nut_conf.specs.declared.users.User as the_user
 use Rattle.nut_conf.specs.declared.users.Commands.{Commands}
 use Rattle.nut_conf.specs.declared.users.Commands.TheVariants as commands
-use Rattle.nut_conf.proofs.CutLemmas.{false-from_not_true}
+use Rattle.nut_words.proofs.CutLemmas.{false-from_not_true}
 use Rattle.nut_conf.proofs.NameLookup.{slice_get-names}
 use Rattle.nut_conf.proofs.SlotLemmas.{length-map}
 use Rattle.nut_history.specs.Configuration.{Ups, number_of_ups, user_named, covers}

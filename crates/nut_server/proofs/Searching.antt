@@ -67,7 +67,7 @@ neither i at n c less greater same = grind (arith, less, greater, same)
 by_result : (slots : Slab Session) (order : List Key) (c : ℕ) (r : Result ℕ ℕ) → AreNamed slots order → IsRising (key_numbers order) → IsSearchInRange r (length order)
     → IsBinarySearchResult (λ (key : Key). nat_cmp key.number c) order r → IsFound c (sessions_of slots order) (result_ok r)
 by_result slots order c (Ok at) named rising within equal =
-    let d : Key = record { number = 0; slot = 0 } in
+    let d : Key = record { number = 0; slot = 0; unsettled = false } in
     let key = get_or order at d in
     let there : slice_get order at ≡ Some key = slice_get-get_or order at d within in
     let k = named_at slots order at key named there in

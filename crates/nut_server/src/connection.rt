@@ -9,7 +9,7 @@ ghost use Rattle.nut_words.specs.Lines.{Text};
 ghost use Rattle.nut_history.specs.Machine.{fresh, with_rest};
 ghost use Rattle.nut_server.specs.Effects.{affected, said};
 ghost use Rattle.nut_server.specs.Inside.{IsRest};
-ghost use Rattle.nut_server.specs.Settling.{is_unsettled, settles};
+ghost use Rattle.nut_server.specs.Settling.{is_unsettled};
 
 use crate::address::Address;
 use crate::credential::Credential;
@@ -159,13 +159,6 @@ impl Connection {
         ensures { result ≡ is_unsettled (Some self.now) }
     {
         self.waits() > 0 || self.leaves()
-    }
-
-    /// The same, and its number isn't less than `least`.
-    pub fn is_unsettled_from(&self, least: u64) -> bool
-        ensures { result ≡ settles least self.now }
-    {
-        least <= self.number && self.is_unsettled()
     }
 
     /// How many bytes are kept of an unfinished line.

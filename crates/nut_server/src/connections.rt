@@ -1,15 +1,17 @@
 //! The open connections, by rising number.
 //!
 //! They stand in a slab, where none is moved while it is open. Beside it stands the order: the number of each with its
-//! slot, so that one is found by halves, in at most nine steps whatever was opened before.
+//! slot, so that one is found by halves, in at most nine steps whatever was opened before. Each key is marked where its
+//! connection is unsettled: those are found without a look into the slots, and where there is none without any look.
 
-ghost use Rattle.std.specs.Prelude.{◌≡◌, ◌<◌, ◌≤◌, ℕ, [], ◌∷◌, ◌++◌, Some, None, IfOk, IfNone, IfSome, OnOk, OnErr, drop, find, length, map, option_map, slice_get};
+ghost use Rattle.std.specs.Prelude.{◌≡◌, ◌<◌, ◌≤◌, ℕ, [], ◌∷◌, ◌++◌, Some, None, IfOk, IfNone, IfSome, OnOk, OnErr, cond, count_by, drop, find, length, map, nat_le, ◌&&◌, option_map, slice_get, slice_set, vec_capacity};
 ghost use Rattle.nut_words.specs.Lines.{Text};
 ghost use Rattle.nut_history.specs.Content.{Session};
 ghost use Rattle.nut_history.specs.Acceptance.{session_of};
 ghost use Rattle.nut_history.specs.Answer.{guests_of};
 ghost use Rattle.nut_history.specs.Laws.{IsRising, IsUpTo};
 ghost use Rattle.nut_history.specs.Machine.{guest_of, update, with_rest, without};
+ghost use Rattle.nut_server.specs.declared.connections.Key.{Key};
 ghost use Rattle.nut_server.specs.Effects.{affected, said};
 ghost use Rattle.nut_server.specs.Inside.{IsRest, numbers_of};
 ghost use Rattle.nut_server.specs.Place.{Stands};
@@ -30,6 +32,42 @@ pub const MOST_OPEN: usize = 256;
 struct Key {
     number: u64,
     slot: usize,
+    /// Whether bytes wait for the connection, or it leaves.
+    unsettled: bool,
+}
+
+impl Key {
+    /// Whether its connection is unsettled, and its number isn't less than `least`.
+    fn is_unsettled_from(&self, least: u64) -> bool
+        ensures { result ≡ (nat_le least self.now.number && self.now.unsettled) }
+    {
+        least <= self.number && self.unsettled
+    }
+
+    /// What it adds to the count of the unsettled ones.
+    fn count(&self) -> usize
+        ensures { result ≡ cond self.now.unsettled 1 0 }
+    {
+        if self.unsettled { 1 } else { 0 }
+    }
+}
+
+/// Marks the key at this place as the connection now is, and keeps the count of those that are unsettled.
+fn mark(order: &mut Vec<Key>, count: &mut usize, at: usize, unsettled: bool)
+    requires within { at < length order.old.items }
+    requires counted { count.old ≡ count_by (λ key. key.unsettled) order.old.items }
+    ensures items { (key : Key) → slice_get order.old.items at ≡ Some key
+        → order.new.items ≡ slice_set order.old.items at (record key { unsettled = unsettled }) }
+    ensures counted { count.new ≡ count_by (λ key. key.unsettled) order.new.items }
+    ensures capacity { vec_capacity order.new ≡ vec_capacity order.old }
+{
+    let key = order[at];
+    match (key.unsettled, unsettled) {
+        (false, true) => *count += 1,
+        (true, false) => *count -= 1,
+        (false, false) | (true, true) => {}
+    }
+    order[at] = Key { unsettled, ..key };
 }
 
 /// The open connections, by rising number, with room for [`MOST_OPEN`].
@@ -38,6 +76,8 @@ pub struct Connections {
     slots: Slab<Connection>,
     /// By rising number: the newest stands last.
     order: Vec<Key>,
+    /// How many of them are unsettled.
+    unsettled: usize,
 }
 
 impl Model for Connections {
@@ -59,7 +99,11 @@ impl Connections {
     {
         let slots = Slab::with_capacity(alloc, MOST_OPEN)?;
         let order = Vec::with_capacity(alloc, MOST_OPEN)?;
-        Ok(Connections { slots, order })
+        Ok(Connections {
+            slots,
+            order,
+            unsettled: 0,
+        })
     }
 
     /// How many are open.
@@ -113,15 +157,18 @@ impl Connections {
         count
     }
 
-    /// The first connection, from the number `least` on, for which bytes wait or that leaves.
-    fn find_unsettled(&self, least: u64) -> Option<&Connection>
-        ensures value { option_map (λ k. k.now) result ≡ find (settles least) self.now }
+    /// The number of the first connection, from the number `least` on, for which bytes wait or that leaves.
+    fn find_unsettled(&self, least: u64) -> Option<u64>
+        ensures value { result ≡ option_map (λ k. k.number) (find (settles least) self.now) }
         ensures rising { IsRising (numbers_of self.now) }
     {
+        if self.unsettled == 0 {
+            return None;
+        }
         for index in 0..self.order.len() {
-            let connection = self.at(index);
-            if connection.is_unsettled_from(least) {
-                return Some(connection);
+            let key = self.order[index];
+            if key.is_unsettled_from(least) {
+                return Some(key.number);
             }
         }
         None
@@ -131,10 +178,7 @@ impl Connections {
     pub fn first_unsettled(&self, least: u64) -> Option<u64>
         ensures { IsNextUnsettled self.now least result }
     {
-        match self.find_unsettled(least) {
-            Some(connection) => Some(connection.number()),
-            None => None,
-        }
+        self.find_unsettled(least)
     }
 
     /// Adds a connection with a number above those of all others, for which there is room.
@@ -144,8 +188,15 @@ impl Connections {
         ensures { self.new ≡ self.old ++ connection ∷ [] }
     {
         let number = connection.number();
+        let unsettled = connection.is_unsettled();
         let slot = self.slots.insert_reserved(connection);
-        self.order.push_reserved(Key { number, slot });
+        let key = Key {
+            number,
+            slot,
+            unsettled,
+        };
+        self.unsettled += key.count();
+        self.order.push_reserved(key);
     }
 
     /// Forgets the connection with this number, and keeps the room.
@@ -154,6 +205,7 @@ impl Connections {
     {
         if let Some(place) = self.place_of(c) {
             let key = self.order.remove(place);
+            self.unsettled -= key.count();
             self.slots.remove(key.slot);
         }
     }
@@ -167,7 +219,11 @@ impl Connections {
         ensures err { OnErr result (self.new ≡ self.old) }
     {
         let key = self.order[at];
-        self.slots[key.slot].answer(text, effect)
+        let connection = &mut self.slots[key.slot];
+        let answered = connection.answer(text, effect);
+        let unsettled = connection.is_unsettled();
+        mark(&mut self.order, &mut self.unsettled, at, unsettled);
+        answered
     }
 
     /// The connection at this place took the first `n` of the bytes that wait for it.
@@ -179,7 +235,10 @@ impl Connections {
             ≡ update c (λ k. record k { waits = drop n k.waits }) self.old }
     {
         let key = self.order[at];
-        self.slots[key.slot].took(n);
+        let taker = &mut self.slots[key.slot];
+        taker.took(n);
+        let unsettled = taker.is_unsettled();
+        mark(&mut self.order, &mut self.unsettled, at, unsettled);
     }
 
     /// Takes out the cutter of the connection at this place, which leaves an empty one.

@@ -19,8 +19,6 @@ mod reply;
 mod scene;
 mod server;
 mod setting;
-#[cfg(test)]
-mod tests;
 mod text;
 mod verdict;
 

@@ -1,9 +1,10 @@
-use Rattle.std.proofs.Common.{arith, ap, ◌∙◌}
+use Rattle.std.proofs.Common.{arith, ap, ◌∙◌, sym, Some}
 use Rattle.nut_history.specs.Machine.{with_rest}
+use Rattle.nut_server.specs.Settling.{is_unsettled}
 use Rattle.nut_server.specs.Inside.{numbers_of}
 use Rattle.nut_server.specs.Entries.{sessions_of}
 use Rattle.nut_server.proofs.Places.{written}
-use Rattle.nut_server.proofs.Entries.{as_many, entry_read, entry_changed, numbers-set}
+use Rattle.nut_server.proofs.Entries.{as_many, entry_read, entry_kept, numbers-set}
 use Rattle.nut_server.proofs.connections.Connections.put_cutter.Goals as goal
 
 pub index-key-requires : goal.index-key-requires
@@ -13,14 +14,14 @@ pub index_mut-requires : goal.index_mut-requires
 index_mut-requires c = (entry_read c.self.inside c.args.self.now c.args.at c.index-key.result.now c.self.invariant c.self.view_is c.requires.within c.index-key.ensures).found
 
 pub invariant_of-self : goal.invariant_of-self
-invariant_of-self c = (entry_changed c.self.inside c.args.at c.index-key.result.now c.index_mut.result.now c.put_cutter.new.self c.self.invariant (entry_read c.self.inside c.args.self.now c.args.at c.index-key.result.now c.self.invariant c.self.view_is c.requires.within c.index-key.ensures) c.index_mut.ensures.value (ap (λ k. k.number) c.put_cutter.ensures)).entries
+invariant_of-self c = (entry_kept c.self.inside c.args.at c.index-key.result.now c.index_mut.result.now c.put_cutter.new.self c.self.invariant (entry_read c.self.inside c.args.self.now c.args.at c.index-key.result.now c.self.invariant c.self.view_is c.requires.within c.index-key.ensures) c.index_mut.ensures.value (ap (λ k. k.number) c.put_cutter.ensures) (sym (ap (λ k. is_unsettled (Some k)) c.put_cutter.ensures))).entries
 
 pub returns-clause-items : goal.returns-clause-items
 returns-clause-items c =
-    let change = entry_changed c.self.inside c.args.at c.index-key.result.now c.index_mut.result.now c.put_cutter.new.self c.self.invariant (entry_read c.self.inside c.args.self.now c.args.at c.index-key.result.now c.self.invariant c.self.view_is c.requires.within c.index-key.ensures) c.index_mut.ensures.value (ap (λ k. k.number) c.put_cutter.ensures) in
+    let change = entry_kept c.self.inside c.args.at c.index-key.result.now c.index_mut.result.now c.put_cutter.new.self c.self.invariant (entry_read c.self.inside c.args.self.now c.args.at c.index-key.result.now c.self.invariant c.self.view_is c.requires.within c.index-key.ensures) c.index_mut.ensures.value (ap (λ k. k.number) c.put_cutter.ensures) (sym (ap (λ k. is_unsettled (Some k)) c.put_cutter.ensures)) in
     rw (← c.self.view_is) (λ c' stands. change.written ∙ written c' (with_rest c.args.cutter) (sessions_of c.self.inside.slots c.self.inside.order.items) c.args.at c.index_mut.result.now c.put_cutter.new.self stands change.read c.put_cutter.ensures)
 
 pub returns-clause-numbers : goal.returns-clause-numbers
 returns-clause-numbers c =
-    let change = entry_changed c.self.inside c.args.at c.index-key.result.now c.index_mut.result.now c.put_cutter.new.self c.self.invariant (entry_read c.self.inside c.args.self.now c.args.at c.index-key.result.now c.self.invariant c.self.view_is c.requires.within c.index-key.ensures) c.index_mut.ensures.value (ap (λ k. k.number) c.put_cutter.ensures) in
+    let change = entry_kept c.self.inside c.args.at c.index-key.result.now c.index_mut.result.now c.put_cutter.new.self c.self.invariant (entry_read c.self.inside c.args.self.now c.args.at c.index-key.result.now c.self.invariant c.self.view_is c.requires.within c.index-key.ensures) c.index_mut.ensures.value (ap (λ k. k.number) c.put_cutter.ensures) (sym (ap (λ k. is_unsettled (Some k)) c.put_cutter.ensures)) in
     rw (← c.self.view_is) (ap numbers_of change.written ∙ numbers-set (sessions_of c.self.inside.slots c.self.inside.order.items) c.args.at c.index_mut.result.now c.put_cutter.new.self change.read (ap (λ k. k.number) c.put_cutter.ensures))

@@ -1,10 +1,11 @@
 use Rattle.std.proofs.Common.{arith, ap, ◌≡◌, ◌∙◌, sym, [], Some}
 use Rattle.nut_words.specs.Lines.{Text}
 use Rattle.nut_history.specs.Machine.{with_rest}
+use Rattle.nut_server.specs.Settling.{is_unsettled}
 use Rattle.nut_server.specs.Inside.{numbers_of}
 use Rattle.nut_server.specs.Entries.{sessions_of}
 use Rattle.nut_server.proofs.Places.{written}
-use Rattle.nut_server.proofs.Entries.{as_many, entry_read, entry_changed, numbers-set, session_there}
+use Rattle.nut_server.proofs.Entries.{as_many, entry_read, entry_kept, numbers-set, session_there}
 use Rattle.nut_server.proofs.connections.Connections.take_cutter.Goals as goal
 
 pub index-key-requires : goal.index-key-requires
@@ -20,14 +21,14 @@ returns-clause-taken c k there =
     c.take_cutter.ensures.taken ∙ ap (λ k. k.rest) same
 
 pub invariant_of-self : goal.invariant_of-self
-invariant_of-self c = (entry_changed c.self.inside c.args.at c.index-key.result.now c.index_mut.result.now c.take_cutter.new.self c.self.invariant (entry_read c.self.inside c.args.self.now c.args.at c.index-key.result.now c.self.invariant c.self.view_is c.requires c.index-key.ensures) c.index_mut.ensures.value (ap (λ k. k.number) c.take_cutter.ensures.left)).entries
+invariant_of-self c = (entry_kept c.self.inside c.args.at c.index-key.result.now c.index_mut.result.now c.take_cutter.new.self c.self.invariant (entry_read c.self.inside c.args.self.now c.args.at c.index-key.result.now c.self.invariant c.self.view_is c.requires c.index-key.ensures) c.index_mut.ensures.value (ap (λ k. k.number) c.take_cutter.ensures.left) (sym (ap (λ k. is_unsettled (Some k)) c.take_cutter.ensures.left))).entries
 
 pub returns-clause-left : goal.returns-clause-left
 returns-clause-left c =
-    let change = entry_changed c.self.inside c.args.at c.index-key.result.now c.index_mut.result.now c.take_cutter.new.self c.self.invariant (entry_read c.self.inside c.args.self.now c.args.at c.index-key.result.now c.self.invariant c.self.view_is c.requires c.index-key.ensures) c.index_mut.ensures.value (ap (λ k. k.number) c.take_cutter.ensures.left) in
+    let change = entry_kept c.self.inside c.args.at c.index-key.result.now c.index_mut.result.now c.take_cutter.new.self c.self.invariant (entry_read c.self.inside c.args.self.now c.args.at c.index-key.result.now c.self.invariant c.self.view_is c.requires c.index-key.ensures) c.index_mut.ensures.value (ap (λ k. k.number) c.take_cutter.ensures.left) (sym (ap (λ k. is_unsettled (Some k)) c.take_cutter.ensures.left)) in
     rw (← c.self.view_is) (λ c' stands. change.written ∙ written c' (with_rest (Text [])) (sessions_of c.self.inside.slots c.self.inside.order.items) c.args.at c.index_mut.result.now c.take_cutter.new.self stands change.read c.take_cutter.ensures.left)
 
 pub returns-clause-numbers : goal.returns-clause-numbers
 returns-clause-numbers c =
-    let change = entry_changed c.self.inside c.args.at c.index-key.result.now c.index_mut.result.now c.take_cutter.new.self c.self.invariant (entry_read c.self.inside c.args.self.now c.args.at c.index-key.result.now c.self.invariant c.self.view_is c.requires c.index-key.ensures) c.index_mut.ensures.value (ap (λ k. k.number) c.take_cutter.ensures.left) in
+    let change = entry_kept c.self.inside c.args.at c.index-key.result.now c.index_mut.result.now c.take_cutter.new.self c.self.invariant (entry_read c.self.inside c.args.self.now c.args.at c.index-key.result.now c.self.invariant c.self.view_is c.requires c.index-key.ensures) c.index_mut.ensures.value (ap (λ k. k.number) c.take_cutter.ensures.left) (sym (ap (λ k. is_unsettled (Some k)) c.take_cutter.ensures.left)) in
     rw (← c.self.view_is) (ap numbers_of change.written ∙ numbers-set (sessions_of c.self.inside.slots c.self.inside.order.items) c.args.at c.index_mut.result.now c.take_cutter.new.self change.read (ap (λ k. k.number) c.take_cutter.ensures.left))
