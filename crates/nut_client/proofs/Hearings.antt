@@ -1,12 +1,11 @@
 -- How a query is heard to its answer.
-use Rattle.std.proofs.Common.{◌≡◌, ℕ, Bool, true, false, ◌++◌, List, [], length, take, drop, Option, Some, None, Result, Ok, Err, refl, sym, ap, ap₂, subst, ◌∙◌, ◌⊎◌, inl, inr, if◌then◌else◌}
+use Rattle.std.proofs.Common.{◌≡◌, ℕ, true, false, ◌++◌, List, [], length, drop, Option, Some, None, Result, Ok, Err, refl, sym, ap, ap₂, subst, ◌∙◌, ◌⊎◌, inl, inr, if◌then◌else◌}
 use Rattle.std.proofs.Math.Seq.{drop-append_seam}
 use Rattle.std.proofs.lemmas.List.{append_assoc, append-nil}
 use Rattle.std.specs.Io.KnownBytes.{append_known, prepend_known}
-use Rattle.nut_words.specs.Lines.{LineText, Text, lines, rest}
+use Rattle.nut_words.specs.Lines.{Text, lines}
 use Rattle.nut_proto.specs.declared.request.Request.{Request}
 use Rattle.nut_proto.specs.Requests.{request_line}
-use Rattle.nut_client.specs.declared.exchange.Exchange.{Exchange}
 use Rattle.nut_client.specs.declared.exchange.Stage.{Stage}
 use Rattle.nut_client.specs.declared.exchange.Stage.TheVariants as stages
 use Rattle.nut_client.specs.declared.failure.Failure.{Failure}
@@ -15,12 +14,12 @@ use Rattle.nut_client.specs.declared.fault.LinkFault.{LinkFault}
 use Rattle.nut_client.specs.declared.fault.LinkFault.TheVariants.{Memory}
 use Rattle.nut_client.specs.declared.outcome.Outcome.{Outcome}
 use Rattle.nut_client.specs.Asking.{is_writable}
-use Rattle.nut_client.specs.Conversation.{Answered, Hears, HearsPart, IsListening, IsWaiting, Listens, Sends, link_sent}
+use Rattle.nut_client.specs.Conversation.{Answered, Hears, HearsPart, IsListening, IsWaiting, Sends, link_sent}
 use Rattle.nut_client.specs.Hearing.{Feeds}
-use Rattle.nut_client.specs.Link.{LinkValue, answer_by, fed, fresh, outcome_in, outcome_of, stage_without, taken_out, with_exchange}
+use Rattle.nut_client.specs.Link.{LinkValue, answer_by, fed, outcome_in, outcome_of, stage_without, taken_out, with_exchange}
 use Rattle.nut_client.specs.Rests.{IsRest}
 use Rattle.nut_client.specs.Script.{Script, Asks}
-use Rattle.nut_client.specs.Tool.{Failed, Run, Waits, WasWrittenBy, after, begin, breaks_off, ending, failure_of, sent}
+use Rattle.nut_client.specs.Tool.{Failed, Waits, after, begin, breaks_off, ending, failure_of, sent}
 use Rattle.nut_client.specs.Unread.{IsLinePart, IsUnbroken, IsWhole}
 use Rattle.nut_client.proofs.Runs.{append_none, begun, comes, fails, grows, prepend_none, prepend_twice, rest_waits, still_waits, waiting_run}
 

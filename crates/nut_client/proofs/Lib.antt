@@ -10,3 +10,6 @@ pub mod Tasks
 pub mod Writing
 pub mod Sendings
 pub mod Hearings
+pub mod Endings
+pub mod Places
+pub mod Commands

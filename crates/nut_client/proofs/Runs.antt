@@ -1,17 +1,16 @@
 -- How a run goes on by the parts of lines that are heard.
-use Rattle.std.proofs.Common.{◌≡◌, ℕ, Bool, ◌++◌, List, [], ◌∷◌, Option, Some, None, is_some, if◌then◌else◌, Result, Ok, Err, refl, sym, ap, ap₂, ◌∙◌, ◌⊎◌, inl, inr, option_map}
+use Rattle.std.proofs.Common.{◌≡◌, ℕ, Bool, ◌++◌, List, [], ◌∷◌, Option, Some, None, is_some, if◌then◌else◌, Result, Ok, Err, refl, sym, ap, ap₂, ◌∙◌, ◌⊎◌, inl, inr}
 use Rattle.std.proofs.lemmas.Bool.{cases_Bool}
 use Rattle.std.proofs.lemmas.List.{append_assoc, append_cancel_left, append-nil}
 use Rattle.std.specs.Io.KnownBytes.{append_known, prepend_known}
-use Rattle.nut_words.specs.Lines.{LineText, Text, as_line, completed, joined, lines, lines_after, rest, rest_after}
-use Rattle.nut_words.proofs.LineLemmas.{lines_of_line, lines_of_unbroken, rest_of_line, rest_of_unbroken}
+use Rattle.nut_words.specs.Lines.{LineText, Text, completed, joined, lines, lines_after, rest, rest_after}
+use Rattle.nut_words.proofs.LineLemmas.{lines_of_line, lines_of_unbroken, rest_of_line}
 use Rattle.nut_words.proofs.StreamGrowth.{lines-append, rest-append}
 use Rattle.nut_proto.specs.declared.request.Request.{Request}
 use Rattle.nut_proto.specs.Requests.{request_line}
 use Rattle.nut_client.specs.declared.exchange.Exchange.{Exchange}
 use Rattle.nut_client.specs.declared.exchange.Stage.{Stage}
 use Rattle.nut_client.specs.declared.exchange.Stage.TheVariants as stages
-use Rattle.nut_client.specs.declared.failure.Failure.{Failure}
 use Rattle.nut_client.specs.declared.failure.Failure.TheVariants as failures
 use Rattle.nut_client.specs.declared.fault.LinkFault.{LinkFault}
 use Rattle.nut_client.specs.declared.outcome.Outcome.{Outcome}
@@ -19,7 +18,7 @@ use Rattle.nut_client.specs.Conversation.{IsWaiting}
 use Rattle.nut_client.specs.Link.{LinkValue, fed, heard, left_of, lines_heard, moved, on_line, outcome_in, outcome_of}
 use Rattle.nut_client.specs.Asking.{is_writable}
 use Rattle.nut_client.specs.Script.{Script, Prints, Fails, Asks}
-use Rattle.nut_client.specs.Tool.{Run, Waits, Printed, Failed, after, begin, sent, ending, failure_of, goes_on, hears}
+use Rattle.nut_client.specs.Tool.{Run, Waits, Failed, after, begin, sent, failure_of, goes_on, hears}
 use Rattle.nut_client.specs.Unread.{IsUnbroken, IsWhole}
 
 pub after-append : (xs ys : List LineText) (run : Run) → after (xs ++ ys) run ≡ after ys (after xs run)

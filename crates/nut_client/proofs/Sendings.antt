@@ -1,10 +1,9 @@
 -- How a query goes out.
-use Rattle.std.proofs.Common.{◌≡◌, ℕ, ◌≤◌, ◌++◌, nat_le, true, Bool, List, [], length, take, drop, Option, Some, None, is_some, refl, sym, ap, subst, ◌∙◌, if◌then◌else◌}
+use Rattle.std.proofs.Common.{◌≡◌, ℕ, ◌++◌, nat_le, true, List, length, take, drop, Option, refl, sym, ap, subst, ◌∙◌}
 use Rattle.std.proofs.lemmas.List.{append_assoc, take-append-drop}
 use Rattle.std.specs.Io.KnownBytes.{append_known}
 use Rattle.nut_proto.specs.declared.request.Request.{Request}
-use Rattle.nut_client.specs.declared.fault.LinkFault.TheVariants.{TooMuchTaken}
-use Rattle.nut_client.specs.Link.{LinkValue, stage_taken, taken, waits, with_exchange}
+use Rattle.nut_client.specs.Link.{LinkValue, taken, waits, with_exchange}
 use Rattle.nut_client.specs.Sending.{IsSending, link_sending}
 use Rattle.nut_client.proofs.Runs.{append_twice}
 

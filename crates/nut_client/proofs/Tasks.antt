@@ -1,5 +1,5 @@
 -- What is left of a tool's work, step by step.
-use Rattle.std.proofs.Common.{◌≡◌, ℕ, true, ltb, ◌+◌, ◌<◌, suc, add-one, ◌++◌, List, [], ◌∷◌, drop, length, Option, Some, None, Result, subst, codes, refl, sym, ap, ◌∙◌, get_or}
+use Rattle.std.proofs.Common.{◌≡◌, ℕ, true, ltb, ◌+◌, ◌<◌, suc, add-one, List, [], ◌∷◌, drop, length, Result, subst, codes, refl, sym, ap, ◌∙◌, get_or}
 use Rattle.std.proofs.Math.Seq.{drop-cons}
 use Rattle.std.proofs.lemmas.Bool.{ltb-true}
 use Rattle.nut_client.specs.declared.outcome.Outcome.{Outcome}

@@ -1,22 +1,19 @@
 -- How a tool goes from query to query.
-use Rattle.std.proofs.Common.{◌≡◌, ℕ, true, false, ◌++◌, List, [], Option, Some, None, Result, Ok, Err, refl, sym, ap, ap₂, subst, ◌∙◌, ◌⊎◌, inl, inr, if◌then◌else◌}
-use Rattle.std.proofs.lemmas.Bool.{cases_Bool}
-use Rattle.std.proofs.lemmas.List.{append_assoc, append-nil}
+use Rattle.std.proofs.Common.{◌≡◌, ℕ, true, false, ◌++◌, List, [], Option, Ok, Err, refl, sym, ap, ap₂, subst, ◌∙◌, inl, inr}
+use Rattle.std.proofs.lemmas.List.{append-nil}
 use Rattle.std.specs.Io.KnownBytes.{append_known, prepend_known}
-use Rattle.nut_words.specs.Lines.{LineText, Text, lines, lines_after, rest, rest_after}
+use Rattle.nut_words.specs.Lines.{Text, lines, lines_after, rest, rest_after}
 use Rattle.nut_words.proofs.StreamGrowth.{lines-append, rest-append}
 use Rattle.nut_proto.specs.declared.request.Request.{Request}
 use Rattle.nut_proto.specs.Requests.{request_line}
 use Rattle.nut_client.specs.declared.failure.Failure.{Failure}
-use Rattle.nut_client.specs.declared.failure.Failure.TheVariants as failures
 use Rattle.nut_client.specs.declared.outcome.Outcome.{Outcome}
-use Rattle.nut_client.specs.Asking.{is_writable}
 use Rattle.nut_client.specs.Between.{IsBetween}
 use Rattle.nut_client.specs.Conversation.{Answered}
 use Rattle.nut_client.specs.Link.{LinkValue, fresh}
-use Rattle.nut_client.specs.Script.{Script, Prints, Fails, Asks}
+use Rattle.nut_client.specs.Script.{Script, Prints, Asks}
 use Rattle.nut_client.specs.Task.{FailsBy, answered}
-use Rattle.nut_client.specs.Tool.{Ends, Failed, Printed, Run, Waits, WasWritten, WasWrittenBy, after, begin, breaks_off, ending, run_of, sent}
+use Rattle.nut_client.specs.Tool.{Ends, WasWrittenBy, after, begin, breaks_off, ending, run_of}
 use Rattle.nut_client.proofs.Runs.{after-append, append_twice, begin_more, append_none, prepend_none, prepend_twice}
 
 -- nothing was asked yet

@@ -12,7 +12,7 @@ use Rattle.nut_client.specs.declared.outcome.Outcome.{Outcome}
 use Rattle.nut_client.specs.Asking.{is_writable}
 use Rattle.nut_client.specs.Link.{LinkValue, fed, fresh, outcome_of}
 use Rattle.nut_client.specs.Script.{Script, Asks}
-use Rattle.nut_client.specs.Tool.{Run, Waits, WasWrittenBy, after, begin, ending, failure_of, sent}
+use Rattle.nut_client.specs.Tool.{Waits, WasWrittenBy, after, begin, ending, failure_of, sent}
 use Rattle.nut_client.specs.Unread.{IsUnbroken, IsWhole}
 
 -- A query waits for its answer.

@@ -8,7 +8,9 @@ pub mod Bounds
 pub mod Stream
 pub mod Unread
 pub mod Script
+pub mod CommandLine
 pub mod Tool
+pub mod Reading
 pub mod Task
 pub mod Conversation
 pub mod Sending

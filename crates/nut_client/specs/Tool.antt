@@ -1,5 +1,9 @@
 -- What a tool says to its server and how it ends, by the bytes that the server sends.
 use Rattle.std.specs.Prelude.{◌≡◌, ℕ, Bool, true, false, List, [], ◌∷◌, ◌++◌, codes, Option, Some, None, Result, Ok, Err, ◌⊎◌, if◌then◌else◌}
+use Rattle.std.specs.Borrow.{MutBor}
+use Rattle.clap.specs.Words.{IsAmong, Kinds}
+use Rattle.clap.specs.declared.error.ErrorKind.{ErrorKind}
+use Rattle.clap.specs.declared.error.ErrorKind.TheVariants as kinds
 use Rattle.std.specs.Io.KnownBytes.{Appends, Keeps, append_known, prepend_known}
 use Rattle.nut_words.specs.Lines.{LineText, lines}
 use Rattle.nut_proto.specs.declared.request.Request.{Request}
@@ -13,7 +17,7 @@ use Rattle.nut_client.specs.declared.fault.LinkFault.TheVariants as faults
 use Rattle.nut_client.specs.declared.outcome.Outcome.{Outcome}
 use Rattle.nut_client.specs.Asking.{query_of, is_writable}
 use Rattle.nut_client.specs.Link.{heard, outcome_of}
-use Rattle.nut_client.specs.declared.wanted.Wanted.{Wanted}
+use Rattle.nut_client.specs.CommandLine.{CommandLine, Options}
 use Rattle.nut_client.specs.Script.{Script, Prints, Fails, Asks, script}
 
 -- How far a tool is: it waits for the answer to a query, and goes on by what comes of it; or it has a text to print; or it
@@ -143,14 +147,31 @@ abbrev pub Tells : Result (List ℕ) Failure → ℕ → Option (List ℕ) → O
 Tells (Ok text) status out out' err err' = ((status ≡ 0) × Appends out out' text ⊎ (status ≡ 1) × AppendsFront out out' text) × Keeps err err'
 Tells (Err failure) status out out' err err' = (status ≡ status_of failure) × Keeps out out' × AppendsFront err err' (error_text failure)
 
--- How a tool ends that has a connection, or none: by what its server sends, unless memory was refused.
-abbrev pub IsResult : Script → Bool → Result (List ℕ) Failure → Type 0
-IsResult script true result = (heard : List ℕ) × ((result ≡ Err failures.Memory) ⊎ (result ≡ ending (run_of script heard).standing))
-IsResult script false result = result ≡ Err failures.NoConnection
+-- The text that clap has for an error of this kind goes to the output, if it was asked for, with status 0, or 1 where the
+-- output fails; else to the error output, with status 2.
+abbrev pub is_asked_for : ErrorKind → Bool
+is_asked_for kinds.DisplayHelp = true
+is_asked_for kinds.DisplayVersion = true
+is_asked_for other = false
 
--- How a program ends: its command line asks for something, and it tells what came of that; or its words are wrong, and it
--- tells that; or the text is that of the command line's reader, of which nothing is said.
-pub data RunsAs (connected : Bool) (status : ℕ) (out out' err err' : Option (List ℕ)) : Type 0 where
-  asks : (ups : List ℕ) → (wanted : Wanted) → (result : Result (List ℕ) Failure) → IsResult (script ups wanted) connected result → Tells result status out out' err err' → RunsAs connected status out out' err err'
-  refuses : (failure : Failure) → Tells (Err failure) status out out' err err' → RunsAs connected status out out' err err'
-  explains : RunsAs connected status out out' err err'
+abbrev pub Explains : Bool → ℕ → Option (List ℕ) → Option (List ℕ) → Option (List ℕ) → Option (List ℕ) → Type 0
+Explains true status out out' err err' = ((status ≡ 0) ⊎ (status ≡ 1)) × Keeps err err'
+Explains false status out out' err err' = (status ≡ 2) × Keeps out out'
+
+module _ {S : Type 0} (remaining : S → Option (List ℕ)) where
+  -- How a tool ends that has a connection, or none: by what its server sends, unless memory was refused.
+  abbrev pub IsResult : Script → Option (MutBor S) → Result (List ℕ) Failure → Type 0
+  IsResult script (Some stream) result =
+      (heard : List ℕ) × (left : Option (List ℕ)) × (remaining stream.now ≡ prepend_known heard left)
+      × ((result ≡ Err failures.Memory) ⊎ (result ≡ ending (run_of script heard).standing))
+  IsResult script None result = result ≡ Err failures.NoConnection
+
+  -- How a program ends: what its command line asks for was done, and it tells what came of that; or memory was refused or
+  -- its words make no such command line, and it tells that; or clap doesn't read the words, and its text says so.
+  pub data RunsAs (line : CommandLine) (stream : Option (MutBor S)) (status : ℕ) (out out' err err' : Option (List ℕ)) : Type 0 where
+    asks : (options : Options) → line ≡ Ok (Ok options) → (result : Result (List ℕ) Failure) → IsResult (script options.ups options.wanted) stream result
+        → Tells result status out out' err err' → RunsAs line stream status out out' err err'
+    refuses : (failure : Failure) → (failure ≡ failures.Memory) ⊎ (line ≡ Ok (Err failure))
+        → Tells (Err failure) status out out' err err' → RunsAs line stream status out out' err err'
+    explains : (faults : Kinds) (kind : ErrorKind) → line ≡ Err faults → IsAmong kind faults
+        → Explains (is_asked_for kind) status out out' err err' → RunsAs line stream status out out' err err'

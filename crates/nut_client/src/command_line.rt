@@ -1,11 +1,22 @@
 //! What the command lines of the tools have in common.
-use crate::destination::{Destination, read_target};
+ghost use Rattle.std.specs.Prelude.{◌≡◌, ◌==◌, ◌<◌, IfOk, IfSome, Ok, Result, Some, codes, false, length, map, option_map, position, true};
+ghost use Rattle.clap.specs.Words.{App, app_of, first_of, found_of, is_simple_and_free, rows_of, rule_of};
+ghost use Rattle.nut_conf.specs.Target.{parted as parted_at};
+ghost use Rattle.nut_client.specs.CommandLine.{CommandLine, Options as OptionsMeant, argument as argument_rule, flag as flag_rule, is_given as given, names_server as server_named, options_of as options_meant, target_of, valued as valued_rule};
+ghost use Rattle.nut_client.specs.Reading.{AreOptions, IsRead, IsReadBy, IsRefusalOf};
+ghost use Rattle.nut_client.specs.declared.command_line.Refusal.TheVariants.{Failed};
+ghost use Rattle.nut_client.specs.declared.failure.Failure.{Failure as FailureValue};
+ghost use Rattle.nut_client.specs.declared.failure.Failure.TheVariants.{Memory};
+ghost use Rattle.nut_client.specs.declared.wanted.Wanted.TheVariants.{Does};
+
+use crate::destination::{Destination, read_server, read_target};
 use crate::failure::Failure;
 use crate::wanted::{Deed, Wanted};
-use clap::{Arg, ArgMatches};
+use clap::{Arg, ArgAction, ArgMatches, Command};
 use nut_conf::Target;
 use nut_proto::Word;
 use std::alloc::{AllocError, Global};
+use std::convert::AsStr;
 
 /// A command line that reads.
 #[derive(Drop)]
@@ -24,6 +35,8 @@ pub(crate) enum Refusal {
 }
 
 impl From<clap::Error> for Refusal {
+    ghost from_gives = { IsRefusalOf };
+
     fn from(error: clap::Error) -> Self {
         if error.kind() == clap::error::ErrorKind::OutOfMemory {
             Refusal::Failed(Failure::Memory)
@@ -34,19 +47,26 @@ impl From<clap::Error> for Refusal {
 }
 
 impl From<AllocError> for Refusal {
+    ghost from_gives = { λ _ refusal. refusal ≡ Failed Memory };
+
     fn from(_: AllocError) -> Self {
         Refusal::Failed(Failure::Memory)
     }
 }
 
 impl From<Failure> for Refusal {
+    ghost from_gives = { λ failure refusal. refusal ≡ Failed failure };
+
     fn from(failure: Failure) -> Self {
         Refusal::Failed(failure)
     }
 }
 
 /// The host and the port that a command line gives, if it reads.
-pub(crate) fn destination_of(options: Result<Options<'_>, Refusal>) -> Option<Destination> {
+pub(crate) fn destination_of(options: Result<Options<'_>, Refusal>) -> Option<Destination>
+    ensures { (line : CommandLine) → IsRead line options.entry
+        → IfSome result (λ d. target_of line ≡ Some (d.host.bytes.items, d.port.number)) }
+{
     match options {
         Ok(Options { target, .. }) => Some(Destination::of(target)),
         Err(refusal) => {
@@ -56,53 +76,170 @@ pub(crate) fn destination_of(options: Result<Options<'_>, Refusal>) -> Option<De
     }
 }
 
-/// The options of a command line that asks this of the UPS that it names.
+/// What clap reads of the words, if there is memory for the command.
+pub(crate) fn read_words<'a, W: AsStr>(
+    command: Result<Command<'a>, AllocError>,
+    words: &'a [W],
+) -> Result<ArgMatches<'a>, Refusal>
+    ensures { (app : App) → is_simple_and_free app ≡ true → IfOk command.entry (λ c. app_of c ≡ app)
+        → IsReadBy app (map W.text words.entry.now) result }
+{
+    match command {
+        Ok(command) => parse(command, words),
+        Err(error) => Err(Refusal::from(error)),
+    }
+}
+
+fn parse<'a, W: AsStr>(command: Command<'a>, words: &'a [W]) -> Result<ArgMatches<'a>, Refusal>
+    ensures { is_simple_and_free (app_of command.entry) ≡ true
+        → IsReadBy (app_of command.entry) (map W.text words.entry.now) result }
+{
+    let matches = command.try_get_matches_from(words)?;
+    Ok(matches)
+}
+
+/// The options, or the failure as a refusal.
+pub(crate) fn refused(options: Result<Options<'_>, Failure>) -> Result<Options<'_>, Refusal>
+    ensures { (meant : Result OptionsMeant FailureValue) → AreOptions meant options.entry → IsRead (Ok meant) result }
+{
+    match options {
+        Ok(options) => Ok(options),
+        Err(failure) => Err(Refusal::Failed(failure)),
+    }
+}
+
+/// The value of an option or of an argument.
+pub(crate) fn value<'a>(matches: &ArgMatches<'a>, id: &str) -> Option<&'a str>
+    ensures { option_map (λ s. s.now) result ≡ first_of id.now (rows_of (found_of matches.now)) }
+{
+    matches.get_str(id)
+}
+
+/// Whether a flag was given.
+pub(crate) fn is_given(matches: &ArgMatches<'_>, id: &str) -> bool
+    ensures { result ≡ given id.now (rows_of (found_of matches.now)) }
+{
+    match value(matches, id) {
+        Some(text) => text == "true",
+        None => false,
+    }
+}
+
+/// Whether a server is named, and no UPS.
+fn names_server(wanted: &Wanted<'_>) -> bool
+    ensures { result ≡ server_named wanted.now }
+{
+    matches!(wanted, Wanted::Names | Wanted::Descriptions)
+}
+
+/// The options of a command line that asks this, of a UPS or a server with this name.
 pub(crate) fn options_of<'a>(
     wanted: Option<Wanted<'a>>,
     name: Option<&str>,
-) -> Result<Options<'a>, Refusal> {
-    let (Some(wanted), Some(name)) = (wanted, name) else {
-        return Err(Refusal::Failed(Failure::BadArguments));
+) -> Result<Options<'a>, Failure>
+    ensures { AreOptions (options_meant wanted.entry (option_map (λ s. s.now) name.entry)) result }
+{
+    let Some(wanted) = wanted else {
+        return Err(Failure::BadArguments);
     };
-    let target = read_target(name)?;
+    let target = if names_server(&wanted) {
+        read_server(name)?
+    } else if let Some(name) = name {
+        read_target(name)?
+    } else {
+        return Err(Failure::BadArguments);
+    };
     Ok(Options { target, wanted })
 }
 
-/// A deed of the user whom the command line names, where both the name and the password are there.
-pub(crate) fn deed_by<'a>(matches: &ArgMatches<'a>, deed: Deed<'a>) -> Option<Wanted<'a>> {
-    let user = matches.get_str("user")?;
-    let password = matches.get_str("password")?;
-    Some(Wanted::Does(
+/// Where the first `=` stands.
+fn place_of_equals(bytes: &[u8]) -> Option<usize>
+    ensures place { result ≡ position (λ b. b == 61) bytes.now }
+    ensures within { IfSome result (λ at. at < length bytes.now) }
+{
+    bytes.iter().position(|b| *b == b'=')
+}
+
+/// What stands before and after the first `=`.
+pub(crate) fn parted_at_equals(bytes: &[u8]) -> Option<(&[u8], &[u8])>
+    ensures { option_map (λ p. (p.0.now, p.1.now)) result ≡ parted_at 61 bytes.now }
+{
+    match place_of_equals(bytes) {
+        Some(at) => Some((&bytes[..at], &bytes[at + 1..])),
+        None => None,
+    }
+}
+
+/// A deed of the user of this name and password.
+pub(crate) fn deed_by<'a>(user: &'a str, password: &'a str, deed: Deed<'a>) -> Wanted<'a>
+    ensures { result ≡ Does user.entry.now password.entry.now deed.entry }
+{
+    Wanted::Does(
         Word::new(user.as_bytes()),
         Word::new(password.as_bytes()),
         deed,
-    ))
+    )
 }
 
-/// Whether the command line has neither a name nor a password of a user.
-pub(crate) fn has_no_user(matches: &ArgMatches<'_>) -> bool {
-    matches.get_str("user").is_none() && matches.get_str("password").is_none()
+/// A flag.
+pub(crate) fn flag<'a>(alloc: Global, id: &'a str, letter: char, help: &'a str) -> Arg<'a>
+    ensures rule { rule_of result ≡ flag_rule id.entry.now letter }
+    ensures local { result.global ≡ false }
+{
+    Arg::new(alloc, id)
+        .short(letter)
+        .action(ArgAction::SetTrue)
+        .help(help)
+}
+
+/// An option with a value of this kind.
+pub(crate) fn valued<'a>(
+    alloc: Global,
+    id: &'a str,
+    letter: char,
+    kind: &'a str,
+    help: &'a str,
+) -> Arg<'a>
+    ensures rule { rule_of result ≡ valued_rule id.entry.now letter }
+    ensures local { result.global ≡ false }
+{
+    Arg::new(alloc, id)
+        .short(letter)
+        .value_name(kind)
+        .help(help)
+}
+
+/// An argument of this kind.
+pub(crate) fn argument<'a>(alloc: Global, id: &'a str, kind: &'a str, help: &'a str) -> Arg<'a>
+    ensures rule { rule_of result ≡ argument_rule id.entry.now }
+    ensures local { result.global ≡ false }
+{
+    Arg::new(alloc, id).value_name(kind).help(help)
 }
 
 /// The option for the user's name.
-pub(crate) fn user_argument<'a>(alloc: Global) -> Arg<'a> {
-    Arg::new(alloc, "user")
-        .short('u')
-        .value_name("USER")
-        .help("The name of a user in the server's upsd.users")
+pub(crate) fn user_argument<'a>(alloc: Global) -> Arg<'a>
+    ensures rule { rule_of result ≡ valued_rule (codes "user") 117 }
+    ensures local { result.global ≡ false }
+{
+    let help = "The name of a user in the server's upsd.users";
+    valued(alloc, "user", 'u', "USER", help)
 }
 
 /// The option for the user's password.
-pub(crate) fn password_argument<'a>(alloc: Global) -> Arg<'a> {
-    Arg::new(alloc, "password")
-        .short('p')
-        .value_name("PASS")
-        .help("The password of that user; other users of this machine may see it")
+pub(crate) fn password_argument<'a>(alloc: Global) -> Arg<'a>
+    ensures rule { rule_of result ≡ valued_rule (codes "password") 112 }
+    ensures local { result.global ≡ false }
+{
+    let help = "The password of that user; other users of this machine may see it";
+    valued(alloc, "password", 'p', "PASS", help)
 }
 
 /// The argument for the name of the UPS.
-pub(crate) fn name_argument<'a>(alloc: Global) -> Arg<'a> {
-    Arg::new(alloc, "name").value_name("NAME").help(
-        "The UPS, as UPS[@HOST[:PORT]]; without a host it is localhost, without a port 3493",
-    )
+pub(crate) fn name_argument<'a>(alloc: Global) -> Arg<'a>
+    ensures rule { rule_of result ≡ argument_rule (codes "name") }
+    ensures local { result.global ≡ false }
+{
+    let help = "The UPS, as UPS[@HOST[:PORT]]; without a host it is localhost, without a port 3493";
+    argument(alloc, "name", "NAME", help)
 }

@@ -1,4 +1,9 @@
 //! Where a tool finds its server.
+ghost use Rattle.std.specs.Prelude.{◌≡◌, option_map};
+ghost use Rattle.nut_client.specs.CommandLine.{at_server};
+ghost use Rattle.nut_client.specs.Reading.{IsTarget};
+ghost use Rattle.nut_conf.specs.Target.{target};
+
 use crate::failure::Failure;
 use arrayvec::ArrayVec;
 use nut_conf::{Host, Port, Target};
@@ -13,15 +18,27 @@ pub struct Destination {
 }
 
 impl Destination {
-    pub(crate) fn of(target: Target) -> Destination {
+    /// That of a target.
+    pub(crate) fn of(target: Target) -> Destination
+        ensures host { result.host ≡ target.host }
+        ensures port { result.port ≡ target.port }
+    {
         let Target { host, port, .. } = target;
         Destination { host, port }
     }
 }
 
 /// Reads `ups[@host[:port]]`.
-pub(crate) fn read_target(name: &str) -> Result<Target, Failure> {
-    match Target::read(name.as_bytes()) {
+pub(crate) fn read_target(name: &str) -> Result<Target, Failure>
+    ensures { IsTarget (target name.now) result }
+{
+    read_bytes(name.as_bytes())
+}
+
+fn read_bytes(name: &[u8]) -> Result<Target, Failure>
+    ensures { IsTarget (target name.now) result }
+{
+    match Target::read(name) {
         Ok(target) => Ok(target),
         Err(_) => Err(Failure::BadName),
     }
@@ -29,17 +46,16 @@ pub(crate) fn read_target(name: &str) -> Result<Target, Failure> {
 
 /// Reads `host[:port]`, which is `localhost` where it isn't there: what follows `@` in the name of a UPS, whose name is
 /// then `u`.
-pub(crate) fn read_host(host: Option<&str>) -> Result<Target, Failure> {
-    let Some(host) = host else {
-        return read_target("u");
+pub(crate) fn read_server(server: Option<&str>) -> Result<Target, Failure>
+    ensures { IsTarget (target (at_server (option_map (λ s. s.now) server.entry))) result }
+{
+    let Some(server) = server else {
+        return read_bytes(b"u");
     };
     let mut name: ArrayVec<u8, 128> = ArrayVec::new();
     let begun = name.try_extend_from_slice(b"u@").is_ok();
-    if !begun || name.try_extend_from_slice(host.as_bytes()).is_err() {
+    if !begun || name.try_extend_from_slice(server.as_bytes()).is_err() {
         return Err(Failure::BadName);
     }
-    match Target::read(name.as_slice()) {
-        Ok(target) => Ok(target),
-        Err(_) => Err(Failure::BadName),
-    }
+    read_bytes(name.as_slice())
 }

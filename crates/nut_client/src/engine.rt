@@ -1,8 +1,11 @@
 //! How a tool runs.
-ghost use Rattle.std.specs.Prelude.{◌≡◌, ◌≤◌, IfErr, IsTrue, drop, is_some, length};
+ghost use Rattle.std.specs.Prelude.{◌≡◌, ◌≤◌, IfErr, IsTrue, drop, length};
 ghost use Rattle.std.specs.Io.KnownBytes.{Appends};
+ghost use Rattle.clap.specs.Words.{kind_of};
+ghost use Rattle.nut_client.specs.CommandLine.{CommandLine};
+ghost use Rattle.nut_client.specs.Reading.{IsRead, TellsRefusal};
 ghost use Rattle.nut_client.specs.Script.{script};
-ghost use Rattle.nut_client.specs.Tool.{AppendsFront, Ends, error_text, IsResult, RunsAs, Tells};
+ghost use Rattle.nut_client.specs.Tool.{AppendsFront, Ends, Explains, error_text, is_asked_for as asked_for, IsResult, RunsAs, Tells};
 ghost use Rattle.nut_client.specs.declared.failure.Failure.TheVariants.{ConnectionLost};
 
 use crate::command_line::{Options, Refusal};
@@ -12,10 +15,11 @@ use crate::failure::Failure;
 use crate::stream::Stream;
 use crate::task::{Next, Task};
 use crate::wanted::Wanted;
+use clap::error::ErrorKind;
 use nut_proto::Word;
 use std::alloc::Global;
 use std::io;
-use std::io::{ErrorKind, Write};
+use std::io::Write;
 use std::sync::Wait;
 
 /// Asks a server what is wanted of the UPS of this name, and gives the text to print once the last answer came.
@@ -70,7 +74,7 @@ fn put_all<W: Write>(rt: &impl Wait, writer: &mut W, bytes: &[u8]) -> bool
         match writer.write(rest_from(bytes, at)) {
             Ok(0) => return false,
             Ok(n) => at += n,
-            Err(error) if error.kind() == ErrorKind::Interrupted => {}
+            Err(error) if error.kind() == io::ErrorKind::Interrupted => {}
             Err(_) => return false,
         }
     }
@@ -116,11 +120,26 @@ fn answered<S: Stream>(
     wanted: Wanted<'_>,
     stream: Option<&mut S>,
 ) -> Result<Text, Failure>
-    ensures { IsResult (script ups.entry wanted.entry) (is_some stream.entry) result }
+    ensures { IsResult S.remaining (script ups.entry wanted.entry) stream.entry result }
 {
     match stream {
         Some(stream) => ask_server(rt, alloc, ups, wanted, stream),
         None => Err(Failure::NoConnection),
+    }
+}
+
+/// Says why a command line makes no options, and gives the exit status.
+fn tell_refusal<O: Write, E: Write>(
+    rt: &impl Wait,
+    refusal: Refusal,
+    out: &mut O,
+    err: &mut E,
+) -> u8
+    ensures { TellsRefusal refusal result (O.contents out.old) (O.contents out.new) (E.contents err.old) (E.contents err.new) }
+{
+    match refusal {
+        Refusal::Failed(failure) => tell(rt, Err(failure), out, err),
+        Refusal::Usage(error) => tell_usage(error, out, err),
     }
 }
 
@@ -133,7 +152,8 @@ pub(crate) fn run<S: Stream, O: Write, E: Write>(
     out: &mut O,
     err: &mut E,
 ) -> u8
-    ensures { RunsAs (is_some stream.entry) result (O.contents out.old) (O.contents out.new) (E.contents err.old) (E.contents err.new) }
+    ensures { (line : CommandLine) → IsRead line options.entry
+        → RunsAs S.remaining line stream.entry result (O.contents out.old) (O.contents out.new) (E.contents err.old) (E.contents err.new) }
 {
     match options {
         Ok(Options { target, wanted }) => {
@@ -141,24 +161,36 @@ pub(crate) fn run<S: Stream, O: Write, E: Write>(
             let printed = answered(rt, alloc, ups, wanted, stream);
             tell(rt, printed, out, err)
         }
-        Err(Refusal::Failed(failure)) => tell(rt, Err(failure), out, err),
-        Err(Refusal::Usage(error)) => tell_usage(&error, out, err),
+        Err(refusal) => tell_refusal(rt, refusal, out, err),
     }
 }
 
+/// Whether clap's text was asked for: it is the help or the version.
+fn is_asked_for(error: &clap::Error) -> bool
+    ensures { result ≡ asked_for (kind_of error.now) }
+{
+    matches!(
+        error.kind(),
+        ErrorKind::DisplayHelp | ErrorKind::DisplayVersion
+    )
+}
+
 /// Writes clap's text: the help and the version to `out`, with status 0, and a fault to `err`, with status 2.
-fn tell_usage<O: Write, E: Write>(error: &clap::Error, out: &mut O, err: &mut E) -> u8 {
-    if error.use_stderr() {
+fn tell_usage<O: Write, E: Write>(error: clap::Error, out: &mut O, err: &mut E) -> u8
+    ensures { Explains (asked_for (kind_of error)) result (O.contents out.old) (O.contents out.new) (E.contents err.old) (E.contents err.new) }
+{
+    if is_asked_for(&error) {
+        u8::from(write!(out, "{error}").is_err())
+    } else {
         let _ = write!(err, "{error}");
-        return 2;
+        2
     }
-    u8::from(write!(out, "{error}").is_err())
 }
 
 /// Says why the words of the command line can't be had, and gives the exit status: 1 for want of memory, and 2 where a word
 /// isn't UTF-8.
 pub fn refuse_words<E: Write>(rt: &impl Wait, error: &io::Error, err: &mut E) -> u8 {
-    let failure = if error.kind() == ErrorKind::OutOfMemory {
+    let failure = if error.kind() == io::ErrorKind::OutOfMemory {
         Failure::Memory
     } else {
         Failure::BadArguments

@@ -1,5 +1,5 @@
 //! Laws over all links.
-ghost use Rattle.nut_client.specs.Laws.{BoundsStay, CutsDoNotMatter, OkTakesNoMemory, RepliesMatch, RestsStay};
+ghost use Rattle.nut_client.specs.Laws.{AllBytesDecide, BoundsStay, CutsDoNotMatter, MoreBytesAreIgnored, OkTakesNoMemory, RepliesMatch, RestsStay};
 
 /// A law, with nothing to run: however what the server sends is cut into pieces, it makes the same of a link.
 pub fn cuts_do_not_matter()
@@ -24,4 +24,15 @@ pub fn replies_match()
 /// A law, with nothing to run: a link never keeps more than a query, an unfinished line and the rows of a list may have.
 pub fn bounds_stay()
     ensures { BoundsStay }
+{}
+
+/// A law, with nothing to run: what a server sends behind a tool's last answer changes nothing.
+pub fn more_bytes_are_ignored()
+    ensures { MoreBytesAreIgnored }
+{}
+
+/// A law, with nothing to run: however much a tool read of what a server sends, and however that was cut, it ends by all
+/// of it, unless its connection was lost or memory was refused.
+pub fn all_bytes_decide()
+    ensures { AllBytesDecide }
 {}

@@ -20,6 +20,7 @@ mod laws;
 mod link;
 mod outcome;
 mod printing;
+mod program;
 mod query;
 mod stream;
 mod task;
@@ -38,10 +39,14 @@ pub use expected::{Expected, More};
 pub use failure::Failure;
 pub use fault::LinkFault;
 pub use heading::{Heading, Name};
-pub use laws::{bounds_stay, cuts_do_not_matter, ok_takes_no_memory, replies_match, rests_stay};
+pub use laws::{
+    all_bytes_decide, bounds_stay, cuts_do_not_matter, more_bytes_are_ignored, ok_takes_no_memory,
+    replies_match, rests_stay,
+};
 pub use link::Link;
 pub use outcome::Outcome;
 pub use printing::{Form, Values};
+pub use program::{Tool, run_tool};
 pub use query::Query;
 pub use stream::{ByteStream, MemoryStream, Moved, Stream};
 pub use upsc::{run_upsc, upsc_target};

@@ -1,13 +1,20 @@
 //! `upsc`: the variables of a UPS, the UPSes of a server, the clients of a UPS.
-ghost use Rattle.std.specs.Prelude.{is_some};
+ghost use Rattle.std.specs.Prelude.{◌≡◌, IfOk, IfSome, Some, map, option_map};
+ghost use Rattle.clap.specs.Words.{app_of, found_of, rows_of};
+ghost use Rattle.nut_client.specs.CommandLine.{target_of, upsc_line, upsc_options, upsc_tool, upsc_wanted};
+ghost use Rattle.nut_client.specs.Reading.{AreOptions, IsRead};
 ghost use Rattle.nut_client.specs.Tool.{RunsAs};
 
-use crate::command_line::{Options, Refusal, destination_of, name_argument, options_of};
-use crate::destination::{Destination, read_host};
+use crate::command_line::{
+    Options, Refusal, argument, destination_of, flag, is_given, name_argument, options_of,
+    read_words, refused, value,
+};
+use crate::destination::Destination;
 use crate::engine::run;
+use crate::failure::Failure;
 use crate::stream::Stream;
 use crate::wanted::Wanted;
-use clap::{Arg, ArgAction, Command};
+use clap::{ArgMatches, Command};
 use nut_proto::Word;
 use std::alloc::{AllocError, Global};
 use std::convert::AsStr;
@@ -28,68 +35,90 @@ pub fn run_upsc<W: AsStr, S: Stream, O: Write, E: Write>(
     out: &mut O,
     err: &mut E,
 ) -> u8
-    ensures { RunsAs (is_some stream.entry) result (O.contents out.old) (O.contents out.new) (E.contents err.old) (E.contents err.new) }
+    ensures { RunsAs S.remaining (upsc_line (map W.text words.now)) stream.entry
+        result (O.contents out.old) (O.contents out.new) (E.contents err.old) (E.contents err.new) }
 {
     let options = read_options(alloc, words);
     run(rt, alloc, options, stream, out, err)
 }
 
 /// The host and the port that `upsc` has to dial with this command line, if it reads.
-pub fn upsc_target<W: AsStr>(alloc: Global, words: &[W]) -> Option<Destination> {
+pub fn upsc_target<W: AsStr>(alloc: Global, words: &[W]) -> Option<Destination>
+    ensures { IfSome result (λ d. target_of (upsc_line (map W.text words.now)) ≡ Some (d.host.bytes.items, d.port.number)) }
+{
     destination_of(read_options(alloc, words))
 }
 
 /// What the words of the command line ask for.
-fn read_options<'a, W: AsStr>(alloc: Global, words: &'a [W]) -> Result<Options<'a>, Refusal> {
-    let matches = command(alloc)?.try_get_matches_from(words)?;
-    let name = matches.get_str("name");
-    let flags = (
-        matches.get_flag("names"),
-        matches.get_flag("descriptions"),
-        matches.get_flag("clients"),
-    );
-    match wanted_by(flags, matches.get_str("variable")) {
-        Some(wanted @ (Wanted::Names | Wanted::Descriptions)) => {
-            let target = read_host(name)?;
-            Ok(Options { target, wanted })
-        }
-        wanted => options_of(wanted, name),
+fn read_options<'a, W: AsStr>(alloc: Global, words: &'a [W]) -> Result<Options<'a>, Refusal>
+    ensures { IsRead (upsc_line (map W.text words.entry.now)) result }
+{
+    match read_words(command(alloc), words) {
+        Ok(matches) => refused(options_in(&matches)),
+        Err(refusal) => Err(refusal),
     }
 }
 
+/// What the options and arguments ask for.
+fn options_in<'a>(matches: &ArgMatches<'a>) -> Result<Options<'a>, Failure>
+    ensures { AreOptions (upsc_options (rows_of (found_of matches.now))) result }
+{
+    let wanted = wanted_by(
+        is_given(matches, "names"),
+        is_given(matches, "descriptions"),
+        is_given(matches, "clients"),
+        value(matches, "variable"),
+    );
+    options_of(wanted, value(matches, "name"))
+}
+
 /// What the flags for names, descriptions and clients ask for, with or without a variable.
-fn wanted_by<'a>(flags: (bool, bool, bool), variable: Option<&'a str>) -> Option<Wanted<'a>> {
-    match (flags, variable) {
-        ((false, false, false), None) => Some(Wanted::Variables),
-        ((false, false, false), Some(variable)) => {
+fn wanted_by<'a>(
+    names: bool,
+    descriptions: bool,
+    clients: bool,
+    variable: Option<&'a str>,
+) -> Option<Wanted<'a>>
+    ensures { result ≡ upsc_wanted names descriptions clients (option_map (λ s. s.now) variable.entry) }
+{
+    match (names, descriptions, clients, variable) {
+        (false, false, false, None) => Some(Wanted::Variables),
+        (false, false, false, Some(variable)) => {
             Some(Wanted::Value(Word::new(variable.as_bytes())))
         }
-        ((true, false, false), None) => Some(Wanted::Names),
-        ((false, true, false), None) => Some(Wanted::Descriptions),
-        ((false, false, true), None) => Some(Wanted::Clients),
+        (true, false, false, None) => Some(Wanted::Names),
+        (false, true, false, None) => Some(Wanted::Descriptions),
+        (false, false, true, None) => Some(Wanted::Clients),
         _ => None,
     }
 }
 
 /// The command line.
-fn command<'a>(alloc: Global) -> Result<Command<'a>, AllocError> {
-    let names = Arg::new(alloc, "names")
-        .short('l')
-        .action(ArgAction::SetTrue)
-        .help(
-            "List the names of the server's UPSes; NAME is then HOST[:PORT], and may be left out",
-        );
-    let descriptions = Arg::new(alloc, "descriptions")
-        .short('L')
-        .action(ArgAction::SetTrue)
-        .help(
-            "List the server's UPSes with their descriptions; NAME is then HOST[:PORT], and may be left out",
-        );
-    let clients = Arg::new(alloc, "clients")
-        .short('c')
-        .action(ArgAction::SetTrue)
-        .help("List the addresses of the clients that are logged in to the UPS");
-    let variable = Arg::new(alloc, "variable").value_name("VAR").help(
+fn command<'a>(alloc: Global) -> Result<Command<'a>, AllocError>
+    ensures { IfOk result (λ c. app_of c ≡ upsc_tool) }
+{
+    let names = flag(
+        alloc,
+        "names",
+        'l',
+        "List the names of the server's UPSes; NAME is then HOST[:PORT], and may be left out",
+    );
+    let descriptions = flag(
+        alloc,
+        "descriptions",
+        'L',
+        "List the server's UPSes with their descriptions; NAME is then HOST[:PORT], and may be left out",
+    );
+    let clients = flag(
+        alloc,
+        "clients",
+        'c',
+        "List the addresses of the clients that are logged in to the UPS",
+    );
+    let variable = argument(
+        alloc,
+        "variable",
+        "VAR",
         "The variable whose value is shown; without it all variables are",
     );
     Command::new(alloc, "upsc")

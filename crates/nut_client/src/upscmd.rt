@@ -1,16 +1,20 @@
 //! `upscmd`: the commands of a UPS, and doing one.
-ghost use Rattle.std.specs.Prelude.{is_some};
+ghost use Rattle.std.specs.Prelude.{◌≡◌, IfOk, IfSome, Some, map, option_map};
+ghost use Rattle.clap.specs.Words.{app_of, found_of, rows_of};
+ghost use Rattle.nut_client.specs.CommandLine.{target_of, upscmd_line, upscmd_options, upscmd_tool, upscmd_wanted};
+ghost use Rattle.nut_client.specs.Reading.{AreOptions, IsRead};
 ghost use Rattle.nut_client.specs.Tool.{RunsAs};
 
 use crate::command_line::{
-    Options, Refusal, deed_by, destination_of, has_no_user, name_argument, options_of,
-    password_argument, user_argument,
+    Options, Refusal, argument, deed_by, destination_of, flag, is_given, name_argument, options_of,
+    password_argument, read_words, refused, user_argument, value,
 };
 use crate::destination::Destination;
 use crate::engine::run;
+use crate::failure::Failure;
 use crate::stream::Stream;
 use crate::wanted::{Deed, Wanted};
-use clap::{Arg, ArgAction, ArgMatches, Command};
+use clap::{ArgMatches, Command};
 use nut_proto::Word;
 use std::alloc::{AllocError, Global};
 use std::convert::AsStr;
@@ -27,46 +31,78 @@ pub fn run_upscmd<W: AsStr, S: Stream, O: Write, E: Write>(
     out: &mut O,
     err: &mut E,
 ) -> u8
-    ensures { RunsAs (is_some stream.entry) result (O.contents out.old) (O.contents out.new) (E.contents err.old) (E.contents err.new) }
+    ensures { RunsAs S.remaining (upscmd_line (map W.text words.now)) stream.entry
+        result (O.contents out.old) (O.contents out.new) (E.contents err.old) (E.contents err.new) }
 {
     let options = read_options(alloc, words);
     run(rt, alloc, options, stream, out, err)
 }
 
 /// The host and the port that `upscmd` has to dial with this command line, if it reads.
-pub fn upscmd_target<W: AsStr>(alloc: Global, words: &[W]) -> Option<Destination> {
+pub fn upscmd_target<W: AsStr>(alloc: Global, words: &[W]) -> Option<Destination>
+    ensures { IfSome result (λ d. target_of (upscmd_line (map W.text words.now)) ≡ Some (d.host.bytes.items, d.port.number)) }
+{
     destination_of(read_options(alloc, words))
 }
 
 /// What the words of the command line ask for.
-fn read_options<'a, W: AsStr>(alloc: Global, words: &'a [W]) -> Result<Options<'a>, Refusal> {
-    let matches = command(alloc)?.try_get_matches_from(words)?;
-    options_of(wanted_by(&matches), matches.get_str("name"))
+fn read_options<'a, W: AsStr>(alloc: Global, words: &'a [W]) -> Result<Options<'a>, Refusal>
+    ensures { IsRead (upscmd_line (map W.text words.entry.now)) result }
+{
+    match read_words(command(alloc), words) {
+        Ok(matches) => refused(options_in(&matches)),
+        Err(refusal) => Err(refusal),
+    }
+}
+
+/// What the options and arguments ask for.
+fn options_in<'a>(matches: &ArgMatches<'a>) -> Result<Options<'a>, Failure>
+    ensures { AreOptions (upscmd_options (rows_of (found_of matches.now))) result }
+{
+    let wanted = wanted_by(
+        is_given(matches, "list"),
+        value(matches, "command"),
+        value(matches, "user"),
+        value(matches, "password"),
+    );
+    options_of(wanted, value(matches, "name"))
 }
 
 /// A list has neither a user nor a command, and a command has a user and a password.
-fn wanted_by<'a>(matches: &ArgMatches<'a>) -> Option<Wanted<'a>> {
-    let command = matches.get_str("command");
-    if matches.get_flag("list") {
-        return if has_no_user(matches) && command.is_none() {
-            Some(Wanted::Commands)
-        } else {
-            None
-        };
+fn wanted_by<'a>(
+    list: bool,
+    command: Option<&'a str>,
+    user: Option<&'a str>,
+    password: Option<&'a str>,
+) -> Option<Wanted<'a>>
+    ensures { result ≡ upscmd_wanted list (option_map (λ s. s.now) command.entry) (option_map (λ s. s.now) user.entry) (option_map (λ s. s.now) password.entry) }
+{
+    match (list, command, user, password) {
+        (true, None, None, None) => Some(Wanted::Commands),
+        (false, Some(command), Some(user), Some(password)) => {
+            let deed = Deed::Command(Word::new(command.as_bytes()));
+            Some(deed_by(user, password, deed))
+        }
+        _ => None,
     }
-    let deed = Deed::Command(Word::new(command?.as_bytes()));
-    deed_by(matches, deed)
 }
 
 /// The command line.
-fn command<'a>(alloc: Global) -> Result<Command<'a>, AllocError> {
-    let list = Arg::new(alloc, "list")
-        .short('l')
-        .action(ArgAction::SetTrue)
-        .help("List the commands of the UPS with their descriptions");
-    let command = Arg::new(alloc, "command")
-        .value_name("CMD")
-        .help("The command that the UPS is to do; needs -u and -p");
+fn command<'a>(alloc: Global) -> Result<Command<'a>, AllocError>
+    ensures { IfOk result (λ c. app_of c ≡ upscmd_tool) }
+{
+    let list = flag(
+        alloc,
+        "list",
+        'l',
+        "List the commands of the UPS with their descriptions",
+    );
+    let command = argument(
+        alloc,
+        "command",
+        "CMD",
+        "The command that the UPS is to do; needs -u and -p",
+    );
     Command::new(alloc, "upscmd")
         .version("profile 1.2")
         .about("Lists the commands of a UPS, or has it do one")

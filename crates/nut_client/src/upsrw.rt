@@ -1,16 +1,20 @@
 //! `upsrw`: the variables of a UPS that may be set, and setting one.
-ghost use Rattle.std.specs.Prelude.{is_some};
+ghost use Rattle.std.specs.Prelude.{◌≡◌, IfOk, IfSome, Some, map, option_map};
+ghost use Rattle.clap.specs.Words.{app_of, found_of, rows_of};
+ghost use Rattle.nut_client.specs.CommandLine.{target_of, upsrw_line, upsrw_options, upsrw_tool, upsrw_wanted};
+ghost use Rattle.nut_client.specs.Reading.{AreOptions, IsRead};
 ghost use Rattle.nut_client.specs.Tool.{RunsAs};
 
 use crate::command_line::{
-    Options, Refusal, deed_by, destination_of, has_no_user, name_argument, options_of,
-    password_argument, user_argument,
+    Options, Refusal, deed_by, destination_of, name_argument, options_of, parted_at_equals,
+    password_argument, read_words, refused, user_argument, value, valued,
 };
 use crate::destination::Destination;
 use crate::engine::run;
+use crate::failure::Failure;
 use crate::stream::Stream;
 use crate::wanted::{Deed, Wanted};
-use clap::{Arg, ArgMatches, Command};
+use clap::{ArgMatches, Command};
 use nut_proto::Word;
 use std::alloc::{AllocError, Global};
 use std::convert::AsStr;
@@ -27,43 +31,72 @@ pub fn run_upsrw<W: AsStr, S: Stream, O: Write, E: Write>(
     out: &mut O,
     err: &mut E,
 ) -> u8
-    ensures { RunsAs (is_some stream.entry) result (O.contents out.old) (O.contents out.new) (E.contents err.old) (E.contents err.new) }
+    ensures { RunsAs S.remaining (upsrw_line (map W.text words.now)) stream.entry
+        result (O.contents out.old) (O.contents out.new) (E.contents err.old) (E.contents err.new) }
 {
     let options = read_options(alloc, words);
     run(rt, alloc, options, stream, out, err)
 }
 
 /// The host and the port that `upsrw` has to dial with this command line, if it reads.
-pub fn upsrw_target<W: AsStr>(alloc: Global, words: &[W]) -> Option<Destination> {
+pub fn upsrw_target<W: AsStr>(alloc: Global, words: &[W]) -> Option<Destination>
+    ensures { IfSome result (λ d. target_of (upsrw_line (map W.text words.now)) ≡ Some (d.host.bytes.items, d.port.number)) }
+{
     destination_of(read_options(alloc, words))
 }
 
 /// What the words of the command line ask for.
-fn read_options<'a, W: AsStr>(alloc: Global, words: &'a [W]) -> Result<Options<'a>, Refusal> {
-    let matches = command(alloc)?.try_get_matches_from(words)?;
-    options_of(wanted_by(&matches), matches.get_str("name"))
+fn read_options<'a, W: AsStr>(alloc: Global, words: &'a [W]) -> Result<Options<'a>, Refusal>
+    ensures { IsRead (upsrw_line (map W.text words.entry.now)) result }
+{
+    match read_words(command(alloc), words) {
+        Ok(matches) => refused(options_in(&matches)),
+        Err(refusal) => Err(refusal),
+    }
+}
+
+/// What the options and arguments ask for.
+fn options_in<'a>(matches: &ArgMatches<'a>) -> Result<Options<'a>, Failure>
+    ensures { AreOptions (upsrw_options (rows_of (found_of matches.now))) result }
+{
+    let wanted = wanted_by(
+        value(matches, "setting"),
+        value(matches, "user"),
+        value(matches, "password"),
+    );
+    options_of(wanted, value(matches, "name"))
 }
 
 /// A setting comes with a user and a password, and these with nothing else.
-fn wanted_by<'a>(matches: &ArgMatches<'a>) -> Option<Wanted<'a>> {
-    let Some(setting) = matches.get_str("setting") else {
-        return if has_no_user(matches) {
-            Some(Wanted::Settings)
-        } else {
-            None
-        };
-    };
-    let (variable, value) = setting.split_once('=')?;
-    let deed = Deed::Set(Word::new(variable.as_bytes()), Word::new(value.as_bytes()));
-    deed_by(matches, deed)
+fn wanted_by<'a>(
+    setting: Option<&'a str>,
+    user: Option<&'a str>,
+    password: Option<&'a str>,
+) -> Option<Wanted<'a>>
+    ensures { result ≡ upsrw_wanted (option_map (λ s. s.now) setting.entry) (option_map (λ s. s.now) user.entry) (option_map (λ s. s.now) password.entry) }
+{
+    match (setting, user, password) {
+        (None, None, None) => Some(Wanted::Settings),
+        (Some(setting), Some(user), Some(password)) => {
+            let (variable, value) = parted_at_equals(setting.as_bytes())?;
+            let deed = Deed::Set(Word::new(variable), Word::new(value));
+            Some(deed_by(user, password, deed))
+        }
+        _ => None,
+    }
 }
 
 /// The command line.
-fn command<'a>(alloc: Global) -> Result<Command<'a>, AllocError> {
-    let setting = Arg::new(alloc, "setting")
-        .short('s')
-        .value_name("VAR=VALUE")
-        .help("Set the variable VAR to VALUE, parted at the first '='; needs -u and -p");
+fn command<'a>(alloc: Global) -> Result<Command<'a>, AllocError>
+    ensures { IfOk result (λ c. app_of c ≡ upsrw_tool) }
+{
+    let setting = valued(
+        alloc,
+        "setting",
+        's',
+        "VAR=VALUE",
+        "Set the variable VAR to VALUE, parted at the first '='; needs -u and -p",
+    );
     Command::new(alloc, "upsrw")
         .version("profile 1.2")
         .about("Shows the variables of a UPS that may be set, or sets one")

@@ -1,0 +1,138 @@
+-- What the command lines of the tools ask for (docs/tools.md).
+--
+-- How words are parted into options and arguments is clap's to say. A command line reads where clap finds no fault in its
+-- words, and its options are then those of clap's matches.
+use Rattle.std.specs.Prelude.{ℕ, Bool, true, false, List, [], ◌∷◌, ◌++◌, codes, fold, Option, Some, None, option_map, Result, Ok, Err, if◌then◌else◌}
+use Rattle.std.specs.Option.{option_map_or}
+use Rattle.std.specs.Str.{bytes_eq}
+use Rattle.clap.specs.Simple.{on_top}
+use Rattle.clap.specs.Words.{App, Kinds, Row, Rule, fault_of, first_of, matches_of, new_app, new_rule, with_rule}
+use Rattle.clap.specs.declared.builder.ArgAction.TheVariants.{SetTrue}
+use Rattle.nut_conf.specs.Target.{parted, target}
+use Rattle.nut_conf.specs.declared.target.NameFault.{NameFault}
+use Rattle.nut_client.specs.declared.failure.Failure.{Failure}
+use Rattle.nut_client.specs.declared.failure.Failure.TheVariants.{BadArguments, BadName}
+use Rattle.nut_client.specs.declared.wanted.Deed.TheVariants as deeds
+use Rattle.nut_client.specs.declared.wanted.Wanted.{Wanted}
+use Rattle.nut_client.specs.declared.wanted.Wanted.TheVariants as wanteds
+
+-- an option with a value, a flag, and an argument
+abbrev pub valued : List ℕ → ℕ → Rule
+valued id letter = record (new_rule id) { short = Some letter; value_names = 1 }
+
+abbrev pub flag : List ℕ → ℕ → Rule
+flag id letter = record (new_rule id) { short = Some letter; action = Some SetTrue }
+
+abbrev pub argument : List ℕ → Rule
+argument id = record (new_rule id) { value_names = 1 }
+
+-- a tool of this name, which has a version, with these options and arguments
+abbrev pub tool : List ℕ → List Rule → App
+tool name rules = fold with_rule (on_top (λ s. record s { has_version = true }) (new_app name)) rules
+
+unfoldable pub upsc_tool : App
+upsc_tool = tool (codes "upsc") (flag (codes "names") 108 ∷ flag (codes "descriptions") 76 ∷ flag (codes "clients") 99 ∷ argument (codes "name") ∷ argument (codes "variable") ∷ [])
+
+unfoldable pub upsrw_tool : App
+upsrw_tool = tool (codes "upsrw") (valued (codes "setting") 115 ∷ valued (codes "user") 117 ∷ valued (codes "password") 112 ∷ argument (codes "name") ∷ [])
+
+unfoldable pub upscmd_tool : App
+upscmd_tool = tool (codes "upscmd") (flag (codes "list") 108 ∷ valued (codes "user") 117 ∷ valued (codes "password") 112 ∷ argument (codes "name") ∷ argument (codes "command") ∷ [])
+
+-- what a command line asks for: this, of the UPS of this name, at this host and port
+pub record Options : Type 0 where
+  pub ups : List ℕ
+  pub host : List ℕ
+  pub port : ℕ
+  pub wanted : Wanted
+
+-- A command line asks for something, or makes no command line of the tool; or clap finds a fault of one of these kinds.
+abbrev pub CommandLine : Type 0
+CommandLine = Result (Result Options Failure) Kinds
+
+-- what is wanted at a place, if that reads
+abbrev pub options_at : Wanted → Result (List ℕ × List ℕ × ℕ) NameFault → Result Options Failure
+options_at wanted (Ok place) = Ok (record { ups = place.0; host = place.1; port = place.2; wanted = wanted })
+options_at wanted (Err fault) = Err BadName
+
+-- whether a server is named, and no UPS
+abbrev pub names_server : Wanted → Bool
+names_server wanteds.Names = true
+names_server wanteds.Descriptions = true
+names_server other = false
+
+-- any UPS of the server that is named, or else of the one at localhost
+abbrev pub at_server : Option (List ℕ) → List ℕ
+at_server None = codes "u"
+at_server (Some server) = codes "u@" ++ server
+
+-- A name has to be there, but for that of a server.
+abbrev pub options_of : Option Wanted → Option (List ℕ) → Result Options Failure
+options_of None name = Err BadArguments
+options_of (Some wanted) name =
+    if names_server wanted then options_at wanted (target (at_server name))
+    else option_map_or (λ n. options_at wanted (target n)) name (Err BadArguments)
+
+-- whether a flag was given
+abbrev pub is_given : List ℕ → List Row → Bool
+is_given id rows = option_map_or (λ v. bytes_eq v (codes "true")) (first_of id rows) false
+
+-- The flags for names, descriptions and clients exclude each other and a variable.
+abbrev pub upsc_wanted : Bool → Bool → Bool → Option (List ℕ) → Option Wanted
+upsc_wanted false false false None = Some wanteds.Variables
+upsc_wanted false false false (Some variable) = Some (wanteds.Value variable)
+upsc_wanted true false false None = Some wanteds.Names
+upsc_wanted false true false None = Some wanteds.Descriptions
+upsc_wanted false false true None = Some wanteds.Clients
+upsc_wanted names descriptions clients variable = None
+
+-- A setting, parted at its first `=`, has a user and a password, and these come with nothing else.
+abbrev pub upsrw_wanted : Option (List ℕ) → Option (List ℕ) → Option (List ℕ) → Option Wanted
+upsrw_wanted None None None = Some wanteds.Settings
+upsrw_wanted (Some setting) (Some user) (Some password) = option_map (λ p. wanteds.Does user password (deeds.Set p.0 p.1)) (parted 61 setting)
+upsrw_wanted setting user password = None
+
+-- A list has neither a command nor a user, and a command has a user and a password.
+abbrev pub upscmd_wanted : Bool → Option (List ℕ) → Option (List ℕ) → Option (List ℕ) → Option Wanted
+upscmd_wanted true None None None = Some wanteds.Commands
+upscmd_wanted false (Some command) (Some user) (Some password) = Some (wanteds.Does user password (deeds.Command command))
+upscmd_wanted list command user password = None
+
+abbrev pub upsc_options : List Row → Result Options Failure
+upsc_options rows =
+    options_of (upsc_wanted (is_given (codes "names") rows) (is_given (codes "descriptions") rows) (is_given (codes "clients") rows) (first_of (codes "variable") rows))
+    (first_of (codes "name") rows)
+
+abbrev pub upsrw_options : List Row → Result Options Failure
+upsrw_options rows =
+    options_of (upsrw_wanted (first_of (codes "setting") rows) (first_of (codes "user") rows) (first_of (codes "password") rows))
+    (first_of (codes "name") rows)
+
+abbrev pub upscmd_options : List Row → Result Options Failure
+upscmd_options rows =
+    options_of (upscmd_wanted (is_given (codes "list") rows) (first_of (codes "command") rows) (first_of (codes "user") rows) (first_of (codes "password") rows))
+    (first_of (codes "name") rows)
+
+-- what clap's matches ask for, where it finds no fault
+abbrev pub line_by : (List Row → Result Options Failure) → List Row → Kinds → CommandLine
+line_by options rows [] = Ok (options rows)
+line_by options rows (kind ∷ kinds) = Err (kind ∷ kinds)
+
+-- what words ask of a tool, the program's name first
+abbrev pub read_by : App → (List Row → Result Options Failure) → List (List ℕ) → CommandLine
+read_by app options words = line_by options (matches_of app words) (fault_of app words)
+
+unfoldable pub upsc_line : List (List ℕ) → CommandLine
+upsc_line = read_by upsc_tool upsc_options
+
+unfoldable pub upsrw_line : List (List ℕ) → CommandLine
+upsrw_line = read_by upsrw_tool upsrw_options
+
+unfoldable pub upscmd_line : List (List ℕ) → CommandLine
+upscmd_line = read_by upscmd_tool upscmd_options
+
+-- the host and the port to dial
+abbrev pub target_of : CommandLine → Option (List ℕ × ℕ)
+target_of (Ok (Ok options)) = Some (options.host, options.port)
+target_of (Ok (Err failure)) = None
+target_of (Err faults) = None

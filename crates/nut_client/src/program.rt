@@ -1,0 +1,73 @@
+//! The tools as programs.
+use crate::destination::Destination;
+use crate::dialing::dial;
+use crate::engine::refuse_words;
+use crate::upsc::{run_upsc, upsc_target};
+use crate::upscmd::{run_upscmd, upscmd_target};
+use crate::upsrw::{run_upsrw, upsrw_target};
+use std::alloc::{AllocGlobal, Global};
+use std::env::Env;
+use std::io::{Print, Write};
+use std::net::Net;
+use std::process::ExitCode;
+use std::sync::Wait;
+use std::{env, io};
+
+/// A tool.
+#[derive(Clone, Copy, Debug, PartialEq, Eq)]
+pub enum Tool {
+    /// `upsc`, which shows the variables of a UPS, or the UPSes of a server.
+    Upsc,
+    /// `upsrw`, which shows the variables of a UPS that may be set, or sets one.
+    Upsrw,
+    /// `upscmd`, which lists the commands of a UPS, or has it do one.
+    Upscmd,
+}
+
+/// Runs a tool as this program: with the words of its command line, over TCP, and with its output and this error output. It
+/// gives the exit status.
+pub fn run_tool<R: Env + Net + Print + Wait + AllocGlobal, E: Print>(
+    rt: &R,
+    stderr: &E,
+    tool: Tool,
+) -> ExitCode {
+    let mut err = io::writer(stderr);
+    let status = match command_words(rt) {
+        Ok(words) => run_words(rt, tool, words.as_slice(), &mut err),
+        Err(error) => refuse_words(rt, &error, &mut err),
+    };
+    ExitCode::from(status)
+}
+
+/// The words of the command line, the program's name first.
+fn command_words<R: Env + AllocGlobal>(rt: &R) -> io::Result<Vec<String>> {
+    let words = env::args(rt)?.collect(rt.alloc())?;
+    Ok(words)
+}
+
+/// Runs a tool with these words.
+fn run_words<R: Net + Print + Wait + AllocGlobal, E: Write>(
+    rt: &R,
+    tool: Tool,
+    words: &[String],
+    err: &mut E,
+) -> u8 {
+    let alloc = rt.alloc();
+    let mut out = io::writer(rt);
+    let mut stream = dial(rt, target_of(tool, alloc, words));
+    let stream = stream.as_mut();
+    match tool {
+        Tool::Upsc => run_upsc(rt, alloc, words, stream, &mut out, err),
+        Tool::Upsrw => run_upsrw(rt, alloc, words, stream, &mut out, err),
+        Tool::Upscmd => run_upscmd(rt, alloc, words, stream, &mut out, err),
+    }
+}
+
+/// The host and the port that a tool has to dial with these words, if they read.
+fn target_of(tool: Tool, alloc: Global, words: &[String]) -> Option<Destination> {
+    match tool {
+        Tool::Upsc => upsc_target(alloc, words),
+        Tool::Upsrw => upsrw_target(alloc, words),
+        Tool::Upscmd => upscmd_target(alloc, words),
+    }
+}
