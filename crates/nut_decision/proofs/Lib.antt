@@ -16,3 +16,4 @@ pub mod Cuts
 pub mod Putting
 pub mod Others
 pub mod Bounds
+pub mod Handing

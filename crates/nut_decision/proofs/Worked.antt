@@ -5,7 +5,7 @@ use Rattle.nut_proto.specs.Answers.{answer_of}
 use Rattle.nut_proto.specs.Lines.{line}
 use Rattle.nut_proto.specs.Requests.{request_line}
 use Rattle.nut_decision.specs.Trace.{entry_of}
-use Rattle.nut_decision.specs.Examples.{PrimaryExamples, SecondaryExamples, CommunicationExamples, RoomExamples, RefusalExamples}
+use Rattle.nut_decision.specs.Examples.{PrimaryExamples, SecondaryExamples, CommunicationExamples, RoomExamples, RefusalExamples, EdgeExamples, OrderExamples}
 
 pub primary : PrimaryExamples
 unfolding read answer_of line request_line entry_of
@@ -100,4 +100,45 @@ refusal = record {
   whole_query = refl;
   moment_is_busy = refl;
   link_is_not_busy = refl;
+}
+
+pub edge : EdgeExamples
+unfolding read answer_of line request_line entry_of
+edge = record {
+  halts_at_once = refl;
+  hasty_tells = refl;
+  final_asks_nothing = refl;
+  both_are_needed = refl;
+  both_are_silent = refl;
+  each_is_silent = refl;
+  established_on_line = refl;
+  all_at_once = refl;
+  stale_tells = refl;
+  stale_not_yet = refl;
+  stale_is_dead = refl;
+  calm_not_yet = refl;
+  calm_is_past = refl;
+  unasked_is_lost = refl;
+  unasked_counts_nothing = refl;
+  unasked_is_over = refl;
+  denied_asks_again = refl;
+  denied_counts_nothing = refl;
+  denied_is_over = refl;
+  accepted = refl;
+}
+
+pub order : OrderExamples
+unfolding read answer_of line request_line entry_of
+order = record {
+  bytes_without_line = refl;
+  took_without_line = refl;
+  lost_without_line = refl;
+  bytes_without_link = refl;
+  took_without_link = refl;
+  length_before_busy = refl;
+  bytes_are_busy = refl;
+  none_is_busy = refl;
+  too_much_when_busy = refl;
+  took_is_not_busy = refl;
+  lost_is_not_busy = refl;
 }

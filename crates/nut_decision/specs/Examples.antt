@@ -256,6 +256,72 @@ pub record RoomExamples : Type 0 where
       all_notices primary_room (at_moment 0 ∷ opens true 0 ++ Happens (LinkTook 0 25) ∷ Happens (out_of_memory 1) ∷ [])
       ≡ told kinds.Onbatt 0 ∷ told kinds.Commbad 0 ∷ []
 
+-- ---- edges
+
+-- one that is halted as soon as the shutdown was told
+abbrev pub hasty_room : Configuration
+hasty_room = record primary_room { final_delay = 0 }
+
+-- both of two supplies are needed
+abbrev pub both_supplies : Configuration
+both_supplies = record two_supplies { min_supplies = 2 }
+
+-- at each of these moments the status is refused
+abbrev pub refused_at : List ℕ → List Move
+refused_at [] = []
+refused_at (t ∷ moments) = at_moment t ∷ Says 0 (codes "ERR DATA-STALE") ∷ refused_at moments
+
+-- the status of a UPS on battery is refused from moment 5 on
+abbrev pub stale_run : List Move
+stale_run = secondary_hears (codes "OB") ++ refused_at (5 ∷ 10 ∷ 15 ∷ [])
+
+-- the battery isn't low at moment 10, and is again from 15 on
+abbrev pub calm_run : List Move
+calm_run =
+    secondary_hears (codes "OL") ++ hears_at (5 ∷ []) (codes "OB LB") ++ hears_at (10 ∷ []) (codes "OB") ++ hears_at (15 ∷ 20 ∷ 25 ∷ []) (codes "OB LB")
+
+-- one of two UPSes is heard at moment 10, and then no more; the other one never
+abbrev pub silent_run : List Move
+silent_run = at_moment 10 ∷ opens false 0 ++ shows (codes "OL") ∷ at_moment 301 ∷ at_moment 310 ∷ at_moment 311 ∷ at_moment 602 ∷ []
+
+-- a primary is told how many are logged in where it asked for a shutdown
+abbrev pub unasked_run : List Move
+unasked_run = primary_hears (codes "OB LB") ++ logins_are (codes "0") ∷ []
+
+-- its FSD is refused at 0 and at 1
+abbrev pub denied_run : List Move
+denied_run = primary_hears (codes "OB LB") ++ Says 0 (codes "ERR ACCESS-DENIED") ∷ at_moment 1 ∷ Says 0 (codes "ERR ACCESS-DENIED") ∷ []
+
+-- at the edges of the seconds, and of what a line says
+pub record EdgeExamples : Type 0 where
+  pub halts_at_once : phase_after hasty_room (primary_hears (codes "OB LB") ++ forces (codes "1")) ≡ Halted true
+  pub hasty_tells :
+      all_notices hasty_room (primary_hears (codes "OB LB") ++ forces (codes "1"))
+      ≡ told kinds.Onbatt 0 ∷ told kinds.Lowbatt 0 ∷ shutdown_told ∷ []
+  pub final_asks_nothing : asks primary_room (primary_hears (codes "OB LB") ++ forces (codes "1") ++ at_moment 4 ∷ []) ≡ []
+  pub both_are_needed :
+      phase_after both_supplies (at_moment 0 ∷ opens false 0 ++ opens false 1 ++ shows_other (codes "OL") ∷ shows (codes "FSD OB") ∷ []) ≡ Final
+  pub both_are_silent : all_notices two_supplies (at_moment 301 ∷ []) ≡ told kinds.Nocomm 0 ∷ told kinds.Nocomm 1 ∷ []
+  pub each_is_silent : all_notices two_supplies silent_run ≡ told kinds.Nocomm 1 ∷ told kinds.Nocomm 0 ∷ told kinds.Nocomm 1 ∷ []
+  pub established_on_line :
+      all_notices secondary_room (secondary_hears (codes "OB") ++ refused_at (5 ∷ []) ++ hears_at (10 ∷ []) (codes "OL"))
+      ≡ told kinds.Onbatt 0 ∷ told kinds.Commbad 0 ∷ told kinds.Commok 0 ∷ told kinds.Online 0 ∷ []
+  pub all_at_once :
+      all_notices secondary_room (secondary_hears (codes "FSD LB OB"))
+      ≡ told kinds.Onbatt 0 ∷ told kinds.Lowbatt 0 ∷ told kinds.Fsd 0 ∷ shutdown_told ∷ []
+  pub stale_tells : all_notices secondary_room stale_run ≡ told kinds.Onbatt 0 ∷ told kinds.Commbad 0 ∷ []
+  pub stale_not_yet : phase_after secondary_room stale_run ≡ Watching
+  pub stale_is_dead : phase_after secondary_room (stale_run ++ at_moment 16 ∷ []) ≡ Final
+  pub calm_not_yet : phase_after secondary_room calm_run ≡ Watching
+  pub calm_is_past : phase_after secondary_room (calm_run ++ at_moment 26 ∷ []) ≡ Final
+  pub unasked_is_lost : asks primary_room unasked_run ≡ []
+  pub unasked_counts_nothing : phase_after primary_room (unasked_run ++ at_moment 15 ∷ []) ≡ Forcing
+  pub unasked_is_over : phase_after primary_room (unasked_run ++ at_moment 16 ∷ []) ≡ Final
+  pub denied_asks_again : asks primary_room (denied_run ++ at_moment 15 ∷ []) ≡ codes "FSD su700\n"
+  pub denied_counts_nothing : phase_after primary_room (denied_run ++ at_moment 15 ∷ []) ≡ Forcing
+  pub denied_is_over : phase_after primary_room (denied_run ++ at_moment 16 ∷ []) ≡ Final
+  pub accepted : were_accepted two_supplies (run two_supplies silent_run) ≡ true
+
 -- ---- what is refused
 
 -- the byte b, n times
@@ -286,3 +352,21 @@ pub record RefusalExamples : Type 0 where
   pub whole_query : refusal (content_after linked_run) (LinkTook 0 13) ≡ None
   pub moment_is_busy : refusal busy (Moment 0) ≡ Some Busy
   pub link_is_not_busy : refusal busy (Linked 0) ≡ None
+
+-- with a notice that waits, on a link that was made anew
+abbrev pub busy_link : Content
+busy_link = content primary_room (Linked 0 ∷ LinkLost 0 ∷ run primary_room linked_run)
+
+-- the order of the tests
+pub record OrderExamples : Type 0 where
+  pub bytes_without_line : refusal busy (LinkBytes 1 (many 513 65)) ≡ Some NoSuchLink
+  pub took_without_line : refusal busy (LinkTook 1 14) ≡ Some NoSuchLink
+  pub lost_without_line : refusal busy (LinkLost 1) ≡ Some NoSuchLink
+  pub bytes_without_link : refusal busy (LinkBytes 0 (many 513 65)) ≡ Some WrongLinkState
+  pub took_without_link : refusal busy (LinkTook 0 14) ≡ Some WrongLinkState
+  pub length_before_busy : refusal busy_link (LinkBytes 0 (many 513 65)) ≡ Some PieceTooLong
+  pub bytes_are_busy : refusal busy_link (LinkBytes 0 (many 512 65)) ≡ Some Busy
+  pub none_is_busy : refusal busy_link (LinkBytes 0 []) ≡ Some Busy
+  pub too_much_when_busy : refusal busy_link (LinkTook 0 14) ≡ Some TooMuchTaken
+  pub took_is_not_busy : refusal busy_link (LinkTook 0 13) ≡ None
+  pub lost_is_not_busy : refusal busy_link (LinkLost 0) ≡ None

@@ -10,8 +10,9 @@ use Rattle.nut_decision.specs.declared.Query.TheVariants.{NumLogins}
 use Rattle.nut_decision.specs.Configuration.{Line, Configuration, line_in}
 use Rattle.nut_decision.specs.Event.{Event, Moment, Linked, LinkBytes, LinkLost, LinkTook, OutOfMemory, NoticeTaken}
 use Rattle.nut_decision.specs.Query.{request}
-use Rattle.nut_decision.specs.Trace.{Asked, Entry, linked, input, queries, answers, outstanding, due, sent, waits, forced, known, query_put, trace}
+use Rattle.nut_decision.specs.Trace.{Asked, Entry, linked, input, queries, answers, outstanding, due, sent, waits, forced, known, query_put, trace, notices}
 use Rattle.nut_decision.specs.Content.{Watch, Content, content}
+use Rattle.nut_decision.specs.Handing.{notices_handed}
 use Rattle.nut_decision.specs.Acceptance.{IsAccepted, Tells, watch_at, is_linked, waiting_on}
 use Rattle.nut_decision.specs.Outcome.{IsAnswer, after, content_after}
 
@@ -66,6 +67,12 @@ abbrev pub NoticesAreFew : Type 0
 NoticesAreFew =
     (configuration : Configuration) (events : List Event) → IsAccepted configuration events → length configuration.lines ≤ 32 →
     length (content configuration events).notices ≤ 128
+
+-- The notices that were handed out, and then those that wait, are all notices, in their order.
+abbrev pub NoticesComeInOrder : Type 0
+NoticesComeInOrder =
+    (configuration : Configuration) (events : List Event) → IsAccepted configuration events →
+    notices_handed (trace configuration events) ++ (content configuration events).notices ≡ notices (trace configuration events)
 
 -- A query is put only on a link that is there and on which none is outstanding.
 abbrev pub QueriesComeAlone : Type 0

@@ -3,6 +3,7 @@ pub mod Event
 pub mod Query
 pub mod Decision
 pub mod Trace
+pub mod Handing
 pub mod Content
 pub mod Acceptance
 pub mod Machine

@@ -3,8 +3,8 @@
 #![tactic(auto)]
 
 ghost use Rattle.nut_decision.specs.Machine.{KeepsContent};
-ghost use Rattle.nut_decision.specs.Laws.{AnswersComeInTurn, AnswersKeepContent, CutsDoNotMatter, LinkedIsMade, LinksAreBounded, LoginsFollowFsd, NoticesAreFew, OthersStay, QueriesComeAlone, SentAndWaitingIsDue, ShutdownStays, WaitingIsLeft};
-ghost use Rattle.nut_decision.specs.Examples.{CommunicationExamples, PrimaryExamples, RefusalExamples, RoomExamples, SecondaryExamples};
+ghost use Rattle.nut_decision.specs.Laws.{AnswersComeInTurn, AnswersKeepContent, CutsDoNotMatter, LinkedIsMade, LinksAreBounded, LoginsFollowFsd, NoticesAreFew, NoticesComeInOrder, OthersStay, QueriesComeAlone, SentAndWaitingIsDue, ShutdownStays, WaitingIsLeft};
+ghost use Rattle.nut_decision.specs.Examples.{CommunicationExamples, EdgeExamples, OrderExamples, PrimaryExamples, RefusalExamples, RoomExamples, SecondaryExamples};
 
 use nut_conf::Notice as NoticeKind;
 use thiserror::Error;
@@ -194,11 +194,19 @@ pub fn notices_are_few()
     ensures { NoticesAreFew }
 {}
 
+/// The notices that were handed out, and then those that wait, are all notices, in their order: none is lost, none comes
+/// twice, and each one handed out was the oldest.
+pub fn notices_come_in_order()
+    ensures { NoticesComeInOrder }
+{}
+
 /// What is told, asked, decided and refused in some runs, computed from the definitions.
 pub fn worked_examples()
     ensures primaries { PrimaryExamples }
     ensures secondaries { SecondaryExamples }
     ensures communication { CommunicationExamples }
     ensures rooms { RoomExamples }
+    ensures edges { EdgeExamples }
     ensures refusals { RefusalExamples }
+    ensures orders { OrderExamples }
 {}

@@ -1,14 +1,35 @@
--- What stands after an event.
-use Rattle.std.proofs.Common.{◌≡◌, sym, subst, List, Result}
+-- What stands after an event, and after the oldest notice was asked for.
+use Rattle.std.proofs.Common.{◌≡◌, refl, sym, ap, subst, ◌∙◌, List, [], ◌∷◌, length, drop, Option, Some, None, Result, Ok, arith}
+use Rattle.std.proofs.lemmas.Bool.{lt-ltb}
 use Rattle.nut_decision.specs.Acceptance.{Tells}
 use Rattle.nut_decision.specs.Configuration.{Configuration}
 use Rattle.nut_decision.specs.Content.{Content}
-use Rattle.nut_decision.specs.Event.{Event}
+use Rattle.nut_decision.specs.Event.{Event, NoticeTaken}
+use Rattle.nut_decision.specs.Handing.{after_asking}
 use Rattle.nut_decision.specs.Outcome.{IsAnswer, after, content_after}
 use Rattle.nut_decision.specs.declared.MonitorFault.{MonitorFault}
+use Rattle.nut_decision.specs.declared.Notice.{Notice}
+use Rattle.nut_monitor.specs.Sound.{first_of}
 use Rattle.nut_decision.proofs.Answering.{answers-keep}
 
 pub stands_after : (old new : Content) (e : Event) (r : Result (Unit {0}) MonitorFault) → IsAnswer old e r → new ≡ content_after r old e
     → (configuration : Configuration) (events : List Event) → Tells configuration events old → Tells configuration (after r e events) new
 stands_after old new e r answered is configuration events told =
     subst (Tells configuration (after r e events)) (sym is) (answers-keep configuration events old e r told answered)
+
+taken_of : (old new : Content) (waiting : List Notice) (taken : Option Notice) → old.notices ≡ waiting → taken ≡ first_of waiting
+    → new ≡ record old { notices = drop 1 waiting }
+    → (configuration : Configuration) (events : List Event) → Tells configuration events old → Tells configuration (after_asking taken events) new
+taken_of old new [] None is first left configuration events told =
+    subst (Tells configuration events) (sym (left ∙ ap (λ x. let r : Content = record old { notices = x } in r) (sym is))) told
+taken_of old new [] (Some notice) is first left configuration events told = cc
+taken_of old new (oldest ∷ others) None is first left configuration events told = cc
+taken_of old new (oldest ∷ others) (Some notice) is first left configuration events told =
+    subst (Tells configuration (NoticeTaken ∷ events)) (sym (left ∙ ap (λ x. let r : Content = record old { notices = drop 1 x } in r) (sym is)))
+    (answers-keep configuration events old NoticeTaken (Ok tt) told (refl, lt-ltb 0 (length old.notices) (omega (arith, ap length is))))
+
+pub stands_taken : (s old : Content) (left : List Notice) (taken : Option Notice) → s ≡ old → taken ≡ first_of s.notices → left ≡ drop 1 s.notices
+    → (configuration : Configuration) (events : List Event) → Tells configuration events old → Tells configuration (after_asking taken events) (record s { notices = left })
+stands_taken s old left taken same first rest configuration events told =
+    taken_of s (record s { notices = left }) s.notices taken refl first (ap (λ x. let r : Content = record s { notices = x } in r) rest)
+    configuration events (subst (Tells configuration events) (sym same) told)

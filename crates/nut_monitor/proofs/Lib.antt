@@ -1,4 +1,3 @@
-pub mod CutLemmas
 pub mod FlagLemmas
 pub mod Loops
 pub mod Counts

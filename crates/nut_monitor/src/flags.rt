@@ -3,8 +3,8 @@ ghost use Rattle.std.specs.Prelude.{◌≡◌, []};
 ghost use Rattle.nut_decision.specs.Query.{flags_of, parted};
 ghost use Rattle.nut_monitor.specs.Sound.{with_word};
 
-use crate::cut::cut;
 use nut_decision::StatusFlags;
+use nut_words::cut;
 
 /// What no words say.
 pub fn no_flags() -> StatusFlags

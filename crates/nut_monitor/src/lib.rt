@@ -2,7 +2,6 @@
 #![tactic(auto)]
 
 mod answer;
-mod cut;
 mod event;
 mod flags;
 mod line;

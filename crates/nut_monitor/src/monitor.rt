@@ -1,10 +1,12 @@
 //! The monitor.
-ghost use Rattle.std.specs.Prelude.{◌≡◌, ◌++◌, List, Some, Err, IfOk, OnOk, OnErr, [], drop, length};
+ghost use Rattle.std.specs.Prelude.{◌≡◌, ◌++◌, List, Some, None, Err, IfOk, IfErr, OnOk, OnErr, [], drop, length};
 ghost use Rattle.nut_decision.specs.declared.MonitorFault.{MonitorFault as AnyFault};
+ghost use Rattle.nut_decision.specs.declared.MonitorFault.TheVariants as faults;
 ghost use Rattle.nut_decision.specs.Acceptance.{Tells, is_linked, refusal, waiting_on, watch_at};
 ghost use Rattle.nut_decision.specs.Configuration.{Configuration, configuration_of};
 ghost use Rattle.nut_decision.specs.Content.{content, phase_of};
 ghost use Rattle.nut_decision.specs.Event.{Event as Events};
+ghost use Rattle.nut_decision.specs.Handing.{after_asking};
 ghost use Rattle.nut_decision.specs.Outcome.{IsAnswer, after, content_after};
 ghost use Rattle.nut_monitor.specs.Answers.{beginning};
 ghost use Rattle.nut_monitor.specs.Events.{event_of};
@@ -51,6 +53,7 @@ impl Monitor {
     pub fn new(alloc: Global, config: UpsmonConf) -> Result<Monitor, MonitorFault>
         ensures made { IfOk result (λ monitor. monitor ≡ record { config = config; content = beginning (configuration_of config) }) }
         ensures fresh { IfOk result (λ monitor. monitor.content ≡ content (configuration_of config) []) }
+        ensures fault { IfErr result (λ fault. fault ≡ faults.Memory None 0) }
     {
         match State::new(alloc, &config) {
             Ok(state) => Ok(Monitor {
@@ -111,6 +114,10 @@ impl Monitor {
     pub fn take_notice(&mut self) -> Option<Notice>
         ensures taken { result ≡ first_of self.old.content.notices }
         ensures left { self.new ≡ record { config = self.old.config; content = record self.old.content { notices = drop 1 self.old.content.notices } } }
+
+        // What stands then is what the history says: a notice that is handed out is an event of it.
+        ensures stands { (configuration : Configuration) (events : List Events) → Tells configuration events self.old.content
+            → Tells configuration (after_asking result events) self.new.content }
     {
         self.state.notices.take()
     }

@@ -1,4 +1,4 @@
-use Rattle.nut_decision.proofs.Worked.{primary, secondary, communication, room, refusal}
+use Rattle.nut_decision.proofs.Worked.{primary, secondary, communication, room, refusal, edge, order}
 use Rattle.nut_decision.proofs.worked_examples.Goals as goal
 
 pub returns-clause-primaries : goal.returns-clause-primaries
@@ -15,3 +15,9 @@ returns-clause-rooms c = room
 
 pub returns-clause-refusals : goal.returns-clause-refusals
 returns-clause-refusals c = refusal
+
+pub returns-clause-edges : goal.returns-clause-edges
+returns-clause-edges c = edge
+
+pub returns-clause-orders : goal.returns-clause-orders
+returns-clause-orders c = order
