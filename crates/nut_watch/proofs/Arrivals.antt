@@ -12,7 +12,7 @@ use Rattle.nut_decision.specs.Outcome.{IsAnswer, cut_short, after, content_after
 use Rattle.nut_decision.proofs.Answering.{answers-keep}
 use Rattle.nut_monitor.specs.declared.event.Event.{Event as Told}
 use Rattle.nut_monitor.specs.Events.{event_of}
-use Rattle.nut_watch.specs.Record.{Entry, Gave, WasClosed, tells, tells_next, tells_event, event_given}
+use Rattle.nut_watch.specs.Record.{Entry, Gave, WasClosed, tells, tells_event, event_given}
 use Rattle.nut_watch.specs.declared.types.Next.{Next}
 use Rattle.nut_watch.specs.declared.types.Next.TheVariants as next
 use Rattle.nut_watch.specs.Watched.{history_of, entries_of, with_event, handed, sender, lost_of, lost_by, Watched, WatchedBefore}
@@ -111,21 +111,6 @@ gave_ending first o' s s' n items found told r sent lost known before stands is 
     let more : o' ≡ tells (Gave e) before.0 = before.2 ∙ ap (λ a. tells_event a before.0) given in
     let ends : lost_by e s s' ≡ known = ap (λ l. lost_of l s') (sym came) ∙ sym gone ∙ same in
     subst (λ w. Watched first o' s' w) ends (gave_event first before.0 o' s s' e r before.1 more (given_next n items e given) silent answer moved)
-
--- nothing came
-pub gave_nothing : (first : Configuration) (o' : Option (List Entry)) (s : Content) (n : Next) (items : List ℕ) (found : Option Told)
-    → WatchedBefore first o' s n items → option_map event_of found ≡ event_given n items → found ≡ None → Watched first o' s None
-gave_nothing first o' s n items found before stands is =
-    let same : event_given n items ≡ None = sym stands ∙ ap (λ a. option_map event_of a) is in
-    subst (λ q. Watched first q s None) (sym (before.2 ∙ ap (λ a. tells_event a before.0) same)) before.1
-
--- what the world gave, before it is handed on
-pub given : (first : Configuration) (o o' : Option (List Entry)) (s : Content) (n : Next) (items : List ℕ) → Watched first o s None → o' ≡ tells_next n items o → WatchedBefore first o' s n items
-given first o o' s n items watched more = (o, watched, more)
-
--- the end of the world tells nothing
-pub gave_end : (first : Configuration) (o o' : Option (List Entry)) (s : Content) (n : Next) (items : List ℕ) → Watched first o s None → o' ≡ tells_next n items o → n ≡ next.End → Watched first o' s None
-gave_end first o o' s n items watched more end = subst (λ q. Watched first q s None) (sym (more ∙ ap (λ m. tells_next m items o) end)) watched
 
 -- ---- closes
 

@@ -1,5 +1,5 @@
 -- What a world over memory notes, and what that leaves to give.
-use Rattle.std.proofs.Common.{◌≡◌, ℕ, List, [], ◌∷◌, ◌++◌, map, reverse, Option, Some, None, unwrap_or, refl, sym, ◌∙◌, ap}
+use Rattle.std.proofs.Common.{◌≡◌, ℕ, List, [], ◌∷◌, ◌++◌, map, reverse, Option, Some, unwrap_or, refl, sym, ◌∙◌, ap}
 use Rattle.std.proofs.lemmas.List.{reverse-append, map-append}
 use Rattle.nut_decision.specs.Event.{Event}
 use Rattle.nut_watch.specs.Record.{Entry, Gave, tells, tells_event, tells_next, event_given}
@@ -7,7 +7,6 @@ use Rattle.nut_watch.specs.Memory.{MemoryState, event_of, entry_of, log_of, give
 use Rattle.nut_watch.specs.declared.types.Given.{Given}
 use Rattle.nut_watch.specs.declared.types.Note.{Note}
 use Rattle.nut_watch.specs.declared.types.Next.{Next}
-use Rattle.nut_watch.specs.declared.types.Next.TheVariants as next
 
 -- one more note is the newest entry
 pub log_more : (notes : List Note) (one : Note) → log_of (notes ++ one ∷ []) ≡ entry_of one ∷ log_of notes
@@ -16,11 +15,6 @@ log_more notes one = ap reverse (map-append entry_of notes (one ∷ [])) ∙ rev
 -- what `next` gives is told as the event that it stands for
 pub tells_given : (n : Next) (items : List ℕ) (e : Event) (o : Option (List Entry)) → event_given n items ≡ Some e → tells_next n items o ≡ tells (Gave e) o
 tells_given n items e o same = ap (λ a. tells_event a o) same
-
--- the end is given where nothing is left
-pub ends : (left left' : List Given) (n : Next) (items : List ℕ) → Gives left left' n items → n ≡ next.End → left' ≡ []
-ends [] left' n items gives end = gives.1
-ends (given ∷ rest) left' n items gives end = absurd (let none : None ≡ Some (event_of given) = sym (ap (λ m. event_given m items) end) ∙ gives.0 in cc)
 
 -- the log grew, and nothing was given
 pub goes_on_more : (a b : MemoryState) (e : Entry) → given_in (e ∷ []) ≡ [] → b.log ≡ e ∷ a.log → b.left ≡ a.left → GoesOn a b

@@ -1,7 +1,6 @@
 -- What a write changes: what waits on the link alone.
-use Rattle.std.proofs.Common.{◌≡◌, ◌≢◌, ℕ, zero, suc, ◌+◌, ◌<◌, ◌≤◌, ◌⊎◌, Bool, true, false, ltb, List, [], ◌∷◌, length, drop, Option, Some, None, is_some, Result, if◌then◌else◌, refl, sym, ◌∙◌, ap, subst, inl, inr, arith, length-drop, le-leb, eqb}
-use Rattle.std.proofs.lemmas.Bool.{cases_Bool, eqb-true, eq-eqb, ltb-true, ltb-false}
-use Rattle.std.specs.Prelude.{slice_get, option_map, nat_le}
+use Rattle.std.proofs.Common.{◌≡◌, ◌≢◌, ℕ, zero, suc, ◌<◌, ◌≤◌, Bool, true, false, List, [], ◌∷◌, length, drop, Option, Some, None, is_some, Result, if◌then◌else◌, refl, sym, ◌∙◌, ap, subst, inl, inr, arith, length-drop, le-leb}
+use Rattle.std.specs.Prelude.{option_map, nat_le}
 use Rattle.nut_client.specs.declared.exchange.Exchange.{Exchange}
 use Rattle.nut_client.specs.declared.exchange.Stage.{Stage}
 use Rattle.nut_client.specs.declared.exchange.Stage.TheVariants as stages
@@ -17,9 +16,9 @@ use Rattle.nut_decision.specs.Machine.{advance, update, took, link_took}
 use Rattle.nut_decision.specs.Outcome.{IsAnswer, content_after}
 use Rattle.nut_serve.specs.declared.types.Written.{Written}
 use Rattle.nut_serve.specs.declared.types.Written.TheVariants.{Took}
-use Rattle.nut_watch.specs.Record.{Entry, IsWithin, waiting_of, IsSettled, NothingIsWithheld}
+use Rattle.nut_watch.specs.Record.{Entry, IsWithin, waiting_of}
 use Rattle.nut_watch.specs.Watched.{history_of, Watched}
-use Rattle.nut_watch.specs.Kept.{OnlyAt, StaysLate}
+use Rattle.nut_watch.specs.Kept.{OnlyAt}
 use Rattle.nut_watch.proofs.Sent.{found}
 use Rattle.nut_watch.proofs.Steps.{moved_on, no_memory_took}
 use Rattle.nut_watch.proofs.Writes.{may_take}
@@ -127,57 +126,3 @@ only_took first o s s' i part w n r watched is within all answer moved =
       as_many = ap (λ (t : Content). length t.watches) facts.2 ∙ update_as_many i (took n) s.watches;
       others = λ j other. ap (λ (t : Content). waiting_of j t.watches) facts.2 ∙ ap waiting_on (update_other i j (took n) s.watches other);
     }
-
--- ---- one link after the other
-
-pub only_self : (i : ℕ) (ws : List Watch) → OnlyAt i ws ws
-only_self i ws = record { as_many = refl; others = λ j other. refl }
-
-pub only_twice : (i : ℕ) (a b c : List Watch) → OnlyAt i a b → OnlyAt i b c → OnlyAt i a c
-only_twice i a b c one two = record { as_many = two.as_many ∙ one.as_many; others = λ j other. two.others j other ∙ one.others j other }
-
-beyond : (ws : List Watch) (j : ℕ) → length ws ≤ j → slice_get ws j ≡ None
-beyond [] j far = refl
-beyond (w ∷ ws) zero far = absurd (omega (arith, far))
-beyond (w ∷ ws) (suc j) far = beyond ws j (omega (arith, far))
-
--- once each link is settled, nothing is withheld
-pub all_settled : (late : ℕ → Bool) (s : Content) (n : ℕ) → length s.watches ≤ n → ((j : ℕ) → j < n → IsSettled late s.watches j) → NothingIsWithheld late s
-all_settled late s n all settled j =
-    elim (le_or_lt n j) [
-      | inl far ↦ λ some. absurd (omega (arith, some, ap (λ o. length (waiting_on o)) (beyond s.watches j (omega (arith, far, all)))))
-      | inr near ↦ settled j near
-    ]
-  where
-    le_or_lt : (a b : ℕ) → (a ≤ b) ⊎ (b < a)
-    le_or_lt zero b = inl (omega arith)
-    le_or_lt (suc a) zero = inr (omega arith)
-    le_or_lt (suc a) (suc b) =
-        elim (le_or_lt a b) [
-          | inl less ↦ inl (omega (arith, less))
-          | inr more ↦ inr (omega (arith, more))
-        ]
-
--- link i is settled, and those before it were and weren't touched
-pub one_more_settled : (old new : ℕ → Bool) (a b : List Watch) (i : ℕ) → ((j : ℕ) → j < i → IsSettled old a j) → IsSettled new b i → OnlyAt i a b → StaysLate old new
-    → (j : ℕ) → j < i + 1 → IsSettled new b j
-one_more_settled old new a b i before here only late j near =
-    elim (cases_Bool (eqb j i)) [
-      | inl is ↦ subst (λ k. IsSettled new b k) (sym (eqb-true j i is)) here
-      | inr differ ↦
-          λ some.
-          let other : j ≢ i = λ same. let now : eqb j i ≡ true = eq-eqb j i same in (let never : true ≡ false = sym now ∙ differ in cc) in
-          let ne : j < i = before_it j i near other in
-          late j (before j ne (subst (λ xs. 0 < length xs) (only.others j other) some))
-    ]
-  where
-    before_it : (j i : ℕ) → j < i + 1 → j ≢ i → j < i
-    before_it j i near other = elim (cases_Bool (ltb j i)) [
-      | inl less ↦ omega (arith, ltb-true j i less)
-      | inr more ↦ absurd (other (omega (arith, near, ltb-false j i more)))
-    ]
-
--- what isn't withheld isn't where only notices were taken
-pub still_settled : (old new : ℕ → Bool) (s t : Content) → t.watches ≡ s.watches → ((j : ℕ) → new j ≡ old j) → NothingIsWithheld old s → NothingIsWithheld new t
-still_settled old new s t same late settled j some =
-    late j ∙ settled j (subst (λ ws. 0 < length (waiting_of j ws)) same some)

@@ -5,7 +5,7 @@ use Rattle.nut_decision.specs.declared.MonitorFault.TheVariants.{NoSuchLink, Wro
 use Rattle.nut_decision.specs.Configuration.{Configuration}
 use Rattle.nut_decision.specs.Event.{Event, Moment, Linked, LinkBytes, LinkLost, LinkTook, OutOfMemory, NoticeTaken}
 use Rattle.nut_decision.specs.Trace.{trace, sent, notices, taken_after, taken_notice, since_linked}
-use Rattle.nut_decision.specs.Content.{Content, content}
+use Rattle.nut_decision.specs.Content.{Content}
 use Rattle.nut_decision.specs.Acceptance.{refusal, IsAccepted, Tells}
 use Rattle.nut_decision.specs.Machine.{advance}
 use Rattle.nut_decision.specs.Outcome.{IsAnswer, IsRefusal, MayLack, content_after}
@@ -34,11 +34,6 @@ goes_on first o o' s s' owed owed' entry event watched more stands holds same al
       sent_is = same;
       notices_are = all;
     }
-
--- a monitor that was told nothing
-pub begun : (first : Configuration) (o : Option (List Entry)) (s : Content) → s ≡ content first [] → IfSome o (λ r. r ≡ []) → Watched first o s None
-begun first o s fresh blank =
-    record { steps = []; tells = blank; told = refl; holds = (tt, fresh); sent_is = λ i. refl; notices_are = ap (λ (t : Content). t.notices) fresh }
 
 -- a fault tells nothing
 pub stays : (first : Configuration) (o o' : Option (List Entry)) (s : Content) (owed : Option ℕ) → o' ≡ o → Watched first o s owed → Watched first o' s owed

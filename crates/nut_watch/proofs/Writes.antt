@@ -1,5 +1,5 @@
 -- What a write to a link, and a notice that is handed over, make of what is watched.
-use Rattle.std.proofs.Common.{◌≡◌, ℕ, ◌<◌, ◌≤◌, true, eqb, ltb, List, [], ◌∷◌, ◌++◌, length, take, drop, Option, Some, None, is_some, Result, Ok, if◌then◌else◌, refl, sym, ◌∙◌, ap, subst, inl, inr, arith}
+use Rattle.std.proofs.Common.{◌≡◌, ℕ, ◌<◌, ◌≤◌, true, eqb, ltb, List, [], ◌∷◌, ◌++◌, length, take, Option, Some, None, is_some, Result, Ok, if◌then◌else◌, refl, sym, ◌∙◌, ap, subst, inl, inr, arith}
 use Rattle.std.proofs.lemmas.Bool.{cases_Bool, eqb-true, le-ltb, lt-ltb}
 use Rattle.std.proofs.lemmas.List.{length-take-le}
 use Rattle.nut_decision.specs.declared.MonitorFault.{MonitorFault}
@@ -136,7 +136,3 @@ told_one first o o' s s' notice watched more is moved =
   where
     sent_still : (first : Configuration) (h : List Event) (j : ℕ) (before : List ℕ) → IsAccepted first (NoticeTaken ∷ h) → before ≡ sent first j (trace first h) → before ≡ sent first j (trace first (NoticeTaken ∷ h))
     sent_still first h j before accepted same = same ∙ sym (sent-given first h j NoticeTaken accepted (λ t. refl))
-
-pub fewer_wait : (notices : List Notice) (notice : Notice) → first_of notices ≡ Some notice → length (drop 1 notices) < length notices
-fewer_wait [] notice is = cc
-fewer_wait (x ∷ others) notice is = omega arith

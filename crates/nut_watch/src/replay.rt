@@ -1,7 +1,9 @@
 //! The loop over a world in memory.
 
-ghost use Rattle.std.specs.Prelude.{◌≡◌, ◌<◌, ◌-◌, ◌^◌, [], IfOk, OnErr};
+ghost use Rattle.std.specs.Prelude.{◌≡◌, ◌<◌, ◌-◌, ◌^◌, ℕ, [], Option, Some, IfOk, OnErr};
 ghost use Rattle.nut_decision.specs.Content.{content, phase_of};
+ghost use Rattle.nut_watch.specs.Memory.{GoesOn};
+ghost use Rattle.nut_watch.specs.Watched.{Watched};
 ghost use Rattle.nut_watch.specs.WatchedAll.{WatchedAll};
 
 use crate::{MemoryMonWorld, watch};
@@ -12,7 +14,7 @@ use std::sync::Wait;
 /// Watches a list of events until the machine is to be halted, or to its end, and gives the phase.
 ///
 /// # Errors
-/// `ServeFault::World` where memory for a note was refused.
+/// `ServeFault::World` where memory for a note was refused: what was noted before stands.
 pub fn watch_memory(
     rt: &impl Wait,
     monitor: &mut Monitor,
@@ -23,6 +25,8 @@ pub fn watch_memory(
     requires few { world.old.faults < 2 ^ 64 - 1 }
     ensures all { IfOk result (λ phase. WatchedAll monitor.old.content.configuration world.old world.new monitor.new.content phase) }
     ensures phase { IfOk result (λ phase. phase ≡ phase_of monitor.new.content) }
+    ensures err { OnErr result ((owed : Option ℕ) × Watched monitor.old.content.configuration (Some world.new.log) monitor.new.content owed) }
+    ensures reached { GoesOn world.old world.new }
     ensures fault { OnErr result (world.old.faults < world.new.faults) }
 {
     watch(rt, monitor, world)

@@ -1,0 +1,332 @@
+//! The loop over worlds that are slow, late or broken.
+
+ghost use Rattle.std.specs.Prelude.{◌≡◌, ◌&&◌, nat_eq, None, [], IfOk};
+ghost use Rattle.nut_decision.specs.Content.{content};
+
+use crate::{MonWorld, Next, watch};
+use nut_conf::{Notice as Kind, read_upsmon};
+use nut_monitor::{Monitor, Notice, Phase};
+use nut_serve::{Fault, Piece, Written};
+use std::alloc::Global;
+use std::sync::Wait;
+use std::test::Fail;
+
+/// What is odd about a world. It is odd on its first link, of which it takes one byte at a time.
+#[derive(Clone, Copy, PartialEq, Eq)]
+enum Mode {
+    /// Nothing but that.
+    OneByte,
+    /// Each byte is to come later before it is taken.
+    Reluctant,
+    /// It never takes anything.
+    LaterForever,
+    /// This write fails.
+    FailsAt(u64),
+    /// This write is a fault.
+    FaultAtWrite(u64),
+    /// The first write fails, and then the close is a fault.
+    FaultAtClose,
+    /// This call of `next` is a fault.
+    FaultAtNext(u64),
+    /// The first notice is a fault.
+    FaultAtNotice,
+}
+
+/// What comes, as a row of a table.
+#[derive(Clone, Copy)]
+enum Row {
+    Moment(u64),
+    Linked(usize),
+    Says(usize, &'static [u8]),
+}
+
+/// Two UPSes, of which the first is on line and the second on battery.
+static ROWS: [Row; 11] = [
+    Row::Moment(0),
+    Row::Linked(0),
+    Row::Linked(1),
+    Row::Says(0, b"OK\n"),
+    Row::Says(1, b"OK\n"),
+    Row::Says(0, b"OK\n"),
+    Row::Says(1, b"OK\n"),
+    Row::Says(0, b"OK\n"),
+    Row::Says(1, b"OK\n"),
+    Row::Says(0, b"VAR a ups.status \"OL\"\n"),
+    Row::Says(1, b"VAR b ups.status \"OB\"\n"),
+];
+
+const FILE: &[u8] =
+    b"MONITOR a@localhost 1 mon m1 secondary\nMONITOR b@localhost 1 mon m1 secondary\n";
+
+/// What each server is to be sent.
+const FIRST_ASKED: &[u8] = b"USERNAME mon\nPASSWORD m1\nLOGIN a\nGET VAR a ups.status\n";
+
+const SECOND_ASKED: &[u8] = b"USERNAME mon\nPASSWORD m1\nLOGIN b\nGET VAR b ups.status\n";
+
+/// A world that gives the rows.
+#[derive(Drop)]
+struct Odd {
+    mode: Mode,
+    given: usize,
+    nexts: u64,
+    writes: u64,
+    faults: u64,
+    is_late: bool,
+    took: [Piece; 2],
+    closed: [usize; 2],
+    told: usize,
+}
+
+fn make_odd(mode: Mode) -> Odd
+    ensures { result.faults ≡ 0 }
+{
+    Odd {
+        mode,
+        given: 0,
+        nexts: 0,
+        writes: 0,
+        faults: 0,
+        is_late: false,
+        took: [Piece::new(), Piece::new()],
+        closed: [0, 0],
+        told: 0,
+    }
+}
+
+/// What `next` gives of a row.
+fn show(row: Row, piece: &mut Piece) -> Next {
+    match row {
+        Row::Moment(t) => Next::Moment(t),
+        Row::Linked(i) => Next::Linked(i),
+        Row::Says(i, text) => {
+            piece.clear();
+            let _ = piece.try_extend_from_slice(text);
+            Next::LinkBytes(i)
+        }
+    }
+}
+
+impl MonWorld for Odd {
+    ghost log = { λ w. None };
+
+    ghost late = { λ w i. w.is_late && nat_eq i 0 };
+
+    ghost fault_count = { λ w. w.faults };
+
+    ghost has_ended = { λ w. Unit {0} };
+
+    ghost reached = { λ a b. Unit {0} };
+
+    ghost reached_self = { λ w. tt };
+
+    ghost reached_on = { λ a b c first second. tt };
+
+    fn faults(&self) -> u64 {
+        self.faults
+    }
+
+    fn next(&mut self, _monitor: &Monitor, piece: &mut Piece) -> Result<Next, Fault> {
+        let was_late = self.is_late;
+        self.is_late = false;
+        self.nexts = self.nexts.wrapping_add(1);
+        if self.mode == Mode::FaultAtNext(self.nexts) {
+            self.faults += 1;
+            return Err(Fault);
+        }
+        // what was put off goes before the answer to it
+        if was_late && self.mode == Mode::Reluctant {
+            return Ok(Next::Again);
+        }
+        if self.given >= ROWS.len() {
+            return Ok(Next::End);
+        }
+        let next = show(ROWS[self.given], piece);
+        self.given += 1;
+        Ok(next)
+    }
+
+    fn write(&mut self, i: usize, bytes: &[u8]) -> Result<Written, Fault> {
+        if i == 0 {
+            self.writes = self.writes.wrapping_add(1);
+            let is_put_off = self.mode == Mode::Reluctant && self.writes % 2 == 1;
+            if is_put_off || self.mode == Mode::LaterForever {
+                self.is_late = true;
+                return Ok(Written::Later);
+            }
+            if self.mode == Mode::FailsAt(self.writes) || self.mode == Mode::FaultAtClose {
+                return Ok(Written::Failed);
+            }
+            if self.mode == Mode::FaultAtWrite(self.writes) {
+                self.faults += 1;
+                return Err(Fault);
+            }
+        }
+        let n = if i == 0 { 1 } else { bytes.len() };
+        let place = if i == 0 { 0 } else { 1 };
+        let _ = self.took[place].try_extend_from_slice(&bytes[..n]);
+        Ok(Written::Took(n))
+    }
+
+    fn close(&mut self, i: usize) -> Result<(), Fault> {
+        if self.mode == Mode::FaultAtClose {
+            self.faults += 1;
+            return Err(Fault);
+        }
+        let place = if i == 0 { 0 } else { 1 };
+        self.closed[place] = self.closed[place].wrapping_add(1);
+        Ok(())
+    }
+
+    fn notice(&mut self, _monitor: &Monitor, _notice: Notice) -> Result<(), Fault> {
+        if self.mode == Mode::FaultAtNotice {
+            self.faults += 1;
+            return Err(Fault);
+        }
+        self.told = self.told.wrapping_add(1);
+        Ok(())
+    }
+}
+
+/// What a monitor and an odd world have come to.
+#[derive(Drop)]
+struct Odds {
+    is_ok: bool,
+    monitor: Monitor,
+    world: Odd,
+}
+
+fn fresh_monitor(alloc: Global) -> Result<Monitor, Fail>
+    ensures { IfOk result (λ m. m.content ≡ content m.content.configuration []) }
+{
+    let config = read_upsmon(alloc, FILE)?;
+    let monitor = Monitor::new(alloc, config)?;
+    Ok(monitor)
+}
+
+fn watch_odd(rt: &impl Wait, alloc: Global, mode: Mode) -> Result<Odds, Fail> {
+    let mut monitor = fresh_monitor(alloc)?;
+    let mut world = make_odd(mode);
+    let is_ok = watch(rt, &mut monitor, &mut world) == Ok(Phase::Watching);
+    Ok(Odds {
+        is_ok,
+        monitor,
+        world,
+    })
+}
+
+impl Odds {
+    /// Whether so many bytes were taken of the links, and they are the first of those that were due.
+    fn took(&self, first: usize, second: usize) -> bool {
+        let took = &self.world.took;
+        took[0].len() == first
+            && FIRST_ASKED.starts_with(took[0].as_slice())
+            && took[1].len() == second
+            && SECOND_ASKED.starts_with(took[1].as_slice())
+    }
+
+    /// Whether all went well, the first link was closed so often and the second never, and so much was told.
+    fn ended(&self, closed: usize, told: usize) -> bool {
+        self.is_ok
+            && self.world.given == ROWS.len()
+            && self.world.faults == 0
+            && self.world.closed == [closed, 0]
+            && self.world.told == told
+    }
+
+    /// Whether one fault ended the loop, and this notice still waits.
+    fn broke(&self, waits: Option<Notice>) -> bool {
+        !self.is_ok
+            && self.world.faults == 1
+            && self.world.closed == [0, 0]
+            && self.world.told == 0
+            && self.monitor.first_notice() == waits
+    }
+}
+
+#[test]
+fn bytes_put_off_are_offered_again(rt: HostRuntime) -> Result<(), Fail> {
+    for mode in [Mode::OneByte, Mode::Reluctant] {
+        let odds = watch_odd(&rt, rt.alloc(), mode)?;
+        assert!(rt; odds.took(54, 54) && odds.ended(0, 1));
+    }
+    Ok(())
+}
+
+/// An answer to what was never taken is the loss of the link.
+#[test]
+fn late_for_good(rt: HostRuntime) -> Result<(), Fail> {
+    let odds = watch_odd(&rt, rt.alloc(), Mode::LaterForever)?;
+    assert!(rt; odds.took(0, 54) && odds.ended(1, 2));
+    Ok(())
+}
+
+#[test]
+fn a_write_fails(rt: HostRuntime) -> Result<(), Fail> {
+    for at in 1..55 {
+        let odds = watch_odd(&rt, rt.alloc(), Mode::FailsAt(at))?;
+        assert!(rt;
+            odds.took(at as usize - 1, 54) && odds.ended(1, 2),
+            "write {at}"
+        );
+        assert!(rt;
+            !odds.monitor.linked(0) && odds.monitor.linked(1),
+            "write {at}"
+        );
+    }
+    Ok(())
+}
+
+#[test]
+fn a_write_is_a_fault(rt: HostRuntime) -> Result<(), Fail> {
+    for (at, first, second) in [
+        (1, 0, 0),
+        (13, 12, 0),
+        (14, 13, 13),
+        (26, 25, 25),
+        (54, 53, 33),
+    ] {
+        let odds = watch_odd(&rt, rt.alloc(), Mode::FaultAtWrite(at))?;
+        assert!(rt; odds.took(first, second) && odds.broke(None), "write {at}");
+        assert!(rt; odds.monitor.linked(0), "write {at}");
+    }
+    Ok(())
+}
+
+#[test]
+fn a_read_is_a_fault(rt: HostRuntime) -> Result<(), Fail> {
+    for (at, first, second) in [
+        (1, 0, 0),
+        (3, 13, 0),
+        (4, 13, 13),
+        (5, 25, 13),
+        (11, 54, 54),
+    ] {
+        let odds = watch_odd(&rt, rt.alloc(), Mode::FaultAtNext(at))?;
+        assert!(rt; odds.took(first, second) && odds.broke(None), "call {at}");
+        assert_eq!(rt; odds.world.given as u64, at - 1);
+    }
+    Ok(())
+}
+
+#[test]
+fn a_close_is_a_fault(rt: HostRuntime) -> Result<(), Fail> {
+    let odds = watch_odd(&rt, rt.alloc(), Mode::FaultAtClose)?;
+    let waits = Notice {
+        kind: Kind::Commbad,
+        line: Some(0),
+    };
+    assert!(rt; odds.took(0, 0) && odds.broke(Some(waits)));
+    assert!(rt; !odds.monitor.linked(0));
+    Ok(())
+}
+
+#[test]
+fn a_notice_is_a_fault(rt: HostRuntime) -> Result<(), Fail> {
+    let odds = watch_odd(&rt, rt.alloc(), Mode::FaultAtNotice)?;
+    let waits = Notice {
+        kind: Kind::Onbatt,
+        line: Some(1),
+    };
+    assert!(rt; odds.took(54, 54) && odds.broke(Some(waits)));
+    Ok(())
+}
