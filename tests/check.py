@@ -14,8 +14,11 @@ TESTS = (
     ("programs.py", ("upsd",)),
     ("rehearsal.py", ("rehearse",)),
     ("dummy_rehearsal.py", ("dummy_rehearsal",)),
+    ("monitor_rehearsal.py", ("monitor_rehearsal",)),
     ("tools.py", ("upsc", "upsrw", "upscmd")),
     ("sockets.py", ("upsd", "dummy_ups")),
+    ("monitor.py", ("upsd", "dummy_ups", "upsc", "upsmon")),
+    ("install.py", ("upsd", "dummy_ups", "upsc", "upsrw", "upscmd", "upsmon")),
 )
 
 

@@ -15,7 +15,7 @@ import sys
 import tempfile
 import time
 
-from harness import Failed, expect, run_tests
+from harness import Failed, Missing, expect, run_tests
 
 DEVICE = b"ups.status: OL\nups.id: x\nbattery.charge: 100\n"
 USERS = b'[admin]\npassword = pw\nactions = SET\ninstcmds = ALL\n[mon]\npassword = m1\nupsmon primary\n'
@@ -392,6 +392,66 @@ class Tests:
                 with Client((host, port)) as client:
                     expect(client.ask(b"VER\n"), VERSION, host)
 
+    def listening(self, room, *lines):
+        """Starts upsd with these LISTEN lines, and gives it with the addresses at which it says that it listens."""
+        with open(room.path("upsd.conf"), "w") as file:
+            file.writelines(f"LISTEN {line}\n" for line in lines)
+        upsd = room.start([self.programs[0], "--conf", room.folder, "-s", room.folder])
+        said = [upsd.stderr.readline().decode() for _ in lines]
+        if upsd.poll() is not None or not all(it.startswith("upsd: listening on ") for it in said):
+            raise Failed(f"LISTEN {lines}: {said}")
+        return [it.split()[-1].rpartition(":")[0].strip("[]") for it in said]
+
+    def test_every_address_of_ipv4(self):
+        with self.room() as room:
+            expect(self.listening(room, f"0.0.0.0 {room.port}"), ["0.0.0.0"], "where it listens")
+            for host in ("127.0.0.1", "127.0.0.2"):
+                with Client((host, room.port)) as client:
+                    expect(client.ask(b"VER\n"), VERSION, host)
+
+    def test_loopback_of_both_kinds(self):
+        if not has_ipv6():
+            raise Missing("this machine has no IPv6")
+        with self.room() as room:
+            hosts = ["127.0.0.1", "::1"]
+            expect(self.listening(room, *(f"{host} {room.port}" for host in hosts)), hosts, "where it listens")
+            for host in hosts:
+                with Client((host, room.port)) as client:
+                    expect(client.ask(b"VER\n"), VERSION, host)
+
+    def test_host_by_its_name(self):
+        """A name stands for the first of its addresses."""
+        with self.room() as room:
+            found = self.listening(room, f"localhost {room.port}")
+            first = socket.getaddrinfo("localhost", room.port, type=socket.SOCK_STREAM)[0][4][0]
+            expect(found, [first], "where it listens")
+            with Client((first, room.port)) as client:
+                expect(client.ask(b"VER\n"), VERSION, first)
+
+    def test_every_address_twice(self):
+        """A listener at every address by IPv6 serves those by IPv4 too, so lines for these beside it change nothing."""
+        if not has_ipv6():
+            raise Missing("this machine has no IPv6")
+        for hosts in (("0.0.0.0", "::"), ("::", "0.0.0.0"), ("127.0.0.1", "::")):
+            with self.room() as room:
+                with open(room.path("upsd.conf"), "w") as file:
+                    file.writelines(f"LISTEN {host} {room.port}\n" for host in hosts)
+                upsd = room.start([self.programs[0], "--conf", room.folder, "-s", room.folder])
+                expect(upsd.stderr.readline(), f"upsd: listening on [::]:{room.port}\n".encode(), f"{hosts}")
+                for host in ("127.0.0.1", "::1"):
+                    with Client((host, room.port)) as client:
+                        expect(client.ask(b"VER\n"), VERSION, f"{host}, by {hosts}")
+
+    def test_every_address_once(self):
+        """The same line twice is a fault, with every address too."""
+        if not has_ipv6():
+            raise Missing("this machine has no IPv6")
+        with self.room() as room:
+            with open(room.path("upsd.conf"), "w") as file:
+                file.write(f"LISTEN :: {room.port}\n" * 2)
+            found = self.run(self.programs[0], "--conf", room.folder, "-s", room.folder)
+            expect(found, (1, b"", f"upsd: cannot listen on :::{room.port}\n".encode()), "the same address twice")
+
     def test_addresses_of_clients(self):
         for listen, hosts, rows in (
             (b"127.0.0.1", ["127.0.0.1"], [b"127.0.0.1"]),
@@ -636,7 +696,8 @@ def main():
     resource.setrlimit(resource.RLIMIT_NOFILE, (1024, resource.getrlimit(resource.RLIMIT_NOFILE)[1]))
     signal.signal(signal.SIGPIPE, signal.SIG_IGN)
     with tempfile.TemporaryDirectory() as folder:
-        return run_tests(Tests(os.path.abspath(upsd), os.path.abspath(dummy), folder), names)
+        tests = Tests(os.path.abspath(upsd), os.path.abspath(dummy), folder)
+        return run_tests(tests, names, "a machine with IPv6 runs them")
 
 
 if __name__ == "__main__":

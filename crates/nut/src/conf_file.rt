@@ -1,7 +1,8 @@
 //! Configuration files in their folder.
 
 use nut_conf::{
-    ConfFault, FILE_MAX, FaultKind, UpsConf, UpsdConf, UsersConf, read_ups, read_upsd, read_users,
+    ConfFault, FILE_MAX, FaultKind, UpsConf, UpsdConf, UpsmonConf, UsersConf, read_ups, read_upsd,
+    read_upsmon, read_users,
 };
 use std::alloc::Global;
 use std::fs::File;
@@ -47,6 +48,16 @@ impl ConfFile for UpsdConf {
 
     fn read(alloc: Global, bytes: &[u8]) -> Result<Self, ConfFault> {
         read_upsd(alloc, bytes)
+    }
+}
+
+impl ConfFile for UpsmonConf {
+    fn file_name() -> &'static str {
+        "upsmon.conf"
+    }
+
+    fn read(alloc: Global, bytes: &[u8]) -> Result<Self, ConfFault> {
+        read_upsmon(alloc, bytes)
     }
 }
 

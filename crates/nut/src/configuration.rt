@@ -3,6 +3,7 @@
 use crate::conf_file::{FileFault, read_conf};
 use crate::failure::Failure;
 use crate::read_ups_options;
+use crate::upsd_fault::UpsdFault;
 use clap::ArgMatches;
 use nut_conf::{UpsConf, UpsdConf, UsersConf};
 use nut_server::Config;
@@ -30,7 +31,7 @@ pub fn read_options(
     files: &impl Files,
     alloc: Global,
     matches: &ArgMatches<'_>,
-) -> Result<Settings, Failure> {
+) -> Result<Settings, Failure<UpsdFault>> {
     if let Some(folder) = matches.get_str("conf") {
         return Ok(read_settings(files, alloc, folder)?);
     }

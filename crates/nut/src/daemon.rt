@@ -5,15 +5,15 @@ ghost use Rattle.nut_history.specs.Content.{content};
 
 use crate::command_line::upsd_command;
 use crate::configuration::{Settings, read_options};
-use crate::drivers::Driver;
 use crate::failure::Failure;
 use crate::listeners::listen;
-use crate::mio_world::MioWorld;
-use crate::notices::{Notice, Notices};
 use crate::stdio::serve_client;
+use crate::streams::hold_closed_streams;
+use crate::upsd_fault::UpsdFault;
 use mio::net::TcpListener;
 use nut_serve::{ServeFault, World, serve};
 use nut_server::{Config, Server};
+use nut_sockets::{Driver, MioWorld, Report, Reports};
 use std::alloc::{AllocError, Global};
 use std::convert::AsStr;
 use std::io::{Read, Write};
@@ -44,7 +44,7 @@ pub fn run_upsd<S: AsStr, I: Read, O: Write, E: Write>(
 ) -> u8 {
     match run(rt, alloc, words, input, out, err) {
         Ok(()) => 0,
-        Err(failure) => failure.tell(out, err),
+        Err(failure) => failure.tell("upsd", out, err),
     }
 }
 
@@ -55,7 +55,7 @@ fn run<S: AsStr, I: Read, O: Write, E: Write>(
     input: &mut I,
     out: &mut O,
     err: &mut E,
-) -> Result<(), Failure> {
+) -> Result<(), Failure<UpsdFault>> {
     let matches = upsd_command(alloc)?.try_get_matches_from(words)?;
     let settings = read_options(rt, alloc, &matches)?;
     match matches.get_str("sockets") {
@@ -69,20 +69,21 @@ fn run<S: AsStr, I: Read, O: Write, E: Write>(
 
 /// Serves clients over sockets, and tells the operator of it on `err` but where that is to be quiet. It ends where the
 /// world fails.
-fn serve_sockets<R: Wait + Net + Clock, E: Write>(
+fn serve_sockets<R: Wait + Files + Net + Clock, E: Write>(
     rt: &R,
     alloc: Global,
     settings: Settings,
     folder: &str,
     is_quiet: bool,
     err: &mut E,
-) -> Result<(), Failure> {
+) -> Result<(), Failure<UpsdFault>> {
+    let _held = hold_closed_streams(rt, alloc)?;
     let listeners = listen(rt, alloc, &settings.upsd)?;
     let mut server = Server::new(alloc, settings.into_config())?;
     let drivers = drivers_of(alloc, server.config(), folder)?;
     tell_start(&listeners, &drivers, is_quiet, err);
-    let notices = Notices::new(err, !is_quiet);
-    let world = MioWorld::new(rt, alloc, listeners, drivers, notices)?;
+    let reports = Reports::new("upsd", err, !is_quiet);
+    let world = MioWorld::new(rt, alloc, listeners, drivers, reports)?;
     serve_world(rt, &mut server, world)?;
     Ok(())
 }
@@ -119,13 +120,13 @@ fn tell_start<E: Write>(
     is_quiet: bool,
     err: &mut E,
 ) {
-    let mut notices = Notices::new(err, !is_quiet);
+    let mut reports = Reports::new("upsd", err, !is_quiet);
     for listener in listeners {
         if let Ok(address) = listener.local_addr() {
-            notices.tell(Notice::Listening(address));
+            reports.tell(Report::Listening(address));
         }
     }
     for driver in drivers {
-        notices.tell(Notice::Serving(driver.name(), driver.path()));
+        reports.tell(Report::Serving(driver.name(), driver.path()));
     }
 }

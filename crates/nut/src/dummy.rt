@@ -1,10 +1,12 @@
 //! dummy-ups: a driver without a device.
 
 use crate::conf_file::read_file;
-use crate::dummy_driver::DummyDriver;
+use crate::failure::Failure;
+use crate::streams::hold_closed_streams;
 use clap::{Arg, Command};
 use mio::net::UnixListener;
 use nut_dummy::{Dummy, DummyFault, Script, ScriptFault, ScriptFaultKind, ScriptKind};
+use nut_sockets::DummyDriver;
 use std::alloc::{AllocError, Global};
 use std::convert::AsStr;
 use std::io::{ErrorKind, Write};
@@ -12,13 +14,11 @@ use std::net::Net;
 use std::rt::Files;
 use std::sync::Wait;
 use std::time::Clock;
-use std::{fs, io};
+use std::{fmt, fs, io};
 
-/// Why dummy-ups ends.
+/// What dummy-ups alone meets, before anything is told.
 #[derive(Drop)]
-enum Failure<'a> {
-    /// The command line doesn't read, or asks for the help or the version: the text is clap's.
-    CommandLine(clap::Error),
+enum DummyUpsFault<'a> {
     /// The file's name doesn't end in `.dev` or `.seq`.
     UnknownKind(&'a str),
     /// The file isn't there, is a folder, may not be read, or a read failed.
@@ -27,67 +27,22 @@ enum Failure<'a> {
     Script(&'a str, ScriptFault),
     /// No listener can be made at this socket.
     Listen(&'a str),
-    /// A growth of memory was refused.
-    Memory,
-    /// A wait failed.
-    Io,
 }
 
-impl From<clap::Error> for Failure<'_> {
-    fn from(error: clap::Error) -> Self {
-        if error.kind() == clap::error::ErrorKind::OutOfMemory {
-            Failure::Memory
-        } else {
-            Failure::CommandLine(error)
+impl<'a> fmt::Display for DummyUpsFault<'a> {
+    fn fmt<W: fmt::Write>(&self, f: &mut fmt::Formatter<W>) -> fmt::Result {
+        match self {
+            DummyUpsFault::UnknownKind(file) => write!(f, "{file}: unknown kind"),
+            DummyUpsFault::CannotRead(file) => write!(f, "{file}: cannot read"),
+            DummyUpsFault::Script(file, fault) => write!(f, "{file}:{fault}"),
+            DummyUpsFault::Listen(socket) => write!(f, "cannot listen on {socket}"),
         }
     }
 }
 
-impl From<AllocError> for Failure<'_> {
-    fn from(_: AllocError) -> Self {
-        Failure::Memory
-    }
-}
-
-impl From<DummyFault> for Failure<'_> {
+impl<'a> From<DummyFault> for Failure<DummyUpsFault<'a>> {
     fn from(_: DummyFault) -> Self {
         Failure::Memory
-    }
-}
-
-impl From<io::Error> for Failure<'_> {
-    fn from(error: io::Error) -> Self {
-        if error.kind() == ErrorKind::OutOfMemory {
-            Failure::Memory
-        } else {
-            Failure::Io
-        }
-    }
-}
-
-impl<'a> Failure<'a> {
-    /// Says why on the stream where it belongs, and gives the exit status.
-    fn tell<O: Write, E: Write>(&self, out: &mut O, err: &mut E) -> u8 {
-        let told = match self {
-            Failure::CommandLine(error) if error.use_stderr() => write!(err, "{error}"),
-            Failure::CommandLine(error) => write!(out, "{error}"),
-            Failure::UnknownKind(file) => writeln!(err, "dummy-ups: {file}: unknown kind"),
-            Failure::CannotRead(file) => writeln!(err, "dummy-ups: {file}: cannot read"),
-            Failure::Script(file, fault) => writeln!(err, "dummy-ups: {file}:{fault}"),
-            Failure::Listen(socket) => writeln!(err, "dummy-ups: cannot listen on {socket}"),
-            Failure::Memory => writeln!(err, "dummy-ups: out of memory"),
-            Failure::Io => writeln!(err, "dummy-ups: I/O failed"),
-        };
-        match self {
-            Failure::CommandLine(error) if error.use_stderr() => 2,
-            Failure::CommandLine(_) => u8::from(told.is_err()),
-            Failure::UnknownKind(_)
-            | Failure::CannotRead(_)
-            | Failure::Script(_, _)
-            | Failure::Listen(_)
-            | Failure::Memory
-            | Failure::Io => 1,
-        }
     }
 }
 
@@ -111,7 +66,7 @@ pub fn run_dummy_ups<S: AsStr, O: Write, E: Write>(
 ) -> u8 {
     match run(rt, alloc, words) {
         Ok(()) => 0,
-        Err(failure) => failure.tell(out, err),
+        Err(failure) => failure.tell("dummy-ups", out, err),
     }
 }
 
@@ -119,14 +74,15 @@ fn run<'a, S: AsStr>(
     rt: &(impl Wait + Files + Net + Clock),
     alloc: Global,
     words: &'a [S],
-) -> Result<(), Failure<'a>> {
+) -> Result<(), Failure<DummyUpsFault<'a>>> {
     let matches = command(alloc)?.try_get_matches_from(words)?;
     let file = matches.get_str("file").unwrap_or("");
     let socket = matches.get_str("socket").unwrap_or("");
     let script = read_script(rt, alloc, file)?;
     let dummy = Dummy::new(alloc, script, 0)?;
+    let _held = hold_closed_streams(rt, alloc)?;
     let Ok(listener) = listen(rt, socket) else {
-        return Err(Failure::Listen(socket));
+        return Err(Failure::Own(DummyUpsFault::Listen(socket)));
     };
     let mut driver = DummyDriver::new(rt, alloc, listener, dummy)?;
     for _ in rt.forever() {
@@ -140,19 +96,19 @@ fn read_script<'a>(
     files: &impl Files,
     alloc: Global,
     file: &'a str,
-) -> Result<Script, Failure<'a>> {
+) -> Result<Script, Failure<DummyUpsFault<'a>>> {
     let Some(kind) = kind_of(file) else {
-        return Err(Failure::UnknownKind(file));
+        return Err(Failure::Own(DummyUpsFault::UnknownKind(file)));
     };
     let bytes = match read_file(files, alloc, file, u64::MAX) {
         Ok(bytes) => bytes,
         Err(error) if error.kind() == ErrorKind::OutOfMemory => return Err(Failure::Memory),
-        Err(_) => return Err(Failure::CannotRead(file)),
+        Err(_) => return Err(Failure::Own(DummyUpsFault::CannotRead(file))),
     };
     match Script::read(alloc, kind, bytes.as_slice()) {
         Ok(script) => Ok(script),
         Err(fault) if fault.kind == ScriptFaultKind::Memory => Err(Failure::Memory),
-        Err(fault) => Err(Failure::Script(file, fault)),
+        Err(fault) => Err(Failure::Own(DummyUpsFault::Script(file, fault))),
     }
 }
 

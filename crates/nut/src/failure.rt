@@ -1,31 +1,25 @@
-//! Why upsd ends.
+//! Why a program ends before its work is done.
 
-use crate::conf_file::FileFault;
-use nut_conf::FaultKind;
 use nut_serve::ServeFault;
-use nut_server::ServerFault;
 use std::alloc::{AllocError, AllocFailed};
+use std::fmt::Display;
 use std::io;
 use std::io::{ErrorKind, Write};
 
-/// Why a run of upsd ends before its clients do.
+/// Why a program ends before its work is done. What only one program meets is a fault `F` of its own.
 #[derive(Drop)]
-pub enum Failure {
+pub enum Failure<F> {
     /// The command line doesn't read, or asks for the help or the version: the text is clap's.
     CommandLine(clap::Error),
-    /// A value of `--ups` doesn't read.
-    Ups(FaultKind),
-    /// A file gives no configuration.
-    File(FileFault),
-    /// No listener can be made at this address and port.
-    Listen(String, u16),
+    /// What only this program meets.
+    Own(F),
     /// A growth of memory was refused.
     Memory,
     /// A read, a write or a wait failed.
     Io,
 }
 
-impl From<clap::Error> for Failure {
+impl<F> From<clap::Error> for Failure<F> {
     fn from(error: clap::Error) -> Self {
         if error.kind() == clap::error::ErrorKind::OutOfMemory {
             Failure::Memory
@@ -35,46 +29,19 @@ impl From<clap::Error> for Failure {
     }
 }
 
-impl From<FaultKind> for Failure {
-    fn from(fault: FaultKind) -> Self {
-        match fault {
-            FaultKind::Memory => Failure::Memory,
-            fault => Failure::Ups(fault),
-        }
-    }
-}
-
-impl From<FileFault> for Failure {
-    fn from(fault: FileFault) -> Self {
-        Failure::File(fault)
-    }
-}
-
-impl From<AllocError> for Failure {
+impl<F> From<AllocError> for Failure<F> {
     fn from(_: AllocError) -> Self {
         Failure::Memory
     }
 }
 
-impl<T: Drop> From<AllocFailed<T>> for Failure {
+impl<T: Drop, F> From<AllocFailed<T>> for Failure<F> {
     fn from(_: AllocFailed<T>) -> Self {
         Failure::Memory
     }
 }
 
-impl From<ServerFault> for Failure {
-    fn from(_: ServerFault) -> Self {
-        Failure::Memory
-    }
-}
-
-impl From<ServeFault> for Failure {
-    fn from(_: ServeFault) -> Self {
-        Failure::Io
-    }
-}
-
-impl From<io::Error> for Failure {
+impl<F> From<io::Error> for Failure<F> {
     fn from(error: io::Error) -> Self {
         if error.kind() == ErrorKind::OutOfMemory {
             Failure::Memory
@@ -84,28 +51,27 @@ impl From<io::Error> for Failure {
     }
 }
 
-impl Failure {
-    /// Says why on the stream where it belongs, and gives the exit status.
-    pub fn tell<O: Write, E: Write>(&self, out: &mut O, err: &mut E) -> u8 {
+impl<F> From<ServeFault> for Failure<F> {
+    fn from(_: ServeFault) -> Self {
+        Failure::Io
+    }
+}
+
+impl<F: Display> Failure<F> {
+    /// Says why on the stream where it belongs, as `PROGRAM: WHY` but for clap's texts, and gives the exit status: 2 for a
+    /// command line that doesn't read, 0 for the help or the version where it could be written, else 1.
+    pub fn tell<O: Write, E: Write>(&self, program: &str, out: &mut O, err: &mut E) -> u8 {
         let told = match self {
             Failure::CommandLine(error) if error.use_stderr() => write!(err, "{error}"),
             Failure::CommandLine(error) => write!(out, "{error}"),
-            Failure::Ups(fault) => writeln!(err, "upsd: --ups: {fault}"),
-            Failure::File(fault) => writeln!(err, "upsd: {fault}"),
-            Failure::Listen(address, port) => {
-                writeln!(err, "upsd: cannot listen on {address}:{port}")
-            }
-            Failure::Memory => writeln!(err, "upsd: out of memory"),
-            Failure::Io => writeln!(err, "upsd: I/O failed"),
+            Failure::Own(fault) => writeln!(err, "{program}: {fault}"),
+            Failure::Memory => writeln!(err, "{program}: out of memory"),
+            Failure::Io => writeln!(err, "{program}: I/O failed"),
         };
         match self {
             Failure::CommandLine(error) if error.use_stderr() => 2,
             Failure::CommandLine(_) => u8::from(told.is_err()),
-            Failure::Ups(_)
-            | Failure::File(_)
-            | Failure::Listen(_, _)
-            | Failure::Memory
-            | Failure::Io => 1,
+            Failure::Own(_) | Failure::Memory | Failure::Io => 1,
         }
     }
 }

@@ -3,6 +3,7 @@
 use crate::command_line::stdio_command;
 use crate::configuration::read_options;
 use crate::failure::Failure;
+use crate::upsd_fault::UpsdFault;
 use nut_serve::{StreamWorld, serve};
 use nut_server::{Config, Server};
 use std::alloc::Global;
@@ -34,7 +35,7 @@ pub fn run_stdio<S: AsStr, I: Read, O: Write, E: Write>(
 ) -> u8 {
     match serve_words(rt, alloc, words, input, out) {
         Ok(()) => 0,
-        Err(failure) => failure.tell(out, err),
+        Err(failure) => failure.tell("upsd", out, err),
     }
 }
 
@@ -45,7 +46,7 @@ fn serve_words<S: AsStr, I: Read, O: Write>(
     words: &[S],
     input: &mut I,
     out: &mut O,
-) -> Result<(), Failure> {
+) -> Result<(), Failure<UpsdFault>> {
     let matches = stdio_command(alloc)?.try_get_matches_from(words)?;
     let config = read_options(rt, alloc, &matches)?.into_config();
     serve_client(rt, alloc, config, input, out)
@@ -58,7 +59,7 @@ pub fn serve_client<I: Read, O: Write>(
     config: Config,
     input: &mut I,
     out: &mut O,
-) -> Result<(), Failure> {
+) -> Result<(), Failure<UpsdFault>> {
     let mut server = Server::new(alloc, config)?;
     let mut world = StreamWorld::new(input, out);
     serve(rt, &mut server, &mut world)?;

@@ -1,0 +1,120 @@
+//! NOTIFYCMD: the command that is run with the text of a notice.
+
+use crate::text::text_of;
+use nut_conf::UpsmonConf;
+use std::alloc::{AllocError, Global};
+use std::process::{Child, Command, OpenProcess, Processes, Stdio};
+use std::{fmt, io};
+
+/// How many commands may run at a time.
+const MOST_RUNNING: usize = 64;
+
+/// What a command is told of a notice.
+#[derive(Clone, Copy)]
+pub struct Call<'a> {
+    /// The type of the notice, as upsmon.conf has it.
+    pub kind: &'a [u8],
+    /// The UPS as MONITOR has it, empty where the notice is of none.
+    pub ups: &'a [u8],
+    /// The text of the notice.
+    pub text: &'a [u8],
+}
+
+/// Why a command isn't run.
+#[derive(Drop)]
+pub enum CallFault {
+    /// So many are running as may at a time.
+    TooMany,
+    /// It can't be started.
+    NotStarted(io::Error),
+}
+
+impl fmt::Display for CallFault {
+    fn fmt<W: fmt::Write>(&self, f: &mut fmt::Formatter<W>) -> fmt::Result {
+        match self {
+            CallFault::TooMany => write!(f, "is not run: {MOST_RUNNING} of it are running"),
+            CallFault::NotStarted(error) => write!(f, "cannot be started: {error}"),
+        }
+    }
+}
+
+/// NOTIFYCMD, and those runs of it that may not have ended.
+#[derive(Drop)]
+pub struct NotifyCommand<'r, R: Processes> {
+    processes: &'r R,
+    alloc: Global,
+    /// What the shell is to run, where anything is.
+    script: Option<String>,
+    running: Vec<Child<R::Started>>,
+}
+
+impl<'r, R: Processes> NotifyCommand<'r, R> {
+    /// The command that upsmon.conf sets. It takes the place for those that run.
+    pub fn new(
+        processes: &'r R,
+        alloc: Global,
+        config: &UpsmonConf,
+    ) -> Result<NotifyCommand<'r, R>, AllocError> {
+        let script = match &config.notify_cmd {
+            Some(command) => Some(script_of(alloc, command.as_bytes())?),
+            None => None,
+        };
+        Ok(NotifyCommand {
+            processes,
+            alloc,
+            script,
+            running: Vec::with_capacity(alloc, MOST_RUNNING)?,
+        })
+    }
+
+    /// Starts the command, if there is one, and doesn't wait for it.
+    pub fn call(&mut self, call: Call<'_>) -> Result<(), CallFault> {
+        let Some(script) = &self.script else {
+            return Ok(());
+        };
+        if self.running.len() >= MOST_RUNNING {
+            return Err(CallFault::TooMany);
+        }
+        match start(self.processes, self.alloc, script.as_str(), call) {
+            Ok(child) => {
+                let _ = self.running.push(child);
+                Ok(())
+            }
+            Err(error) => Err(CallFault::NotStarted(error)),
+        }
+    }
+
+    /// Takes note of the runs that ended.
+    pub fn reap(&mut self) {
+        self.running.retain_mut(|child| is_running(child));
+    }
+}
+
+/// The command with the text of a notice as its first argument. The shell puts the text there by itself, so that no byte
+/// of it is read as a command.
+fn script_of(alloc: Global, command: &[u8]) -> Result<String, AllocError> {
+    let command = text_of(command);
+    format!(in alloc; "{command} \"$1\"")
+}
+
+fn start<R: Processes>(
+    processes: &R,
+    alloc: Global,
+    script: &str,
+    call: Call<'_>,
+) -> io::Result<Child<R::Started>> {
+    let mut command = Command::new(alloc, "sh")?;
+    command
+        .arg("-c")?
+        .arg(script)?
+        .arg("sh")?
+        .arg(text_of(call.text))?;
+    command.env("NOTIFYTYPE", text_of(call.kind))?;
+    command.env("UPSNAME", text_of(call.ups))?;
+    command.stdin(Stdio::null());
+    command.spawn(processes)
+}
+
+fn is_running<P: OpenProcess>(child: &mut Child<P>) -> bool {
+    matches!(child.try_wait(), Ok(None))
+}

@@ -1,0 +1,20 @@
+//! The numbers of the standard streams.
+
+use std::alloc::{AllocError, Global};
+use std::fs::File;
+use std::rt::Files;
+
+/// How many standard streams there are. Their numbers come before all others.
+const STREAMS: usize = 3;
+
+/// Opens as many files as there are standard streams. While they are kept, the number of a stream that is closed is theirs:
+/// else the next socket would get it, and its other end would be sent what is meant for an operator.
+pub fn hold_closed_streams<F: Files>(files: &F, alloc: Global) -> Result<Vec<F::File>, AllocError> {
+    let mut held = Vec::new(alloc);
+    for _ in 0..STREAMS {
+        if let Ok(file) = File::open(files, "/dev/null") {
+            held.push(file)?;
+        }
+    }
+    Ok(held)
+}

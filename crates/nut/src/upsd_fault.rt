@@ -1,0 +1,49 @@
+//! What upsd alone meets.
+
+use crate::conf_file::FileFault;
+use crate::failure::Failure;
+use nut_conf::FaultKind;
+use nut_server::ServerFault;
+use std::fmt;
+
+/// What upsd alone meets, before anybody is served.
+#[derive(Drop)]
+pub enum UpsdFault {
+    /// A value of `--ups` doesn't read.
+    Ups(FaultKind),
+    /// A file gives no configuration.
+    File(FileFault),
+    /// No listener can be made at this address and port.
+    Listen(String, u16),
+}
+
+impl fmt::Display for UpsdFault {
+    fn fmt<W: fmt::Write>(&self, f: &mut fmt::Formatter<W>) -> fmt::Result {
+        match self {
+            UpsdFault::Ups(fault) => write!(f, "--ups: {fault}"),
+            UpsdFault::File(fault) => write!(f, "{fault}"),
+            UpsdFault::Listen(address, port) => write!(f, "cannot listen on {address}:{port}"),
+        }
+    }
+}
+
+impl From<FaultKind> for Failure<UpsdFault> {
+    fn from(fault: FaultKind) -> Self {
+        match fault {
+            FaultKind::Memory => Failure::Memory,
+            fault => Failure::Own(UpsdFault::Ups(fault)),
+        }
+    }
+}
+
+impl From<FileFault> for Failure<UpsdFault> {
+    fn from(fault: FileFault) -> Self {
+        Failure::Own(UpsdFault::File(fault))
+    }
+}
+
+impl From<ServerFault> for Failure<UpsdFault> {
+    fn from(_: ServerFault) -> Self {
+        Failure::Memory
+    }
+}

@@ -1,0 +1,25 @@
+//! The dialling of addresses.
+
+use mio::net::TcpStream;
+use mio::{Interest, Registry, Token};
+use std::io;
+use std::net::{Net, SocketAddr};
+
+/// Who dials for one link: a net, and where its sockets are watched under which token.
+#[derive(Drop)]
+pub struct Dialler<'a, N> {
+    pub net: &'a N,
+    pub registry: &'a Registry,
+    pub token: Token,
+}
+
+impl<'a, N: Net> Dialler<'a, N> {
+    /// Begins to connect, and has the socket watched.
+    pub fn dial(&self, address: SocketAddr) -> io::Result<TcpStream> {
+        let mut stream = TcpStream::connect(self.net, address)?;
+        let _ = stream.set_nodelay(true);
+        let both = Interest::READABLE | Interest::WRITABLE;
+        self.registry.register(&mut stream, self.token, both)?;
+        Ok(stream)
+    }
+}

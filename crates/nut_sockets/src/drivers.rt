@@ -1,0 +1,105 @@
+//! The links to the drivers.
+
+ghost use Rattle.std.specs.Prelude.{length};
+ghost use Rattle.nut_serve.specs.Record.{IsWithin};
+
+use crate::link::{Heard, Link};
+use crate::text::text;
+use mio::event::Event;
+use mio::net::UnixStream;
+use mio::{Interest, Registry, Token};
+use nut_serve::{Piece, Written};
+use std::alloc::{AllocError, Global};
+use std::io;
+use std::net::Net;
+
+/// The driver of a UPS, which listens on a Unix socket.
+#[derive(Drop)]
+pub struct Driver {
+    name: String,
+    path: String,
+    link: Option<Link<UnixStream>>,
+    /// Whether a call of it failed since it was last connected.
+    is_missed: bool,
+}
+
+impl Driver {
+    /// The driver of a UPS, whose socket is `DRIVER-NAME` in a folder. It isn't connected yet.
+    pub fn new(
+        alloc: Global,
+        folder: &str,
+        driver: &[u8],
+        name: &[u8],
+    ) -> Result<Driver, AllocError> {
+        let driver = text(driver);
+        let name = text(name);
+        Ok(Driver {
+            name: String::from_str(alloc, name)?,
+            path: format!(in alloc; "{folder}/{driver}-{name}")?,
+            link: None,
+            is_missed: false,
+        })
+    }
+
+    /// The name of the UPS.
+    pub fn name(&self) -> &str {
+        self.name.as_str()
+    }
+
+    /// The path of the driver's socket.
+    pub fn path(&self) -> &str {
+        self.path.as_str()
+    }
+
+    /// Whether it is connected.
+    pub fn is_connected(&self) -> bool {
+        self.link.is_some()
+    }
+
+    /// Connects, and has the socket watched.
+    pub fn dial(&mut self, net: &impl Net, registry: &Registry, token: Token) -> io::Result<()> {
+        let mut stream = UnixStream::connect(net, self.path.as_str())?;
+        let both = Interest::READABLE | Interest::WRITABLE;
+        registry.register(&mut stream, token, both)?;
+        self.link = Some(Link::new(stream));
+        self.is_missed = false;
+        Ok(())
+    }
+
+    /// Whether this is the first call that failed since it was last connected.
+    pub fn misses(&mut self) -> bool {
+        let is_first = !self.is_missed;
+        self.is_missed = true;
+        is_first
+    }
+
+    /// Reads.
+    pub fn hear(&mut self, piece: &mut Piece) -> Heard {
+        match &mut self.link {
+            Some(link) => link.hear(piece),
+            None => Heard::Nothing,
+        }
+    }
+
+    /// Offers bytes.
+    pub fn offer(&mut self, bytes: &[u8]) -> Written
+        ensures { IsWithin result (length bytes.now) }
+    {
+        match &mut self.link {
+            Some(link) => link.offer(bytes),
+            None => Written::Failed,
+        }
+    }
+
+    /// Notes what was reported.
+    pub fn note(&mut self, event: &Event) {
+        if let Some(link) = &mut self.link {
+            link.note(event);
+        }
+    }
+
+    /// Closes the link.
+    pub fn close(&mut self) {
+        self.link = None;
+    }
+}

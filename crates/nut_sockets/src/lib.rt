@@ -1,0 +1,28 @@
+//! The real sockets: the worlds of a server and of a monitor, and the dummy driver on its socket.
+#![tactic(auto)]
+
+mod clients;
+mod dialler;
+mod drivers;
+mod dummy_driver;
+mod herald;
+mod host;
+mod link;
+mod links;
+mod mio_mon_world;
+mod mio_world;
+mod ready;
+mod reports;
+mod rounds;
+mod seconds;
+mod sockets;
+mod source;
+mod text;
+mod upstream;
+
+pub use drivers::Driver;
+pub use dummy_driver::DummyDriver;
+pub use herald::Herald;
+pub use mio_mon_world::MioMonWorld;
+pub use mio_world::MioWorld;
+pub use reports::{Report, Reports};

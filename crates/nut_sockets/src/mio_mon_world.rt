@@ -1,0 +1,136 @@
+//! The world of a monitor's links.
+
+ghost use Rattle.std.specs.Prelude.{◌≡◌, ◌==◌, ◌||◌, ℕ, Bool, true, nat_eq, None, length};
+ghost use Rattle.std.specs.List.{list_any};
+
+use crate::herald::Herald;
+use crate::links::Links;
+use crate::reports::Reports;
+use arrayvec::ArrayVec;
+use nut_conf::UpsmonConf;
+use nut_monitor::{Monitor, Notice};
+use nut_serve::{Fault, Piece, Written};
+use nut_watch::{MonWorld, Next};
+use std::alloc::Global;
+use std::io;
+use std::io::Write;
+use std::net::Net;
+use std::time::Clock;
+
+/// The world of a monitor whose servers are reached over TCP.
+///
+/// One thread watches all sockets. A `Moment` comes each second, counted from the start, however much the servers send. A
+/// server whose link isn't made is called at the start and in each second, and nothing waits for its answer: the addresses
+/// of its host are dialled in turn, and one that doesn't answer for five seconds is given up. A host that is named is looked
+/// up at each call, and that does wait for the system's resolver; one that is given by its address isn't looked up.
+///
+/// Notices go to a herald, who is told each second too. It never ends. A fault is that of the wait for the sockets, or of
+/// the clock: what happens to one link is no other's concern. It tells no record.
+#[derive(Drop)]
+pub struct MioMonWorld<'r, 'e, R, H, E> {
+    links: Links<'r, 'e, R, E>,
+    herald: H,
+    late: ArrayVec<usize, 32>,
+    faults: u64,
+}
+
+impl<'r, 'e, R: Net + Clock, H: Herald, E: Write> MioMonWorld<'r, 'e, R, H, E> {
+    /// The world of a monitor that was made with this configuration: the server of each of its MONITOR lines is called.
+    /// Servers that come and go are reported as they do.
+    ///
+    /// # Errors
+    /// Where there is no poll, no clock or no memory.
+    pub fn new(
+        rt: &'r R,
+        alloc: Global,
+        config: &UpsmonConf,
+        herald: H,
+        reports: Reports<'e, E>,
+    ) -> io::Result<MioMonWorld<'r, 'e, R, H, E>>
+        ensures { IfOk result (λ w. w.faults ≡ 0) }
+    {
+        Ok(MioMonWorld {
+            links: Links::new(rt, alloc, config, reports)?,
+            herald,
+            late: ArrayVec::new(),
+            faults: 0,
+        })
+    }
+}
+
+ghost use Rattle.std.specs.Prelude.{◌≢◌, ◌<◌, ◌≤◌, IfOk, IfSome, Some, Ok};
+
+impl<'r, 'e, R: Net + Clock, H: Herald, E: Write> MonWorld for MioMonWorld<'r, 'e, R, H, E> {
+    ghost log = { λ w. None };
+
+    ghost late = { λ w i. list_any (λ x. nat_eq i x) w.late.items };
+
+    ghost fault_count = { λ w. w.faults };
+
+    ghost has_ended = { λ w. ⊥ };
+
+    ghost reached = { λ a b. Unit {0} };
+
+    ghost reached_self = { λ w. tt };
+
+    ghost reached_on = { λ a b c first second. tt };
+
+    fn faults(&self) -> u64 {
+        self.faults
+    }
+
+    fn next(&mut self, monitor: &Monitor, piece: &mut Piece) -> Result<Next, Fault> {
+        self.late.clear();
+        match self.links.next(monitor, piece) {
+            Ok(next) => {
+                if let Next::Moment(_) = next {
+                    self.herald.second();
+                }
+                Ok(next)
+            }
+            Err(_) => {
+                self.faults += 1;
+                Err(Fault)
+            }
+        }
+    }
+
+    fn write(&mut self, i: usize, bytes: &[u8]) -> Result<Written, Fault> {
+        match self.links.offer(i, bytes) {
+            Written::Took(n) => Ok(Written::Took(n)),
+            Written::Failed => Ok(Written::Failed),
+            Written::Later => {
+                if !note_late(&mut self.late, i) {
+                    self.faults += 1;
+                    return Err(Fault);
+                }
+                Ok(Written::Later)
+            }
+        }
+    }
+
+    fn close(&mut self, i: usize) -> Result<(), Fault> {
+        self.links.close(i);
+        Ok(())
+    }
+
+    fn notice(&mut self, monitor: &Monitor, notice: Notice) -> Result<(), Fault> {
+        self.herald.announce(monitor, notice);
+        Ok(())
+    }
+}
+
+/// Notes that a link is late, if that isn't noted yet. It says whether there was room.
+#[tactic(auto, using(crate::proofs::Late::noted_once))]
+fn note_late(late: &mut ArrayVec<usize, 32>, i: usize) -> bool
+    ensures { result ≡ true → (j : ℕ) → list_any (λ x. nat_eq j x) late.new.items ≡ (list_any (λ x. nat_eq j x) late.old.items || (j == i)) }
+{
+    if late.contains(&i) {
+        return true;
+    }
+    if late.is_full() {
+        return false;
+    }
+    late.push(i);
+    true
+}

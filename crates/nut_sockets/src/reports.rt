@@ -1,0 +1,76 @@
+//! What a daemon tells its operator.
+
+use std::io::Write;
+use std::net::SocketAddr;
+use std::{fmt, io};
+
+/// What happened.
+#[derive(Drop)]
+pub enum Report<'a> {
+    /// Clients may connect there.
+    Listening(SocketAddr),
+    /// A UPS is served, whose driver listens on this socket.
+    Serving(&'a str, &'a str),
+    /// The driver of a UPS is connected.
+    Connected(&'a str),
+    /// The driver of a UPS can't be connected.
+    Missed(&'a str, io::Error),
+    /// The driver of a UPS went away.
+    Lost(&'a str),
+    /// A client can't be let in.
+    ShutOut(io::Error),
+    /// A UPS is watched, which is named as in upsmon.conf: whether as primary, and its power value.
+    Watching(&'a str, bool, u32),
+    /// The server of a watched UPS is connected.
+    Reached(&'a str),
+    /// The server of a watched UPS can't be connected.
+    Unreachable(&'a str, io::Error),
+    /// The server of a watched UPS went away.
+    Gone(&'a str),
+}
+
+impl<'a> fmt::Display for Report<'a> {
+    fn fmt<W: fmt::Write>(&self, f: &mut fmt::Formatter<W>) -> fmt::Result {
+        match self {
+            Report::Listening(address) => write!(f, "listening on {address}"),
+            Report::Serving(name, path) => write!(f, "UPS {name}, driver at {path}"),
+            Report::Connected(name) => write!(f, "UPS {name}: driver connected"),
+            Report::Missed(name, error) => write!(f, "UPS {name}: no driver yet: {error}"),
+            Report::Lost(name) => write!(f, "UPS {name}: driver lost"),
+            Report::ShutOut(error) => write!(f, "cannot let a client in: {error}"),
+            Report::Watching(target, is_primary, power) => {
+                let role = if *is_primary { "primary" } else { "secondary" };
+                write!(f, "UPS {target}: watched as {role}, power value {power}")
+            }
+            Report::Reached(target) => write!(f, "UPS {target}: server connected"),
+            Report::Unreachable(target, error) => write!(f, "UPS {target}: no server yet: {error}"),
+            Report::Gone(target) => write!(f, "UPS {target}: server lost"),
+        }
+    }
+}
+
+/// Where reports go, each as one line, if they are wanted.
+#[derive(Drop)]
+pub struct Reports<'a, E> {
+    program: &'static str,
+    err: &'a mut E,
+    are_wanted: bool,
+}
+
+impl<'a, E: Write> Reports<'a, E> {
+    /// Reports of this program that go to `err` if they are wanted.
+    pub fn new(program: &'static str, err: &'a mut E, are_wanted: bool) -> Reports<'a, E> {
+        Reports {
+            program,
+            err,
+            are_wanted,
+        }
+    }
+
+    /// Tells a report, behind the program's name. What can't be told is let go.
+    pub fn tell(&mut self, report: Report<'_>) {
+        if self.are_wanted {
+            let _ = writeln!(self.err, "{}: {report}", self.program);
+        }
+    }
+}

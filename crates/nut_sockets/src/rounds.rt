@@ -1,0 +1,66 @@
+//! The wait for many sockets.
+
+use crate::ready::Ready;
+use crate::seconds::Seconds;
+use mio::{Events, Poll, Registry};
+use std::alloc::Global;
+use std::io;
+use std::net::Net;
+use std::time::{Clock, Duration};
+
+/// How many events one wait gives at most.
+const EVENTS: usize = 128;
+
+/// The wait for many sockets, which are looked at round by round, and for whole seconds.
+#[derive(Drop)]
+pub struct Rounds {
+    poll: Poll,
+    /// What the last wait reported.
+    pub events: Events,
+    /// The sockets to look at.
+    pub ready: Ready,
+    seconds: Seconds,
+    fixed: usize,
+}
+
+impl Rounds {
+    /// Starts now. The sockets with the first tokens, so many as `fixed`, are looked at in the first round and once a
+    /// second, whether they were reported or not.
+    pub fn new(rt: &(impl Net + Clock), alloc: Global, fixed: usize) -> io::Result<Rounds> {
+        let mut ready = Ready::new(alloc)?;
+        ready.insert_first(fixed);
+        ready.turn();
+        Ok(Rounds {
+            poll: Poll::new(rt)?,
+            events: Events::with_capacity(alloc, EVENTS)?,
+            ready,
+            seconds: Seconds::start(rt)?,
+            fixed,
+        })
+    }
+
+    /// Where sockets are registered to be reported.
+    pub fn registry(&self) -> &Registry {
+        self.poll.registry()
+    }
+
+    /// Waits until something is reported or a second is full, or not at all where there is more to look at.
+    pub fn wait(&mut self) -> io::Result<()> {
+        let patience = if self.ready.is_empty() {
+            self.seconds.ahead()
+        } else {
+            Duration::ZERO
+        };
+        self.poll.poll(&mut self.events, Some(patience))
+    }
+
+    /// Begins the next round, and gives the second if one is full.
+    pub fn turn(&mut self, clock: &impl Clock) -> io::Result<Option<u64>> {
+        let moment = self.seconds.pass(clock)?;
+        if moment.is_some() {
+            self.ready.insert_first(self.fixed);
+        }
+        self.ready.turn();
+        Ok(moment)
+    }
+}

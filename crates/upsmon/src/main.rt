@@ -1,0 +1,26 @@
+//! The monitor of UPSes.
+#![tactic(auto)]
+
+use std::process::ExitCode;
+use std::{env, io};
+
+fn main(rt: HostRuntime) -> ExitCode {
+    let err = rt.stderr();
+    let status = match words(&rt) {
+        Ok(words) => nut::run_upsmon(
+            &rt,
+            rt.alloc(),
+            words.as_slice(),
+            &mut io::writer(&rt),
+            &err,
+        ),
+        Err(error) => nut::refuse_arguments("upsmon", &error, &mut io::writer(&err)),
+    };
+    ExitCode::from(status)
+}
+
+/// The words of the command line, the program's name first.
+fn words(rt: &HostRuntime) -> io::Result<Vec<String>> {
+    let words = env::args(rt)?.collect(rt.alloc())?;
+    Ok(words)
+}
