@@ -2,11 +2,22 @@
 # make check         passes all tests; its last line is 'N passed, M failed'
 # make check-peers   joins the programs in bin/ with NUT's own, where those are installed
 # make bench         measures the programs in bin/ on this machine
+# make install       builds, and installs programs, pages, units and examples under PREFIX; install-built doesn't build
+# make uninstall     takes away what install put there
 # make clean         removes what was built
 
-PROGRAMS := upsd dummy_ups upsc upsrw upscmd
+PROGRAMS := upsd dummy_ups upsmon upsc upsrw upscmd
 
-.PHONY: all check check-peers bench clean toolchain $(PROGRAMS)
+# where things are installed, a folder that stands for the root (for packages), the folder of the configuration files, and
+# that of the built programs
+PREFIX ?= /usr/local
+DESTDIR ?=
+CONFDIR ?= /etc/nut
+BIN ?= bin
+
+INSTALLER = PREFIX='$(PREFIX)' DESTDIR='$(DESTDIR)' CONFDIR='$(CONFDIR)' BIN='$(BIN)' sh packaging/install.sh
+
+.PHONY: all check check-peers bench install install-built uninstall clean toolchain $(PROGRAMS)
 
 all: $(PROGRAMS)
 
@@ -24,11 +35,23 @@ check: toolchain
 
 check-peers: all
 	@python3 tests/peers_server.py bin/upsd bin/dummy-ups
+	@python3 tests/peers_clients.py bin/upsd bin/dummy-ups
 	@python3 tests/peers_tools.py bin/upsc bin/upsrw bin/upscmd
+	@python3 tests/peers_monitor.py bin/upsmon
 
 bench: all
 	@python3 bench/stdio.py bin/upsd
 	@python3 bench/sockets.py bin/upsd bin/dummy-ups
+
+install: all
+	@$(MAKE) --no-print-directory install-built
+
+# without the toolchain, which root may not have on its PATH
+install-built:
+	@$(INSTALLER) install $(subst _,-,$(PROGRAMS))
+
+uninstall:
+	@$(INSTALLER) uninstall $(subst _,-,$(PROGRAMS))
 
 clean:
 	rm -rf bin crates/*/out

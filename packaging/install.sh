@@ -1,0 +1,72 @@
+#!/bin/sh
+# Installs the programs, their pages, units and examples, or takes away what that put there:
+#
+#     packaging/install.sh install|uninstall PROGRAM..
+#
+# The environment gives PREFIX, DESTDIR (a folder that stands for the root), CONFDIR (the folder of the configuration
+# files, which is named in units and never written to) and BIN (the folder of the built programs).
+set -eu
+cd "$(dirname "$0")/.."
+
+what=$1
+shift
+root=$DESTDIR$PREFIX
+
+# put MODE FILE TARGET: the one list of what is installed is that of its calls.
+put() {
+    case $what in
+        install) install -C -D -m "$1" "$2" "$root/$3" ;;
+        uninstall) rm -f "$root/$3" ;;
+    esac
+}
+
+# put_filled FILE TARGET: a file that names paths.
+put_filled() {
+    sed -e "s|@PREFIX@|$PREFIX|g" -e "s|@CONFDIR@|$CONFDIR|g" "$1" > "$filled"
+    put 644 "$filled" "$2"
+}
+
+# Where a program goes, as NUT has it: a driver isn't for people, and a server not for everyone.
+folder_of() {
+    case $1 in
+        upsd | upsmon) echo sbin ;;
+        dummy-ups) echo lib/nut ;;
+        *) echo bin ;;
+    esac
+}
+
+if [ "$what" = install ]; then
+    for program in "$@"; do
+        if [ ! -e "$BIN/$program" ]; then
+            echo "$BIN/$program isn't built yet: 'make' builds it" >&2
+            exit 1
+        fi
+    done
+fi
+
+filled=$(mktemp)
+trap 'rm -f "$filled"' EXIT
+
+for program in "$@"; do
+    put 755 "$BIN/$program" "$(folder_of "$program")/$program"
+    put 644 "man/$program.8" "share/man/man8/$program.8"
+    for unit in "packaging/mulgefa-$program.service" "packaging/mulgefa-$program@.service"; do
+        if [ -e "$unit" ]; then
+            put_filled "$unit" "lib/systemd/system/${unit##*/}"
+        fi
+    done
+done
+for page in man/*.5; do
+    put 644 "$page" "share/man/man5/${page##*/}"
+done
+for example in examples/*; do
+    put 644 "$example" "share/mulgefa/${example}"
+done
+put 644 packaging/mulgefa.sysusers lib/sysusers.d/mulgefa.conf
+
+# Folders that nothing else uses go too, once they are empty.
+if [ "$what" = uninstall ]; then
+    for folder in share/mulgefa/examples share/mulgefa lib/nut; do
+        rmdir "$root/$folder" 2> /dev/null || true
+    done
+fi
