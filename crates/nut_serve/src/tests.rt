@@ -1,9 +1,0 @@
-//! What no clause says: rows from outside, and worlds that are slow, late or broken.
-
-mod worlds;
-
-/// The rows of one client, and what they are answered.
-const ROWS: &[u8] = b"ver\nGET UPSDESC x\nFOO\n\"a\n\nLOGOUT\nVER\n";
-
-const ROWS_ANSWERED: &[u8] =
-    b"Network UPS Tools upsd profile 1.2\nERR UNKNOWN-UPS\nERR UNKNOWN-COMMAND\nERR INVALID-ARGUMENT\nOK Goodbye\n";
