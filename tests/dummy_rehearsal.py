@@ -13,10 +13,7 @@ import subprocess
 import sys
 import tempfile
 
-from harness import Failed, build_shim, refusals, run_tests
-
-HERE = os.path.dirname(os.path.abspath(__file__))
-WANTED = os.path.join(os.path.dirname(HERE), "crates", "dummy_rehearsal", "stdout")
+from harness import Rehearsal, ensure, refusals, run_tests
 
 # the lines of a refusal, by what was refused
 SCRIPT = re.compile(r"! no script: out of memory at line [1-9][0-9]*\n")
@@ -27,11 +24,6 @@ ROOM_BEGINS = "A driver and a server\n"
 
 # what the first line changes of the one piece that has two
 FIRST_OF_TWO = ('ups.delay.shutdown "60"', 'ups.delay.shutdown "5"')
-
-
-def ensure(holds, what):
-    if not holds:
-        raise Failed(what)
 
 
 def standing(step, table, refusal):
@@ -79,13 +71,9 @@ def check(at, status, out, wanted):
     return kind_of(lines[: told[0]], refusal)
 
 
-class Tests:
+class Tests(Rehearsal):
     def __init__(self, program, folder):
-        self.program = program
-        self.folder = folder
-        self.shim = build_shim(folder)
-        with open(WANTED) as file:
-            self.wanted = file.read()
+        super().__init__("dummy_rehearsal", program, folder)
 
     def test_each_allocation_refused_in_turn(self):
         """Runs with the first allocation refused, then with the second, and so on, up to one that isn't reached."""

@@ -23,6 +23,11 @@ def expect(found, wanted, what):
         raise Failed(f"{what}: found {found!r}, wanted {wanted!r}")
 
 
+def ensure(holds, what):
+    if not holds:
+        raise Failed(what)
+
+
 def build_shim(folder):
     """Builds the library that makes a program's calls fail, out of refuse.c, and gives its path."""
     shim = os.path.join(folder, "refuse.so")
@@ -56,6 +61,17 @@ def refusals(shim, kind="allocation"):
     """The number of each call of a kind in turn, with what `refusing` gives of it."""
     for at in itertools.count(1):
         yield at, *refusing(shim, kind, at)
+
+
+class Rehearsal:
+    """Tests of a program that plays scenes in memory, and prints what its crate has stored."""
+
+    def __init__(self, crate, program, folder):
+        self.program = program
+        self.folder = folder
+        self.shim = build_shim(folder)
+        with open(os.path.join(os.path.dirname(HERE), "crates", crate, "stdout")) as file:
+            self.wanted = file.read()
 
 
 def run_tests(tests, names=(), install=""):

@@ -15,10 +15,7 @@ import subprocess
 import sys
 import tempfile
 
-from harness import Failed, build_shim, refusals, run_tests
-
-HERE = os.path.dirname(os.path.abspath(__file__))
-WANTED = os.path.join(os.path.dirname(HERE), "crates", "monitor_rehearsal", "stdout")
+from harness import Rehearsal, ensure, refusals, run_tests
 
 WITH_A_LOSS = "With a link lost: "
 ONCE_MORE = "! once more\n"
@@ -27,11 +24,6 @@ LOST = "> link {} is lost\n"
 CLOSED = "link {} is closed\n"
 WAITS = re.compile(r"! ([0-9]+) bytes wait for link ([0-9]+)\n")
 ASKED = re.compile(r"link ([0-9]+) is asked ((?s:.)*)")
-
-
-def ensure(holds, what):
-    if not holds:
-        raise Failed(what)
 
 
 def scenes_of(lines):
@@ -90,13 +82,9 @@ def standing(scene, told):
     return "close"
 
 
-class Tests:
+class Tests(Rehearsal):
     def __init__(self, program, folder):
-        self.program = program
-        self.folder = folder
-        self.shim = build_shim(folder)
-        with open(WANTED) as file:
-            self.wanted = file.read()
+        super().__init__("monitor_rehearsal", program, folder)
         scenes = scenes_of(self.wanted.splitlines(keepends=True))
         self.losses = [scene for scene in scenes if scene[0].startswith(WITH_A_LOSS)]
         self.scenes = scenes[: len(scenes) - len(self.losses)]
