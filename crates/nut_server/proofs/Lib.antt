@@ -17,3 +17,4 @@ pub mod Arrives
 pub mod Heard
 pub mod Settled
 pub mod Limited
+mod WholeLine

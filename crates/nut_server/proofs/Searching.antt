@@ -1,9 +1,9 @@
 -- A search for a number among rising keys.
-use Rattle.std.proofs.Common.{◌≡◌, ◌≢◌, ℕ, zero, suc, ◌<◌, ◌≤◌, false, eqb, List, [], ◌∷◌, length, refl, sym, subst, ◌∙◌, ap, arith, Option, Some, None, Result, Ok, Err, IfNone, IfSome, get_or, slice_get}
+use Rattle.std.proofs.Common.{◌≡◌, ◌≢◌, ℕ, zero, suc, ◌<◌, ◌≤◌, false, true, eqb, ltb, List, [], ◌∷◌, length, refl, sym, subst, ◌∙◌, ap, arith, Option, Some, None, Result, Ok, Err, IfNone, IfSome, get_or, slice_get}
 use Rattle.std.specs.Result.{result_ok}
 use Rattle.std.specs.List.Sorted.{IsSearchInRange, IsBinarySearchResult, IsNonDecreasingBy}
 use Rattle.std.specs.Ordering.{nat_cmp, ordering_index}
-use Rattle.std.proofs.lemmas.Bool.{eq-eqb, ne_eqb}
+use Rattle.std.proofs.lemmas.Bool.{eq-eqb, ne_eqb, ltb-true}
 use Rattle.std.proofs.lemmas.Bool.Decides.{nat_tests}
 use Rattle.std.proofs.lemmas.Cmp.{ranked}
 use Rattle.std.proofs.lemmas.Option.{slice_get-get_or}
@@ -56,6 +56,19 @@ found_at c ks at k rising is number = let place = placed ks at rising is in reco
   placed (x ∷ ks) zero rising is = let same : x ≡ k = cc in eq-eqb x.number c (ap (λ k. k.number) same ∙ number)
   placed (x ∷ ks) (suc at) rising is = (ne_eqb x.number c (λ e. omega (arith, e, number, session_below x.number ks at k rising.0 is)), placed ks at rising.1 is)
 
+-- the key with the number c tells where it stands
+keyed_at : (slots : Slab Session) (order : List Key) (c at : ℕ) (key : Key) → AreNamed slots order → IsRising (key_numbers order) → slice_get order at ≡ Some key → key.number ≡ c
+    → Stands c (sessions_of slots order) at
+keyed_at slots order c at key named rising there number =
+    let k = named_at slots order at key named there in
+    found_at c (sessions_of slots order) at k.0 (sessions_rise slots order named rising) (session_at slots order at key named there ∙ k.1) (k.2 ∙ number)
+
+pub stands_by_key : (e : Inside) (ks : List Session) (c at : ℕ) (order : List Key) (key : Key) → AreEntries e → sessions_of e.slots e.order.items ≡ ks → order ≡ e.order.items
+    → true ≡ ltb at (length order) → key ≡ get_or order at key → key.number ≡ c → Stands c ks at
+stands_by_key e ks c at order key are view is within read number =
+    let there : slice_get order at ≡ Some key = slice_get-get_or order at key (ltb-true at (length order) (sym within)) ∙ ap Some (sym read) in
+    subst (λ ks. Stands c ks at) view (keyed_at e.slots e.order.items c at key are.named are.rising (ap (λ order. slice_get order at) (sym is) ∙ there) number)
+
 -- what is answered of the number c
 pub record IsFound (c : ℕ) (ks : List Session) (o : Option ℕ) : Type 0 where
   pub none : IfNone o (session_of c ks ≡ None)
@@ -70,9 +83,7 @@ by_result slots order c (Ok at) named rising within equal =
     let d : Key = record { number = 0; slot = 0; unsettled = false } in
     let key = get_or order at d in
     let there : slice_get order at ≡ Some key = slice_get-get_or order at d within in
-    let k = named_at slots order at key named there in
-    let number : key.number ≡ c = ranked key.number c _ (sym (equal d)) in
-    record { none = tt; some = found_at c (sessions_of slots order) at k.0 (sessions_rise slots order named rising) (session_at slots order at key named there ∙ k.1) (k.2 ∙ number) }
+    record { none = tt; some = keyed_at slots order c at key named rising there (ranked key.number c _ (sym (equal d))) }
 by_result slots order c (Err at) named rising within parted =
     record { none = none_there slots order c named differs; some = tt } where
       differs : (i : ℕ) (d : Key) → i < length order → (get_or order i d).number ≢ c

@@ -15,7 +15,6 @@ use Rattle.nut_proto.specs.Keywords.{subject_of, is_subject, is_command, command
 use Rattle.nut_proto.specs.Rules.{none, one, two, three, credential, is_credential}
 use Rattle.nut_proto.specs.Forms.{Rule, Form, about, forms, first_fit, meaning_by, meaning}
 use Rattle.nut_history.specs.Command.{Asks, asked}
-use Rattle.nut_server.specs.Asking.{command_read}
 use Rattle.nut_server.specs.Effects.{HasShortNames}
 
 abbrev IsShort : Option Request → Type 0
@@ -160,9 +159,8 @@ of_meaning : (o : Option keywords.Command) (words : List (List ℕ)) → HasShor
 of_meaning None words = tt
 of_meaning (Some command) words = of_result (first_fit forms command words) (of_fit forms command words all_short)
 
--- what a line that was read says
-pub short_read : (words : Option (List (List ℕ))) → HasShortNames (command_read words)
+-- what words ask for
+pub short_read : (words : List (List ℕ)) → HasShortNames (asked (meaning words))
 unfolding meaning
-short_read None = tt
-short_read (Some []) = tt
-short_read (Some (word ∷ words)) = of_meaning (command_of word) words
+short_read [] = tt
+short_read (word ∷ words) = of_meaning (command_of word) words

@@ -4,7 +4,6 @@ pub mod Place
 pub mod Inside
 pub mod Verdicts
 pub mod Configured
-pub mod Asking
 pub mod Answers
 pub mod Access
 pub mod Rows

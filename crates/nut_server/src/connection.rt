@@ -1,11 +1,11 @@
 //! An open connection.
 
-ghost use Rattle.std.specs.Prelude.{◌≡◌, ◌≤◌, ◌++◌, [], true, Some, None, drop, length, map, option_map, OnOk, OnErr};
+ghost use Rattle.std.specs.Prelude.{◌≡◌, ◌≤◌, ◌++◌, [], ◌∷◌, true, Some, None, IfSome, OnSome, drop, length, map, option_map, OnOk, OnErr};
 ghost use Rattle.nut_words.specs.Cutter.{kept_of};
 ghost use Rattle.nut_queue.specs.Front.{IsFrontPart};
 ghost use Rattle.nut_history.specs.Acceptance.{may_read, leaves};
 ghost use Rattle.nut_history.specs.Answer.{is_logged_in};
-ghost use Rattle.nut_words.specs.Lines.{Text};
+ghost use Rattle.nut_words.specs.Lines.{Text, lines};
 ghost use Rattle.nut_history.specs.Machine.{fresh, with_rest};
 ghost use Rattle.nut_server.specs.Effects.{affected, said};
 ghost use Rattle.nut_server.specs.Inside.{IsRest};
@@ -193,6 +193,16 @@ impl Connection {
                 self.logged_out = true;
             }
         }
+    }
+
+    /// The line that a piece is, where nothing is kept of a line and the piece ends with its line feed. None where it is
+    /// otherwise, or the line is too long.
+    pub fn whole_line<'a>(&self, piece: &'a [u8]) -> Option<&'a [u8]>
+        ensures start { OnSome result (self.now.rest ≡ Text []) }
+        ensures whole { IfSome result (λ line. piece.now ≡ line.now ++ 10 ∷ []) }
+        ensures line { IfSome result (λ line. lines piece.now ≡ Text line.now ∷ []) }
+    {
+        self.cutter.whole_line(piece)
     }
 
     /// Takes the cutter of its lines out, which leaves an empty one.

@@ -122,11 +122,28 @@ impl Connections {
         &self.slots[self.order[index].slot]
     }
 
+    /// Where the connection with this number stands, if it stands as far behind the oldest as it was opened after it: so
+    /// does each where none of those between was closed.
+    fn likely_place(&self, c: u64) -> Option<usize>
+        ensures { IfSome result (Stands c self.now) }
+    {
+        let oldest = self.order.as_slice().first()?;
+        let place = c.wrapping_sub(oldest.number) as usize;
+        let key = self.order.as_slice().get(place)?;
+        if key.number != c {
+            return None;
+        }
+        Some(place)
+    }
+
     /// Where the connection with this number stands.
     pub fn place_of(&self, c: u64) -> Option<usize>
         ensures none { IfNone result (session_of c self.now ≡ None) }
         ensures some { IfSome result (Stands c self.now) }
     {
+        if let Some(place) = self.likely_place(c) {
+            return Some(place);
+        }
         self.order
             .as_slice()
             .binary_search_by_key(&c, |key| key.number)

@@ -3,15 +3,14 @@
 ghost use Rattle.std.specs.Prelude.{◌≡◌, ◌≤◌, ℕ, List, length};
 ghost use Rattle.nut_proto.specs.declared.request.Request.TheVariants as requests;
 ghost use Rattle.nut_history.specs.Command as definitions;
+ghost use Rattle.nut_history.specs.Command.{asked};
 ghost use Rattle.nut_history.specs.Content.{Session};
-ghost use Rattle.nut_server.specs.Asking.{meant};
 ghost use Rattle.nut_server.specs.Effects.{affected, decided, HasShortNames};
 
-use crate::command::Command;
 use crate::config::Config;
 use crate::credential::Credential;
 use crate::verdict::Verdict;
-use nut_proto::Request;
+use nut_proto::{Refusal, Request};
 
 /// What a line does to its connection besides the answer that waits.
 #[derive(Drop)]
@@ -27,12 +26,12 @@ pub enum Effect {
     Logout,
 }
 
-/// What a command that is answered `OK` does to its connection.
-fn effect_of_accepted(config: &Config, command: &Command<'_>) -> Effect
-    requires { HasShortNames (meant command.now) }
-    ensures { (k : Session) → affected result k ≡ decided config.now (meant command.now) Verdict.Accepted k }
+/// What a request that is answered `OK` does to its connection.
+fn effect_of_accepted(config: &Config, request: &Result<Request<'_>, Refusal>) -> Effect
+    requires { HasShortNames (asked request.now) }
+    ensures { (k : Session) → affected result k ≡ decided config.now (asked request.now) Verdict.Accepted k }
 {
-    let Command::Asks(request) = command else {
+    let Ok(request) = request else {
         return Effect::Nothing;
     };
     match request {
@@ -58,13 +57,17 @@ fn effect_of_accepted(config: &Config, command: &Command<'_>) -> Effect
     }
 }
 
-/// What a command does to its connection, by what its answer decides.
-pub fn effect_of(config: &Config, command: &Command<'_>, verdict: Verdict) -> Effect
-    requires { HasShortNames (meant command.now) }
-    ensures { (k : Session) → affected result k ≡ decided config.now (meant command.now) verdict k }
+/// What a request, or a line that is none, does to its connection, by what its answer decides.
+pub fn effect_of(
+    config: &Config,
+    request: &Result<Request<'_>, Refusal>,
+    verdict: Verdict,
+) -> Effect
+    requires { HasShortNames (asked request.now) }
+    ensures { (k : Session) → affected result k ≡ decided config.now (asked request.now) verdict k }
 {
     match verdict {
-        Verdict::Accepted => effect_of_accepted(config, command),
+        Verdict::Accepted => effect_of_accepted(config, request),
         Verdict::Goodbye => Effect::Logout,
         Verdict::FsdSet | Verdict::Other => Effect::Nothing,
     }

@@ -6,7 +6,6 @@ mod address;
 mod answer;
 mod arrival;
 mod changes;
-mod command;
 mod config;
 mod connection;
 mod connections;

@@ -2,14 +2,13 @@
 
 ghost use Rattle.std.specs.Prelude.{◌≡◌, ◌++◌, IfOk, OnOk};
 ghost use Rattle.nut_history.specs.Answer.{answer, answer_request, text_of};
+ghost use Rattle.nut_history.specs.Command.{asked};
 ghost use Rattle.nut_history.specs.Machine.{caller_of};
 ghost use Rattle.nut_server.specs.Answers.{given, outcome};
-ghost use Rattle.nut_server.specs.Asking.{meant};
 ghost use Rattle.nut_server.specs.Verdicts.{verdict_of};
 
 use crate::answer::Answer;
 use crate::changes::{become_primary, force, give_command, log_in, once, set_variable};
-use crate::command::Command;
 use crate::connection::Connection;
 use crate::lists::list_answer;
 use crate::queries::{
@@ -72,32 +71,35 @@ fn answer_request<'a>(
     }
 }
 
-/// The answer to a command.
-fn answer_to<'a>(scene: &'a Scene<'_>, caller: &Connection, command: &'a Command<'_>) -> Answer<'a>
-    ensures { given result ≡ answer scene.now (caller_of caller.now) (meant command.now) }
+/// The answer to a request, or to a line that is none.
+fn answer_to<'a>(
+    scene: &'a Scene<'_>,
+    caller: &Connection,
+    request: &'a Result<Request<'_>, Refusal>,
+) -> Answer<'a>
+    ensures { given result ≡ answer scene.now (caller_of caller.now) (asked request.now) }
 {
-    match command {
-        Command::Blank => Answer::Silence,
-        Command::Malformed(refusal) => Answer::Line(Reply::Refused(*refusal)),
-        Command::Asks(request) => match answer_request(scene, caller, request) {
+    match request {
+        Err(refusal) => Answer::Line(Reply::Refused(*refusal)),
+        Ok(request) => match answer_request(scene, caller, request) {
             Ok(answer) => answer,
             Err(refusal) => Answer::Line(Reply::Refused(refusal)),
         },
     }
 }
 
-/// Appends the answer to a command, and says what it decides. An `Err` is for want of memory: then `out` may have a
+/// Appends the answer to a request, or to a line that is none, and says what it decides. An `Err` is for want of memory: then `out` may have a
 /// part of the answer.
 pub fn reply(
     scene: &Scene<'_>,
     caller: &Connection,
-    command: &Command<'_>,
+    request: &Result<Request<'_>, Refusal>,
     out: &mut Vec<u8>,
 ) -> Result<Verdict, AllocError>
-    ensures text { OnOk result (out.new.items ≡ out.old.items ++ text_of (answer scene.now (caller_of caller.now) (meant command.now))) }
-    ensures verdict { IfOk result (λ v. v ≡ verdict_of (answer scene.now (caller_of caller.now) (meant command.now))) }
+    ensures text { OnOk result (out.new.items ≡ out.old.items ++ text_of (answer scene.now (caller_of caller.now) (asked request.now))) }
+    ensures verdict { IfOk result (λ v. v ≡ verdict_of (answer scene.now (caller_of caller.now) (asked request.now))) }
 {
-    let answer = answer_to(scene, caller, command);
+    let answer = answer_to(scene, caller, request);
     put_answer(out, &answer)?;
     Ok(answer.verdict())
 }

@@ -1,5 +1,5 @@
 //! Lines out of a stream of bytes that comes in any pieces.
-ghost use Rattle.std.specs.Prelude.{◌≡◌, ◌≢◌, ◌≤◌, [], ◌∷◌, ◌++◌, List, ℕ, length, take, IfNone, OnSome, IsTrue, ◌<◌};
+ghost use Rattle.std.specs.Prelude.{◌≡◌, ◌≢◌, ◌≤◌, [], ◌∷◌, ◌++◌, List, ℕ, length, take, IfNone, IfSome, IsSome, OnSome, IsTrue, All, ◌<◌, ◌↔◌};
 ghost use Rattle.std.specs.Borrow.{sem};
 ghost use Rattle.nut_words.specs.Lines.{Text, joined, lines, lines_after, rest, rest_after};
 ghost use Rattle.nut_words.specs.Cutter.{LeavesRest, handed_out, kept_of};
@@ -74,7 +74,7 @@ impl LineCutter {
 
     /// Whether nothing is kept, so that the next byte begins a line.
     fn is_at_start(&self) -> bool
-        ensures { IsTrue result → self.now ≡ Text [] }
+        ensures { IsTrue result ↔ (self.now ≡ Text []) }
     {
         match self.stage {
             Stage::Growing => self.kept.is_empty(),
@@ -103,6 +103,25 @@ impl LineCutter {
                 };
             }
         }
+    }
+
+    /// The line that a piece of the stream is, where no byte of it came before and the piece ends with it: it then lies in
+    /// the piece, and the cutter stays at the start of a line. None where it is otherwise, or the line is too long.
+    pub fn whole_line<'a>(&self, piece: &'a [u8]) -> Option<&'a [u8]>
+        ensures start { OnSome result (self.now ≡ Text []) }
+        ensures whole { IfSome result (λ line. piece.now ≡ line.now ++ 10 ∷ []) }
+        ensures line { IfSome result (λ line. lines piece.now ≡ Text line.now ∷ []) }
+        ensures taken { (text : List ℕ) → self.now ≡ Text [] → piece.now ≡ text ++ 10 ∷ [] → All (λ b. b ≢ 10) text
+            → length text ≤ 512 → IsSome result }
+    {
+        if !self.is_at_start() {
+            return None;
+        }
+        let at = memchr(b'\n', piece)?;
+        if at > LINE_MAX || at + 1 < piece.len() {
+            return None;
+        }
+        Some(&piece[..at])
     }
 
     /// Takes the next piece of the stream up to its first line feed, and gives the line that this completes and how many

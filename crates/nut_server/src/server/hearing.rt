@@ -1,31 +1,30 @@
 //! What clients say: each line is answered, and then does what its answer decides.
 
-ghost use Rattle.std.specs.Prelude.{◌≡◌, ◌<◌, ◌≤◌, ℕ, List, Some, true, IfErr, IsTrue, OnOk, OnErr, length, slice_get};
+ghost use Rattle.std.specs.Prelude.{◌≡◌, ◌<◌, ◌≤◌, ℕ, List, Some, Ok, Err, true, false, IfErr, IsTrue, OnOk, OnErr, length, slice_get};
 ghost use Rattle.nut_proto.specs.DriverAsks.{ask_line};
 ghost use Rattle.nut_words.specs.Cutter.{line_of};
+ghost use Rattle.nut_words.specs.declared.words.WordFault.TheVariants.{Memory};
 ghost use Rattle.nut_history.specs.Acceptance.{front, line_feeds};
 ghost use Rattle.nut_history.specs.Answer.{answer, device_at};
-ghost use Rattle.nut_history.specs.Command.{command_of};
+ghost use Rattle.nut_history.specs.Command.{asked, command_in, command_of};
 ghost use Rattle.nut_history.specs.Configuration.{number_of_ups};
 ghost use Rattle.nut_history.specs.Content.{Session};
 ghost use Rattle.nut_history.specs.Device.{fits};
 ghost use Rattle.nut_history.specs.Effect.{target, request_of};
 ghost use Rattle.nut_history.specs.Machine.{act_on, acted, answer_in, bytes_heard, caller_of, scene_of, with_supplies, without, with_sessions};
-ghost use Rattle.nut_history.specs.Outcome.{content_lost, line_takes, MayRunOut};
-ghost use Rattle.nut_server.specs.Asking.{meant};
+ghost use Rattle.nut_history.specs.Outcome.{content_lost, is_blank, line_takes, with_backslash, MayRunOut};
 ghost use Rattle.nut_server.specs.Effects.{HasShortNames, answered_by, forced, reply_of, requesting};
 ghost use Rattle.nut_server.specs.Place.{Stands};
 
-use crate::command::{Command, command_read, read_line};
 use crate::effect::effect_of;
 use crate::reply::reply;
 use crate::scene::Scene;
 use crate::server::Server;
 use crate::verdict::Verdict;
 use arrayvec::ArrayVec;
-use nut_proto::{DriverAsk, Request, Word};
-use nut_words::Line;
-use std::alloc::AllocError;
+use nut_proto::{DriverAsk, Refusal, Request, Word, read};
+use nut_words::{Line, WordFault, Words, split};
+use std::alloc::{AllocError, Global};
 
 impl Server {
     /// A shutdown of the UPS of this name was forced.
@@ -55,15 +54,15 @@ impl Server {
         }
     }
 
-    /// Does what a command does to a UPS and its driver.
-    fn act(&mut self, command: &Command<'_>, verdict: Verdict)
-        requires { (u : ℕ) (line : List ℕ) → target self.old.configuration (meant command.now) ≡ Some u
-            → request_of (meant command.now) (reply_of verdict) ≡ Some line
+    /// Does what a request does to a UPS and its driver.
+    fn act(&mut self, request: &Result<Request<'_>, Refusal>, verdict: Verdict)
+        requires { (u : ℕ) (line : List ℕ) → target self.old.configuration (asked request.now) ≡ Some u
+            → request_of (asked request.now) (reply_of verdict) ≡ Some line
             → fits line (device_at (scene_of self.old) u) ≡ true }
-        ensures { self.new ≡ with_supplies (act_on (target self.old.configuration (meant command.now))
-            (acted (meant command.now) (reply_of verdict)) self.old.supplies) self.old }
+        ensures { self.new ≡ with_supplies (act_on (target self.old.configuration (asked request.now))
+            (acted (asked request.now) (reply_of verdict)) self.old.supplies) self.old }
     {
-        let Command::Asks(request) = command else {
+        let Ok(request) = request else {
             return;
         };
         match request {
@@ -115,14 +114,18 @@ impl Server {
 }
 
 impl Server {
-    /// Answers a command of the connection at this place, and does what the answer decides. At an `Err` it left no
-    /// trace.
-    fn hear_command(&mut self, at: usize, command: &Command<'_>) -> Result<(), AllocError>
+    /// Answers a request of the connection at this place, or a line that is none, and does what the answer decides. At an
+    /// `Err` it left no trace.
+    fn hear_request(
+        &mut self,
+        at: usize,
+        request: &Result<Request<'_>, Refusal>,
+    ) -> Result<(), AllocError>
         requires within { at < length self.old.sessions }
-        requires short { HasShortNames (meant command.now) }
+        requires short { HasShortNames (asked request.now) }
         ensures ok { (c : ℕ) (k : Session) → Stands c self.old.sessions at → slice_get self.old.sessions at ≡ Some k
-            → OnOk result (self.new ≡ answered_by c (meant command.now)
-            (answer (scene_of self.old) (caller_of k) (meant command.now)) self.old) }
+            → OnOk result (self.new ≡ answered_by c (asked request.now)
+            (answer (scene_of self.old) (caller_of k) (asked request.now)) self.old) }
         ensures err { OnErr result (self.new ≡ self.old) }
     {
         self.scratch.clear();
@@ -132,12 +135,28 @@ impl Server {
             devices: self.devices.as_slice(),
             connections: &self.connections,
         };
-        let verdict = reply(&scene, self.connections.at(at), command, &mut self.scratch)?;
-        let effect = effect_of(&self.config, command, verdict);
+        let verdict = reply(&scene, self.connections.at(at), request, &mut self.scratch)?;
+        let effect = effect_of(&self.config, request, verdict);
         self.connections
             .answer(at, self.scratch.as_slice(), effect)?;
-        self.act(command, verdict);
+        self.act(request, verdict);
         Ok(())
+    }
+
+    /// Takes the words of a line of the connection at this place, whose client hasn't logged out. At an `Err` it left no
+    /// trace.
+    fn hear_words(&mut self, at: usize, words: &Words<'_>) -> Result<(), AllocError>
+        requires { at < length self.old.sessions }
+        ensures ok { (c : ℕ) (k : Session) → Stands c self.old.sessions at → slice_get self.old.sessions at ≡ Some k
+            → k.logged_out ≡ false → OnOk result (self.new ≡ answered_by c (command_in (Ok words.now))
+            (answer_in self.old (command_in (Ok words.now)) k) self.old) }
+        ensures err { OnErr result (self.new ≡ self.old) }
+        ensures memory { OnErr result (is_blank (command_in (Ok words.now)) ≡ false) }
+    {
+        if words.is_empty() {
+            return Ok(());
+        }
+        self.hear_request(at, &read(words))
     }
 
     /// Takes a line of the connection at this place, which isn't answered where the client has logged out. At an `Err`
@@ -154,19 +173,44 @@ impl Server {
         if self.connections.at(at).has_logged_out() {
             return Ok(());
         }
-        let words = read_line(self.alloc, line)?;
-        let command = command_read(&words);
-        if let Command::Blank = command {
-            return Ok(());
+        match &words_of(self.alloc, line) {
+            Ok(words) => self.hear_words(at, words),
+            Err(WordFault::Memory) => Err(AllocError),
+            Err(
+                WordFault::BadByte
+                | WordFault::OpenQuote
+                | WordFault::LoneBackslash
+                | WordFault::QuoteInWord
+                | WordFault::AfterQuote
+                | WordFault::TooManyWords,
+            ) => self.hear_request(at, &Err(Refusal::InvalidArgument)),
         }
-        self.hear_command(at, &command)
     }
 }
 
 impl Server {
-    /// Takes a piece of the connection with this number, which stands at this place, line by line. An `Err` tells how
-    /// many lines were done when memory ran out; the connection is then closed.
+    /// Takes a piece of the connection with this number, which stands at this place. An `Err` tells how many lines were
+    /// done when memory ran out; the connection is then closed.
     pub(super) fn hear(&mut self, c: u64, at: usize, piece: &[u8]) -> Result<(), usize>
+        requires { Stands c self.old.sessions at }
+        ensures ok { OnOk result (self.new ≡ bytes_heard c piece.now self.old) }
+        ensures lost { IfErr result (λ done. self.new ≡ content_lost c piece.now done self.old) }
+        ensures few { IfErr result (λ done. done < line_feeds piece.now) }
+        ensures memory { IfErr result (λ done. MayRunOut c piece.now done self.old) }
+    {
+        // Most pieces are one line. It is read where it lies.
+        let Some(text) = self.connections.at(at).whole_line(piece) else {
+            return self.hear_lines(c, at, piece);
+        };
+        if self.hear_line(at, Line::Text(text)).is_err() {
+            self.connections.remove(c);
+            return Err(0);
+        }
+        Ok(())
+    }
+
+    /// The same, line by line.
+    fn hear_lines(&mut self, c: u64, at: usize, piece: &[u8]) -> Result<(), usize>
         requires { Stands c self.old.sessions at }
         ensures ok { OnOk result (self.new ≡ bytes_heard c piece.now self.old) }
         ensures lost { IfErr result (λ done. self.new ≡ content_lost c piece.now done self.old) }
@@ -189,5 +233,16 @@ impl Server {
             done += 1;
             left = &left[used..];
         }
+    }
+}
+
+/// The words of a line, or why it has none. A line that is too long to be kept has too many.
+fn words_of<'a>(alloc: Global, line: Line<'a>) -> Result<Words<'a>, WordFault>
+    ensures command { (result ≡ Err Memory → ⊥) → command_in result ≡ command_of (line_of line.entry) }
+    ensures memory { result ≡ Err Memory → IsTrue (with_backslash (line_of line.entry)) }
+{
+    match line {
+        Line::Text(text) => split(alloc, text),
+        Line::TooLong => Err(WordFault::TooManyWords),
     }
 }

@@ -22,7 +22,7 @@ returns-then-is_at_start c =
     let p = c.args.piece.now in
     let k = c.in-Some.at in
     let at : FeedAt p k = FeedAt-found p k c.in-Some.ensures.0 c.in-Some.ensures.1 in
-    let start : c.args.self.now ≡ Text [] = c.is_at_start.ensures c.if-is_at_start.true in
+    let start : c.args.self.now ≡ Text [] = c.is_at_start.ensures.0 c.if-is_at_start.true in
     let line : Text (take k p) ≡ joined c.args.self.now (take k p) = joined_nothing p k at c.if-at-le-LINE_MAX.true ∙ ap (λ x. joined x (take k p)) (sym start) in (
       (refl, (λ _. tt), ((λ b e. start ∙ rest_ended p k at b), start)),
       record { after_borrow = tt; line = λ b e. lines_ended _ _ p k at line b e; used = omega (arith, at.within); all = tt; some = omega arith },

@@ -1,13 +1,13 @@
 use Rattle.std.proofs.Common.{◌≡◌, ◌++◌, ℕ, List, Some, ap, sym, subst, ◌∙◌, arith, length, map}
 use Rattle.nut_history.specs.Answer.{Answer, answer, text_of}
+use Rattle.nut_history.specs.Command.{asked}
 use Rattle.nut_history.specs.Content.{Session, Content}
 use Rattle.nut_history.specs.Laws.{IsUpTo}
 use Rattle.nut_history.specs.Machine.{caller_of, scene_of}
-use Rattle.nut_server.specs.Asking.{meant}
 use Rattle.nut_server.specs.Verdicts.{verdict_of}
 use Rattle.nut_server.specs.contracts.server.Server.{the_view}
 use Rattle.nut_server.proofs.Saying.{answered_all}
-use Rattle.nut_server.proofs.server.Server.hear_command.Goals as goal
+use Rattle.nut_server.proofs.server.Server.hear_request.Goals as goal
 
 pub invariant_of-self-2 : goal.invariant_of-self-2
 invariant_of-self-2 c =
@@ -25,7 +25,7 @@ pub returns-clause-ok : goal.returns-clause-ok
 returns-clause-ok c =
     rw (← c.self.view_is) (λ c' k stands there.
     let v = the_view c.self.inside in
-    let command = meant c.args.command.now in
+    let command = asked c.args.request.now in
     let found : Some c.at.result.now ≡ Some k = sym c.at.ensures ∙ there in
     let caller : c.at.result.now ≡ k = cc in
     let R : List Rattle.nut_history.specs.Content.Supply → Session → Answer = λ ds k. answer (record (scene_of v) { devices = map (λ d. d.device) ds }) (caller_of k) command in

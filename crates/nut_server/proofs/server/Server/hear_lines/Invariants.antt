@@ -5,7 +5,7 @@ use Rattle.nut_history.specs.Machine.{bytes_heard}
 use Rattle.nut_history.specs.Outcome.{behind}
 use Rattle.nut_history.proofs.Hearing.{with_unfinished}
 use Rattle.nut_server.specs.Place.{Stands}
-use Rattle.nut_server.proofs.server.Server.hear.Given as goal
+use Rattle.nut_server.proofs.server.Server.hear_lines.Given as goal
 
 -- The piece was heard through as many line feeds as lines are done.
 abbrev pub invariant-loop-line : goal.invariant-loop-line
