@@ -1,12 +1,12 @@
 -- What is over stays as it is.
-use Rattle.std.proofs.Common.{◌≡◌, ◌⊎◌, ℕ, true, List, [], ◌∷◌, ◌++◌, Option, Some, None, Result, Err, refl, sym, ap, ◌∙◌, inl, inr}
-use Rattle.std.proofs.lemmas.List.{append_assoc}
+use Rattle.std.proofs.Common.{◌≡◌, ◌⊎◌, ◌<◌, ℕ, true, List, [], ◌∷◌, ◌++◌, length, Some, None, Result, Err, IfErr, refl, sym, ap, subst, ◌∙◌, inl, inr}
+use Rattle.std.proofs.lemmas.List.{append_assoc, append-nil}
 use Rattle.std.specs.Io.KnownBytes.{prepend_known}
 use Rattle.nut_words.specs.Lines.{LineText, lines, lines_after, rest}
 use Rattle.nut_words.proofs.StreamGrowth.{lines-append}
-use Rattle.nut_client.specs.Laws.{AllBytesDecide, MoreBytesAreIgnored, is_over}
+use Rattle.nut_client.specs.Laws.{AllBytesDecide, MoreBytesAreIgnored}
 use Rattle.nut_client.specs.Script.{Script}
-use Rattle.nut_client.specs.Tool.{Failed, Printed, Standing, Waits, after, begin, ending, run_of}
+use Rattle.nut_client.specs.Tool.{Failed, Printed, Standing, Waits, after, begin, ending, is_over, run_of}
 use Rattle.nut_client.specs.declared.failure.Failure.{Failure}
 use Rattle.nut_client.specs.declared.failure.Failure.TheVariants as failures
 use Rattle.nut_client.proofs.Runs.{after-append}
@@ -23,29 +23,46 @@ more_bytes script bytes more over =
     ∙ after-append (lines bytes) (lines_after (rest bytes) more) (begin [] script)
     ∙ stays (lines_after (rest bytes) more) (run_of script bytes).queries (run_of script bytes).standing over
 
-Decides : Script → Result (List ℕ) Failure → List ℕ → Type 0
-Decides script result bytes = (result ≡ Err failures.Memory) ⊎ ((result ≡ Err failures.ConnectionLost) ⊎ (result ≡ ending (run_of script bytes).standing))
+Decides : Script → Result (List ℕ) Failure → List ℕ → List ℕ → List ℕ → List ℕ → Type 0
+Decides script result bytes heard left written =
+    (result ≡ Err failures.Memory)
+    ⊎ ((result ≡ Err failures.ConnectionLost) × (Some left ≡ Some [] → length written < length (run_of script heard).queries)
+    ⊎ (result ≡ ending (run_of script bytes).standing))
 
-by_heard : (script : Script) (result : Result (List ℕ) Failure) (heard more : List ℕ) (s : Standing) → (run_of script heard).standing ≡ s → result ≡ ending s → Decides script result (heard ++ more)
+-- All that was read was heard, where the connection was lost, or a query was broken off.
+HasReason : Script → Result (List ℕ) Failure → List ℕ → List ℕ → List ℕ → Type 0
+HasReason script result heard unheard written = IfErr result (λ failure. failure ≡ failures.ConnectionLost → (unheard ≡ []) ⊎ (length written < length (run_of script heard).queries))
+
+by_waiting : (script : Script) (result : Result (List ℕ) Failure) (heard unheard left written : List ℕ) → result ≡ ending (run_of script heard).standing → result ≡ Err failures.ConnectionLost
+    → HasReason script result heard unheard written → Decides script result (heard ++ (unheard ++ left)) heard left written
+unfolding Decides HasReason
+by_waiting script result heard unheard (x ∷ left) written ends lost why = inr (inl (lost, λ is. absurd (cc)))
+by_waiting script result heard unheard [] written ends lost why = elim (subst (λ r. HasReason script r heard unheard written) lost why refl) [
+  | inl none ↦ inr (inr (ends ∙ ap (λ b. ending (run_of script b).standing) (sym (ap (λ u. heard ++ (u ++ [])) none ∙ append-nil heard))))
+  | inr short ↦ inr (inl (lost, λ is. short))
+]
+
+by_heard : (script : Script) (result : Result (List ℕ) Failure) (heard unheard left written : List ℕ) (s : Standing) → (run_of script heard).standing ≡ s → result ≡ ending s
+    → HasReason script result heard unheard written → Decides script result (heard ++ (unheard ++ left)) heard left written
 unfolding Decides
-by_heard script result heard more (Waits e next) is ends = inr (inl ends)
-by_heard script result heard more (Printed text) is ends =
-    inr (inr (ends ∙ ap ending (sym is) ∙ ap (λ r. ending r.standing) (sym (more_bytes script heard more (ap is_over is)))))
-by_heard script result heard more (Failed failure) is ends =
-    inr (inr (ends ∙ ap ending (sym is) ∙ ap (λ r. ending r.standing) (sym (more_bytes script heard more (ap is_over is)))))
+by_heard script result heard unheard left written (Waits e next) is ends why = by_waiting script result heard unheard left written (ends ∙ ap ending (sym is)) ends why
+by_heard script result heard unheard left written (Printed text) is ends why =
+    inr (inr (ends ∙ ap ending (sym is) ∙ ap (λ r. ending r.standing) (sym (more_bytes script heard (unheard ++ left) (ap is_over is)))))
+by_heard script result heard unheard left written (Failed failure) is ends why =
+    inr (inr (ends ∙ ap ending (sym is) ∙ ap (λ r. ending r.standing) (sym (more_bytes script heard (unheard ++ left) (ap is_over is)))))
 
-by_all : (script : Script) (result : Result (List ℕ) Failure) (bytes heard unheard : List ℕ) (left : Option (List ℕ)) → Some bytes ≡ prepend_known (heard ++ unheard) left → result ≡ ending (run_of script heard).standing → Decides script result bytes
-by_all script result bytes heard unheard None is ends = absurd (cc)
-by_all script result bytes heard unheard (Some left) is ends =
-    let all : bytes ≡ heard ++ (unheard ++ left) = some_inj is ∙ append_assoc heard unheard left in
-    rw all (by_heard script result heard (unheard ++ left) _ refl ends)
+all_of : (bytes heard unheard left : List ℕ) → Some bytes ≡ prepend_known (heard ++ unheard) (Some left) → bytes ≡ heard ++ (unheard ++ left)
+all_of bytes heard unheard left is = some_inj is ∙ append_assoc heard unheard left
   where
     some_inj : {x y : List ℕ} → Some x ≡ Some y → x ≡ y
     some_inj e = cc
 
 pub all_bytes : AllBytesDecide
-unfolding Decides
-all_bytes script result bytes left before after e = elim e.ended [
+unfolding Decides HasReason
+all_bytes script result bytes None before after e = let never : Some bytes ≡ None = e.read in absurd (cc)
+all_bytes script result bytes (Some left) before after e = elim e.ended [
   | inl memory ↦ inl memory
-  | inr ends ↦ by_all script result bytes e.heard e.unheard left e.read ends
+  | inr ends ↦
+      subst (λ b. Decides script result b e.heard left e.written) (sym (all_of bytes e.heard e.unheard left e.read))
+      (by_heard script result e.heard e.unheard left e.written _ refl ends e.lost)
 ]

@@ -13,3 +13,4 @@ pub mod Hearings
 pub mod Endings
 pub mod Places
 pub mod Commands
+pub mod Refused

@@ -1,5 +1,5 @@
 -- How one query is sent and answered.
-use Rattle.std.specs.Prelude.{◌≡◌, ℕ, true, false, List, [], ◌++◌, Option, Some, None, Result, Ok, Err, ◌⊎◌}
+use Rattle.std.specs.Prelude.{◌≡◌, ℕ, ◌<◌, ◌≤◌, true, false, List, [], ◌++◌, length, Option, Some, None, Result, Ok, Err, IfErr, OnOk, ◌⊎◌}
 use Rattle.std.specs.Io.KnownBytes.{append_known, prepend_known}
 use Rattle.nut_words.specs.Lines.{Text, lines, rest}
 use Rattle.nut_proto.specs.declared.request.Request.{Request}
@@ -12,7 +12,7 @@ use Rattle.nut_client.specs.declared.outcome.Outcome.{Outcome}
 use Rattle.nut_client.specs.Asking.{is_writable}
 use Rattle.nut_client.specs.Link.{LinkValue, fed, fresh, outcome_of}
 use Rattle.nut_client.specs.Script.{Script, Asks}
-use Rattle.nut_client.specs.Tool.{Waits, WasWrittenBy, after, begin, ending, failure_of, sent}
+use Rattle.nut_client.specs.Tool.{LastRead, Waits, WasWrittenBy, after, begin, ending, failure_of, sent}
 use Rattle.nut_client.specs.Unread.{IsUnbroken, IsWhole}
 
 -- A query waits for its answer.
@@ -28,7 +28,7 @@ abbrev pub Sends : Request → Result (Unit {0}) Failure → LinkValue → Optio
 Sends request (Ok done) link before after lost = (is_writable request ≡ true) × (link ≡ link_sent request) × (after ≡ append_known before (request_line request))
 Sends request (Err failure) link before after lost =
     (failure ≡ BadQuery) × (is_writable request ≡ false) × (after ≡ before)
-    ⊎ (failure ≡ ConnectionLost) × (is_writable request ≡ true) × lost × ((front : List ℕ) × (back : List ℕ) × (request_line request ≡ front ++ back) × (after ≡ append_known before front))
+    ⊎ (failure ≡ ConnectionLost) × (is_writable request ≡ true) × lost × ((front : List ℕ) × (back : List ℕ) × (request_line request ≡ front ++ back) × (after ≡ append_known before front) × (0 < length back))
 
 -- What a part of a line, with or without its line feed, came to.
 abbrev pub HearsPart : LinkValue → List ℕ → Result (Option Outcome) Failure → LinkValue → Type 0 → Type 0
@@ -39,11 +39,14 @@ HearsPart before part (Err failure) after lost =
     ⊎ ((failure ≡ ConnectionLost) × (part ≡ []) × lost)
     ⊎ ((fault : LinkFault) × ((fed part before).exchange.fault ≡ Some fault) × (failure ≡ failure_of fault))
 
--- The next part of what the server sent was heard.
-pub record Hears (before : LinkValue) (result : Result (Option Outcome) Failure) (after : LinkValue) (input left : Option (List ℕ)) (lost : Type 0) : Type 0 where
+-- The next part of what the server sent was heard, at least a byte. More was read only where nothing was left to hear.
+pub record Hears (before : LinkValue) (unread : List ℕ) (result : Result (Option Outcome) Failure) (after : LinkValue) (unread' : List ℕ) (input left : Option (List ℕ)) (lost : Type 0) : Type 0 where
   pub part : List ℕ
   pub read : input ≡ prepend_known part left
   pub broken : IsUnbroken part ⊎ IsWhole part
+  pub reads : (part ++ unread' ≡ unread) ⊎ ((unread ≡ []) × (length (part ++ unread') ≤ 512))
+  pub some : OnOk result (0 < length part)
+  pub emptied : IfErr result (λ failure. failure ≡ ConnectionLost → unread' ≡ [])
   pub came : HearsPart before part result after lost
 
 -- What came of a query by the bytes that were heard, whatever was asked before and whatever goes on with it.
@@ -56,14 +59,26 @@ abbrev pub Asked : Request → List ℕ → Result Outcome Failure → List ℕ 
 Asked request heard (Ok outcome) written = written ≡ request_line request
 Asked request heard (Err failure) written = (queries : List ℕ) (next : Outcome → Script) → WasWrittenBy failure (queries ++ written) (after (lines heard) (begin queries (Asks request next))).queries
 
+-- Less was written than was asked, with what was asked before.
+abbrev pub IsBrokenOff : Request → List ℕ → List ℕ → Type 0
+IsBrokenOff request heard written = (queries : List ℕ) (next : Outcome → Script) → length (queries ++ written) < length (after (lines heard) (begin queries (Asks request next))).queries
+
+-- What has been read since a query was asked, with these bytes that had been read before: no more, or at most 512 bytes
+-- behind some by which the query still waited.
+abbrev pub IsReadFor : Request → List ℕ → List ℕ → Type 0
+IsReadFor request unread bytes =
+    (bytes ≡ unread) ⊎ ((queries : List ℕ) (next : Outcome → Script) → LastRead (λ heard. after (lines heard) (begin queries (Asks request next))) bytes)
+
 -- A query was asked and answered, or not.
-pub record Answered (request : Request) (result : Result Outcome Failure) (input left : Option (List ℕ)) (before after : Option (List ℕ)) : Type 0 where
+pub record Answered (request : Request) (result : Result Outcome Failure) (unread unread' : List ℕ) (input left : Option (List ℕ)) (before after : Option (List ℕ)) : Type 0 where
   pub heard : List ℕ
   pub written : List ℕ
   pub read : input ≡ prepend_known heard left
   pub wrote : after ≡ append_known before written
+  pub in_time : IsReadFor request unread (heard ++ unread')
   pub came : Comes request heard result
   pub asked : Asked request heard result written
+  pub lost : IfErr result (λ failure. failure ≡ ConnectionLost → (unread' ≡ []) ⊎ IsBrokenOff request heard written)
 
 -- A query that was sent and waits for its answer, of which these bytes were heard.
 pub record Listens (request : Request) (heard : List ℕ) (link : LinkValue) : Type 0 where
@@ -72,8 +87,9 @@ pub record Listens (request : Request) (heard : List ℕ) (link : LinkValue) : T
   pub runs : (queries : List ℕ) (next : Outcome → Script) → after (lines heard) (begin queries (Asks request next)) ≡ record { queries = queries ++ request_line request; standing = Waits link.exchange next }
 
 -- And how the connection stands.
-pub record IsListening (request : Request) (link : LinkValue) (input left : Option (List ℕ)) (before now_taken : Option (List ℕ)) : Type 0 where
+pub record IsListening (request : Request) (link : LinkValue) (unread unread' : List ℕ) (input left : Option (List ℕ)) (before now_taken : Option (List ℕ)) : Type 0 where
   pub heard : List ℕ
   pub listens : Listens request heard link
+  pub in_time : IsReadFor request unread (heard ++ unread')
   pub read : input ≡ prepend_known heard left
   pub wrote : now_taken ≡ append_known before (request_line request)

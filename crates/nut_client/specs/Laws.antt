@@ -1,5 +1,5 @@
 -- What holds of every link. Each of these is the contract of a function of the crate.
-use Rattle.std.specs.Prelude.{◌≡◌, ◌⊎◌, ℕ, Bool, true, false, List, [], ◌∷◌, ◌++◌, Option, Some, None, Result, Ok, Err, codes}
+use Rattle.std.specs.Prelude.{◌≡◌, ◌⊎◌, ◌<◌, ℕ, true, false, List, length, [], ◌∷◌, ◌++◌, Option, Some, None, Result, Ok, Err, codes}
 use Rattle.nut_words.specs.Lines.{Text}
 use Rattle.nut_proto.specs.declared.answer.Answer.TheVariants as answers
 use Rattle.nut_proto.specs.declared.reply.Reply.{Reply}
@@ -21,7 +21,7 @@ use Rattle.nut_client.specs.Link.{LinkValue, asked, fed, fresh, taken, taken_out
 use Rattle.nut_client.specs.Matching.{Listing, Complete, expected, listing, next, progress}
 use Rattle.nut_client.specs.Rests.{IsRest}
 use Rattle.nut_client.specs.Script.{Script}
-use Rattle.nut_client.specs.Tool.{Ends, Failed, Printed, Standing, Waits, ending, run_of}
+use Rattle.nut_client.specs.Tool.{Ends, ending, is_over, run_of}
 use Rattle.nut_client.specs.declared.failure.Failure.{Failure}
 use Rattle.nut_client.specs.declared.failure.Failure.TheVariants as failures
 
@@ -61,18 +61,14 @@ pub record BoundsStay : Type 0 where
   pub takes : (n : ℕ) (e : Exchange) → IsStageBounded e.stage → IsStageBounded (taken n e).stage
   pub takes_out : (e : Exchange) → IsStageBounded e.stage → IsStageBounded (taken_out e).stage
 
--- whether a tool asks nothing more
-abbrev pub is_over : Standing → Bool
-is_over (Waits e next) = false
-is_over (Printed text) = true
-is_over (Failed failure) = true
-
 -- Bytes that come behind the last answer change nothing.
 abbrev pub MoreBytesAreIgnored : Type 0
 MoreBytesAreIgnored = (script : Script) (bytes more : List ℕ) → is_over (run_of script bytes).standing ≡ true → run_of script (bytes ++ more) ≡ run_of script bytes
 
--- However much was read of a stream, and in whatever pieces: a tool whose connection isn't lost ends by all bytes of the
--- stream, unless memory was refused.
+-- However much was read of a stream, and in whatever pieces: a tool ends by all bytes of the stream, unless memory was
+-- refused, or its connection was lost before they were all read, or in the middle of a query.
 abbrev pub AllBytesDecide : Type 0
-AllBytesDecide = (script : Script) (result : Result (List ℕ) Failure) (bytes : List ℕ) (left before after : Option (List ℕ)) → Ends script result (Some bytes) left before after
-    → (result ≡ Err failures.Memory) ⊎ ((result ≡ Err failures.ConnectionLost) ⊎ (result ≡ ending (run_of script bytes).standing))
+AllBytesDecide = (script : Script) (result : Result (List ℕ) Failure) (bytes : List ℕ) (left before after : Option (List ℕ)) → (e : Ends script result (Some bytes) left before after)
+    → (result ≡ Err failures.Memory)
+    ⊎ ((result ≡ Err failures.ConnectionLost) × (left ≡ Some [] → length e.written < length (run_of script e.heard).queries)
+    ⊎ (result ≡ ending (run_of script bytes).standing))

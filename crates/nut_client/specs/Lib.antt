@@ -16,3 +16,4 @@ pub mod Conversation
 pub mod Sending
 pub mod Between
 pub mod Laws
+pub mod Examples

@@ -1,5 +1,6 @@
 -- What a tool says to its server and how it ends, by the bytes that the server sends.
-use Rattle.std.specs.Prelude.{◌≡◌, ℕ, Bool, true, false, List, [], ◌∷◌, ◌++◌, codes, Option, Some, None, Result, Ok, Err, ◌⊎◌, if◌then◌else◌}
+use Rattle.std.proofs.Common.{inl, inr}
+use Rattle.std.specs.Prelude.{◌≡◌, ℕ, ◌<◌, ◌≤◌, length, Bool, true, false, List, [], ◌∷◌, ◌++◌, codes, Option, Some, None, Result, Ok, Err, IfErr, ⊤, ◌⊎◌, if◌then◌else◌}
 use Rattle.std.specs.Borrow.{MutBor}
 use Rattle.clap.specs.Words.{IsAmong, Kinds}
 use Rattle.clap.specs.declared.error.ErrorKind.{ErrorKind}
@@ -82,6 +83,24 @@ ending (Waits e next) = Err failures.ConnectionLost
 ending (Printed text) = Ok text
 ending (Failed failure) = Err failure
 
+-- whether a tool asks nothing more
+abbrev pub is_over : Standing → Bool
+is_over (Waits e next) = false
+is_over (Printed text) = true
+is_over (Failed failure) = true
+
+-- Of these bytes at most 512 stand behind some by which a run still waits.
+pub record LastRead (run : List ℕ → Run) (bytes : List ℕ) : Type 0 where
+  pub early : List ℕ
+  pub late : List ℕ
+  pub parted : bytes ≡ early ++ late
+  pub few : length late ≤ 512
+  pub waits : is_over (run early).standing ≡ false
+
+-- What a tool has read: nothing, or at most 512 bytes behind some by which it still waited.
+abbrev pub IsReadInTime : (List ℕ → Run) → List ℕ → Type 0
+IsReadInTime run bytes = (bytes ≡ []) ⊎ LastRead run bytes
+
 -- whether a query may have been broken off at this failure
 abbrev pub breaks_off : Failure → Bool
 breaks_off failures.BadArguments = false
@@ -103,15 +122,18 @@ WasWritten (Ok done) written queries = queries ≡ written
 WasWritten (Err failure) written queries = WasWrittenBy failure written queries
 
 -- A tool ends as its run over the bytes that it heard, unless memory was refused. Of a connection whose bytes are known,
--- it heard the first, perhaps left some unheard, and wrote its queries.
+-- it heard the first, perhaps left some unheard that came with them, and wrote its queries.
 pub record Ends (script : Script) (result : Result (List ℕ) Failure) (input left : Option (List ℕ)) (before after : Option (List ℕ)) : Type 0 where
   pub heard : List ℕ
   pub unheard : List ℕ
   pub written : List ℕ
   pub read : input ≡ prepend_known (heard ++ unheard) left
+  pub in_time : IsReadInTime (run_of script) (heard ++ unheard)
   pub wrote : after ≡ append_known before written
   pub ended : (result ≡ Err failures.Memory) ⊎ (result ≡ ending (run_of script heard).standing)
   pub queries : WasWritten result written (run_of script heard).queries
+  -- Where the connection was lost, all that was read was heard, or a query was broken off.
+  pub lost : IfErr result (λ failure. failure ≡ failures.ConnectionLost → (unheard ≡ []) ⊎ (length written < length (run_of script heard).queries))
 
 -- what is said of a failure on standard error
 abbrev pub reason : Failure → List ℕ
@@ -158,20 +180,36 @@ abbrev pub Explains : Bool → ℕ → Option (List ℕ) → Option (List ℕ) �
 Explains true status out out' err err' = ((status ≡ 0) ⊎ (status ≡ 1)) × Keeps err err'
 Explains false status out out' err err' = (status ≡ 2) × Keeps out out'
 
-module _ {S : Type 0} (remaining : S → Option (List ℕ)) where
-  -- How a tool ends that has a connection, or none: by what its server sends, unless memory was refused.
-  abbrev pub IsResult : Script → Option (MutBor S) → Result (List ℕ) Failure → Type 0
-  IsResult script (Some stream) result =
-      (heard : List ℕ) × (left : Option (List ℕ)) × (remaining stream.now ≡ prepend_known heard left)
-      × ((result ≡ Err failures.Memory) ⊎ (result ≡ ending (run_of script heard).standing))
-  IsResult script None result = result ≡ Err failures.NoConnection
+-- What comes back of a connection that was lent, or of none.
+abbrev pub Back : Type 0 → Type 0
+Back S = Unit {0} ⊎ ((MutBor S × Unit {0}) ⊎ ⊥)
 
-  -- How a program ends: what its command line asks for was done, and it tells what came of that; or memory was refused or
-  -- its words make no such command line, and it tells that; or clap doesn't read the words, and its text says so.
-  pub data RunsAs (line : CommandLine) (stream : Option (MutBor S)) (status : ℕ) (out out' err err' : Option (List ℕ)) : Type 0 where
-    asks : (options : Options) → line ≡ Ok (Ok options) → (result : Result (List ℕ) Failure) → IsResult (script options.ups options.wanted) stream result
-        → Tells result status out out' err err' → RunsAs line stream status out out' err err'
-    refuses : (failure : Failure) → (failure ≡ failures.Memory) ⊎ (line ≡ Ok (Err failure))
-        → Tells (Err failure) status out out' err err' → RunsAs line stream status out out' err err'
-    explains : (faults : Kinds) (kind : ErrorKind) → line ≡ Err faults → IsAmong kind faults
-        → Explains (is_asked_for kind) status out out' err err' → RunsAs line stream status out out' err err'
+module _ {S : Type 0} (remaining taken : S → Option (List ℕ)) (has_ended : S → Type 0) where
+  -- How a tool ends over a connection, by what stood before and what stands after. One that is lost has ended, or failed.
+  abbrev pub EndsOver : S → S → Script → Result (List ℕ) Failure → Type 0
+  EndsOver before after script result =
+      Ends script result (remaining before) (remaining after) (taken before) (taken after)
+      × IfErr result (λ failure. failure ≡ failures.ConnectionLost → has_ended after)
+
+  -- How a tool ends that was lent a connection, or none.
+  abbrev pub EndsBy : Option (MutBor S) → Back S → Script → Result (List ℕ) Failure → Type 0
+  EndsBy (Some stream) (inr (inl back)) script result = EndsOver stream.now back.0.now script result
+  EndsBy (Some stream) back script result = ⊥
+  EndsBy None back script result = result ≡ Err failures.NoConnection
+
+-- A connection that was lent comes back as it was.
+abbrev pub IsUnused : {S : Type 0} → Option (MutBor S) → Back S → Type 0
+IsUnused (Some stream) (inr (inl back)) = back.0.now ≡ stream.now
+IsUnused (Some stream) back = ⊥
+IsUnused None back = ⊤
+
+-- How a program ends: what its command line asks for was done, and it tells what came of that; or memory was refused or
+-- its words make no such command line, and it tells that; or clap doesn't read the words, and its text says so. Where
+-- nothing was asked, the connection isn't used.
+pub data RunsAs (line : CommandLine) (ends : Script → Result (List ℕ) Failure → Type 0) (unused : Type 0) (status : ℕ) (out out' err err' : Option (List ℕ)) : Type 0 where
+  asks : (options : Options) → line ≡ Ok (Ok options) → (result : Result (List ℕ) Failure) → ends (script options.ups options.wanted) result
+      → Tells result status out out' err err' → RunsAs line ends unused status out out' err err'
+  refuses : (failure : Failure) → (failure ≡ failures.Memory) ⊎ (line ≡ Ok (Err failure)) → unused
+      → Tells (Err failure) status out out' err err' → RunsAs line ends unused status out out' err err'
+  explains : (faults : Kinds) (kind : ErrorKind) → line ≡ Err faults → IsAmong kind faults → unused
+      → Explains (is_asked_for kind) status out out' err err' → RunsAs line ends unused status out out' err err'

@@ -42,7 +42,7 @@ impl Conversation {
         request: &Request<'_>,
     ) -> Result<Outcome, Failure>
         requires { self.old.link ≡ fresh }
-        ensures answered { Answered request.now result
+        ensures answered { Answered request.now result self.old.unread self.new.unread
             (prepend_known self.old.unread (S.remaining stream.old)) (prepend_known self.new.unread (S.remaining stream.new))
             (S.taken stream.old) (S.taken stream.new) }
         ensures rests { OnOk result (self.new.link ≡ fresh) }
@@ -95,7 +95,7 @@ impl Conversation {
     ) -> Result<Option<Outcome>, Failure>
         requires waits { IsWaiting self.old.link.exchange }
         requires rest { IsRest self.old.link.rest }
-        ensures hears { Hears self.old.link result self.new.link
+        ensures hears { Hears self.old.link self.old.unread result self.new.link self.new.unread
             (prepend_known self.old.unread (S.remaining stream.old)) (prepend_known self.new.unread (S.remaining stream.new))
             (S.has_ended stream.new) }
         ensures taken { S.taken stream.new ≡ S.taken stream.old }

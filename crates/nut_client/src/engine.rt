@@ -1,12 +1,13 @@
 //! How a tool runs.
-ghost use Rattle.std.specs.Prelude.{◌≡◌, ◌≤◌, IfErr, IsTrue, drop, length};
+ghost use Rattle.std.specs.Prelude.{◌≡◌, ◌≤◌, Err, IfErr, IsTrue, ⊤, drop, length};
 ghost use Rattle.std.specs.Io.KnownBytes.{Appends};
+ghost use Rattle.std.specs.IoError.{error_kind};
 ghost use Rattle.clap.specs.Words.{kind_of};
 ghost use Rattle.nut_client.specs.CommandLine.{CommandLine};
-ghost use Rattle.nut_client.specs.Reading.{IsRead, TellsRefusal};
+ghost use Rattle.nut_client.specs.Reading.{IsRead, TellsRefusal, words_failure};
 ghost use Rattle.nut_client.specs.Script.{script};
-ghost use Rattle.nut_client.specs.Tool.{AppendsFront, Ends, Explains, error_text, is_asked_for as asked_for, IsResult, RunsAs, Tells};
-ghost use Rattle.nut_client.specs.declared.failure.Failure.TheVariants.{ConnectionLost};
+ghost use Rattle.nut_client.specs.Tool.{AppendsFront, Ends, EndsOver, Explains, error_text, is_asked_for as asked_for, RunsAs, Tells, status_of};
+ghost use Rattle.nut_client.specs.declared.failure.Failure.TheVariants.{ConnectionLost, NoConnection};
 
 use crate::command_line::{Options, Refusal};
 use crate::conversation::Conversation;
@@ -112,22 +113,6 @@ fn tell<O: Write, E: Write>(
     }
 }
 
-/// What is printed of the answers to what is wanted.
-fn answered<S: Stream>(
-    rt: &impl Wait,
-    alloc: Global,
-    ups: Word<'_>,
-    wanted: Wanted<'_>,
-    stream: Option<&mut S>,
-) -> Result<Text, Failure>
-    ensures { IsResult S.remaining (script ups.entry wanted.entry) stream.entry result }
-{
-    match stream {
-        Some(stream) => ask_server(rt, alloc, ups, wanted, stream),
-        None => Err(Failure::NoConnection),
-    }
-}
-
 /// Says why a command line makes no options, and gives the exit status.
 fn tell_refusal<O: Write, E: Write>(
     rt: &impl Wait,
@@ -143,24 +128,42 @@ fn tell_refusal<O: Write, E: Write>(
     }
 }
 
-/// Runs a tool with what was read of its command line, and gives the exit status.
+/// Runs a tool with what was read of its command line, over a connection, and gives the exit status.
 pub(crate) fn run<S: Stream, O: Write, E: Write>(
     rt: &impl Wait,
     alloc: Global,
     options: Result<Options<'_>, Refusal>,
-    stream: Option<&mut S>,
+    stream: &mut S,
     out: &mut O,
     err: &mut E,
 ) -> u8
     ensures { (line : CommandLine) → IsRead line options.entry
-        → RunsAs S.remaining line stream.entry result (O.contents out.old) (O.contents out.new) (E.contents err.old) (E.contents err.new) }
+        → RunsAs line (EndsOver S.remaining S.taken S.has_ended stream.old stream.new) (stream.new ≡ stream.old)
+        result (O.contents out.old) (O.contents out.new) (E.contents err.old) (E.contents err.new) }
 {
     match options {
         Ok(Options { target, wanted }) => {
             let ups = Word::new(target.ups.as_bytes());
-            let printed = answered(rt, alloc, ups, wanted, stream);
+            let printed = ask_server(rt, alloc, ups, wanted, stream);
             tell(rt, printed, out, err)
         }
+        Err(refusal) => tell_refusal(rt, refusal, out, err),
+    }
+}
+
+/// Runs a tool with what was read of its command line, where no connection was made, and gives the exit status.
+pub(crate) fn run_alone<O: Write, E: Write>(
+    rt: &impl Wait,
+    options: Result<Options<'_>, Refusal>,
+    out: &mut O,
+    err: &mut E,
+) -> u8
+    ensures { (line : CommandLine) → IsRead line options.entry
+        → RunsAs line (λ _ printed. printed ≡ Err NoConnection) ⊤
+        result (O.contents out.old) (O.contents out.new) (E.contents err.old) (E.contents err.new) }
+{
+    match options {
+        Ok(_) => tell(rt, Err(Failure::NoConnection), out, err),
         Err(refusal) => tell_refusal(rt, refusal, out, err),
     }
 }
@@ -187,14 +190,23 @@ fn tell_usage<O: Write, E: Write>(error: clap::Error, out: &mut O, err: &mut E) 
     }
 }
 
+/// Why the words of the command line can't be had.
+fn words_failure(error: &io::Error) -> Failure
+    ensures { result ≡ words_failure (error_kind error.now) }
+{
+    match error.kind() {
+        io::ErrorKind::OutOfMemory => Failure::Memory,
+        _ => Failure::BadArguments,
+    }
+}
+
 /// Says why the words of the command line can't be had, and gives the exit status: 1 for want of memory, and 2 where a word
 /// isn't UTF-8.
-pub fn refuse_words<E: Write>(rt: &impl Wait, error: &io::Error, err: &mut E) -> u8 {
-    let failure = if error.kind() == io::ErrorKind::OutOfMemory {
-        Failure::Memory
-    } else {
-        Failure::BadArguments
-    };
+pub fn refuse_words<E: Write>(rt: &impl Wait, error: &io::Error, err: &mut E) -> u8
+    ensures status { result ≡ status_of (words_failure (error_kind error.now)) }
+    ensures text { AppendsFront (E.contents err.old) (E.contents err.new) (error_text (words_failure (error_kind error.now))) }
+{
+    let failure = words_failure(error);
     put_failure(rt, err, &failure);
     failure.status()
 }

@@ -32,7 +32,7 @@ pub fn more_bytes_are_ignored()
 {}
 
 /// A law, with nothing to run: however much a tool read of what a server sends, and however that was cut, it ends by all
-/// of it, unless its connection was lost or memory was refused.
+/// of it, unless memory was refused or its connection was lost before all was read, or in the middle of a query.
 pub fn all_bytes_decide()
     ensures { AllBytesDecide }
 {}

@@ -1,5 +1,5 @@
 //! A query that was asked, until its answer is complete.
-ghost use Rattle.std.specs.Prelude.{◌≡◌, ◌<◌, ◌≤◌, ◌⊎◌, ◌++◌, ◌∷◌, [], ℕ, List, IfSome, IfErr, OnOk, OnErr, drop, length, is_some};
+ghost use Rattle.std.specs.Prelude.{◌≡◌, ◌<◌, ◌≤◌, ◌⊎◌, ◌++◌, ◌∷◌, [], ℕ, List, IfSome, IfErr, OnOk, OnErr, drop, false, length, is_some};
 ghost use Rattle.std.specs.List.{list_all};
 ghost use Rattle.nut_words.specs.Spelling.{is_printing};
 ghost use Rattle.nut_client.specs.Asking.{query_of, is_writable};
@@ -45,7 +45,8 @@ impl Model for Query {
 
 /// Whether the bytes of a line before its line feed are 0x20 to 0x7E.
 fn is_printing_line(line: &[u8]) -> bool
-    ensures { (text : List ℕ) → line.now ≡ text ++ 10 ∷ [] → result ≡ list_all is_printing text }
+    ensures line { (text : List ℕ) → line.now ≡ text ++ 10 ∷ [] → result ≡ list_all is_printing text }
+    ensures empty { line.now ≡ [] → result ≡ false }
 {
     match line {
         [text @ .., _] => are_printing(text),

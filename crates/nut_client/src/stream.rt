@@ -1,7 +1,7 @@
 //! The connection to a server, as a tool sees it.
 ghost use Rattle.std.specs.Prelude.{◌≡◌, ◌⊎◌, ◌<◌, length, ⊤, ℕ, List, [], Option, Some, None, false, true};
-ghost use Rattle.nut_client.specs.Stream.{Gave, IsWithin, Took};
-ghost use Rattle.nut_client.specs.declared.stream.Moved.TheVariants.{Lost};
+ghost use Rattle.nut_client.specs.Stream.{Gave, IsWithin, Took, moved_of};
+ghost use Rattle.nut_client.specs.declared.stream.Moved.TheVariants.{Again, Lost};
 
 use std::alloc::Global;
 use std::io;
@@ -51,25 +51,32 @@ pub struct ByteStream<T> {
 
 impl<T: Read + Write> ByteStream<T> {
     /// A connection over this.
-    pub fn new(inner: T) -> Self {
+    pub fn new(inner: T) -> Self
+        ensures { result.inner ≡ inner }
+    {
         ByteStream { inner }
     }
 
     /// What it is over.
-    pub fn into_inner(self) -> T {
+    pub fn into_inner(self) -> T
+        ensures { result ≡ self.inner }
+    {
         self.inner
     }
 }
 
 /// What a read or a write that ended so has moved, of at most so many bytes.
 fn what_moved(count: io::Result<usize>, most: usize) -> Moved
-    ensures { IsWithin result most }
+    ensures exact { result ≡ moved_of count most }
+    ensures within { IsWithin result most }
 {
     match count {
         Ok(0) => Moved::Lost,
         Ok(n) => Moved::Bytes(n.min(most)),
-        Err(error) if error.kind() == ErrorKind::Interrupted => Moved::Again,
-        Err(_) => Moved::Lost,
+        Err(error) => match error.kind() {
+            ErrorKind::Interrupted => Moved::Again,
+            _ => Moved::Lost,
+        },
     }
 }
 
@@ -108,12 +115,13 @@ impl<'a> MemoryStream<'a> {
     /// A connection to a server that sends these bytes, in pieces of at most `most`, or of one where that is 0.
     pub fn new(alloc: Global, bytes: &'a [u8], most: usize) -> Self
         ensures remaining { result.rest.now ≡ bytes.now }
+        ensures pieces { result.most ≡ most }
         ensures taken { result.asked.items ≡ [] }
         ensures whole { result.is_lost ≡ false }
     {
         MemoryStream {
             rest: bytes,
-            most: most.max(1),
+            most,
             asked: Vec::new(alloc),
             is_lost: false,
         }
@@ -135,19 +143,30 @@ impl<'a> Stream for MemoryStream<'a> {
     // Its end, or a growth that was refused.
     ghost has_ended = { λ s. (s.rest.now ≡ []) ⊎ (s.is_lost ≡ true) };
 
-    fn read(&mut self, place: &mut [u8]) -> Moved {
+    fn read(&mut self, place: &mut [u8]) -> Moved
+        requires room { 0 < length place.old }
+        ensures gave { Gave result place.new (Some self.old.rest.now) (Some self.new.rest.now) }
+        ensures kept { Some self.new.asked.items ≡ Some self.old.asked.items }
+        ensures lost { result ≡ Lost → (self.new.rest.now ≡ []) ⊎ (self.new.is_lost ≡ true) }
+        ensures surely { result ≡ Again → ⊥ }
+    {
         let [_, ..] = self.rest else {
             return Moved::Lost;
         };
-        let n = self.rest.len().min(place.len()).min(self.most);
+        let n = self.rest.len().min(place.len()).min(self.most.max(1));
         let (part, rest) = self.rest.split_at(n);
         place[..n].copy_from_slice(part);
         self.rest = rest;
         Moved::Bytes(n)
     }
 
-    fn write(&mut self, bytes: &[u8]) -> Moved {
-        let n = bytes.len().min(self.most);
+    fn write(&mut self, bytes: &[u8]) -> Moved
+        ensures took { Took result bytes.now (Some self.old.asked.items) (Some self.new.asked.items) }
+        ensures kept { Some self.new.rest.now ≡ Some self.old.rest.now }
+        ensures lost { result ≡ Lost → (self.new.rest.now ≡ []) ⊎ (self.new.is_lost ≡ true) }
+        ensures surely { result ≡ Again → ⊥ }
+    {
+        let n = bytes.len().min(self.most.max(1));
         if self.asked.extend_from_slice(&bytes[..n]).is_err() {
             self.is_lost = true;
             return Moved::Lost;

@@ -1,5 +1,5 @@
 //! What was read from a connection and not used yet.
-ghost use Rattle.std.specs.Prelude.{◌≡◌, [], IfErr, IfOk, OnErr, drop};
+ghost use Rattle.std.specs.Prelude.{◌≡◌, ◌⊎◌, ◌<◌, ◌≤◌, [], IfErr, IfOk, OnErr, OnOk, drop, length};
 ghost use Rattle.std.specs.Io.KnownBytes.{prepend_known};
 ghost use Rattle.nut_client.specs.Unread.{IsLinePart};
 ghost use Rattle.nut_client.specs.declared.failure.Failure.TheVariants.{ConnectionLost};
@@ -50,7 +50,8 @@ impl Unread {
 
     /// The bytes through the first line feed, or all of them where there is none.
     pub(crate) fn line_part(&self) -> &[u8]
-        ensures { IsLinePart self.now result.now }
+        ensures part { IsLinePart self.now result.now }
+        ensures some { 0 < length self.now → 0 < length result.now }
     {
         let bytes = self.as_slice();
         match memchr(b'\n', bytes) {
@@ -69,6 +70,9 @@ impl Unread {
     /// Reads from the connection, where nothing is unread. It waits for at least one byte.
     pub(crate) fn fill<S: Stream>(&mut self, rt: &impl Wait, stream: &mut S) -> Result<(), Failure>
         ensures same { prepend_known self.old (S.remaining stream.old) ≡ prepend_known self.new (S.remaining stream.new) }
+        ensures some { OnOk result (0 < length self.new) }
+        ensures none { OnErr result (self.new ≡ []) }
+        ensures reads { (self.new ≡ self.old) ⊎ ((self.old ≡ []) × (length self.new ≤ 512)) }
         ensures taken { S.taken stream.new ≡ S.taken stream.old }
         ensures lost { IfErr result (λ failure. (failure ≡ ConnectionLost) × S.has_ended stream.new) }
     {
@@ -84,6 +88,7 @@ impl Unread {
 /// Reads from the connection. It waits for at least one byte.
 fn read_some<S: Stream>(rt: &impl Wait, stream: &mut S) -> Result<ArrayVec<u8, 512>, Failure>
     ensures some { IfOk result (λ bytes. S.remaining stream.old ≡ prepend_known bytes.items (S.remaining stream.new)) }
+    ensures full { IfOk result (λ bytes. 0 < length bytes.items) }
     ensures none { OnErr result (S.remaining stream.new ≡ S.remaining stream.old) }
     ensures taken { S.taken stream.new ≡ S.taken stream.old }
     ensures lost { IfErr result (λ failure. (failure ≡ ConnectionLost) × S.has_ended stream.new) }

@@ -3,14 +3,14 @@ ghost use Rattle.std.specs.Prelude.{◌≡◌, IfOk, IfSome, Some, map, option_m
 ghost use Rattle.clap.specs.Words.{app_of, found_of, rows_of};
 ghost use Rattle.nut_client.specs.CommandLine.{target_of, upsc_line, upsc_options, upsc_tool, upsc_wanted};
 ghost use Rattle.nut_client.specs.Reading.{AreOptions, IsRead};
-ghost use Rattle.nut_client.specs.Tool.{RunsAs};
+ghost use Rattle.nut_client.specs.Tool.{EndsBy, IsUnused, RunsAs};
 
 use crate::command_line::{
     Options, Refusal, argument, destination_of, flag, is_given, name_argument, options_of,
     read_words, refused, value,
 };
 use crate::destination::Destination;
-use crate::engine::run;
+use crate::engine::{run, run_alone};
 use crate::failure::Failure;
 use crate::stream::Stream;
 use crate::wanted::Wanted;
@@ -35,11 +35,15 @@ pub fn run_upsc<W: AsStr, S: Stream, O: Write, E: Write>(
     out: &mut O,
     err: &mut E,
 ) -> u8
-    ensures { RunsAs S.remaining (upsc_line (map W.text words.now)) stream.entry
+    ensures { RunsAs (upsc_line (map W.text words.now))
+        (EndsBy S.remaining S.taken S.has_ended stream.entry stream.exit) (IsUnused stream.entry stream.exit)
         result (O.contents out.old) (O.contents out.new) (E.contents err.old) (E.contents err.new) }
 {
     let options = read_options(alloc, words);
-    run(rt, alloc, options, stream, out, err)
+    match stream {
+        Some(stream) => run(rt, alloc, options, stream, out, err),
+        None => run_alone(rt, options, out, err),
+    }
 }
 
 /// The host and the port that `upsc` has to dial with this command line, if it reads.

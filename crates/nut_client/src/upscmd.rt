@@ -3,14 +3,14 @@ ghost use Rattle.std.specs.Prelude.{◌≡◌, IfOk, IfSome, Some, map, option_m
 ghost use Rattle.clap.specs.Words.{app_of, found_of, rows_of};
 ghost use Rattle.nut_client.specs.CommandLine.{target_of, upscmd_line, upscmd_options, upscmd_tool, upscmd_wanted};
 ghost use Rattle.nut_client.specs.Reading.{AreOptions, IsRead};
-ghost use Rattle.nut_client.specs.Tool.{RunsAs};
+ghost use Rattle.nut_client.specs.Tool.{EndsBy, IsUnused, RunsAs};
 
 use crate::command_line::{
     Options, Refusal, argument, deed_by, destination_of, flag, is_given, name_argument, options_of,
     password_argument, read_words, refused, user_argument, value,
 };
 use crate::destination::Destination;
-use crate::engine::run;
+use crate::engine::{run, run_alone};
 use crate::failure::Failure;
 use crate::stream::Stream;
 use crate::wanted::{Deed, Wanted};
@@ -31,11 +31,15 @@ pub fn run_upscmd<W: AsStr, S: Stream, O: Write, E: Write>(
     out: &mut O,
     err: &mut E,
 ) -> u8
-    ensures { RunsAs S.remaining (upscmd_line (map W.text words.now)) stream.entry
+    ensures { RunsAs (upscmd_line (map W.text words.now))
+        (EndsBy S.remaining S.taken S.has_ended stream.entry stream.exit) (IsUnused stream.entry stream.exit)
         result (O.contents out.old) (O.contents out.new) (E.contents err.old) (E.contents err.new) }
 {
     let options = read_options(alloc, words);
-    run(rt, alloc, options, stream, out, err)
+    match stream {
+        Some(stream) => run(rt, alloc, options, stream, out, err),
+        None => run_alone(rt, options, out, err),
+    }
 }
 
 /// The host and the port that `upscmd` has to dial with this command line, if it reads.

@@ -2,6 +2,8 @@
 use crate::tests::streams::{Server, Sink};
 use crate::*;
 use std::alloc::Global;
+use std::io;
+use std::io::ErrorKind;
 use std::sync::Wait;
 use std::test::*;
 
@@ -493,4 +495,22 @@ fn targets(rt: HostRuntime) {
         ],
     );
     assert_eq!(rt; wrong, None);
+}
+
+/// What is written for an error of this kind with which the words of a command line can't be had, and the status.
+fn refusal(rt: &impl Wait, alloc: Global, kind: ErrorKind) -> (Vec<u8>, u8) {
+    let mut err = sink_with(alloc, usize::MAX);
+    let status = refuse_words(rt, &io::Error::from(kind), &mut err);
+    let Sink { bytes, room: _room } = err;
+    (bytes, status)
+}
+
+#[test]
+fn refused_words(rt: HostRuntime) {
+    let (text, status) = refusal(&rt, rt.alloc(), ErrorKind::OutOfMemory);
+    assert_eq!(rt; text.as_slice(), b"Error: out of memory\n".as_slice());
+    assert_eq!(rt; status, 1);
+    let (text, status) = refusal(&rt, rt.alloc(), ErrorKind::InvalidData);
+    assert_eq!(rt; text.as_slice(), b"Error: bad arguments\n".as_slice());
+    assert_eq!(rt; status, 2);
 }

@@ -8,15 +8,15 @@ use Rattle.nut_client.proofs.engine.ask_server.Goals.{in-None, in-Some+in-Prints
 
 pub returns-in-Err-clause-ends : goal.returns-in-Err-clause-ends
 returns-in-Err-clause-ends g c =
-    ends_asking (script c.args.ups c.args.wanted) (left_of c.loop.task) c.in-Asks.request c.in-Asks.ensures.0 c.in-Err.failure c.loop.conversation.link c.ask-asked.new.self.unread _ _ _ _ _ _ c.loop.invariant c.in-Asks.ensures.1 c.in-Err.ensures.answered
+    ends_asking (script c.args.ups c.args.wanted) (left_of c.loop.task) c.in-Asks.request c.in-Asks.ensures.0 c.in-Err.failure c.loop.conversation.link c.loop.conversation.unread c.ask-asked.new.self.unread _ _ _ _ _ _ c.loop.invariant c.in-Asks.ensures.1 c.in-Err.ensures.answered
 
 pub returns-in-Err-hear-clause-ends : goal.returns-in-Err-hear-clause-ends
 returns-in-Err-hear-clause-ends g c =
-    ends_by (script c.args.ups c.args.wanted) (left_of c.loop.task) c.in-Asks.request c.in-Asks.ensures.0 c.in-Ok.outcome c.in-Err-hear.failure c.loop.conversation.link c.ask-asked.new.self.link c.ask-asked.new.self.unread _ _ _ _ _ _ c.loop.invariant c.in-Asks.ensures.1 c.in-Ok.ensures.answered c.in-Ok.ensures.rests c.in-Err-hear.ensures
+    ends_by (script c.args.ups c.args.wanted) (left_of c.loop.task) c.in-Asks.request c.in-Asks.ensures.0 c.in-Ok.outcome c.in-Err-hear.failure c.loop.conversation.link c.ask-asked.new.self.link c.loop.conversation.unread c.ask-asked.new.self.unread _ _ _ _ _ _ c.loop.invariant c.in-Asks.ensures.1 c.in-Ok.ensures.answered c.in-Ok.ensures.rests c.in-Err-hear.ensures
 
 pub loop-preserved : goal.loop-preserved
 loop-preserved g c =
-    goes_by (script c.args.ups c.args.wanted) (left_of c.loop.task) (left_of c.in-Ok-hear.task) c.in-Asks.request c.in-Asks.ensures.0 c.in-Ok.outcome c.loop.conversation.link c.ask-asked.new.self.link _ _ _ _ _ _ c.loop.invariant c.in-Asks.ensures.1 c.in-Ok.ensures.answered c.in-Ok.ensures.rests c.in-Ok-hear.ensures
+    goes_by (script c.args.ups c.args.wanted) (left_of c.loop.task) (left_of c.in-Ok-hear.task) c.in-Asks.request c.in-Asks.ensures.0 c.in-Ok.outcome c.loop.conversation.link c.ask-asked.new.self.link c.loop.conversation.unread c.ask-asked.new.self.unread _ _ _ _ _ _ c.loop.invariant c.in-Asks.ensures.1 c.in-Ok.ensures.answered c.in-Ok.ensures.rests c.in-Ok-hear.ensures
 
 pub returns-clause-ends : goal.returns-clause-ends
 returns-clause-ends g c = elim c.match-next.branch [

@@ -6,6 +6,6 @@ use Rattle.nut_client.proofs.engine.ask_server.Given as goal
 
 abbrev pub invariant-loop : goal.invariant-loop
 invariant-loop g l =
-    IsBetween (script l.fn.ups l.fn.wanted) (left_of l.task) l.conversation.link
+    IsBetween (script l.fn.ups l.fn.wanted) (left_of l.task) l.conversation.link l.conversation.unread
     (g.S.Stream.remaining l.fn.stream) (prepend_known l.conversation.unread (g.S.Stream.remaining l.stream))
     (g.S.Stream.taken l.fn.stream) (g.S.Stream.taken l.stream)

@@ -1,11 +1,14 @@
-use Rattle.nut_client.proofs.Hearings.{hears_ok, part_read}
+use Rattle.nut_client.proofs.Hearings.{hears_ok, part_read, part_reads}
 use Rattle.nut_client.proofs.conversation.Conversation.hear.Goals as goal
 
 pub returns-clause-hears : goal.returns-clause-hears
 returns-clause-hears g c = record {
   part = c.line_part-part.result.now;
-  read = part_read c.args.self.now.unread c.take.new.self c.line_part-part.result.now (g.S.Stream.remaining c.args.stream.now) (g.S.Stream.remaining c.fill.new.stream) c.fill.new.self c.fill.ensures.same c.line_part-part.ensures c.take.ensures;
-  broken = c.line_part-part.ensures.1;
+  read = part_read c.args.self.now.unread c.take.new.self c.line_part-part.result.now (g.S.Stream.remaining c.args.stream.now) (g.S.Stream.remaining c.fill.new.stream) c.fill.new.self c.fill.ensures.same c.line_part-part.ensures.part c.take.ensures;
+  broken = c.line_part-part.ensures.part.1;
+  reads = part_reads c.args.self.now.unread c.fill.new.self c.line_part-part.result.now c.take.new.self c.line_part-part.ensures.part c.take.ensures c.fill.ensures.reads;
+  some = c.line_part-part.ensures.some c.in_default.ensures.some;
+  emptied = tt;
   came = hears_ok c.args.self.now.link c.feed-fed.new.self c.answer.new.self c.line_part-part.result.now c.feed-fed.ensures.feeds.0 c.feed-fed.result c.answer.result (g.S.Stream.has_ended c.fill.new.stream)
-      c.requires.rest c.requires.waits c.line_part-part.ensures.1 c.feed-fed.ensures.feeds.1 c.in_default-fed.is c.answer.ensures.answer c.answer.ensures.stands;
+      c.requires.rest c.requires.waits c.line_part-part.ensures.part.1 c.feed-fed.ensures.feeds.1 c.in_default-fed.is c.answer.ensures.answer c.answer.ensures.stands;
 }

@@ -18,7 +18,7 @@ returns-then-not-is_printing_line-clause-exact c =
     let text = message (request_parts request) in
     let is : c.as_slice.result.now ≡ text ++ 10 ∷ [] =
     c.as_slice.ensures.value ∙ c.if-not-put_in.ensures.put ∙ ap (λ front. front ++ request_line request) c.new-line.ensures ∙ line_is request in
-    sym c.if-not-is_printing_line.true ∙ c.is_printing_line.ensures text is ∙ writable_line request (array_vec_len c.new-line.result) (c.put_in.ensures.room.0 c.if-not-put_in.false)
+    sym c.if-not-is_printing_line.true ∙ c.is_printing_line.ensures.line text is ∙ writable_line request (array_vec_len c.new-line.result) (c.put_in.ensures.room.0 c.if-not-put_in.false)
 
 pub returns-clause-exact : goal.returns-clause-exact
 returns-clause-exact c =
@@ -26,4 +26,4 @@ returns-clause-exact c =
     let text = message (request_parts request) in
     let is : c.as_slice.result.now ≡ text ++ 10 ∷ [] =
     c.as_slice.ensures.value ∙ c.if-not-put_in.ensures.put ∙ ap (λ front. front ++ request_line request) c.new-line.ensures ∙ line_is request in
-    sym c.if-not-is_printing_line.false ∙ c.is_printing_line.ensures text is ∙ writable_line request (array_vec_len c.new-line.result) (c.put_in.ensures.room.0 c.if-not-put_in.false)
+    sym c.if-not-is_printing_line.false ∙ c.is_printing_line.ensures.line text is ∙ writable_line request (array_vec_len c.new-line.result) (c.put_in.ensures.room.0 c.if-not-put_in.false)

@@ -1,0 +1,43 @@
+use Rattle.std.proofs.Common.{refl}
+use Rattle.clap.proofs.OnLiterals.{clap_on_literals}
+use Rattle.nut_words.specs.Reader.{read}
+use Rattle.nut_proto.specs.Answers.{answer_of}
+use Rattle.nut_proto.specs.Lines.{line}
+use Rattle.nut_proto.specs.Requests.{request_line}
+use Rattle.nut_client.specs.CommandLine.{upsc_line, upsc_tool, upscmd_line, upscmd_tool, upsrw_line, upsrw_tool}
+use Rattle.nut_client.proofs.Endings.{all_bytes}
+use Rattle.nut_client.proofs.examples.worked_examples.Goals as goal
+
+pub returns-clause-lines : goal.returns-clause-lines
+unfolding clap_on_literals upsc_line upsc_tool upsrw_line upsrw_tool upscmd_line upscmd_tool
+returns-clause-lines c = record {
+  all = refl;
+  one = refl;
+  server = refl;
+  no_server = refl;
+  setting = refl;
+  command = refl;
+  dialed = refl;
+  two_lists = refl;
+  no_password = refl;
+  no_name = refl;
+  no_host = refl;
+  unknown = refl;
+  help = refl;
+  version = refl;
+}
+
+pub returns-clause-runs : goal.returns-clause-runs
+unfolding read answer_of line request_line
+returns-clause-runs c = record {
+  answered = refl;
+  bytes_behind = refl;
+  refused = refl;
+  of_another = refl;
+  unfinished = refl;
+  unwritable = refl;
+  listed = refl;
+  cut_list = refl;
+  done = refl;
+  decided = λ result left before after ends. all_bytes _ _ _ left before after ends;
+}
