@@ -11,8 +11,6 @@ mod notices;
 mod query;
 mod shutdown;
 mod state;
-#[cfg(test)]
-mod tests;
 mod time;
 
 pub use event::{Event, PIECE_MAX};

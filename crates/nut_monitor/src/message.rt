@@ -1,5 +1,5 @@
 //! The texts of notices.
-ghost use Rattle.std.specs.Prelude.{◌≡◌, ◌+◌, ◌≤◌, ◌++◌, IfSome, OnOk, OnErr, length, take};
+ghost use Rattle.std.specs.Prelude.{◌≡◌, ◌+◌, ◌≤◌, ◌++◌, IfSome, OnOk, OnErr, length, take, ◌<◌, vec_capacity, vec_len};
 ghost use Rattle.std.specs.Option.{option_map};
 ghost use Rattle.nut_monitor.specs.Texts.{filled_if, is_mark, place_of, target_for, text_of};
 
@@ -52,6 +52,7 @@ fn target(config: &UpsmonConf, notice: Notice) -> Option<&[u8]>
 fn put_filled(out: &mut Vec<u8>, text: &[u8], target: Option<&[u8]>) -> Result<(), AllocError>
     ensures ok { OnOk result (out.new.items ≡ out.old.items ++ filled_if (option_map (λ t. t.now) target.entry) text.now) }
     ensures err { OnErr result (take (length out.old.items) out.new.items ≡ out.old.items) }
+    ensures full { OnErr result (vec_capacity out.old < vec_len out.old + length (filled_if (option_map (λ t. t.now) target.entry) text.now)) }
 {
     let Some(target) = target else {
         return out.extend_from_slice(text);
@@ -64,10 +65,11 @@ fn put_filled(out: &mut Vec<u8>, text: &[u8], target: Option<&[u8]>) -> Result<(
     out.extend_from_slice(&text[at + 2..])
 }
 
-/// Appends the text of a notice. At an `Err` nothing is appended.
+/// Appends the text of a notice. At an `Err`, which comes only where it has no room there, nothing is appended.
 pub fn put_text(config: &UpsmonConf, notice: Notice, out: &mut Vec<u8>) -> Result<(), AllocError>
     ensures ok { OnOk result (out.new.items ≡ out.old.items ++ text_of config.now notice) }
     ensures err { OnErr result (out.new.items ≡ out.old.items) }
+    ensures full { OnErr result (vec_capacity out.old < vec_len out.old + length (text_of config.now notice)) }
 {
     let start = out.len();
     let put = put_filled(out, config.message(notice.kind), target(config, notice));

@@ -1,5 +1,5 @@
 //! The monitor.
-ghost use Rattle.std.specs.Prelude.{◌≡◌, ◌++◌, List, Some, None, Err, IfOk, IfErr, OnOk, OnErr, [], drop, length};
+ghost use Rattle.std.specs.Prelude.{◌≡◌, ◌++◌, List, Some, None, Err, IfOk, IfErr, OnOk, OnErr, [], drop, length, ◌<◌, ◌+◌, vec_capacity, vec_len};
 ghost use Rattle.nut_decision.specs.declared.MonitorFault.{MonitorFault as AnyFault};
 ghost use Rattle.nut_decision.specs.declared.MonitorFault.TheVariants as faults;
 ghost use Rattle.nut_decision.specs.Acceptance.{Tells, is_linked, refusal, waiting_on, watch_at};
@@ -131,6 +131,9 @@ impl Monitor {
     pub fn notice_text(&self, notice: Notice, out: &mut Vec<u8>) -> Result<(), AllocError>
         ensures ok { OnOk result (out.new.items ≡ out.old.items ++ text_of self.now.config notice) }
         ensures err { OnErr result (out.new.items ≡ out.old.items) }
+
+        // It fails only where there was no room for the text, so that memory had to be asked for.
+        ensures full { OnErr result (vec_capacity out.old < vec_len out.old + length (text_of self.now.config notice)) }
     {
         put_text(&self.config, notice, out)
     }

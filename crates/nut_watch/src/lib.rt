@@ -13,6 +13,3 @@ pub use replay::watch_memory;
 pub use types::{Given, Next, Note};
 pub use watching::watch;
 pub use world::MonWorld;
-
-#[cfg(test)]
-mod tests;

@@ -1,6 +1,6 @@
 //! A world over memory.
 
-ghost use Rattle.std.specs.Prelude.{◌≡◌, ◌+◌, ◌-◌, ◌^◌, ◌<◌, ℕ, true, false, List, [], ◌∷◌, ◌++◌, length, map, reverse, Option, Some, None, Ok, IfOk, OnOk, OnErr, is_ok, if◌then◌else◌, vec_len};
+ghost use Rattle.std.specs.Prelude.{◌≡◌, ◌+◌, ◌-◌, ◌^◌, ◌<◌, ◌≤◌, ℕ, true, false, List, [], ◌∷◌, ◌++◌, length, map, reverse, Option, Some, None, Ok, IfOk, OnOk, OnErr, is_ok, if◌then◌else◌, vec_capacity, vec_len};
 ghost use Rattle.nut_watch.specs.Record.{tells, tells_next, tells_write, IsWithin, late_after, event_given};
 ghost use Rattle.nut_watch.specs.Record as entry;
 ghost use Rattle.nut_watch.specs.Memory.{MemoryState, log_of, entry_of, event_of, Gives, GoesOn};
@@ -79,6 +79,9 @@ impl MonWorld for MemoryMonWorld {
         ensures reached { GoesOn self.old self.new }
         ensures gives { IfOk result (λ n. Gives self.old.left self.new.left n piece.new.items) }
         ensures left_err { OnErr result (self.new.left ≡ self.old.left) }
+
+        // The end is given without memory.
+        ensures at_end { self.old.left ≡ [] → is_ok result ≡ true }
     {
         match give(&mut self.left, &mut self.notes, piece) {
             Ok(next) => Ok(next),
@@ -154,6 +157,8 @@ fn give(left: &mut Vec<Given>, notes: &mut Vec<Note>, piece: &mut Piece) -> Resu
     ensures noted { IfOk result (λ n. Some (log_of notes.new.items) ≡ tells_next n piece.new.items (Some (log_of notes.old.items))) }
     ensures left_err { OnErr result (left.new.items ≡ left.old.items) }
     ensures notes_err { OnErr result (notes.new.items ≡ notes.old.items) }
+    ensures full { OnErr result (vec_capacity notes.old ≤ vec_len notes.old) }
+    ensures at_end { left.old.items ≡ [] → is_ok result ≡ true }
 {
     if left.is_empty() {
         return Ok(Next::End);
@@ -208,6 +213,7 @@ fn note_taken(alloc: Global, notes: &mut Vec<Note>, i: usize, bytes: &[u8]) -> R
 fn note(notes: &mut Vec<Note>, one: Note) -> Result<(), Fault>
     ensures ok { OnOk result (log_of notes.new.items ≡ entry_of one ∷ log_of notes.old.items) }
     ensures err { OnErr result (notes.new.items ≡ notes.old.items) }
+    ensures full { OnErr result (vec_capacity notes.old ≤ vec_len notes.old) }
 {
     match notes.push(one) {
         Ok(()) => Ok(()),

@@ -1,7 +1,8 @@
 //! Runs of what is refused, by which test first, and that nothing changes then.
 
-use crate::tests::player::*;
-use crate::{Event, MonitorFault, Phase};
+use super::player::*;
+use crate::files::PRIMARY;
+use nut_monitor::{Event, MonitorFault, Phase};
 use std::test::*;
 
 const LONG: &[u8] = &[65; 513];

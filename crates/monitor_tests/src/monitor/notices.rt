@@ -1,8 +1,9 @@
 //! Runs of what is told.
 
-use crate::tests::player::*;
-use crate::{Event, Phase};
+use super::player::*;
+use crate::files::SECONDARY;
 use nut_conf::Notice as Kind;
+use nut_monitor::{Event, Phase};
 use std::test::*;
 
 /// A UPS may be silent for long.

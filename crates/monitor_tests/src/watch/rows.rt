@@ -1,12 +1,11 @@
 //! The loop over a world in memory, as upsmon's rules have it.
 
-ghost use Rattle.std.specs.Prelude.{◌≡◌, IfOk, []};
-ghost use Rattle.nut_decision.specs.Content.{content};
-
-use crate::{Given, MemoryMonWorld, Note, watch_memory};
-use nut_conf::{Notice as Kind, read_upsmon};
-use nut_monitor::{Monitor, Phase};
+use super::fresh_monitor;
+use crate::files::{PRIMARY, SECONDARY};
+use nut_conf::Notice as Kind;
+use nut_monitor::Phase;
 use nut_serve::Piece;
+use nut_watch::{Given, MemoryMonWorld, Note, watch_memory};
 use std::alloc::Global;
 use std::sync::Wait;
 use std::test::Fail;
@@ -81,14 +80,6 @@ fn is_noted(note: &Note, step: Step) -> bool {
     }
 }
 
-fn fresh_monitor(alloc: Global, file: &[u8]) -> Result<Monitor, Fail>
-    ensures { IfOk result (λ m. m.content ≡ content m.content.configuration []) }
-{
-    let config = read_upsmon(alloc, file)?;
-    let monitor = Monitor::new(alloc, config)?;
-    Ok(monitor)
-}
-
 /// Whether a run does its steps and no others, and leads so far.
 fn comes_out(rt: &impl Wait, alloc: Global, run: &Run) -> Result<bool, Fail> {
     let mut events = Vec::new(alloc);
@@ -108,10 +99,6 @@ fn comes_out(rt: &impl Wait, alloc: Global, run: &Run) -> Result<bool, Fail> {
     }
     Ok(phase == run.phase && notes.len() == run.steps.len())
 }
-
-const PRIMARY: &[u8] = b"MONITOR su700@localhost 1 mon m1 primary\n";
-
-const SECONDARY: &[u8] = b"MONITOR su700@localhost 1 mon m1 secondary\n";
 
 const USERNAME: Step = Step::Asks(b"USERNAME mon\n");
 

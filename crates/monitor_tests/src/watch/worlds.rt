@@ -1,12 +1,12 @@
 //! The loop over worlds that are slow, late or broken.
 
-ghost use Rattle.std.specs.Prelude.{◌≡◌, ◌&&◌, nat_eq, None, [], IfOk};
-ghost use Rattle.nut_decision.specs.Content.{content};
+ghost use Rattle.std.specs.Prelude.{◌≡◌, ◌&&◌, nat_eq, None};
 
-use crate::{MonWorld, Next, watch};
-use nut_conf::{Notice as Kind, read_upsmon};
+use super::fresh_monitor;
+use nut_conf::Notice as Kind;
 use nut_monitor::{Monitor, Notice, Phase};
 use nut_serve::{Fault, Piece, Written};
+use nut_watch::{MonWorld, Next, watch};
 use std::alloc::Global;
 use std::sync::Wait;
 use std::test::Fail;
@@ -195,16 +195,8 @@ struct Odds {
     world: Odd,
 }
 
-fn fresh_monitor(alloc: Global) -> Result<Monitor, Fail>
-    ensures { IfOk result (λ m. m.content ≡ content m.content.configuration []) }
-{
-    let config = read_upsmon(alloc, FILE)?;
-    let monitor = Monitor::new(alloc, config)?;
-    Ok(monitor)
-}
-
 fn watch_odd(rt: &impl Wait, alloc: Global, mode: Mode) -> Result<Odds, Fail> {
-    let mut monitor = fresh_monitor(alloc)?;
+    let mut monitor = fresh_monitor(alloc, FILE)?;
     let mut world = make_odd(mode);
     let is_ok = watch(rt, &mut monitor, &mut world) == Ok(Phase::Watching);
     Ok(Odds {

@@ -1,8 +1,8 @@
 //! Runs of a monitor, as tables: what it is told, and what it has to ask, tell and decide.
 
-use crate::tests::memory::take_all;
-use crate::{Event, Monitor, MonitorFault, Notice, Phase};
+use super::memory::take_all;
 use nut_conf::{Notice as Kind, read_upsmon};
+use nut_monitor::{Event, Monitor, MonitorFault, Notice, Phase};
 use std::alloc::{AllocError, Global};
 use std::test::*;
 use thiserror::Error;
@@ -186,10 +186,6 @@ pub fn play_all(alloc: Global, runs: &[Run]) -> Result<(), Fail> {
     }
     Ok(())
 }
-
-pub const PRIMARY: &[u8] = b"MONITOR su700@localhost 1 mon m1 primary\n";
-
-pub const SECONDARY: &[u8] = b"MONITOR su700@localhost 1 mon m1 secondary\n";
 
 /// Two UPSes of which this machine is a secondary.
 pub const SECONDARIES: &[u8] =

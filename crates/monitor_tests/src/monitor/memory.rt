@@ -1,8 +1,9 @@
 //! Runs in which memory is refused.
 
-use crate::tests::player::*;
-use crate::{Event, Monitor, MonitorFault, Notice, Phase};
+use super::player::*;
+use crate::files::PRIMARY;
 use nut_conf::{Notice as Kind, read_upsmon};
+use nut_monitor::{Event, Monitor, MonitorFault, Notice, Phase};
 use std::alloc::{AllocError, Global};
 use std::test::*;
 

@@ -1,8 +1,9 @@
 //! Runs towards a shutdown.
 
-use crate::tests::player::*;
-use crate::{Event, Phase};
+use super::player::*;
+use crate::files::{PRIMARY, SECONDARY};
 use nut_conf::Notice as Kind;
+use nut_monitor::{Event, Phase};
 use std::test::*;
 
 const PRIMARIES: &[u8] =

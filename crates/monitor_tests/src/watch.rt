@@ -1,0 +1,21 @@
+//! What no clause says: runs from outside.
+
+ghost use Rattle.std.specs.Prelude.{◌≡◌, IfOk, []};
+ghost use Rattle.nut_decision.specs.Content.{content};
+
+mod rows;
+mod worlds;
+
+use nut_conf::read_upsmon;
+use nut_monitor::Monitor;
+use std::alloc::Global;
+use std::test::Fail;
+
+/// A monitor that was made with this file and told nothing.
+fn fresh_monitor(alloc: Global, file: &[u8]) -> Result<Monitor, Fail>
+    ensures { IfOk result (λ m. m.content ≡ content m.content.configuration []) }
+{
+    let config = read_upsmon(alloc, file)?;
+    let monitor = Monitor::new(alloc, config)?;
+    Ok(monitor)
+}

@@ -1,4 +1,0 @@
-//! What no clause says: runs from outside.
-
-mod rows;
-mod worlds;
