@@ -1,7 +1,7 @@
 //! How the machine is halted.
 
-use crate::text::text_of;
 use nut_conf::UpsmonConf;
+use nut_sockets::text_of;
 use std::alloc::Global;
 use std::io::Write;
 use std::process::{Command, ExitStatus, Processes, Stdio};

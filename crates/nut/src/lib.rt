@@ -15,7 +15,6 @@ mod monitor;
 mod notify_command;
 mod stdio;
 mod streams;
-mod text;
 mod ups_option;
 mod upsd_fault;
 

@@ -4,10 +4,11 @@ use crate::failure::Failure;
 use crate::upsd_fault::UpsdFault;
 use mio::net::TcpListener;
 use nut_conf::UpsdConf;
+use nut_sockets::text_of;
 use std::alloc::Global;
 use std::io::ErrorKind;
 use std::net::{Net, ToSocketAddrs};
-use std::{io, str};
+use std::io;
 
 /// Every address of IPv6 and, unless the system is set up otherwise, of IPv4 too.
 const EVERY_ADDRESS: &str = "::";
@@ -47,7 +48,7 @@ pub fn listen(
 /// An endpoint of upsd.conf, whose address is text.
 fn endpoint(conf: &UpsdConf, i: usize) -> Option<(&str, u16)> {
     let (address, port) = conf.endpoint(i)?;
-    Some((str::from_utf8(address).unwrap_or(""), port))
+    Some((text_of(address), port))
 }
 
 /// Listens at a host, but where a listener at every address serves it already.

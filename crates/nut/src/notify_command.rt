@@ -1,7 +1,7 @@
 //! NOTIFYCMD: the command that is run with the text of a notice.
 
-use crate::text::text_of;
 use nut_conf::UpsmonConf;
+use nut_sockets::text_of;
 use std::alloc::{AllocError, Global};
 use std::process::{Child, Command, OpenProcess, Processes, Stdio};
 use std::{fmt, io};

@@ -4,7 +4,7 @@ ghost use Rattle.std.specs.Prelude.{length};
 ghost use Rattle.nut_serve.specs.Record.{IsWithin};
 
 use crate::link::{Heard, Link};
-use crate::text::text;
+use crate::text::text_of;
 use mio::event::Event;
 use mio::net::UnixStream;
 use mio::{Interest, Registry, Token};
@@ -31,8 +31,8 @@ impl Driver {
         driver: &[u8],
         name: &[u8],
     ) -> Result<Driver, AllocError> {
-        let driver = text(driver);
-        let name = text(name);
+        let driver = text_of(driver);
+        let name = text_of(name);
         Ok(Driver {
             name: String::from_str(alloc, name)?,
             path: format!(in alloc; "{folder}/{driver}-{name}")?,

@@ -1,7 +1,7 @@
 //! The host of a server, whose addresses are dialled in turn.
 
 use crate::dialler::Dialler;
-use crate::text::text;
+use crate::text::text_of;
 use mio::net::TcpStream;
 use nut_conf::Target;
 use std::alloc::{AllocError, Global};
@@ -21,7 +21,7 @@ impl Host {
     /// The host and the port of a target. It isn't looked up yet.
     pub fn new(alloc: Global, target: &Target) -> Result<Host, AllocError> {
         Ok(Host {
-            name: String::from_str(alloc, text(target.host.as_bytes()))?,
+            name: String::from_str(alloc, text_of(target.host.as_bytes()))?,
             port: target.port.number,
             untried: Vec::new(alloc),
         })

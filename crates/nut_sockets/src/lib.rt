@@ -26,3 +26,4 @@ pub use herald::Herald;
 pub use mio_mon_world::MioMonWorld;
 pub use mio_world::MioWorld;
 pub use reports::{Report, Reports};
+pub use text::text_of;

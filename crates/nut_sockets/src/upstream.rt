@@ -7,7 +7,7 @@ use crate::dialler::Dialler;
 use crate::host::Host;
 use crate::link::{Heard, Link};
 use crate::ready::may_be_read;
-use crate::text::text;
+use crate::text::text_of;
 use mio::event::Event;
 use mio::net::TcpStream;
 use nut_conf::Monitored;
@@ -48,7 +48,7 @@ impl Upstream {
     /// The link of a MONITOR line. Its host is about to be called.
     pub fn new(alloc: Global, line: &Monitored) -> Result<Upstream, AllocError> {
         Ok(Upstream {
-            name: String::from_str(alloc, text(line.written.as_slice()))?,
+            name: String::from_str(alloc, text_of(line.written.as_slice()))?,
             host: Host::new(alloc, &line.target)?,
             stage: Stage::Down,
             is_due: true,
