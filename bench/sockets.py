@@ -4,8 +4,8 @@ of this project's dummy drivers, the same machine, one after the other in turn.
 
     bench/sockets.py UPSD DUMMY_UPS [SECONDS]
 
-SECONDS (2 where none is given) is how long each measurement takes. For answers a second more is better, for the time to
-an answer and for memory less."""
+SECONDS (1 where none is given) is how long each measurement takes. For answers a second more is better, for the time to
+an answer, for the processor's time that the server takes for one, and for memory less. It reads /proc, so it needs Linux."""
 
 import getpass
 import os
@@ -19,7 +19,7 @@ import time
 HERE = os.path.dirname(os.path.abspath(__file__))
 NUT_UPSD = "/lib/nut/upsd"
 VARIABLES = 60
-ROUNDS = 3
+ROUNDS = 9
 
 # what is asked: a name, the request, the lines of its answer, connections, requests sent at once on each
 LOADS = [
@@ -81,10 +81,18 @@ class Server:
         sys.exit(f"{self.name} doesn't serve")
 
     def load(self, program, seconds, request, lines, clients, in_flight):
-        """Answers a second, median and 99th percentile in microseconds."""
+        """Answers a second, median and 99th percentile in microseconds, and the server's own time for an answer in them."""
         words = [program, self.port, clients, in_flight, lines, seconds, request]
+        before = self.processor_time()
         done = subprocess.run([str(word) for word in words], stdout=subprocess.PIPE, check=True)
-        return [int(word) for word in done.stdout.split()]
+        rate, middle, worst = (int(word) for word in done.stdout.split())
+        return rate, middle, worst, (self.processor_time() - before) * 1e6 / (rate * seconds)
+
+    def processor_time(self):
+        """The seconds that processors have spent on it, the kernel's part counted."""
+        with open(f"/proc/{self.process.pid}/stat") as stat:
+            fields = stat.read().rpartition(")")[2].split()
+        return (int(fields[11]) + int(fields[12])) / os.sysconf("SC_CLK_TCK")
 
     def resident(self):
         """The resident memory in KiB."""
@@ -97,8 +105,11 @@ class Server:
             process.wait()
 
 
-def median(values):
-    return sorted(values)[len(values) // 2]
+def best(rounds):
+    """The most answers a second, and the least times. What else the machine does only slows a round down, so that the best
+    of many rounds says more than their middle."""
+    rates, middles, worsts, costs = zip(*rounds)
+    return max(rates), min(middles), min(worsts), min(costs)
 
 
 def measure(servers, program, seconds):
@@ -107,17 +118,18 @@ def measure(servers, program, seconds):
         for _ in range(ROUNDS):
             for server in servers:
                 found[server.name].append(server.load(program, seconds, request, lines, clients, in_flight))
-        rows = {it: [median(column) for column in zip(*values)] for it, values in found.items()}
-        for it, (rate, middle, worst) in rows.items():
-            print(f"{name:32} {it:6} {rate:8} answers/s, median {middle:6} us, 99th percentile {worst:6} us")
+        rows = {it: best(rounds) for it, rounds in found.items()}
+        for it, (rate, middle, worst, cost) in rows.items():
+            print(f"{name:32} {it:6} {rate:8} answers/s, median {middle:6} us, 99th percentile {worst:6} us, processor {cost:6.2f} us")
         if len(rows) == 2:
-            (ours, _, our_worst), (theirs, _, their_worst) = rows["upsd"], rows["nut"]
-            print(f"{'':32} ratio  {ours / theirs:8.2f} of the answers/s, {our_worst / max(their_worst, 1):.2f} of the 99th percentile")
+            (ours, _, our_worst, our_cost), (theirs, _, their_worst, their_cost) = rows["upsd"], rows["nut"]
+            ratios = f"{our_worst / max(their_worst, 1):.2f} of the 99th percentile, {our_cost / max(their_cost, 0.01):.2f} of the processor"
+            print(f"{'':32} ratio  {ours / theirs:8.2f} of the answers/s, {ratios}")
 
 
 def main():
     upsd, dummy = (os.path.abspath(it) for it in sys.argv[1:3])
-    seconds = float(sys.argv[3]) if len(sys.argv) > 3 else 2.0
+    seconds = float(sys.argv[3]) if len(sys.argv) > 3 else 1.0
     compiler = shutil.which("cc") or shutil.which("clang")
     if compiler is None:
         sys.exit("a C compiler is missing: the load comes from a program in C (cc or clang)")
