@@ -56,14 +56,24 @@ def has_ipv6():
         return False
 
 
+def connected(address):
+    """A socket that is connected there, or None where nobody listens: the file of one stands a moment before."""
+    family = socket.AF_UNIX if isinstance(address, str) else socket.AF_INET6 if ":" in address[0] else socket.AF_INET
+    found = socket.socket(family, socket.SOCK_STREAM)
+    found.settimeout(SOON)
+    try:
+        found.connect(address)
+    except ConnectionRefusedError:
+        found.close()
+        return None
+    return found
+
+
 class Client:
     """A client of a server, or a server of a driver."""
 
     def __init__(self, address):
-        family = socket.AF_UNIX if isinstance(address, str) else socket.AF_INET6 if ":" in address[0] else socket.AF_INET
-        self.socket = socket.socket(family, socket.SOCK_STREAM)
-        self.socket.settimeout(SOON)
-        self.socket.connect(address)
+        self.socket = until(lambda: connected(address), f"{address} takes a connection")
         self.file = self.socket.makefile("rb")
 
     def __enter__(self):
