@@ -110,9 +110,32 @@ fn hand_on<W: World>(
         return Ok(());
     };
     match place_of_lack(server.arrive(arrival)) {
-        None => Ok(()),
+        None => settle_heard(server, world, next),
         Some(Place::Line(c, _)) => world.close(c),
         Some(Place::Report(u, _)) => world.close_driver(u),
+    }
+}
+
+/// Settles the connection whose bytes were heard. Most often no other is unsettled, so that nobody has to look for it.
+fn settle_heard<W: World>(server: &mut Server, world: &mut W, next: &Next) -> Result<(), Fault>
+    ghost first: { Configuration }
+    requires few { W.fault_count world.old < 2 ^ 64 - 1 }
+    requires served { Served first (W.log world.old) server.old [] }
+    ensures err { OnErr result ((owed : List Ended) × Served first (W.log world.new) server.new owed) }
+    ensures ok { OnOk result (Served first (W.log world.new) server.new []) }
+    ensures counted { W.fault_count world.new ≡ (if is_ok result then W.fault_count world.old else W.fault_count world.old + 1) }
+    ensures reached { W.reached world.old world.new }
+{
+    match next {
+        Next::Bytes(c) => settle(server, world, *c),
+        Next::Moment(_)
+        | Next::Open(_)
+        | Next::Close(_)
+        | Next::DriverUp(_)
+        | Next::DriverBytes(_)
+        | Next::DriverDown(_)
+        | Next::Again
+        | Next::End => Ok(()),
     }
 }
 

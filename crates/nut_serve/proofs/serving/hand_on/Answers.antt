@@ -6,9 +6,11 @@ use Rattle.nut_serve.proofs.Requests.{closes_driver}
 use Rattle.nut_serve.proofs.Arrivals.{gave_ending}
 use Rattle.nut_serve.proofs.serving.hand_on.Goals as goal
 
-pub returns-in-None-clause-ok : goal.returns-in-None-clause-ok
-returns-in-None-clause-ok g c =
-    gave_ending g.first _ _ _ _ _ _ _ _ _ None c.requires.1.1 c.arrival_of.ensures c.in-Some.is c.arrive.ensures.answered c.arrive.ensures.stands c.place_of_lack.ensures c.in-None.is
+pub settle_heard-requires : goal.settle_heard-requires
+settle_heard-requires g c = λ _ within. (
+  within,
+  (c.requires.1.0, gave_ending g.first _ _ _ _ _ _ _ _ _ None c.requires.1.1 c.arrival_of.ensures c.in-Some.is c.arrive.ensures.answered c.arrive.ensures.stands c.place_of_lack.ensures c.in-None.is),
+)
 
 pub returns-in-Some-Line-clause-err : goal.returns-in-Some-Line-clause-err
 returns-in-Some-Line-clause-err g c =
