@@ -250,9 +250,10 @@ class Tests:
             room.upsd()
             driver.connect()
             target = f"su700@127.0.0.1:{room.port}"
-            halts = 'POWERDOWNFLAG FOLDER/flag\nSHUTDOWNCMD "touch FOLDER/halted"\nPOLLFREQ 1\nFINALDELAY 0\nHOSTSYNC 60\n'
-            with self.watch(f"MONITOR {target} 1 guest g1 secondary\n" + halts) as guest, self.watch(
-                f"MONITOR {target} 1 mon m1 primary\n" + halts
+            halts = 'POWERDOWNFLAG FOLDER/flag\nSHUTDOWNCMD "touch FOLDER/halted"\nPOLLFREQ 1\nHOSTSYNC 60\n'
+            # the delay leaves the secondary time to run its command, which comes after its logout
+            with self.watch(f"MONITOR {target} 1 guest g1 secondary\nFINALDELAY 0\n" + halts) as guest, self.watch(
+                f"MONITOR {target} 1 mon m1 primary\nFINALDELAY 2\n" + halts
             ) as primary:
                 room.until(b"GET NUMLOGINS su700\n", b"NUMLOGINS su700 2\n")
                 driver.tell(b"OB LB")
