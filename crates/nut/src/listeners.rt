@@ -6,9 +6,9 @@ use mio::net::TcpListener;
 use nut_conf::UpsdConf;
 use nut_sockets::text_of;
 use std::alloc::Global;
+use std::io;
 use std::io::ErrorKind;
 use std::net::{Net, ToSocketAddrs};
-use std::io;
 
 /// Every address of IPv6 and, unless the system is set up otherwise, of IPv4 too.
 const EVERY_ADDRESS: &str = "::";
