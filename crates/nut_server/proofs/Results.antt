@@ -19,10 +19,6 @@ pub if_err : {A E : Type 0} (r : Result A E) (P Q : Type 0) → (P → Q) → On
 if_err (Ok v) P Q f h = tt
 if_err (Err e) P Q f h = f h
 
-pub on_err : {A E : Type 0} (r : Result A E) (P : Type 0) → P → OnErr r P
-on_err (Ok v) P h = tt
-on_err (Err e) P h = h
-
 pub on_true : (b : Bool) (P : Type 0) → b ≡ true → OnTrue b P → P
 on_true true P is h = h
 on_true false P is h = absurd (false≢true is)

@@ -1,18 +1,12 @@
 -- What a content is once a command was answered.
-use Rattle.std.proofs.Common.{◌≡◌, ℕ, List, [], ◌∷◌, true, false, eqb, refl, sym, ap, ◌∙◌, inl, inr, Some, Result, Ok, Err}
+use Rattle.std.proofs.Common.{◌≡◌, ℕ, List, [], ◌∷◌, true, eqb, refl, sym, ap, ◌∙◌, inl, inr}
 use Rattle.std.proofs.lemmas.Bool.{cases_Bool}
 use Rattle.std.proofs.lemmas.List.{append-nil}
-use Rattle.nut_proto.specs.declared.request.Request.{Request}
-use Rattle.nut_proto.specs.declared.refusal.Refusal.{Refusal}
-use Rattle.nut_proto.specs.Forms.{meaning}
-use Rattle.nut_history.specs.Command.{Command, Blank, asked, command_in, command_of}
-use Rattle.nut_history.specs.Answer.{Answer, Silence, answer, text_of}
+use Rattle.nut_history.specs.Command.{Command, Blank}
+use Rattle.nut_history.specs.Answer.{Answer, Silence, text_of}
 use Rattle.nut_history.specs.Content.{Session, Supply, Content}
 use Rattle.nut_history.specs.Effect.{target, request_of}
-use Rattle.nut_history.specs.Machine.{update, act_on, acted, answer_in, answered, caller_of, requested, scene_of}
-use Rattle.nut_history.specs.Outcome.{is_blank, line_takes}
-use Rattle.nut_words.specs.Lines.{LineText}
-use Rattle.std.specs.Prelude.{IsTrue}
+use Rattle.nut_history.specs.Machine.{update, act_on, acted, answer_in, answered, requested}
 use Rattle.nut_server.specs.declared.effect.Effect.{Effect}
 use Rattle.nut_server.specs.declared.verdict.Verdict.{Verdict}
 use Rattle.nut_server.specs.Effects.{affected, said, decided, reply_of, answered_by}
@@ -64,26 +58,3 @@ pub silent_blank : (c : ℕ) (command : Command) (v : Content) (k : Session) →
 silent_blank c command v k blank = silent c command v ∙ ap (λ r. answered_by c command r v) (sym (ap (λ command. answer_in v command k) blank ∙ none)) where
   none : answer_in v Blank k ≡ Silence
   none = elim (cases_Bool k.logged_out) [ inl e ↦ rw e refl | inr e ↦ rw e refl ]
-
--- the answer to a client that hasn't logged out
-pub said_in : (c : ℕ) (one other : Command) (v : Content) (k : Session) → one ≡ other → k.logged_out ≡ false
-    → answered_by c one (answer (scene_of v) (caller_of k) one) v ≡ answered_by c other (answer_in v other k) v
-said_in c one other v k same open_still =
-    ap (λ command. answered_by c command (answer (scene_of v) (caller_of k) command) v) same
-    ∙ ap (λ r. answered_by c other r v) (let is : answer_in v other k ≡ answer (scene_of v) (caller_of k) other = rw open_still refl in sym is)
-
--- a line that says something may take memory
-pub says_something : (command : Command) → is_blank command ≡ false → (line : LineText) (k : Session) → command ≡ command_of line → k.logged_out ≡ false → IsTrue (line_takes line (Some k))
-says_something command speaks line k is open_still =
-    let some : is_blank (command_of line) ≡ false = ap is_blank (sym is) ∙ speaks in
-    rw (open_still, some) refl
-
--- a request says something, and so does a line that is refused for its form
-pub asked_speaks : (request : Result Request Refusal) → is_blank (asked request) ≡ false
-asked_speaks (Ok request) = refl
-asked_speaks (Err refusal) = refl
-
--- words that are some ask for something
-pub words_ask : (words : List (List ℕ)) → (words ≡ [] → ⊥) → command_in (Ok words) ≡ asked (meaning words)
-words_ask [] some = absurd (some refl)
-words_ask (word ∷ words) some = refl

@@ -88,8 +88,8 @@ fn answer_to<'a>(
     }
 }
 
-/// Appends the answer to a request, or to a line that is none, and says what it decides. An `Err` is for want of memory: then `out` may have a
-/// part of the answer.
+/// Appends the answer to a request, or to a line that is none, and says what it decides. An `Err` is for want of memory:
+/// then `out` may have a part of the answer.
 pub fn reply(
     scene: &Scene<'_>,
     caller: &Connection,
