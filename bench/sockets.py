@@ -17,6 +17,10 @@ import tempfile
 import time
 
 HERE = os.path.dirname(os.path.abspath(__file__))
+sys.path.insert(0, os.path.join(os.path.dirname(HERE), "tests"))
+
+from harness import processor_time
+
 NUT_UPSD = "/lib/nut/upsd"
 VARIABLES = 60
 ROUNDS = 9
@@ -83,16 +87,10 @@ class Server:
     def load(self, program, seconds, request, lines, clients, in_flight):
         """Answers a second, median and 99th percentile in microseconds, and the server's own time for an answer in them."""
         words = [program, self.port, clients, in_flight, lines, seconds, request]
-        before = self.processor_time()
+        before = processor_time(self.process.pid)
         done = subprocess.run([str(word) for word in words], stdout=subprocess.PIPE, check=True)
         rate, middle, worst = (int(word) for word in done.stdout.split())
-        return rate, middle, worst, (self.processor_time() - before) * 1e6 / (rate * seconds)
-
-    def processor_time(self):
-        """The seconds that processors have spent on it, the kernel's part counted."""
-        with open(f"/proc/{self.process.pid}/stat") as stat:
-            fields = stat.read().rpartition(")")[2].split()
-        return (int(fields[11]) + int(fields[12])) / os.sysconf("SC_CLK_TCK")
+        return rate, middle, worst, (processor_time(self.process.pid) - before) * 1e6 / (rate * seconds)
 
     def resident(self):
         """The resident memory in KiB."""

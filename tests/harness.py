@@ -1,5 +1,5 @@
-"""What the tests of built programs share: how a check fails, how calls of a program are made to fail, and how tests are
-run and counted."""
+"""What the tests of built programs share: how a check fails, how calls of a program are made to fail, how tests are run
+and counted, and what a program takes of the processor, which the benches ask too."""
 
 import functools
 import itertools
@@ -8,6 +8,13 @@ import shutil
 import subprocess
 
 HERE = os.path.dirname(os.path.abspath(__file__))
+
+
+def processor_time(pid):
+    """How many seconds of processor time a process has used."""
+    with open(f"/proc/{pid}/stat") as file:
+        fields = file.read().rsplit(")", 1)[1].split()
+    return (int(fields[11]) + int(fields[12])) / os.sysconf("SC_CLK_TCK")
 
 
 class Failed(Exception):

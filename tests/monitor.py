@@ -16,8 +16,8 @@ import tempfile
 import threading
 import time
 
-from harness import Failed, build_shim, expect, refusals, run_tests
-from sockets import SOON, Room, processor_time, until
+from harness import Failed, build_shim, expect, processor_time, refusals, run_tests
+from sockets import SOON, Room, until
 
 FLAG = b"upsmon-shutdown-file\n"
 ON_BATTERY = "UPS %s on battery"

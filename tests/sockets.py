@@ -15,7 +15,7 @@ import sys
 import tempfile
 import time
 
-from harness import Failed, Missing, expect, run_tests
+from harness import Failed, Missing, expect, processor_time, run_tests
 
 DEVICE = b"ups.status: OL\nups.id: x\nbattery.charge: 100\n"
 USERS = b'[admin]\npassword = pw\nactions = SET\ninstcmds = ALL\n[mon]\npassword = m1\nupsmon primary\n'
@@ -39,13 +39,6 @@ def until(test, what, within=SOON):
         time.sleep(0.02)
 
 
-def processor_time(pid):
-    """How many seconds of processor time a process has used."""
-    with open(f"/proc/{pid}/stat") as file:
-        fields = file.read().rsplit(")", 1)[1].split()
-    return (int(fields[11]) + int(fields[12])) / os.sysconf("SC_CLK_TCK")
-
-
 def has_ipv6():
     """Whether this machine has the IPv6 loopback address."""
     try:
@@ -57,13 +50,13 @@ def has_ipv6():
 
 
 def connected(address):
-    """A socket that is connected there, or None where nobody listens: the file of one stands a moment before."""
+    """A socket that is connected there, or None where nobody listens, be its file there already or not."""
     family = socket.AF_UNIX if isinstance(address, str) else socket.AF_INET6 if ":" in address[0] else socket.AF_INET
     found = socket.socket(family, socket.SOCK_STREAM)
     found.settimeout(SOON)
     try:
         found.connect(address)
-    except ConnectionRefusedError:
+    except (ConnectionRefusedError, FileNotFoundError):
         found.close()
         return None
     return found
@@ -651,7 +644,6 @@ class Tests:
         with self.room() as room:
             driver = room.dummy(b"ups.status: OL\n")
             path = room.path("dummy-ups-su700")
-            until(lambda: os.path.exists(path), "a driver listens")
             with Client(path) as first, Client(path) as second:
                 expect(first.ask(b"DUMPALL\n"), b'SETINFO ups.status "OL"\n', "the first server")
                 while first.line() != b"DUMPDONE\n":
@@ -678,7 +670,6 @@ class Tests:
         with self.room() as room:
             driver = room.dummy()
             path = room.path("dummy-ups-su700")
-            until(lambda: os.path.exists(path), "a driver listens")
             with Client(path) as server:
                 server.socket.setblocking(False)
                 for _ in range(100_000):
