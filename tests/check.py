@@ -11,6 +11,7 @@ ROOT = os.path.dirname(os.path.dirname(os.path.abspath(__file__)))
 
 # The tests of built programs, and the programs that each is given.
 TESTS = (
+    ("believe.py", ()),
     ("programs.py", ("upsd",)),
     ("rehearsal.py", ("rehearse",)),
     ("dummy_rehearsal.py", ("dummy_rehearsal",)),
