@@ -6,8 +6,7 @@ use Rattle.std.proofs.lemmas.Bool.Decides.{nat_tests}
 use Rattle.nut_words.specs.Spelling.{is_printing, is_bare}
 use Rattle.nut_words.specs.declared.words.WordFault.{WordFault}
 use Rattle.nut_words.specs.declared.words.WordFault.TheVariants.{TooManyWords}
-use Rattle.nut_words.specs.declared.reader.Kind.{Kind}
-use Rattle.nut_words.specs.declared.reader.Kind.TheVariants.{Space, Gap, Quote, Backslash, Hash, Equals, Plain, Bad}
+use Rattle.nut_words.specs.Kinds.{Kind, Space, Gap, Quote, Backslash, Hash, Equals, Plain, Bad}
 use Rattle.nut_words.specs.Reader.{State, Between, Bare, BareEscape, Quoted, QuotedEscape, Closed, Comment, kind, begun, apart, in_bare, in_quotes, escaped, behind_quote, in_comment, step, finish, read, spelled, ◌>>=◌}
 use Rattle.nut_words.proofs.ByteKinds.{KindMeans, kind_means}
 use Rattle.nut_words.specs.Quoting.{IsPrintable}

@@ -1,4 +1,4 @@
--- What unfinished line the fields of a line cutter stand for.
+-- For private functions, nothing here has to be believed: what unfinished line the fields of a line cutter stand for.
 use Rattle.std.specs.Prelude.{ℕ, List, []}
 use Rattle.nut_words.specs.Lines.{LineText, Text, TooLong}
 use Rattle.nut_words.specs.declared.cutter.LineCutter.TheInside.{Inside}

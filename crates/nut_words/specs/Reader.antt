@@ -1,10 +1,14 @@
 -- What words a line spells, computed from left to right, byte by byte.
-use Rattle.std.specs.Prelude.{ℕ, ◌==◌, ◌||◌, ◌&&◌, nat_le, nat_lt, Bool, List, [], ◌∷◌, ◌++◌, length, Result, Ok, Err, if◌then◌else◌, slice_index}
+--
+-- This is a second form of the grammar in `Spelling`, one that can be computed: the law `spelled_is_meant` says that
+-- `spelled` gives what `Spells` and `HasFault` say, both ways. Who believes `Spelling` needn't believe this file, but for
+-- `has_backslash` and `Gives`.
+use Rattle.std.specs.Prelude.{◌≡◌, ℕ, ◌==◌, ◌||◌, ◌&&◌, nat_le, nat_lt, Bool, List, [], ◌∷◌, ◌++◌, length, Result, Ok, Err, if◌then◌else◌, slice_index}
 use Rattle.std.specs.List.{list_any}
 use Rattle.nut_words.specs.declared.words.WordFault.{WordFault}
 use Rattle.nut_words.specs.declared.words.WordFault.TheVariants as faults
-use Rattle.nut_words.specs.declared.reader.Kind.{Kind}
-use Rattle.nut_words.specs.declared.reader.Kind.TheVariants as kinds
+use Rattle.nut_words.specs.Kinds.{Kind}
+use Rattle.nut_words.specs.Kinds as kinds
 
 -- what a byte is to reading
 abbrev pub kind : ℕ → Kind
@@ -118,3 +122,8 @@ spelled line = read 32 (Between []) line
 -- whether a backslash stands in the line: only the words of such a line take memory
 abbrev pub has_backslash : List ℕ → Bool
 has_backslash line = list_any (λ c. c == 92) line
+
+-- The call gives this answer, unless memory ran out.
+abbrev pub Gives : Result (List (List ℕ)) WordFault → Result (List (List ℕ)) WordFault → Type 0
+Gives answer (Err faults.Memory) = Unit {0}
+Gives answer result = answer ≡ result

@@ -64,7 +64,9 @@ impl LineCutter {
 
     /// How many bytes of the unfinished line are kept: its length in bytes, or 0 once it is past [`LINE_MAX`].
     pub fn kept(&self) -> usize
-        ensures { result ≡ kept_of self.now }
+        ensures value { result ≡ kept_of self.now }
+        ensures most { result ≤ LINE_MAX }
+        ensures limit { LINE_MAX ≡ 512 }
     {
         match self.stage {
             Stage::Growing => self.kept.len(),

@@ -2,5 +2,5 @@ use Rattle.std.proofs.Common.{◌∙◌}
 use Rattle.nut_words.proofs.CopiedWords.{counted}
 use Rattle.nut_words.proofs.words.Words.len.Goals as goal
 
-pub returns : goal.returns
-returns c = c.len.ensures.value ∙ counted c.self.inside c.args.self.now c.self.view_is
+pub returns-clause-len : goal.returns-clause-len
+returns-clause-len c = c.len.ensures.value ∙ counted c.self.inside c.args.self.now c.self.view_is
