@@ -1,0 +1,27 @@
+-- What a queue holds, by looking back over all calls that changed it. Lists of calls have the newest first.
+use Rattle.std.specs.Prelude.{◌≡◌, ℕ, ◌+◌, ◌≤◌, List, [], ◌∷◌, ◌++◌, drop, length}
+
+-- A call that was done: bytes were pushed, some were taken, or all were dropped.
+pub data Call : Type 0 where
+  Pushed : (bytes : List ℕ) → Call
+  Taken : (n : ℕ) → Call
+  Cleared : Call
+
+-- the bytes pushed since the queue was made or cleared, in order
+abbrev pub pushed : List Call → List ℕ
+pushed [] = []
+pushed (Pushed bytes ∷ past) = pushed past ++ bytes
+pushed (Taken n ∷ past) = pushed past
+pushed (Cleared ∷ past) = []
+
+-- how many bytes were taken since then
+abbrev pub taken : List Call → ℕ
+taken [] = 0
+taken (Pushed bytes ∷ past) = taken past
+taken (Taken n ∷ past) = taken past + n
+taken (Cleared ∷ past) = 0
+
+-- The queue holds the bytes pushed since it was made or cleared, less those taken.
+pub record Holds (queue : List ℕ) (past : List Call) : Type 0 where
+  pub within : taken past ≤ length (pushed past)
+  pub left : queue ≡ drop (taken past) (pushed past)
