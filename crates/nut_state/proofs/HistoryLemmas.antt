@@ -10,10 +10,10 @@ use Rattle.std.proofs.lemmas.List.{reverse-append}
 use Rattle.nut_state.specs.declared.limits.TheConstants.{VALUE_BYTES, MAX_VARIABLES, MAX_COMMANDS}
 use Rattle.nut_state.specs.Attribute.{no_flags, takes_enum, lists_enum, takes_range, lists_range}
 use Rattle.nut_state.specs.Change.{Change, set_info, del_info, add_enum, del_enum, add_range, del_range, set_aux, set_flags, add_command, del_command, dump_done, data_ok, data_stale, pong, asked, heard}
-use Rattle.nut_state.specs.Holds.{Holds, IsTable, IsWithinLimits, LooksBack}
-use Rattle.nut_state.specs.LookBack.{deletes, value_set, flags_set, aux_set, enum_added, removes_enum, range_added, removes_range, command_set, dumps, data_set, latest, standing, era, is_there, is_command, variable_count, command_count, is_accepted, accepted_after, accepted}
+use Rattle.nut_state.specs.Holds.{FollowsAlike, Holds, IsTable, IsWithinLimits, LooksBack}
+use Rattle.nut_state.specs.LookBack.{deletes, value_set, flags_set, aux_set, enum_added, removes_enum, range_added, removes_range, command_set, dumps, data_set, latest, standing, era, is_there, is_command, variable_count, command_count, is_accepted, adds_to, accepted_after, accepted}
 use Rattle.nut_state.specs.Sorted.{named}
-use Rattle.nut_state.specs.Step.{accepts, changed, after, applied, table_of, fresh, with_value, with_variable, revised}
+use Rattle.nut_state.specs.Step.{accepts, adds, changed, after, applied, table_of, fresh, with_value, with_variable, revised}
 use Rattle.nut_state.specs.Table.{Table, Entry, empty, variable, has_command, value_of, flags_of, aux_of, enums_of, ranges_of}
 use Rattle.nut_state.specs.Text.{is_name}
 use Rattle.nut_state.proofs.EffectLemmas.{effects, gone, rest_effects}
@@ -219,6 +219,26 @@ module _ (t : Table) (changes : List Change) (table : IsTable t) (h : LooksBack 
   accepts_same data_stale = refl
   accepts_same pong = refl
 
+  adds_same : (change : Change) → adds t change ≡ adds_to changes change
+  unfolding adds adds_to
+  adds_same (set_info name value) = λ j. accepts_same (set_info name value) j && not (there_is name j)
+  adds_same (add_enum name value) = accepts_same (add_enum name value)
+  adds_same (add_range name range) = accepts_same (add_range name range)
+  adds_same (add_command name) = accepts_same (add_command name)
+  adds_same (del_info name) = refl
+  adds_same (del_enum name value) = refl
+  adds_same (del_range name range) = refl
+  adds_same (set_aux name aux) = refl
+  adds_same (set_flags name flags) = refl
+  adds_same (del_command name) = refl
+  adds_same dump_done = refl
+  adds_same data_ok = refl
+  adds_same data_stale = refl
+  adds_same pong = refl
+
+  follows_alike : FollowsAlike t changes
+  follows_alike = record { accepted_alike = accepts_same; added_alike = adds_same }
+
 -- an empty table, and no lines
 nothing : LooksBack empty []
 unfolding named
@@ -246,7 +266,12 @@ nothing_is_table = record {
 }
 
 pub empty_holds : Holds empty []
-empty_holds = record { in_order = nothing_is_table; agrees = lists_agree empty nothing_is_table; looks_back = nothing }
+empty_holds = record {
+  in_order = nothing_is_table;
+  agrees = lists_agree empty nothing_is_table;
+  looks_back = nothing;
+  goes_on = follows_alike empty [] nothing_is_table nothing;
+}
 
 -- one more line
 module _ (t : Table) (line : List ℕ) (lines : List (List ℕ)) (h : Holds t lines) where
@@ -267,7 +292,12 @@ module _ (t : Table) (line : List ℕ) (lines : List (List ℕ)) (h : Holds t li
   pub applied_holds : Holds (applied t line) (line ∷ lines)
   applied_holds =
       let both = moved (heard line) refl in
-      record { in_order = both.0; agrees = lists_agree (applied t line) both.0; looks_back = both.1 }
+      record {
+        in_order = both.0;
+        agrees = lists_agree (applied t line) both.0;
+        looks_back = both.1;
+        goes_on = follows_alike (applied t line) (accepted (line ∷ lines)) both.0 both.1;
+      }
 
 pub every_table : (lines : List (List ℕ)) → Holds (table_of lines) lines
 every_table [] = empty_holds

@@ -3,9 +3,9 @@ use Rattle.std.specs.Prelude.{◌≡◌, ℕ, ◌≤◌, true, List, Some, map, 
 use Rattle.std.specs.List.{All, Contains}
 use Rattle.nut_state.specs.declared.limits.TheConstants.{VALUE_BYTES, MAX_VARIABLES, MAX_COMMANDS, MAX_ENUMS, MAX_RANGES}
 use Rattle.nut_state.specs.Change.{Change}
-use Rattle.nut_state.specs.LookBack.{last_value, last_flags, last_aux, standing_enums, standing_ranges, is_command, is_dumped, is_current, variable_count, command_count, accepted}
+use Rattle.nut_state.specs.LookBack.{last_value, last_flags, last_aux, standing_enums, standing_ranges, is_command, is_dumped, is_current, variable_count, command_count, is_accepted, adds_to, accepted}
 use Rattle.nut_state.specs.Sorted.{IsAscending}
-use Rattle.nut_state.specs.Step.{table_of}
+use Rattle.nut_state.specs.Step.{accepts, adds, table_of}
 use Rattle.nut_state.specs.Table.{Table, Entry, variable, has_command, value_of, flags_of, aux_of, enums_of, ranges_of}
 use Rattle.nut_state.specs.Text.{is_name}
 
@@ -50,11 +50,18 @@ pub record LooksBack (t : Table) (changes : List Change) : Type 0 where
   pub variables : length t.variables ≡ variable_count changes
   pub commands : length t.commands ≡ command_count changes
 
--- The table holds what the lines, the newest first, have told: it is in order, its lists and look-ups agree, and each look-up looks back over the lines.
+-- The table accepts a change, and is made longer by it, just where looking back over these changes says so.
+pub record FollowsAlike (t : Table) (changes : List Change) : Type 0 where
+  pub accepted_alike : (change : Change) → accepts t change ≡ is_accepted changes change
+  pub added_alike : (change : Change) → adds t change ≡ adds_to changes change
+
+-- The table holds what the lines, the newest first, have told: it is in order, its lists and look-ups agree, each look-up
+-- looks back over the lines, and so does what it accepts of a next line.
 pub record Holds (t : Table) (lines : List (List ℕ)) : Type 0 where
   pub in_order : IsTable t
   pub agrees : ListsAgree t
   pub looks_back : LooksBack t (accepted lines)
+  pub goes_on : FollowsAlike t (accepted lines)
 
 -- Whatever lines an empty table is given, it then holds what they told.
 abbrev pub EveryTableHolds : Type 0

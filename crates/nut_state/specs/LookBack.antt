@@ -114,7 +114,8 @@ is_dumped changes = list_any dumps changes
 abbrev pub is_current : List Change → Bool
 is_current changes = unwrap_or (latest data_set changes) false
 
--- How many variables are there: a SETINFO of a variable that was not there makes it one more, a DELINFO one less.
+-- How many variables are there: a SETINFO of a variable that was not there makes it one more, a DELINFO one less. A table
+-- lists each variable that is there once, and this is how long its list is (`LooksBack` and `ListsAgree`).
 abbrev pub variable_count : List Change → ℕ
 variable_count [] = 0
 variable_count (set_info name value ∷ earlier) = if is_there name earlier then variable_count earlier else suc (variable_count earlier)
@@ -160,3 +161,13 @@ accepted_after past (Some change) = if is_accepted past change then change ∷ [
 abbrev pub accepted : List (List ℕ) → List Change
 accepted [] = []
 accepted (line ∷ earlier) = accepted_after (accepted earlier) (heard line) ++ accepted earlier
+
+-- ---- what may take memory
+
+-- Whether a change adds a variable, an enum value, a range or a command to what these have told.
+unfoldable pub adds_to : List Change → Change → Bool
+adds_to past (set_info name value) = is_accepted past (set_info name value) && not (is_there name past)
+adds_to past (add_enum name value) = is_accepted past (add_enum name value)
+adds_to past (add_range name range) = is_accepted past (add_range name range)
+adds_to past (add_command name) = is_accepted past (add_command name)
+adds_to past other = false

@@ -1,4 +1,8 @@
 -- How one line moves the table that the lines before it led to.
+--
+-- This is the table line by line, as the code keeps it. That `table_of` holds what looking back over the lines tells, and
+-- that `accepts` and `adds` say what `is_accepted` and `adds_to` say, is the law `every_table_holds`: who believes
+-- `LookBack` needn't believe this file.
 use Rattle.std.specs.Prelude.{ℕ, ◌&&◌, ◌||◌, Bool, true, false, not, List, [], ◌∷◌, ◌++◌, Option, Some, None, if◌then◌else◌, filter, is_some, length, nat_lt, nat_le, option_map, unwrap_or}
 use Rattle.std.specs.Option.{option_map_or, option_to_list}
 use Rattle.std.specs.Str.{bytes_eq}

@@ -21,7 +21,7 @@ mod variable;
 mod verb;
 
 pub use heard::{Heard, StateFault};
-pub use laws::every_table_holds;
+pub use laws::{every_table_holds, table_limits};
 pub use limits::{MAX_COMMANDS, MAX_ENUMS, MAX_RANGES, MAX_VARIABLES, NAME_BYTES, VALUE_BYTES};
 pub use number::{Range, natural, whole_number};
 pub use state::UpsState;

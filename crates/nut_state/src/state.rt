@@ -253,7 +253,7 @@ impl UpsState {
         // Whatever lines the table holds, the newest first, it then holds them and this one.
         ensures looks_back { (lines : List (List ℕ)) → Holds self.old lines → OnOk result (Holds self.new (line.now ∷ lines)) }
 
-        // What takes no memory succeeds.
+        // What takes no memory succeeds. What a line adds is what looking back over the lines says (`Holds`).
         ensures succeeds { has_backslash line.now ≡ false → line_adds self.old line.now ≡ false → IsOk result }
     {
         let words = match split(self.alloc, line) {
