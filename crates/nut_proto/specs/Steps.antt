@@ -1,4 +1,5 @@
--- How `read` goes through the words, one after the other. What it amounts to is the table of forms.
+-- For private functions, nothing here has to be believed: how `read` goes through the words, one after the other. What it
+-- amounts to is the table of forms.
 use Rattle.std.specs.Prelude.{ℕ, List, [], ◌∷◌, Option, Some, None}
 use Rattle.nut_proto.specs.declared.request.Request.{Request}
 use Rattle.nut_proto.specs.declared.request.Request.TheVariants as requests

@@ -1,6 +1,8 @@
 //! Texts for people, by the names of variables and commands. They are this project's own.
-ghost use Rattle.std.specs.Prelude.{◌≡◌};
+ghost use Rattle.std.specs.Prelude.{◌≡◌, ◌≤◌, IsTrue, length};
+ghost use Rattle.std.specs.List.{list_all};
 ghost use Rattle.std.specs.Str.{bytes_eq};
+ghost use Rattle.nut_words.specs.Spelling.{is_printing};
 ghost use Rattle.nut_proto.specs.Descriptions.{variable_description, command_description};
 
 fn is_name(name: &[u8], known: &[u8]) -> bool
@@ -13,7 +15,9 @@ fn is_name(name: &[u8], known: &[u8]) -> bool
 /// A name that is not known gives `Description unavailable`.
 #[tactic(auto, unfolding(crate::specs::Descriptions::variable_description))]
 pub fn variable_description(name: &[u8]) -> &'static [u8]
-    ensures { result.now ≡ variable_description name.now }
+    ensures value { result.now ≡ variable_description name.now }
+    ensures few { length result.now ≤ 31 }
+    ensures printing { IsTrue (list_all is_printing result.now) }
 {
     if is_name(name, b"battery.charge") {
         b"Battery charge (percent)"
@@ -42,7 +46,9 @@ pub fn variable_description(name: &[u8]) -> &'static [u8]
 /// A name that is not known gives `Description unavailable`.
 #[tactic(auto, unfolding(crate::specs::Descriptions::command_description))]
 pub fn command_description(name: &[u8]) -> &'static [u8]
-    ensures { result.now ≡ command_description name.now }
+    ensures value { result.now ≡ command_description name.now }
+    ensures few { length result.now ≤ 31 }
+    ensures printing { IsTrue (list_all is_printing result.now) }
 {
     if is_name(name, b"beeper.disable") {
         b"Disable the beeper"
