@@ -57,7 +57,7 @@ module _ (before : List Shown) (bytes n desc d : List ℕ) (named : name 32 byte
       if nat_le 32 (length before) then Err PastLimit
       else if list_any (is_shown_as n) before then Err Repeated
       else if not (list_all is_printing d) then Err Unreadable
-      else Ok (before ++ record { name = n; driver = codes "dummy-ups"; description = d } ∷ [])
+      else Ok (before ++ record { name = n; driver = codes "dummy-ups"; port = []; description = d } ∷ [])
 
   with_ups-tested : with_ups before bytes desc ≡ tested n d
   unfolding tested
@@ -72,6 +72,6 @@ module _ (before : List Shown) (bytes n desc d : List ℕ) (named : name 32 byte
   with_ups-unreadable new bad = with_ups-tested ∙ rw (lt-leb 32 (length before) room, new, bad) refl
 
   pub with_ups-ok : list_any (is_shown_as n) before ≡ false → list_all is_printing d ≡ true
-      → with_ups before bytes desc ≡ Ok (before ++ record { name = n; driver = codes "dummy-ups"; description = d } ∷ [])
+      → with_ups before bytes desc ≡ Ok (before ++ record { name = n; driver = codes "dummy-ups"; port = []; description = d } ∷ [])
   unfolding tested
   with_ups-ok new good = with_ups-tested ∙ rw (lt-leb 32 (length before) room, new, good) refl

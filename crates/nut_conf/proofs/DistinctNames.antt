@@ -44,7 +44,7 @@ module _ (fault : LineFault) (P : List Words → Type 0) (keeps : (before : List
         | Err k ↦ λ here later. absurd (cc)
       ] refl is
 
-  keeps_file : (file : List ℕ) (after : List Words) → P [] → read_file fault file ≡ Ok after → P after
+  pub keeps_file : (file : List ℕ) (after : List Words) → P [] → read_file fault file ≡ Ok after → P after
   keeps_file file after holds is = by_test (nat_lt 1048576 (length file)) is where
     by_test : (b : Bool) → cond b (Err (0, PastLimit)) (read_lines fault [] 1 (lines_of file)) ≡ Ok after → P after
     by_test true is = absurd (cc)
@@ -55,11 +55,11 @@ bytes_eq-swap a b h = false-from_not_true (bytes_eq b a) (λ t.
     let again : bytes_eq a b ≡ true = (bytes_eq-Decides a b).1 (sym ((bytes_eq-Decides b a).0 t)) in
     absurd (cc))
 
-left_false : (a b : Bool) → (a || b) ≡ false → a ≡ false
+pub left_false : (a b : Bool) → (a || b) ≡ false → a ≡ false
 left_false true b h = absurd (cc)
 left_false false b h = refl
 
-right_false : (a b : Bool) → (a || b) ≡ false → b ≡ false
+pub right_false : (a b : Bool) → (a || b) ≡ false → b ≡ false
 right_false true b h = absurd (cc)
 right_false false b h = h
 

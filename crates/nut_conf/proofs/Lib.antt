@@ -8,6 +8,7 @@ pub mod DraftLemmas
 pub mod Rows
 pub mod SectionLemmas
 pub mod DistinctNames
+pub mod KeptRules
 pub mod NameLookup
 pub mod AddedUps
 pub mod FlagLemmas

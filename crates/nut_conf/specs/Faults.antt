@@ -23,3 +23,13 @@ Fails e reading = reading ≡ Err e
 abbrev pub Gives : {X Y : Type 0} → (X → Y) → Result X FaultKind → Result Y FaultKind → Type 0
 Gives view (Ok x) reading = reading ≡ Ok (view x)
 Gives view (Err e) reading = Fails e reading
+
+-- The fault isn't want of memory.
+abbrev pub IsNoMemory : FaultKind → Type 0
+IsNoMemory kinds.Memory = ⊥
+IsNoMemory _ = Unit {0}
+
+-- What was answered, or read, isn't want of memory.
+abbrev pub Spares : {X : Type 0} → Result X FaultKind → Type 0
+Spares (Ok x) = Unit {0}
+Spares (Err e) = IsNoMemory e

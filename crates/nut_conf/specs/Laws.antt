@@ -1,8 +1,10 @@
--- Laws of every file: lines without words change nothing, and the names of sections are distinct.
-use Rattle.std.specs.Prelude.{◌≡◌, ℕ, false, List, [], ◌∷◌, ◌++◌, Result, Ok, Err}
+-- Laws of every file: lines without words change nothing, the names of sections are distinct, and what is set is as often
+-- and as different as it has to be.
+use Rattle.std.specs.Prelude.{◌≡◌, ℕ, ◌≤◌, Bool, false, List, [], ◌∷◌, ◌++◌, length, Option, None, Some, Result, Ok, Err}
 use Rattle.std.specs.List.{list_any}
 use Rattle.nut_conf.specs.Files.{LineFault, read_lines, words_of}
 use Rattle.nut_conf.specs.Sections.{Section, is_name_of}
+use Rattle.nut_conf.specs.Settings.{Directive, Rule, Setting, settings}
 use Rattle.nut_conf.specs.declared.fault.FaultKind.{FaultKind}
 
 -- what was read, or the kind of the first fault, without the number of its line
@@ -20,3 +22,23 @@ BlankChangesNothing fault =
 abbrev pub HasDistinctNames : List Section → Type 0
 HasDistinctNames [] = Unit {0}
 HasDistinctNames (s ∷ ss) = (list_any (is_name_of s.0) ss ≡ false) × HasDistinctNames ss
+
+-- There are at most so many, where there is a limit.
+abbrev pub AreFew : Option ℕ → List Setting → Type 0
+AreFew None set = Unit {0}
+AreFew (Some most) set = length set ≤ most
+
+-- None clashes with one before it.
+abbrev pub AreApart : (Setting → Setting → Bool) → List Setting → Type 0
+AreApart clashes [] = Unit {0}
+AreApart clashes (s ∷ later) = (list_any (λ other. clashes other s) later ≡ false) × AreApart clashes later
+
+-- These settings keep the rule of their directive.
+pub record KeepRule (rule : Rule) (set : List Setting) : Type 0 where
+  pub apart : AreApart rule.clashes set
+  pub few : AreFew rule.most set
+
+-- What is set in each section for the directive keeps its rule.
+abbrev pub EachKeepsRule : Directive → List Section → Type 0
+EachKeepsRule d [] = Unit {0}
+EachKeepsRule d (s ∷ ss) = KeepRule d.rule (settings d s.1) × EachKeepsRule d ss

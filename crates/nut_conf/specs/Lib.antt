@@ -4,6 +4,7 @@ pub mod Hosts
 pub mod Settings
 pub mod Drafts
 pub mod Files
+pub mod Memory
 pub mod Sections
 pub mod Ups
 pub mod Users
@@ -11,5 +12,6 @@ pub mod Upsd
 pub mod Target
 pub mod Notices
 pub mod Upsmon
+pub mod Spares
 pub mod FirstFault
 pub mod Laws

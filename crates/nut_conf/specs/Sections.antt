@@ -1,5 +1,5 @@
 -- Files in sections: each begins with its name in brackets, and its lines follow.
-use Rattle.std.specs.Prelude.{◌≡◌, ℕ, ◌-◌, ◌==◌, Bool, ◌&&◌, List, [], ◌∷◌, length, map, nat_le, if◌then◌else◌, slice_index, slice_range, Option, None, Some, Result, Ok, Err}
+use Rattle.std.specs.Prelude.{◌≡◌, ℕ, ◌-◌, ◌==◌, Bool, ◌&&◌, ◌||◌, List, [], ◌∷◌, is_some, length, map, nat_le, if◌then◌else◌, slice_index, slice_range, Option, None, Some, Result, Ok, Err}
 use Rattle.std.specs.List.{list_any}
 use Rattle.std.specs.Option.{option_map_or}
 use Rattle.std.specs.Str.{bytes_eq}
@@ -57,6 +57,10 @@ abbrev pub sectioned_fault : (List Words → Words → Option FaultKind) → ℕ
 sectioned_fault fault most before ws =
     option_map_or (λ n. fault_of (opens most (sections before) n)) (section_name ws)
     (option_map_or (λ s. fault s.1 ws) (last (sections before)) (Some OutsideSection))
+
+-- A section line makes a file longer by a section, and so do the lines in a section that make what it holds longer.
+abbrev pub sectioned_grows : (Words → Bool) → Words → Bool
+sectioned_grows grows ws = is_some (section_name ws) || grows ws
 
 -- what was read under each name holds what the lines of that section set
 abbrev pub AllHold : {S : Type 0} → (S → List Words → Type 0) → List (Name 32 × S) → List Section → Type 0

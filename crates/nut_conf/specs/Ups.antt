@@ -1,5 +1,5 @@
 -- The file ups.conf: the UPSes that a server serves.
-use Rattle.std.specs.Prelude.{◌≡◌, ℕ, Bool, not, List, [], ◌∷◌, ◌++◌, length, map, codes, position, slice_get, nat_le, Option, Result, Ok, Err, if◌then◌else◌}
+use Rattle.std.specs.Prelude.{◌≡◌, ℕ, Bool, false, not, List, [], ◌∷◌, ◌++◌, length, map, codes, position, slice_get, nat_le, Option, Result, Ok, Err, if◌then◌else◌}
 use Rattle.std.specs.List.{list_all, list_any}
 use Rattle.std.specs.Option.{option_map, option_map_or, option_to_list}
 use Rattle.std.specs.Str.{bytes_eq}
@@ -10,7 +10,7 @@ use Rattle.nut_conf.specs.Settings.{Setting, Text, Directive, settings, line_fau
 use Rattle.nut_conf.specs.declared.values.Form.TheVariants.{Assigned}
 use Rattle.nut_conf.specs.Values.{Words, name, text}
 use Rattle.nut_conf.specs.Files.{LineFault}
-use Rattle.nut_conf.specs.Sections.{AllHold, sections, sectioned_fault, names_in}
+use Rattle.nut_conf.specs.Sections.{AllHold, sections, sectioned_fault, sectioned_grows, names_in}
 use Rattle.nut_conf.specs.declared.text.Name.{Name}
 use Rattle.nut_conf.specs.declared.fault.FaultKind.{FaultKind}
 use Rattle.nut_conf.specs.declared.fault.FaultKind.TheVariants.{PastLimit, Repeated, Unreadable}
@@ -34,6 +34,14 @@ abbrev pub ups_settings : Ups → UpsDirective → List Setting
 ups_settings u Driver = option_to_list (option_map (λ n. Text n.bytes.items) u.driver)
 ups_settings u Port = option_to_list (option_map (λ t. Text t.bytes.items) u.port)
 ups_settings u Desc = option_to_list (option_map (λ t. Text t.bytes.items) u.desc)
+
+-- no line in a section takes memory for what it sets
+abbrev pub ups_grows : Words → Bool
+ups_grows ws = false
+
+-- only a section line does
+abbrev pub ups_conf_grows : Words → Bool
+ups_conf_grows = sectioned_grows ups_grows
 
 -- the first fault of a line of ups.conf, which has at most 32 sections
 abbrev pub ups_fault : LineFault
@@ -71,15 +79,16 @@ number_of name c = position (bytes_eq name) (names_of c)
 abbrev pub ups_at : UpsConf → ℕ → Option Ups
 ups_at c number = slice_get (values c.ups.by_name) number
 
--- a UPS without where it lies in memory: its name, its driver's program, and what people call it
+-- a UPS without where it lies in memory: its name, its driver's program, what that is to open, and what people call it
 pub record Shown : Type 0 where
   pub name : List ℕ
   pub driver : List ℕ
+  pub port : List ℕ
   pub description : List ℕ
 
 -- what is set under a name, with the defaults
 abbrev pub shown : Name 32 × Ups → Shown
-shown e = record { name = e.0.bytes.items; driver = driver_of e.1; description = desc_of e.1 }
+shown e = record { name = e.0.bytes.items; driver = driver_of e.1; port = port_of e.1; description = desc_of e.1 }
 
 -- the UPSes, in the order of the file
 abbrev pub shown_in : UpsConf → List Shown
@@ -89,11 +98,12 @@ shown_in c = map shown c.ups.by_name.entries
 abbrev pub is_shown_as : List ℕ → Shown → Bool
 is_shown_as n u = bytes_eq n u.name
 
--- A name and a description behind other UPSes: these with one more, whose driver is the default, or the first fault.
+-- A name and a description behind other UPSes: these as they are with one more, whose driver and port are the defaults,
+-- or the first fault.
 abbrev pub with_ups : List Shown → List ℕ → List ℕ → Result (List Shown) FaultKind
 with_ups before n desc =
     name 32 n >>= (λ n. text 0 128 desc >>= (λ d.
     if nat_le 32 (length before) then Err PastLimit
     else if list_any (is_shown_as n) before then Err Repeated
     else if not (list_all is_printing d) then Err Unreadable
-    else Ok (before ++ record { name = n; driver = codes "dummy-ups"; description = d } ∷ [])))
+    else Ok (before ++ record { name = n; driver = codes "dummy-ups"; port = []; description = d } ∷ [])))

@@ -1,6 +1,7 @@
 -- The file upsd.conf: how a server serves.
-use Rattle.std.specs.Prelude.{◌≡◌, ℕ, ◌==◌, List, [], ◌∷◌, length, map, codes, if◌then◌else◌, Some, Result, Ok, Err}
+use Rattle.std.specs.Prelude.{◌≡◌, ℕ, ◌==◌, Bool, List, [], ◌∷◌, length, map, codes, if◌then◌else◌, Some, Result, Ok, Err}
 use Rattle.std.specs.Option.{option_map, option_map_or, option_to_list}
+use Rattle.std.specs.Str.{bytes_eq}
 use Rattle.nut_conf.specs.Faults.{◌>>=◌}
 use Rattle.nut_conf.specs.Values.{Words, nth, number}
 use Rattle.nut_conf.specs.Hosts.{is_address}
@@ -44,6 +45,10 @@ abbrev pub upsd_settings : UpsdConf → UpsdDirective → List Setting
 upsd_settings c directives.Listen = map endpoint_setting c.listen.items
 upsd_settings c directives.MaxAge = option_to_list (option_map (λ n. Number n.value) c.max_age)
 upsd_settings c directives.MaxConn = option_to_list (option_map (λ n. Number n.value) c.max_conn)
+
+-- endpoints are listed, and a list takes memory
+abbrev pub upsd_grows : Words → Bool
+upsd_grows ws = bytes_eq (nth ws 0) (codes "LISTEN")
 
 -- the first fault of a line of upsd.conf
 abbrev pub upsd_fault : LineFault

@@ -1,5 +1,5 @@
 -- The file upsmon.conf: what a monitor watches, and what it does.
-use Rattle.std.specs.Prelude.{◌≡◌, ℕ, Bool, false, ◌&&◌, ◌==◌, List, [], ◌∷◌, length, nat_lt, map, sum_by, codes, if◌then◌else◌, None, Some, Result, Ok, Err}
+use Rattle.std.specs.Prelude.{◌≡◌, ℕ, Bool, false, ◌&&◌, ◌||◌, ◌==◌, List, [], ◌∷◌, length, nat_lt, map, sum_by, codes, if◌then◌else◌, None, Some, Result, Ok, Err}
 use Rattle.std.specs.List.{find, list_any}
 use Rattle.std.specs.Option.{option_map, option_map_or, option_to_list}
 use Rattle.std.specs.Str.{bytes_eq}
@@ -94,6 +94,10 @@ upsmon_settings c directives.HostSync = option_to_list (option_map (λ n. Number
 upsmon_settings c directives.FinalDelay = option_to_list (option_map (λ n. Number n.value) c.final_delay)
 upsmon_settings c directives.NotifyMsg = map message_setting c.messages.items
 upsmon_settings c directives.NotifyFlag = map handling_setting c.handlings.items
+
+-- UPSes, texts and flags are listed, and a list takes memory
+abbrev pub upsmon_grows : Words → Bool
+upsmon_grows ws = bytes_eq (nth ws 0) (codes "MONITOR") || bytes_eq (nth ws 0) (codes "NOTIFYMSG") || bytes_eq (nth ws 0) (codes "NOTIFYFLAG")
 
 -- the first fault of a line of upsmon.conf
 abbrev pub upsmon_fault : LineFault

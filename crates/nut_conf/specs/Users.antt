@@ -1,15 +1,15 @@
 -- The file upsd.users: who may do what.
-use Rattle.std.specs.Prelude.{◌≡◌, ℕ, Bool, true, false, List, [], ◌∷◌, map, codes, Option, None, Some, Result, Ok, if◌then◌else◌}
+use Rattle.std.specs.Prelude.{◌≡◌, ◌||◌, ℕ, Bool, true, false, List, [], ◌∷◌, map, codes, Option, None, Some, Result, Ok, if◌then◌else◌}
 use Rattle.std.specs.List.{list_any}
 use Rattle.std.specs.Option.{option_map, option_map_or, option_to_list}
 use Rattle.std.specs.Str.{bytes_eq}
 use Rattle.std.specs.Char.{to_ascii_lowercase}
 use Rattle.indexmap.specs.IndexMap.{get_by}
 use Rattle.nut_conf.specs.Faults.{◌>>=◌}
-use Rattle.nut_conf.specs.Values.{Words, one, name}
+use Rattle.nut_conf.specs.Values.{Words, nth, one, name}
 use Rattle.nut_conf.specs.Settings.{Setting, Text, AllCommands, Directive, settings, line_fault, once, listed, text_value, word_value}
 use Rattle.nut_conf.specs.Files.{LineFault}
-use Rattle.nut_conf.specs.Sections.{AllHold, sections, sectioned_fault, is_named}
+use Rattle.nut_conf.specs.Sections.{AllHold, sections, sectioned_fault, sectioned_grows, is_named}
 use Rattle.nut_conf.specs.declared.fault.FaultKind.{FaultKind}
 use Rattle.nut_conf.specs.declared.values.Form.TheVariants.{Assigned, Plain}
 use Rattle.nut_conf.specs.declared.users.UsersConf.{UsersConf}
@@ -75,6 +75,14 @@ user_settings u Password = option_to_list (option_map (λ t. Text t.bytes.items)
 user_settings u Actions = map action_setting u.actions.items
 user_settings u Instcmds = map commands_setting u.instcmds.items
 user_settings u Upsmon = option_to_list (option_map role_setting u.upsmon)
+
+-- actions and commands are listed, and a list takes memory
+abbrev pub user_grows : Words → Bool
+user_grows ws = bytes_eq (nth ws 0) (codes "actions") || bytes_eq (nth ws 0) (codes "instcmds")
+
+-- and so does a section
+abbrev pub users_conf_grows : Words → Bool
+users_conf_grows = sectioned_grows user_grows
 
 -- the first fault of a line of upsd.users, which has at most 64 sections
 abbrev pub users_fault : LineFault

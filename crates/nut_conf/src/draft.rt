@@ -1,5 +1,5 @@
 //! Configurations that grow line by line.
-ghost use Rattle.std.specs.Prelude.{◌∷◌, ◌++◌, ℕ, List, [], Option};
+ghost use Rattle.std.specs.Prelude.{◌≡◌, ◌∷◌, ◌++◌, ℕ, Bool, List, [], Option, Err, IsTrue};
 ghost use Rattle.nut_conf.specs.Drafts.{Takes};
 ghost use Rattle.nut_conf.specs.declared.fault.FaultKind.{FaultKind};
 
@@ -12,6 +12,9 @@ pub trait Draft: Drop + Sized {
     /// The first fault of a line, given the lines before it.
     ghost fault: { List (List (List ℕ)) → List (List ℕ) → Option FaultKind };
 
+    /// Whether a line makes a list longer, and so may take memory for what it sets.
+    ghost grows: { List (List ℕ) → Bool };
+
     /// These lines set what the draft holds.
     ghost Holds: { Self → List (List (List ℕ)) → Type 0 };
 
@@ -21,6 +24,7 @@ pub trait Draft: Drop + Sized {
 
     /// Takes in a line.
     fn put(&mut self, line: &Line<'_>) -> Result<(), FaultKind>
-        ensures { (before : List (List (List ℕ))) → Holds self.old before
+        ensures memory { result ≡ Err FaultKind.Memory → IsTrue (grows line.now.words) }
+        ensures takes { (before : List (List (List ℕ))) → Holds self.old before
             → Takes (fault before line.now.words) result (Holds self.new (before ++ line.now.words ∷ [])) };
 }

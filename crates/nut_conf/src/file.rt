@@ -1,8 +1,9 @@
 //! A file by its lines.
-ghost use Rattle.std.specs.Prelude.{◌≡◌, List, Ok, MatchResult};
+ghost use Rattle.std.specs.Prelude.{◌≡◌, List, Ok, Err, IfErr, MatchResult};
 ghost use Rattle.nut_conf.specs.Faults.{Fails};
 ghost use Rattle.nut_conf.specs.Values.{Words as LineWords};
 ghost use Rattle.nut_conf.specs.Files.{Means, read_file, with_line};
+ghost use Rattle.nut_conf.specs.Memory.{MayRunOut, MayTake};
 
 use crate::draft::Draft;
 use crate::fault::{ConfFault, FaultKind};
@@ -15,7 +16,8 @@ pub const FILE_MAX: usize = 1_048_576;
 
 /// Takes in a line.
 fn take_line<D: Draft>(alloc: Global, draft: &mut D, bytes: &[u8]) -> Result<(), FaultKind>
-    ensures { (before : List LineWords) → D.Holds draft.old before
+    ensures memory { result ≡ Err FaultKind.Memory → MayTake D.grows bytes.now }
+    ensures takes { (before : List LineWords) → D.Holds draft.old before
         → MatchResult result (λ _. (after : List LineWords) × (with_line D.fault before bytes.now ≡ Ok after) × D.Holds draft.new after) (λ k. Fails k (with_line D.fault before bytes.now)) }
 {
     match Line::read(alloc, bytes)? {
@@ -26,7 +28,8 @@ fn take_line<D: Draft>(alloc: Global, draft: &mut D, bytes: &[u8]) -> Result<(),
 
 /// Reads a file, line by line, to its end or to its first fault.
 pub fn read_draft<D: Draft>(alloc: Global, bytes: &[u8]) -> Result<D, ConfFault>
-    ensures { Means (read_file D.fault bytes.now) D.Holds result }
+    ensures means { Means (read_file D.fault bytes.now) D.Holds result }
+    ensures memory { IfErr result (λ fault. fault.kind ≡ FaultKind.Memory → MayRunOut D.fault D.grows bytes.now fault.line) }
 {
     if bytes.len() > FILE_MAX {
         return Err(ConfFault {

@@ -3,10 +3,17 @@ ghost use Rattle.std.specs.Prelude.{◌≡◌, ℕ, List, [], Ok, Err};
 ghost use Rattle.nut_conf.specs.Values.{Words};
 ghost use Rattle.nut_conf.specs.FirstFault.{IsFirstFault};
 ghost use Rattle.nut_conf.specs.Files.{LineFault, read_file, read_lines};
-ghost use Rattle.nut_conf.specs.Laws.{BlankChangesNothing, HasDistinctNames};
+ghost use Rattle.nut_conf.specs.Laws.{BlankChangesNothing, EachKeepsRule, HasDistinctNames, KeepRule};
 ghost use Rattle.nut_conf.specs.Sections.{sections};
-ghost use Rattle.nut_conf.specs.Ups.{ups_fault};
-ghost use Rattle.nut_conf.specs.Users.{users_fault};
+ghost use Rattle.nut_conf.specs.Settings.{settings};
+ghost use Rattle.nut_conf.specs.Ups.{ups_directive, ups_fault};
+ghost use Rattle.nut_conf.specs.Upsd.{upsd_directive, upsd_fault};
+ghost use Rattle.nut_conf.specs.Upsmon.{upsmon_directive, upsmon_fault};
+ghost use Rattle.nut_conf.specs.Users.{user_directive, users_fault};
+ghost use Rattle.nut_conf.specs.declared.ups.UpsDirective.{UpsDirective};
+ghost use Rattle.nut_conf.specs.declared.upsd.UpsdDirective.{UpsdDirective};
+ghost use Rattle.nut_conf.specs.declared.upsmon.UpsmonDirective.{UpsmonDirective};
+ghost use Rattle.nut_conf.specs.declared.users.UserDirective.{UserDirective};
 ghost use Rattle.nut_conf.specs.declared.fault.FaultKind.{FaultKind};
 
 /// The fault that is named stands in the first line that has one.
@@ -24,4 +31,18 @@ pub fn blank_lines_change_nothing()
 pub fn names_are_distinct()
     ensures ups { (file : List ℕ) (lines : List Words) → read_file ups_fault file ≡ Ok lines → HasDistinctNames (sections lines) }
     ensures users { (file : List ℕ) (lines : List Words) → read_file users_fault file ≡ Ok lines → HasDistinctNames (sections lines) }
+{}
+
+/// In a file that reads, what its lines set for a directive is as often as it may be, and no two settings are alike that
+/// may not be: at most 16 endpoints, 128 `instcmds` of a user and 32 targets, no target twice, and no type of notice with
+/// two texts or two lines of flags.
+pub fn rules_are_kept()
+    ensures ups { (file : List ℕ) (lines : List Words) → read_file ups_fault file ≡ Ok lines
+        → (d : UpsDirective) → EachKeepsRule (ups_directive d) (sections lines) }
+    ensures users { (file : List ℕ) (lines : List Words) → read_file users_fault file ≡ Ok lines
+        → (d : UserDirective) → EachKeepsRule (user_directive d) (sections lines) }
+    ensures upsd { (file : List ℕ) (lines : List Words) → read_file upsd_fault file ≡ Ok lines
+        → (d : UpsdDirective) → KeepRule (upsd_directive d).rule (settings (upsd_directive d) lines) }
+    ensures upsmon { (file : List ℕ) (lines : List Words) → read_file upsmon_fault file ≡ Ok lines
+        → (d : UpsmonDirective) → KeepRule (upsmon_directive d).rule (settings (upsmon_directive d) lines) }
 {}

@@ -25,7 +25,7 @@ mod values;
 pub use fault::{ConfFault, FaultKind};
 pub use file::FILE_MAX;
 pub use host::{Address, Host};
-pub use laws::{blank_lines_change_nothing, first_fault, names_are_distinct};
+pub use laws::{blank_lines_change_nothing, first_fault, names_are_distinct, rules_are_kept};
 pub use monitor::Monitored;
 pub use monitors::Monitors;
 pub use notice::{Notice, NoticeFlags, NoticeHandling, NoticeText};

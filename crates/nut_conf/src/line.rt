@@ -1,17 +1,15 @@
 //! The words of a line.
-ghost use Rattle.std.specs.Prelude.{◌≡◌, ◌<◌, [], IsTrue, length, slice_index_or};
+ghost use Rattle.std.specs.Prelude.{◌≡◌, ◌<◌, ◌≤◌, [], Err, IsTrue, length, slice_index_or};
 ghost use Rattle.std.specs.List.{list_all};
 ghost use Rattle.std.specs.Option.{option_map_or};
+ghost use Rattle.nut_words.specs.Reader.{has_backslash};
 ghost use Rattle.nut_words.specs.Spelling.{is_printing};
 ghost use Rattle.nut_conf.specs.Faults.{Gives};
 ghost use Rattle.nut_conf.specs.Files.{words_of};
 
 use crate::fault::FaultKind;
-use nut_words::{WordFault, Words, split};
+use nut_words::{LINE_MAX, WordFault, Words, split};
 use std::alloc::Global;
-
-/// How many bytes a line has at most.
-const LINE_MAX: usize = 512;
 
 /// The words of a line that has some.
 #[derive(Drop)]
@@ -23,7 +21,8 @@ pub struct Line<'a> {
 
 /// Reads the words of a line.
 fn words(alloc: Global, bytes: &[u8]) -> Result<Words<'_>, FaultKind>
-    ensures { Gives (λ words. words) result (words_of bytes.now) }
+    ensures words { Gives (λ words. words) result (words_of bytes.now) }
+    ensures memory { result ≡ Err FaultKind.Memory → (length bytes.now ≤ 512) × IsTrue (has_backslash bytes.now) }
 {
     if bytes.len() > LINE_MAX {
         return Err(FaultKind::PastLimit);
@@ -38,7 +37,8 @@ fn words(alloc: Global, bytes: &[u8]) -> Result<Words<'_>, FaultKind>
 impl<'a> Line<'a> {
     /// Reads a line, or None where it has no words.
     pub fn read(alloc: Global, bytes: &'a [u8]) -> Result<Option<Self>, FaultKind>
-        ensures { Gives (λ line. option_map_or (λ l. l.words) line []) result (words_of bytes.now) }
+        ensures line { Gives (λ line. option_map_or (λ l. l.words) line []) result (words_of bytes.now) }
+        ensures memory { result ≡ Err FaultKind.Memory → (length bytes.now ≤ 512) × IsTrue (has_backslash bytes.now) }
     {
         if bytes.is_empty() {
             return Ok(None);

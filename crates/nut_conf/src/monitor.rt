@@ -62,10 +62,13 @@ fn read_written(bytes: &[u8]) -> Result<(ArrayVec<u8, TARGET_MAX>, Target), Faul
 
 impl FromValues for Monitored {
     ghost use Rattle.nut_conf.specs.Upsmon.{monitor_setting, monitor_value};
+    ghost use Rattle.nut_conf.specs.Spares.{monitor_value_spares};
 
     ghost setting = { monitor_setting };
 
     ghost reads = { monitor_value };
+
+    ghost spares = { monitor_value_spares };
 
     fn from_values(values: &Values<'_, '_>) -> Result<Self, FaultKind> {
         if values.len() != 5 {

@@ -8,7 +8,7 @@ use crate::slot::listed_apart;
 use crate::values::Form;
 use std::alloc::Global;
 
-/// At most 32 of them, in the order of the file, no two with the same target.
+/// At most 32 of them, in the order of the file; of a file that was read, no two with the same target.
 #[derive(Drop)]
 pub struct Monitors {
     pub lines: Vec<Monitored>,

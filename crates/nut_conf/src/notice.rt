@@ -121,10 +121,13 @@ pub fn text_of(texts: &[NoticeText], notice: Notice) -> Option<&NoticeText>
 
 impl FromValues for NoticeText {
     ghost use Rattle.nut_conf.specs.Notices.{message_setting, message_value};
+    ghost use Rattle.nut_conf.specs.Spares.{message_value_spares};
 
     ghost setting = { message_setting };
 
     ghost reads = { message_value };
+
+    ghost spares = { message_value_spares };
 
     fn from_values(values: &Values<'_, '_>) -> Result<Self, FaultKind> {
         if values.len() != 2 {
@@ -246,10 +249,13 @@ pub fn handling_of(handlings: &[NoticeHandling], notice: Notice) -> Option<&Noti
 
 impl FromValues for NoticeHandling {
     ghost use Rattle.nut_conf.specs.Notices.{handling_setting, flags_value};
+    ghost use Rattle.nut_conf.specs.Spares.{flags_value_spares};
 
     ghost setting = { handling_setting };
 
     ghost reads = { flags_value };
+
+    ghost spares = { flags_value_spares };
 
     fn from_values(values: &Values<'_, '_>) -> Result<Self, FaultKind> {
         if values.len() != 2 {

@@ -58,9 +58,11 @@ impl<S: Draft, const MOST: usize> Sections<S, MOST> {
 }
 
 impl<S: Draft, const MOST: usize> Draft for Sections<S, MOST> {
-    ghost use Rattle.nut_conf.specs.Sections.{AllHold, sections, sectioned_fault};
+    ghost use Rattle.nut_conf.specs.Sections.{AllHold, sections, sectioned_fault, sectioned_grows};
 
     ghost fault = { sectioned_fault S.fault MOST };
+
+    ghost grows = { sectioned_grows S.grows };
 
     ghost Holds = { λ s lines. AllHold S.Holds s.by_name.entries (sections lines) };
 

@@ -2,7 +2,7 @@
 ghost use Rattle.std.specs.Prelude.{◌≡◌, ◌≤◌, ℕ, List, Bool, Option, Some, Result, length, map};
 ghost use Rattle.std.specs.List.{list_any};
 ghost use Rattle.std.specs.Option.{option_map, option_to_list};
-ghost use Rattle.nut_conf.specs.Faults.{Reads};
+ghost use Rattle.nut_conf.specs.Faults.{Reads, Spares};
 ghost use Rattle.nut_conf.specs.Settings.{Setting, Puts};
 ghost use Rattle.nut_conf.specs.Settings as rules;
 ghost use Rattle.nut_conf.specs.declared.fault.FaultKind.{FaultKind};
@@ -22,15 +22,19 @@ pub trait FromValues: Drop + Sized {
     /// Reads the values of a line.
     fn from_values(values: &Values<'_, '_>) -> Result<Self, FaultKind>
         ensures { Reads setting result (reads values.now) };
+
+    /// No values are read as want of memory.
+    ghost spares: { (values : List (List ℕ)) → Spares (reads values) };
 }
 
-/// Sets what may be set once.
+/// Sets what may be set once. Takes no memory.
 pub fn once<T: FromValues>(
     slot: &mut Option<T>,
     form: Form,
     line: &Line<'_>,
 ) -> Result<(), FaultKind>
-    ensures { Puts (rules.once form T.reads) (option_to_list (option_map T.setting slot.old)) line.now.words result (option_to_list (option_map T.setting slot.new)) }
+    ensures puts { Puts (rules.once form T.reads) (option_to_list (option_map T.setting slot.old)) line.now.words result (option_to_list (option_map T.setting slot.new)) }
+    ensures spares { Spares result }
 {
     let values = Values::of(form, line)?;
     let value = T::from_values(&values)?;

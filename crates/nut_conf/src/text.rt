@@ -152,10 +152,13 @@ impl Port {
 
 impl<const MOST: usize> FromValues for Name<MOST> {
     ghost use Rattle.nut_conf.specs.Settings.{Text, name_value};
+    ghost use Rattle.nut_conf.specs.Spares.{name_value_spares};
 
     ghost setting = { λ n. Text n.bytes.items };
 
     ghost reads = { name_value MOST };
+
+    ghost spares = { name_value_spares MOST };
 
     fn from_values(values: &Values<'_, '_>) -> Result<Self, FaultKind> {
         Name::read(values.one()?)
@@ -164,10 +167,13 @@ impl<const MOST: usize> FromValues for Name<MOST> {
 
 impl<const LEAST: usize, const MOST: usize> FromValues for Text<LEAST, MOST> {
     ghost use Rattle.nut_conf.specs.Settings.{Text as TextSetting, text_value};
+    ghost use Rattle.nut_conf.specs.Spares.{text_value_spares};
 
     ghost setting = { λ t. TextSetting t.bytes.items };
 
     ghost reads = { text_value LEAST MOST };
+
+    ghost spares = { text_value_spares LEAST MOST };
 
     fn from_values(values: &Values<'_, '_>) -> Result<Self, FaultKind> {
         Text::read(values.one()?)
@@ -176,10 +182,13 @@ impl<const LEAST: usize, const MOST: usize> FromValues for Text<LEAST, MOST> {
 
 impl<const LEAST: u32, const MOST: u32> FromValues for Number<LEAST, MOST> {
     ghost use Rattle.nut_conf.specs.Settings.{Number as NumberSetting, number_value};
+    ghost use Rattle.nut_conf.specs.Spares.{number_value_spares};
 
     ghost setting = { λ n. NumberSetting n.value };
 
     ghost reads = { number_value LEAST MOST };
+
+    ghost spares = { number_value_spares LEAST MOST };
 
     fn from_values(values: &Values<'_, '_>) -> Result<Self, FaultKind> {
         Number::read(values.one()?)

@@ -1,12 +1,13 @@
 //! The file ups.conf.
-ghost use Rattle.std.specs.Prelude.{◌≡◌, ◌==◌, ◌<◌, ◌≤◌, [], IfSome, IsTrue, None, MatchOption, OnErr, length, slice_get};
+ghost use Rattle.std.specs.Prelude.{◌≡◌, ◌==◌, ◌<◌, ◌≤◌, [], IfSome, IsTrue, None, MatchOption, IfErr, OnErr, length, slice_get};
 ghost use Rattle.std.specs.Option.{option_copied, option_map};
 ghost use Rattle.nut_words.specs.Quoting.{IsPrintable};
 ghost use Rattle.nut_conf.specs.Faults.{Gives};
 ghost use Rattle.nut_conf.specs.Files.{Means, read_file};
+ghost use Rattle.nut_conf.specs.Memory.{MayRunOut};
 ghost use Rattle.nut_words.specs.Name.{is_name};
 ghost use Rattle.nut_conf.specs.Values.{is_text};
-ghost use Rattle.nut_conf.specs.Ups.{UpsConfHolds, ups_fault, driver_of, port_of, desc_of, names_of, number_of, ups_at, shown_in, with_ups};
+ghost use Rattle.nut_conf.specs.Ups.{UpsConfHolds, ups_fault, ups_conf_grows, driver_of, port_of, desc_of, names_of, number_of, ups_at, shown_in, with_ups};
 
 use crate::draft::Draft;
 use crate::fault::{ConfFault, FaultKind};
@@ -87,7 +88,8 @@ impl UpsConf {
         }
     }
 
-    /// Puts a UPS behind the others, with this description and the default driver.
+    /// Puts a UPS behind the others, with this description, the default driver and the default port. The others stay as they
+    /// are.
     ///
     /// # Errors
     ///
@@ -193,9 +195,11 @@ impl UpsDirective {
 
 impl Draft for Ups {
     ghost use Rattle.nut_conf.specs.Settings.{line_fault};
-    ghost use Rattle.nut_conf.specs.Ups.{UpsHolds, ups_directives};
+    ghost use Rattle.nut_conf.specs.Ups.{UpsHolds, ups_directives, ups_grows};
 
     ghost fault = { line_fault ups_directives };
+
+    ghost grows = { ups_grows };
 
     ghost Holds = { UpsHolds };
 
@@ -219,9 +223,11 @@ impl Draft for Ups {
 
 /// Reads ups.conf (NUT man page ups.conf(5), the directives `driver`, `port` and `desc`).
 ///
-/// Gives the configuration that its lines set, or the first line with a fault and the first fault in it.
+/// Gives the configuration that its lines set, or the first line with a fault and the first fault in it. Memory may run
+/// out only at a line with a section or a backslash.
 pub fn read_ups(alloc: Global, bytes: &[u8]) -> Result<UpsConf, ConfFault>
-    ensures { Means (read_file ups_fault bytes.now) UpsConfHolds result }
+    ensures means { Means (read_file ups_fault bytes.now) UpsConfHolds result }
+    ensures memory { IfErr result (λ fault. fault.kind ≡ FaultKind.Memory → MayRunOut ups_fault ups_conf_grows bytes.now fault.line) }
 {
     let ups = read_draft(alloc, bytes)?;
     Ok(UpsConf { ups })

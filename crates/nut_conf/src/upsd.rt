@@ -1,9 +1,10 @@
 //! The file upsd.conf.
-ghost use Rattle.std.specs.Prelude.{◌≡◌, ◌≤◌, [], None, MatchOption, length, slice_get};
+ghost use Rattle.std.specs.Prelude.{◌≡◌, ◌≤◌, [], None, IfErr, IfOk, MatchOption, length, slice_get};
 ghost use Rattle.std.specs.Option.{option_map};
 ghost use Rattle.nut_conf.specs.Faults.{Reads};
 ghost use Rattle.nut_conf.specs.Files.{Means, read_file};
-ghost use Rattle.nut_conf.specs.Upsd.{UpsdHolds, upsd_fault, address as address_of, max_age_of, max_conn_of, endpoints_of};
+ghost use Rattle.nut_conf.specs.Memory.{MayRunOut};
+ghost use Rattle.nut_conf.specs.Upsd.{UpsdHolds, upsd_fault, upsd_grows, address as address_of, max_age_of, max_conn_of, endpoints_of};
 
 use crate::draft::Draft;
 use crate::fault::{ConfFault, FaultKind};
@@ -25,7 +26,7 @@ pub struct Endpoint {
 /// The configuration of upsd.conf. What isn't set has its default.
 #[derive(Drop)]
 pub struct UpsdConf {
-    /// At most 16.
+    /// Of a file that was read, at most 16.
     pub listen: Vec<Endpoint>,
     pub max_age: Option<Number<1, 86400>>,
     pub max_conn: Option<Number<1, 256>>,
@@ -119,10 +120,13 @@ fn address(bytes: &[u8]) -> Result<Address, FaultKind>
 
 impl FromValues for Endpoint {
     ghost use Rattle.nut_conf.specs.Upsd.{endpoint_setting, listen_value};
+    ghost use Rattle.nut_conf.specs.Spares.{listen_value_spares};
 
     ghost setting = { endpoint_setting };
 
     ghost reads = { listen_value };
+
+    ghost spares = { listen_value_spares };
 
     fn from_values(values: &Values<'_, '_>) -> Result<Self, FaultKind> {
         match values.len() {
@@ -140,9 +144,11 @@ impl FromValues for Endpoint {
 }
 
 impl Draft for UpsdConf {
-    ghost use Rattle.nut_conf.specs.Upsd.{UpsdHolds, upsd_fault};
+    ghost use Rattle.nut_conf.specs.Upsd.{UpsdHolds, upsd_fault, upsd_grows};
 
     ghost fault = { upsd_fault };
+
+    ghost grows = { upsd_grows };
 
     ghost Holds = { UpsdHolds };
 
@@ -166,9 +172,12 @@ impl Draft for UpsdConf {
 
 /// Reads upsd.conf (NUT man page upsd.conf(5), the directives `LISTEN`, `MAXAGE` and `MAXCONN`).
 ///
-/// Gives the configuration that its lines set, or the first line with a fault and the first fault in it.
+/// Gives the configuration that its lines set, or the first line with a fault and the first fault in it. Memory may run
+/// out only at a line with `LISTEN` or a backslash.
 pub fn read_upsd(alloc: Global, bytes: &[u8]) -> Result<UpsdConf, ConfFault>
-    ensures { Means (read_file upsd_fault bytes.now) UpsdHolds result }
+    ensures means { Means (read_file upsd_fault bytes.now) UpsdHolds result }
+    ensures few { IfOk result (λ conf. length conf.listen.items ≤ 16) }
+    ensures memory { IfErr result (λ fault. fault.kind ≡ FaultKind.Memory → MayRunOut upsd_fault upsd_grows bytes.now fault.line) }
 {
     read_draft(alloc, bytes)
 }

@@ -1,12 +1,13 @@
 //! The file upsmon.conf.
-ghost use Rattle.std.specs.Prelude.{◌≡◌, None, MatchOption, IsTrue, nat_lt, sum_by};
+ghost use Rattle.std.specs.Prelude.{◌≡◌, None, IfErr, MatchOption, IsTrue, nat_lt, sum_by};
 ghost use Rattle.std.specs.List.{find};
 ghost use Rattle.std.specs.Option.{option_map_or};
 ghost use Rattle.std.specs.Str.{bytes_eq};
 ghost use Rattle.nut_words.specs.Quoting.{IsPrintable};
 ghost use Rattle.nut_conf.specs.Files.{Means};
+ghost use Rattle.nut_conf.specs.Memory.{MayRunOut};
 ghost use Rattle.nut_conf.specs.Values.{is_text};
-ghost use Rattle.nut_conf.specs.Upsmon.{UpsmonHolds, upsmon_reading, min_supplies_of, poll_freq_of, dead_time_of, rb_warn_time_of, no_comm_warn_time_of, host_sync_of, final_delay_of, message_of, flags_of};
+ghost use Rattle.nut_conf.specs.Upsmon.{UpsmonHolds, upsmon_fault, upsmon_grows, upsmon_reading, min_supplies_of, poll_freq_of, dead_time_of, rb_warn_time_of, no_comm_warn_time_of, host_sync_of, final_delay_of, message_of, flags_of};
 
 use crate::draft::Draft;
 use crate::fault::{ConfFault, FaultKind};
@@ -35,9 +36,9 @@ pub struct UpsmonConf {
     pub no_comm_warn_time: Option<Number<1, 1000000>>,
     pub host_sync: Option<Number<0, 1000000>>,
     pub final_delay: Option<Number<0, 1000000>>,
-    /// The texts that are set, at most one a type of notice.
+    /// The texts that are set; of a file that was read, at most one a type of notice.
     pub messages: Vec<NoticeText>,
-    /// The flags that are set, at most one line a type of notice.
+    /// The flags that are set; of a file that was read, at most one line a type of notice.
     pub handlings: Vec<NoticeHandling>,
 }
 
@@ -216,9 +217,11 @@ fn lacks_power(monitors: &[Monitored], needed: u32) -> bool
 }
 
 impl Draft for UpsmonConf {
-    ghost use Rattle.nut_conf.specs.Upsmon.{UpsmonHolds, upsmon_fault};
+    ghost use Rattle.nut_conf.specs.Upsmon.{UpsmonHolds, upsmon_fault, upsmon_grows};
 
     ghost fault = { upsmon_fault };
+
+    ghost grows = { upsmon_grows };
 
     ghost Holds = { UpsmonHolds };
 
@@ -266,9 +269,11 @@ impl Draft for UpsmonConf {
 /// Reads upsmon.conf (NUT man page upsmon.conf(5)).
 ///
 /// Gives the configuration that its lines set, or the first line with a fault and the first fault in it. Where no line has a
-/// fault and the power values sum to less than `MINSUPPLIES`, the file as a whole is past a limit.
+/// fault and the power values sum to less than `MINSUPPLIES`, the file as a whole is past a limit. Memory may run out only at
+/// a line with `MONITOR`, `NOTIFYMSG`, `NOTIFYFLAG` or a backslash.
 pub fn read_upsmon(alloc: Global, bytes: &[u8]) -> Result<UpsmonConf, ConfFault>
-    ensures { Means (upsmon_reading bytes.now) UpsmonHolds result }
+    ensures means { Means (upsmon_reading bytes.now) UpsmonHolds result }
+    ensures memory { IfErr result (λ fault. fault.kind ≡ FaultKind.Memory → MayRunOut upsmon_fault upsmon_grows bytes.now fault.line) }
 {
     let conf: UpsmonConf = read_draft(alloc, bytes)?;
     if lacks_power(conf.monitors.lines.as_slice(), conf.min_supplies()) {

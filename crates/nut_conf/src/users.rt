@@ -1,10 +1,11 @@
 //! The file upsd.users.
-ghost use Rattle.std.specs.Prelude.{◌≡◌, [], None, MatchOption, map, codes};
+ghost use Rattle.std.specs.Prelude.{◌≡◌, [], None, IfErr, MatchOption, map, codes};
 ghost use Rattle.std.specs.Str.{bytes_eq};
 ghost use Rattle.std.specs.Char.{to_ascii_lowercase};
 ghost use Rattle.std.specs.Option.{option_copied};
 ghost use Rattle.nut_conf.specs.Files.{Means, read_file};
-ghost use Rattle.nut_conf.specs.Users.{UsersConfHolds, users_fault, user_named, has_password as password_is, may_act as may_take, may_command as may_give, covers as covers_name, action_word};
+ghost use Rattle.nut_conf.specs.Memory.{MayRunOut};
+ghost use Rattle.nut_conf.specs.Users.{UsersConfHolds, users_fault, users_conf_grows, user_named, has_password as password_is, may_act as may_take, may_command as may_give, covers as covers_name, action_word};
 
 use crate::draft::Draft;
 use crate::fault::{ConfFault, FaultKind};
@@ -152,11 +153,15 @@ impl UserDirective {
 }
 
 impl FromValues for Action {
+    ghost use Rattle.std.specs.Prelude.{[], ◌∷◌, codes};
     ghost use Rattle.nut_conf.specs.Users.{action_setting, action_value};
+    ghost use Rattle.nut_conf.specs.Spares.{word_value_spares};
 
     ghost setting = { action_setting };
 
     ghost reads = { action_value };
+
+    ghost spares = { word_value_spares (codes "SET" ∷ codes "FSD" ∷ []) };
 
     fn from_values(values: &Values<'_, '_>) -> Result<Self, FaultKind> {
         match values.one()? {
@@ -175,10 +180,13 @@ fn is_all(word: &[u8]) -> bool
 
 impl FromValues for Commands {
     ghost use Rattle.nut_conf.specs.Users.{commands_setting, commands_value};
+    ghost use Rattle.nut_conf.specs.Spares.{commands_value_spares};
 
     ghost setting = { commands_setting };
 
     ghost reads = { commands_value };
+
+    ghost spares = { commands_value_spares };
 
     fn from_values(values: &Values<'_, '_>) -> Result<Self, FaultKind> {
         let word = values.one()?;
@@ -211,11 +219,15 @@ impl Role {
 }
 
 impl FromValues for Role {
+    ghost use Rattle.std.specs.Prelude.{[], ◌∷◌, codes};
     ghost use Rattle.nut_conf.specs.Users.{role_setting, role_value};
+    ghost use Rattle.nut_conf.specs.Spares.{word_value_spares};
 
     ghost setting = { role_setting };
 
     ghost reads = { role_value };
+
+    ghost spares = { word_value_spares (codes "primary" ∷ codes "secondary" ∷ []) };
 
     fn from_values(values: &Values<'_, '_>) -> Result<Self, FaultKind> {
         Role::read(values.one()?)
@@ -224,9 +236,11 @@ impl FromValues for Role {
 
 impl Draft for User {
     ghost use Rattle.nut_conf.specs.Settings.{line_fault};
-    ghost use Rattle.nut_conf.specs.Users.{UserHolds, user_directives};
+    ghost use Rattle.nut_conf.specs.Users.{UserHolds, user_directives, user_grows};
 
     ghost fault = { line_fault user_directives };
+
+    ghost grows = { user_grows };
 
     ghost Holds = { UserHolds };
 
@@ -254,9 +268,11 @@ impl Draft for User {
 
 /// Reads upsd.users (NUT man page upsd.users(5)).
 ///
-/// Gives the configuration that its lines set, or the first line with a fault and the first fault in it.
+/// Gives the configuration that its lines set, or the first line with a fault and the first fault in it. Memory may run
+/// out only at a line with a section, `actions`, `instcmds` or a backslash.
 pub fn read_users(alloc: Global, bytes: &[u8]) -> Result<UsersConf, ConfFault>
-    ensures { Means (read_file users_fault bytes.now) UsersConfHolds result }
+    ensures means { Means (read_file users_fault bytes.now) UsersConfHolds result }
+    ensures memory { IfErr result (λ fault. fault.kind ≡ FaultKind.Memory → MayRunOut users_fault users_conf_grows bytes.now fault.line) }
 {
     let users = read_draft(alloc, bytes)?;
     Ok(UsersConf { users })

@@ -1,4 +1,4 @@
-use Rattle.std.proofs.Common.{◌≡◌, ◌+◌, ◌≤◌, List, [], length}
+use Rattle.std.proofs.Common.{◌≡◌, ℕ, ◌+◌, ◌≤◌, List, [], ◌++◌, Ok, length}
 use Rattle.nut_conf.specs.Values.{Words}
 use Rattle.nut_conf.specs.Files.{lines_of, read_lines}
 use Rattle.nut_words.proofs.CutLemmas.{pending, left}
@@ -6,7 +6,10 @@ use Rattle.nut_conf.proofs.file.read_draft.Given as goal
 
 -- what the lines so far set, with the lines that are left, completes the file
 abbrev pub invariant-loop-rest : goal.invariant-loop-rest
-invariant-loop-rest g l = (before : List Words) × record {
+invariant-loop-rest g l = (before : List Words) × (front : List (List ℕ)) × record {
+  taken : lines_of l.bytes ≡ front ++ pending 10 l.rest;
+  count : l.number ≡ length front;
+  reads : read_lines g.D.Draft.fault [] 1 front ≡ Ok before;
   holds : g.D.Draft.Holds l.draft before;
   completes : read_lines g.D.Draft.fault before (l.number + 1) (pending 10 l.rest) ≡ read_lines g.D.Draft.fault [] 1 (lines_of l.bytes);
   room : l.number + left l.rest ≤ length l.bytes + 1;
