@@ -1,17 +1,18 @@
 -- What a dummy driver was told, and what looking back over it says: the values, and the lines that are owed to a link.
 -- Histories, and lists of deeds, have the newest first.
-use Rattle.std.specs.Prelude.{◌≡◌, ℕ, ◌+◌, ◌-◌, ◌||◌, ◌&&◌, Bool, true, false, List, [], ◌∷◌, ◌++◌, Option, Some, None, if◌then◌else◌, codes, drop, is_some, map, max, take}
+use Rattle.std.specs.Prelude.{◌≡◌, ℕ, ◌+◌, ◌-◌, ◌||◌, ◌&&◌, Bool, true, false, List, [], ◌∷◌, ◌++◌, Option, Some, None, Result, Ok, Err, if◌then◌else◌, codes, drop, is_some, map, max, take}
 use Rattle.std.specs.List.{flat_map}
 use Rattle.nut_words.specs.Lines.{LineText, lines_after, rest}
 use Rattle.nut_proto.specs.declared.driver_ask.DriverAsk.{DriverAsk}
 use Rattle.nut_proto.specs.declared.driver_ask.DriverAsk.TheVariants as asks
 use Rattle.nut_dummy.specs.declared.dummy.DummyFault.{DummyFault}
+use Rattle.nut_dummy.specs.declared.dummy.DummyFault.TheVariants as faults
 use Rattle.nut_dummy.specs.declared.command.Command.{Command}
 use Rattle.nut_dummy.specs.Command.{variable_set, value_set, command_of, command_variables}
 use Rattle.nut_dummy.specs.Due.{at_start}
 use Rattle.nut_dummy.specs.Script.{Script, Timeline}
 use Rattle.nut_dummy.specs.Teller.{Variable, Teller, Change, Passing, Assigning, Doing, value_after, is_told, says, dump, asked_by}
-use Rattle.nut_dummy.specs.Dummy.{Content, all_declared, beginning, linked, passed, told_bytes, cut_behind, taken, moment_refusal, bytes_refusal, took_refusal}
+use Rattle.nut_dummy.specs.Dummy.{Content, all_declared, beginning, linked, passed, told_bytes, cut_behind, taken, waits_of, moment_refusal, bytes_refusal, took_refusal}
 
 -- ---- what was done
 
@@ -157,11 +158,67 @@ IsAccepted script start (call ∷ h) = IsAccepted script start h × (refusal cal
 abbrev pub told_by : List Timeline → List Deed → ℕ → Teller
 told_by ts past n = record { variables = map (seen past) ts; asked = has_asked past; waits = drop n (told ts past) }
 
--- After every history of accepted calls the driver holds the values that looking back gives, and the bytes that wait are
--- those of the lines owed to the link that were not taken.
+-- ---- what was told and taken
+
+-- whether a link is there
+abbrev pub is_linked : List Call → Bool
+is_linked [] = false
+is_linked (Linked ∷ h) = true
+is_linked (Lost k piece ∷ h) = false
+is_linked (Moment t ∷ h) = is_linked h
+is_linked (Bytes piece ∷ h) = is_linked h
+is_linked (Took n ∷ h) = is_linked h
+
+-- What a cut left of the lines owed to the link: those of their bytes that were taken.
+abbrev pub left_by_cut : List Timeline → ℕ → ℕ → List Call → List ℕ
+left_by_cut ts round start [] = []
+left_by_cut ts round start (Linked ∷ h) = []
+left_by_cut ts round start (Lost k piece ∷ h) =
+    take (count_taken h) (told ts (by_lines (take k (lines_after (rest (input h)) piece)) (deeds round start h)))
+left_by_cut ts round start (Moment t ∷ h) = left_by_cut ts round start h
+left_by_cut ts round start (Bytes piece ∷ h) = left_by_cut ts round start h
+left_by_cut ts round start (Took n ∷ h) = left_by_cut ts round start h
+
+-- The bytes told on the last link: those of the lines owed to it; after a cut, those of them that were taken.
+abbrev pub told_on_link : List Timeline → ℕ → ℕ → List Call → List ℕ
+told_on_link ts round start h = if is_linked h then told ts (deeds round start h) else left_by_cut ts round start h
+
+-- The bytes that the server took on the last link: at each call the first of those that waited.
+abbrev pub received : Script → ℕ → List Call → List ℕ
+received script start [] = []
+received script start (Linked ∷ h) = []
+received script start (Took n ∷ h) = received script start h ++ take n (waits_of (driver script start h))
+received script start (Moment t ∷ h) = received script start h
+received script start (Bytes piece ∷ h) = received script start h
+received script start (Lost k piece ∷ h) = received script start h
+
+-- ---- after a history of accepted calls
+
+-- the variables that the script names and those that commands set
+abbrev pub timelines : Script → List Timeline
+timelines script = all_declared command_variables script.variables
+
+-- The driver is the one that this history of accepted calls led to. It holds the values that looking back gives; the bytes
+-- that wait are those of the lines owed to the link that were not taken; and the bytes taken and those that wait are the
+-- bytes told.
+pub record Stands (script : Script) (start : ℕ) (h : List Call) (s : Content) : Type 0 where
+  pub accepted : IsAccepted script start h
+  pub is_driver : s ≡ driver script start h
+  pub clock_is : s.clock ≡ clock start h
+  pub linked_is : s.linked ≡ is_linked h
+  pub rest_is : s.rest ≡ rest (input h)
+  pub teller_is : s.teller ≡ told_by (timelines script) (deeds script.round start h) (count_taken h)
+  pub told_is : received script start h ++ waits_of s ≡ told_on_link (timelines script) script.round start h
+
+-- So it is after every history.
 abbrev pub LooksBack : Type 0
-LooksBack =
-    (script : Script) (start : ℕ) (h : List Call) → IsAccepted script start h →
-    ((driver script start h).clock ≡ clock start h)
-    × ((driver script start h).rest ≡ rest (input h))
-    × ((driver script start h).teller ≡ told_by (all_declared command_variables script.variables) (deeds script.round start h) (count_taken h))
+LooksBack = (script : Script) (start : ℕ) (h : List Call) → IsAccepted script start h → Stands script start h (driver script start h)
+
+-- Where memory ran out in a piece, the lines before it and the cut stand in the history; a refused piece doesn't.
+abbrev pub BytesStand : {U : Type 0} → List ℕ → Script → ℕ → List Call → Content → Result U DummyFault → Type 0
+BytesStand piece script start h s (Ok u) = Stands script start (Bytes piece ∷ h) s
+BytesStand piece script start h s (Err (faults.Memory k)) = Stands script start (Lost k piece ∷ h) s
+BytesStand piece script start h s (Err faults.NotLinked) = Stands script start h s
+BytesStand piece script start h s (Err faults.Busy) = Stands script start h s
+BytesStand piece script start h s (Err faults.TooMuchTaken) = Stands script start h s
+BytesStand piece script start h s (Err faults.PieceTooLong) = Stands script start h s

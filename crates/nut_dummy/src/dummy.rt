@@ -1,7 +1,9 @@
 //! The dummy driver.
-ghost use Rattle.std.specs.Prelude.{◌≡◌, ◌<◌, MatchResult, OnOk, IfErr, length};
+ghost use Rattle.std.specs.Prelude.{◌≡◌, ◌<◌, ℕ, List, [], ◌∷◌, MatchResult, IfOk, OnOk, IfErr, length};
 ghost use Rattle.nut_queue.specs.Front.{IsFrontPart};
 ghost use Rattle.nut_dummy.specs.Dump.{DumpsWhereAsked};
+ghost use Rattle.nut_dummy.specs.History.{BytesStand, Call, Linked, Moment, Stands, Took};
+ghost use Rattle.nut_dummy.specs.Script.{Script as ScriptValue};
 ghost use Rattle.nut_dummy.specs.Dummy.{beginning, linked, waits_of, brought, told_bytes, cut, cut_behind, Passes, Hears, Takes};
 
 use crate::begin::into_variables;
@@ -74,7 +76,8 @@ impl Dummy {
     ///
     /// `Memory(0)` where memory was refused.
     pub fn new(alloc: Global, script: Script, start: u64) -> Result<Dummy, DummyFault>
-        ensures { MatchResult result (λ d. d ≡ beginning script start) (λ fault. fault ≡ DummyFault.Memory 0) }
+        ensures begins { MatchResult result (λ d. d ≡ beginning script start) (λ fault. fault ≡ DummyFault.Memory 0) }
+        ensures stands { IfOk result (λ d. Stands script start [] d) }
     {
         let round = script.round();
         let Ok(variables) = into_variables(alloc, script) else {
@@ -93,7 +96,11 @@ impl Dummy {
 
     /// A new link: waiting bytes and an unfinished line go. It takes no memory.
     pub fn linked(&mut self)
-        ensures { self.new ≡ linked self.old }
+        ensures linked { self.new ≡ linked self.old }
+
+        // Whatever history of accepted calls led to the driver, it is then the one of that history and this call.
+        ensures stands { (script : ScriptValue) (start : ℕ) (h : List Call) → Stands script start h self.old
+            → Stands script start (Linked ∷ h) self.new }
     {
         self.linked = true;
         self.cutter = LineCutter::new();
@@ -107,7 +114,9 @@ impl Dummy {
     ///
     /// `Busy` exactly while bytes wait. `Memory(0)` where memory was refused. Nothing changed then.
     pub fn moment(&mut self, t: u64) -> Result<(), DummyFault>
-        ensures { Passes t self.old self.new result }
+        ensures passes { Passes t self.old self.new result }
+        ensures stands { (script : ScriptValue) (start : ℕ) (h : List Call) → Stands script start h self.old
+            → OnOk result (Stands script start (Moment t ∷ h) self.new) }
     {
         if self.teller.outbox.len() > 0 {
             return Err(DummyFault::Busy);
@@ -152,6 +161,8 @@ impl Dummy {
     /// These change nothing. `Memory` with the number of lines that were done, which stand; then the link is cut.
     pub fn server_bytes(&mut self, piece: &[u8]) -> Result<(), DummyFault>
         ensures heard { Hears piece.now self.old self.new result }
+        ensures stands { (script : ScriptValue) (start : ℕ) (h : List Call) → Stands script start h self.old
+            → BytesStand piece.now script start h self.new result }
         ensures dump { OnOk result (DumpsWhereAsked piece.now self.old self.new) }
     {
         if !self.linked {
@@ -176,7 +187,9 @@ impl Dummy {
     ///
     /// `TooMuchTaken` where fewer wait. Nothing changed then.
     pub fn took(&mut self, n: usize) -> Result<(), DummyFault>
-        ensures { Takes n self.old self.new result }
+        ensures takes { Takes n self.old self.new result }
+        ensures stands { (script : ScriptValue) (start : ℕ) (h : List Call) → Stands script start h self.old
+            → OnOk result (Stands script start (Took n ∷ h) self.new) }
     {
         if !self.teller.outbox.took(n) {
             return Err(DummyFault::TooMuchTaken);

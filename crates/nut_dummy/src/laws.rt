@@ -1,11 +1,14 @@
-//! What is true of a driver after any calls.
+//! What is true of a driver after any calls, and how much a script holds.
+ghost use Rattle.std.specs.Prelude.{◌≡◌};
 ghost use Rattle.nut_dummy.specs.Dump.{DumpIsTheTable};
 ghost use Rattle.nut_dummy.specs.Heard.{ToldLinesAreHeard};
 ghost use Rattle.nut_dummy.specs.History.{LooksBack};
 
+use crate::limits::{LINE_MAX, MAX_STEPS, SCRIPT_VARIABLES, TIMER_MAX};
+
 /// A law, with nothing to run: after any history of accepted calls the driver holds for each variable the latest of the
 /// steps that were due, the settings and the commands, in the order in which they were counted; and the bytes taken on the
-/// link and those that wait are the lines owed to it.
+/// link and those that wait are those of the lines owed to it, after a cut those of them that were taken.
 pub fn looks_back()
     ensures { LooksBack }
 {}
@@ -22,4 +25,12 @@ pub fn told_lines_are_heard()
 /// `DUMPDONE`; and in whatever pieces a server gets them, they lead it from an empty table to the driver's own.
 pub fn dump_is_the_table()
     ensures { DumpIsTheTable }
+{}
+
+/// A law, with nothing to run: which numbers the limits are that the definitions name.
+pub fn script_limits()
+    ensures line { LINE_MAX ≡ 512 }
+    ensures timer { TIMER_MAX ≡ 86400 }
+    ensures variables { SCRIPT_VARIABLES ≡ 509 }
+    ensures steps { MAX_STEPS ≡ 4096 }
 {}

@@ -32,7 +32,7 @@ mod writable;
 pub use dummy::{Dummy, DummyFault};
 pub use fault::{ScriptFault, ScriptFaultKind};
 pub use item::ScriptKind;
-pub use laws::{dump_is_the_table, looks_back, told_lines_are_heard};
+pub use laws::{dump_is_the_table, looks_back, script_limits, told_lines_are_heard};
 pub use limits::{MAX_STEPS, SCRIPT_VARIABLES, TIMER_MAX};
 pub use script::Script;
 pub use variable::Variable;
