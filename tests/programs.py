@@ -299,23 +299,22 @@ class Tests:
         expect(len(told), 3, "files of which a read failed")
 
     def test_failing_devices(self):
-        failed = (1, b"upsd: I/O failed\n")
         with open("/dev/full", "wb") as full:
             status, _, err = self.run(ROOM, b"VER\n", stdout=full)
-            expect((status, err), failed, "an output that is full")
+            expect((status, err), (1, b"upsd: output failed\n"), "an output that is full")
         folder = os.open("/", os.O_RDONLY)
         try:
             status, out, err = self.run(ROOM, stdin=folder)
-            expect((status, err, out), (*failed, b""), "an input that is a folder")
+            expect((status, err, out), (1, b"upsd: input failed\n", b""), "an input that is a folder")
         finally:
             os.close(folder)
 
     def test_each_read_and_write_refused(self):
         asked = b"".join(it for it, _ in MIXED)
         due = b"".join(it for _, it in MIXED)
-        for kind in ("read", "write"):
+        for kind, stream in (("read", b"input"), ("write", b"output")):
             for at, (status, out, err) in self.refused_in_turn(kind, ROOM, asked, due):
-                expect((status, err), (1, b"upsd: I/O failed\n"), f"{kind} {at}")
+                expect((status, err), (1, b"upsd: " + stream + b" failed\n"), f"{kind} {at}")
                 if not due.startswith(out):
                     raise Failed(f"{kind} {at}: {out!r} is no front of the answers due")
 

@@ -22,7 +22,8 @@ use std::sync::Wait;
 /// With `--conf` the files ups.conf, upsd.users and upsd.conf of the folder are read, in this order. The first fault is
 /// told as `upsd: ups.conf:2: Repeated`, and a file that can't be read as `upsd: ups.conf: cannot read`. The values of
 /// `--ups` are read in the order given, and the first fault is told as `upsd: --ups: <fault>`. Nothing is served then.
-/// A failed read or write is told as `upsd: I/O failed`, and a refused growth as `upsd: out of memory`.
+/// A failed read is told as `upsd: input failed`, a failed write as `upsd: output failed`, and a refused growth as
+/// `upsd: out of memory`.
 ///
 /// Replies are written as soon as a piece of the input was read: `out` should keep no bytes back.
 pub fn run_stdio<S: AsStr, I: Read, O: Write, E: Write>(
@@ -62,6 +63,10 @@ pub fn serve_client<I: Read, O: Write>(
 ) -> Result<(), Failure<UpsdFault>> {
     let mut server = Server::new(alloc, config)?;
     let mut world = StreamWorld::new(input, out);
-    serve(rt, &mut server, &mut world)?;
+    let served = serve(rt, &mut server, &mut world);
+    if let Some(stream) = world.failed() {
+        return Err(stream.into());
+    }
+    served?;
     Ok(())
 }

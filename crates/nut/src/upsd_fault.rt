@@ -3,10 +3,11 @@
 use crate::conf_file::FileFault;
 use crate::failure::Failure;
 use nut_conf::FaultKind;
+use nut_serve::Stream;
 use nut_server::ServerFault;
 use std::fmt;
 
-/// What upsd alone meets, before anybody is served.
+/// What upsd alone meets: before anybody is served, or over standard streams.
 #[derive(Drop)]
 pub enum UpsdFault {
     /// A value of `--ups` doesn't read.
@@ -15,6 +16,10 @@ pub enum UpsdFault {
     File(FileFault),
     /// No listener can be made at this address and port.
     Listen(String, u16),
+    /// A read of standard input failed.
+    Input,
+    /// A write to standard output failed.
+    Output,
 }
 
 impl fmt::Display for UpsdFault {
@@ -23,6 +28,8 @@ impl fmt::Display for UpsdFault {
             UpsdFault::Ups(fault) => write!(f, "--ups: {fault}"),
             UpsdFault::File(fault) => write!(f, "{fault}"),
             UpsdFault::Listen(address, port) => write!(f, "cannot listen on {address}:{port}"),
+            UpsdFault::Input => write!(f, "input failed"),
+            UpsdFault::Output => write!(f, "output failed"),
         }
     }
 }
@@ -39,6 +46,15 @@ impl From<FaultKind> for Failure<UpsdFault> {
 impl From<FileFault> for Failure<UpsdFault> {
     fn from(fault: FileFault) -> Self {
         Failure::Own(UpsdFault::File(fault))
+    }
+}
+
+impl From<Stream> for Failure<UpsdFault> {
+    fn from(stream: Stream) -> Self {
+        match stream {
+            Stream::Input => Failure::Own(UpsdFault::Input),
+            Stream::Output => Failure::Own(UpsdFault::Output),
+        }
     }
 }
 

@@ -1,10 +1,10 @@
 -- A link never keeps more than it may.
-use Rattle.std.proofs.Common.{◌≡◌, ℕ, ◌≤◌, Bool, true, false, nat_le, nat_lt, List, [], ◌∷◌, ◌++◌, length, drop, Option, Some, None, is_some, Result, Ok, Err, if◌then◌else◌, refl, sym, subst, inl, inr, arith, length-append, length-drop, leb-true, ltb-true, ◌&&◌}
+use Rattle.std.proofs.Common.{◌≡◌, ℕ, ◌≤◌, Bool, true, false, nat_le, nat_lt, List, [], ◌∷◌, ◌++◌, length, drop, Option, Some, None, is_some, Result, Ok, Err, if◌then◌else◌, refl, sym, subst, ◌⊎◌, inl, inr, arith, length-append, length-drop, leb-true, ltb-true, ◌&&◌}
 use Rattle.std.specs.List.{list_all}
 use Rattle.std.specs.Prelude.{◌==◌}
 use Rattle.nut_words.specs.Cutter.{kept_of}
 use Rattle.nut_words.specs.Spelling.{is_printing}
-use Rattle.nut_words.specs.Lines.{LineText, Text, TooLong, as_line, joined, last_of, lines_after, parts, rest_after, unfinished}
+use Rattle.nut_words.specs.Lines.{LineText, Text, TooLong, as_line, joined, last_of, lines_after, parts, rest, rest_after, unfinished}
 use Rattle.nut_proto.specs.declared.answer.Answer.{Answer}
 use Rattle.nut_proto.specs.declared.answer.Answer.TheVariants as answers
 use Rattle.nut_proto.specs.declared.answer.AnswerFault.{AnswerFault}
@@ -21,10 +21,11 @@ use Rattle.nut_client.specs.declared.fault.LinkFault.{LinkFault}
 use Rattle.nut_client.specs.declared.fault.LinkFault.TheVariants.{OutOfOrder, BadQuery}
 use Rattle.nut_client.specs.Asking.{Asked, is_writable, query_of}
 use Rattle.nut_client.specs.Bounds.{IsBounded, IsStageBounded, rows_in, rows_of}
-use Rattle.nut_client.specs.Hearing.{Feeds}
+use Rattle.nut_client.specs.Hearing.{Feeds, RunsOut}
 use Rattle.nut_client.specs.Laws.{BoundsStay}
-use Rattle.nut_client.specs.Link.{LinkValue, asked, fed, heard, is_idle, left_of, lines_heard, moved, on_answer, on_line, on_read, or_else, progress_of, stage_after, stage_taken, stage_without, take_fault, taken, taken_out}
+use Rattle.nut_client.specs.Link.{LinkValue, asked, fed, heard, is_idle, left_of, lines_heard, link_with, moved, on_answer, on_line, on_read, or_else, progress_of, stage_after, stage_taken, stage_without, take_fault, taken, taken_out}
 use Rattle.nut_client.specs.Matching.{Progress, Listing, Complete, first, is_heading, is_line, is_row, next, progress}
+use Rattle.nut_client.specs.Rests.{IsRest}
 use Rattle.nut_client.proofs.Writable.{length_line}
 
 none : 0 ≤ 512
@@ -138,6 +139,24 @@ fed_within v w p done result feeds h = elim feeds.stands [
 and_left : (a b : Bool) → (a && b) ≡ true → a ≡ true
 and_left true b e = refl
 and_left false b e = e
+
+kept_rest : (bytes : List ℕ) → kept_of (rest bytes) ≤ 512
+kept_rest bytes = kept_as_line (last_of (parts bytes))
+
+-- A link of an unfinished line and an exchange within its bounds is within them.
+pub link_within : (cutter : LineText) (e : Exchange) → IsRest cutter → IsStageBounded e.stage → IsBounded (link_with cutter e)
+link_within cutter e is h = record {
+  stage = h;
+  line = kept_masked (is_some e.fault) cutter (subst (λ line. kept_of line ≤ 512) (sym is.1) (kept_rest is.0));
+}
+
+-- A piece keeps an exchange within its bounds, also where memory runs out in it.
+pub heard_stage_within : (start cutter : LineText) (before after : Exchange) (p : List ℕ) (done : ℕ)
+    → (link_with cutter after ≡ fed p (link_with start before)) ⊎ RunsOut (lines_after start p) before done after → IsStageBounded before.stage → IsStageBounded after.stage
+heard_stage_within start cutter before after p done stands h = elim stands [
+  | inl said ↦ subst (λ (v : LinkValue). IsStageBounded v.exchange.stage) (sym said) (lines_within (lines_after (link_with start before).rest p) before h)
+  | inr out ↦ subst (λ (e : Exchange). IsStageBounded e.stage) (sym out.stands.0) (left_within (lines_heard out.earlier before).stage (lines_within out.earlier before h))
+]
 
 asked_within : (request : Request) (e : Exchange) → IsStageBounded e.stage → IsStageBounded (asked request e).stage
 asked_within request e h = go e.fault (is_idle e.stage) (is_writable request) refl where

@@ -1,5 +1,5 @@
 //! A client's link to a server.
-ghost use Rattle.std.specs.Prelude.{◌≡◌, ℕ, ◌⊎◌, None, false};
+ghost use Rattle.std.specs.Prelude.{◌≡◌, ◌≤◌, ℕ, ◌⊎◌, None, false, length};
 ghost use Rattle.std.specs.List.{list_any};
 ghost use Rattle.nut_words.specs.Lines.{lines_after};
 ghost use Rattle.nut_client.specs.Bounds.{IsBounded};
@@ -34,6 +34,7 @@ pub struct Link {
 }
 
 impl Model for Link {
+    ghost use Rattle.nut_client.specs.Bounds.{IsStageBounded};
     ghost use Rattle.nut_client.specs.Link.{LinkValue, link_with};
     ghost use Rattle.nut_client.specs.Rests.{IsRest};
 
@@ -41,7 +42,7 @@ impl Model for Link {
 
     ghost view = { λ l. link_with l.cutter l.exchange };
 
-    ghost invariant = { λ l. IsRest l.cutter };
+    ghost invariant = { λ l. IsRest l.cutter × IsStageBounded l.exchange.stage };
 }
 
 impl Link {
@@ -73,9 +74,10 @@ impl Link {
         self.exchange.ask(request)
     }
 
-    /// The bytes of the query that wait to be sent, its line feed at their end.
+    /// The bytes of the query that wait to be sent, its line feed at their end: at most 513.
     pub fn waiting(&self) -> &[u8]
-        ensures { result.now ≡ waits self.now.exchange }
+        ensures value { result.now ≡ waits self.now.exchange }
+        ensures few { length result.now ≤ 513 }
     {
         self.exchange.waiting()
     }
@@ -118,7 +120,7 @@ impl Link {
             → (self.new ≡ fed piece.now self.old) × (result ≡ answer_by (fed piece.now self.old).exchange.fault) }
 
         // It keeps no more than a query, 512 bytes of a line and 512 rows.
-        ensures bounded { IsBounded self.old → IsBounded self.new }
+        ensures bounded { IsBounded self.new }
     {
         self.feed_lines(piece).1
     }
@@ -126,7 +128,8 @@ impl Link {
     /// [`feed`](Link::feed), which also tells how many of the lines that the piece completes were heard before the link
     /// failed, or how many there are.
     pub fn feed_lines(&mut self, piece: &[u8]) -> (usize, Result<(), LinkFault>)
-        ensures { Feeds self.old piece.now result.0 result.1 self.new }
+        ensures feeds { Feeds self.old piece.now result.0 result.1 self.new }
+        ensures bounded { IsBounded self.new }
     {
         if let Some(fault) = self.exchange.fault {
             return (0, Err(fault));

@@ -17,3 +17,5 @@ pub mod Putting
 pub mod Others
 pub mod Bounds
 pub mod Handing
+pub mod Writables
+pub mod Told

@@ -38,6 +38,15 @@ WaitingIsLeft =
     (configuration : Configuration) (events : List Event) (i : ℕ) → IsAccepted configuration events → i < length configuration.lines →
     waiting_on (watch_at i (content configuration events).watches) ≡ waits configuration i (trace configuration events)
 
+-- The same of every number, also of one that no MONITOR line has, after every history of accepted events.
+pub record LinksAreTold : Type 0 where
+  pub there :
+      (configuration : Configuration) (events : List Event) (i : ℕ) → IsAccepted configuration events →
+      is_linked (watch_at i (content configuration events).watches) ≡ linked i (trace configuration events)
+  pub left :
+      (configuration : Configuration) (events : List Event) (i : ℕ) → IsAccepted configuration events →
+      waiting_on (watch_at i (content configuration events).watches) ≡ waits configuration i (trace configuration events)
+
 -- What the server was sent on a link that is there, and then what waits on it, is the queries that were put on it since
 -- it was made, joined.
 abbrev pub SentAndWaitingIsDue : Type 0

@@ -205,7 +205,8 @@ abbrev pub are_calm : Option (List (List ℕ)) → Bool
 are_calm None = false
 are_calm (Some words) = is_calm words
 
--- the past when the last status came that wasn't both OB and LB, and where there is none when the first status came
+-- The past when the last status came that wasn't both OB and LB, and where there is none when the first status came. The first is
+-- older than all others, so the newest of these is the one.
 abbrev pub at_calm : ℕ → List Entry → List Entry
 at_calm i past =
     latest (λ entry before. gives_status i entry.answer && (if is_any (at_status i before) then are_calm (status_of_answer entry.answer) else true)) past
@@ -315,11 +316,6 @@ phase configuration past =
 -- the lines that a piece completes on link i
 abbrev pub brought : ℕ → List Entry → List ℕ → List LineText
 brought i past piece = lines_after (rest (input i past)) piece
-
-abbrev pub lines_of : List Entry → Event → List LineText
-lines_of past (LinkBytes i piece) = brought i past piece
-lines_of past (OutOfMemory i piece k) = take k (brought i past piece)
-lines_of past event = []
 
 abbrev pub answered : ℕ → Asked → Option Outcome → Option Answer
 answered i asked None = None

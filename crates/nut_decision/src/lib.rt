@@ -3,7 +3,7 @@
 #![tactic(auto)]
 
 ghost use Rattle.nut_decision.specs.Machine.{KeepsContent};
-ghost use Rattle.nut_decision.specs.Laws.{AnswersComeInTurn, AnswersKeepContent, CutsDoNotMatter, LinkedIsMade, LinksAreBounded, LoginsFollowFsd, NoticesAreFew, NoticesComeInOrder, OthersStay, QueriesComeAlone, SentAndWaitingIsDue, ShutdownStays, WaitingIsLeft};
+ghost use Rattle.nut_decision.specs.Laws.{AnswersComeInTurn, AnswersKeepContent, CutsDoNotMatter, LinkedIsMade, LinksAreBounded, LinksAreTold, LoginsFollowFsd, NoticesAreFew, NoticesComeInOrder, OthersStay, QueriesComeAlone, SentAndWaitingIsDue, ShutdownStays, WaitingIsLeft};
 ghost use Rattle.nut_decision.specs.Examples.{CommunicationExamples, EdgeExamples, OrderExamples, PrimaryExamples, RefusalExamples, RoomExamples, SecondaryExamples};
 
 use nut_conf::Notice as NoticeKind;
@@ -147,6 +147,11 @@ pub fn linked_is_made()
 /// What waits on a link is what is left of the queries that were put on it since it was made, joined.
 pub fn waiting_is_left()
     ensures { WaitingIsLeft }
+{}
+
+/// The same of every number, also of one that no MONITOR line has, after every history of accepted events.
+pub fn links_are_told()
+    ensures { LinksAreTold }
 {}
 
 /// What the server was sent on a link that is there, and then what waits on it, is the queries put on it, joined.

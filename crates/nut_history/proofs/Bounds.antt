@@ -24,7 +24,7 @@ use Rattle.nut_history.proofs.Requests.{asked-fits}
 
 -- ---- lines
 
-line-bound : (text : List ℕ) → kept_of (as_line text) ≤ 512
+pub line-bound : (text : List ℕ) → kept_of (as_line text) ≤ 512
 line-bound text =
     elim (cases_Bool (leb (length text) 512)) [
       | inl e ↦ rw e (leb-true (length text) 512 e)

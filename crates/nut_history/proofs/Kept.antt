@@ -148,12 +148,12 @@ drivers_covered first (DriverDown u ∷ h) accepted v = drivers_covered first h 
 -- ---- a connection that wasn't opened
 
 -- it said nothing and was answered nothing
-record IsSilent (first : Configuration) (t : List Entry) (c : ℕ) : Type 0 where
-  user : user c t ≡ None
-  password : password c t ≡ None
-  login : login first c t ≡ None
-  stays : logged_out c t ≡ false
-  due : due c t ≡ []
+pub record IsSilent (first : Configuration) (t : List Entry) (c : ℕ) : Type 0 where
+  pub user : user c t ≡ None
+  pub password : password c t ≡ None
+  pub login : login first c t ≡ None
+  pub stays : logged_out c t ≡ false
+  pub due : due c t ≡ []
 
 -- a step that is no line of c leaves it so
 silent_on : (first : Configuration) (step : Step) (c : ℕ) (s : List Step) → IsSilent first (trace first s) c
@@ -186,12 +186,12 @@ pub opened_reports : (first : Configuration) (u : ℕ) (ls : List LineText) (s :
 opened_reports first u [] s = refl
 opened_reports first u (l ∷ ls) s = opened_reports first u ls (Reported u l ∷ s)
 
-record IsUnknown (first : Configuration) (h : List Event) (c : ℕ) : Type 0 where
-  silent : IsSilent first (past first h) c
-  input : input c h ≡ []
-  taken : taken c h ≡ 0
+pub record IsUnknown (first : Configuration) (h : List Event) (c : ℕ) : Type 0 where
+  pub silent : IsSilent first (past first h) c
+  pub input : input c h ≡ []
+  pub taken : taken c h ≡ 0
 
-unknown : (first : Configuration) (h : List Event) (c : ℕ) → IsAccepted first h → opened (past first h) < c → IsUnknown first h c
+pub unknown : (first : Configuration) (h : List Event) (c : ℕ) → IsAccepted first h → opened (past first h) < c → IsUnknown first h c
 unknown first [] c accepted later = record { silent = record { user = refl; password = refl; login = refl; stays = refl; due = refl }; input = refl; taken = refl }
 unknown first (Bytes d piece ∷ h) c accepted later =
     let earlier : opened (past first h) < c = omega (arith, opened_lines first d (brought (input d h) piece) (steps h)) in

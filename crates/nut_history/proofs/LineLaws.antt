@@ -10,7 +10,7 @@ use Rattle.nut_history.specs.Event.{brought}
 brought_is : (a b : List ℕ) (more : List LineText) → lines (a ++ b) ≡ lines a ++ more → brought a b ≡ more
 brought_is a b more is = ap (drop (length (lines a))) is ∙ drop-append_seam (lines a) more
 
-lines_grow : (a b : List ℕ) → lines (a ++ b) ≡ lines a ++ brought a b
+pub lines_grow : (a b : List ℕ) → lines (a ++ b) ≡ lines a ++ brought a b
 lines_grow a b =
     let more = lines_after (rest a) b in
     lines-append a b ∙ ap (λ ls. lines a ++ ls) (sym (brought_is a b more (lines-append a b)))

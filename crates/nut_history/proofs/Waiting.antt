@@ -77,8 +77,9 @@ both : (a b : Bool) → (a && b) ≡ true → (a ≡ true) × (b ≡ true)
 both true b e = (refl, e)
 both false b e = absurd (cc)
 
--- an address that is accepted has at most 64 bytes, and there is room
-opened_few : (s : Content) (address : List ℕ) → open_refusal s address ≡ None → (length address ≤ 64) × (length s.sessions < s.configuration.most_connections)
+-- an address that is accepted has at most 64 bytes, and there is room and a number
+pub opened_few : (s : Content) (address : List ℕ) → open_refusal s address ≡ None
+    → (length address ≤ 64) × (length s.sessions < s.configuration.most_connections) × (s.opened < 4_294_967_295)
 opened_few s address accepted =
     elim (cases_Bool (is_address address)) [
       | inl e ↦
@@ -87,7 +88,7 @@ opened_few s address accepted =
                 let sizes = both (nat_le 1 (length address) && nat_le (length address) 64) (list_all is_bare address) e in
                 let most = both (nat_le 1 (length address)) (nat_le (length address) 64) sizes.0 in
                 let room = both (nat_lt (length s.sessions) s.configuration.most_connections) (nat_lt s.opened 4_294_967_295) f in
-                (leb-true (length address) 64 most.1, ltb-true (length s.sessions) s.configuration.most_connections room.0)
+                (leb-true (length address) 64 most.1, ltb-true (length s.sessions) s.configuration.most_connections room.0, ltb-true s.opened 4_294_967_295 room.1)
             | inr f ↦ absurd (let bad : Some Full ≡ None = rw (e, f) at accepted in cc)
           ]
       | inr e ↦ absurd (let bad : Some BadAddress ≡ None = rw e at accepted in cc)
@@ -113,7 +114,7 @@ pub configuration_stays : (first : Configuration) (t : List Entry) → configura
 configuration_stays first [] = refl
 configuration_stays first (e ∷ t) = configuration_stays first t
 
-few_history : (first : Configuration) (h : List Event) → IsAccepted first h → AreFew first.most_connections (content first h).sessions
+pub few_history : (first : Configuration) (h : List Event) → IsAccepted first h → AreFew first.most_connections (content first h).sessions
 few_history first [] accepted = record { few = omega arith; addresses = tt }
 few_history first (e ∷ h) accepted =
     let s = content first h in

@@ -14,7 +14,7 @@ use Rattle.nut_proto.specs.Refusals.{refusal_name}
 use Rattle.nut_proto.specs.Replies.{reply_line}
 use Rattle.nut_proto.specs.Requests.{begin_line, end_line}
 use Rattle.nut_history.specs.Answer.{text_of}
-use Rattle.nut_history.specs.DriverExamples.{DriverExamples, UserExamples}
+use Rattle.nut_history.specs.DriverExamples.{DriverExamples, EdgeExamples, UserExamples}
 
 pub drivers : DriverExamples
 unfolding digits read named put asked heard accepts changed after applied verb_of ask_line meaning command_of subject_of line refusal_name reply_line begin_line end_line text_of
@@ -54,6 +54,20 @@ drivers = record {
   long_report = refl;
   too_much = refl;
   gone_already = refl;
+}
+
+pub edges : EdgeExamples
+unfolding ask_line line
+edges = record {
+  most_fits = refl;
+  one_byte_more = refl;
+  one_byte_waits_more = refl;
+  last_set_is_handed_on = refl;
+  first_set_is_refused = refl;
+  last_ping = refl;
+  first_ping_left_out = refl;
+  third_is_rounded_down = refl;
+  third_has_not_passed = refl;
 }
 
 pub users : UserExamples

@@ -207,7 +207,7 @@ abbrev pub is_in_ranges : Option ℤ → List Range → Bool
 is_in_ranges None ranges = false
 is_in_ranges (Some n) ranges = list_any (is_in_range n) ranges
 
--- why a variable doesn't take a value of at most 128 bytes, by its kind
+-- why a variable doesn't take a value that isn't too long, by its kind
 abbrev pub misfit_by : VariableKind → Entry → List ℕ → Option Refusal
 misfit_by kinds.Enum v value = if lists_enum value v.enums then None else Some refusals.InvalidValue
 misfit_by kinds.Range v value = if is_in_ranges (whole_number value) v.ranges then None else Some refusals.InvalidValue

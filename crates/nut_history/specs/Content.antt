@@ -39,7 +39,7 @@ past first h = trace first (steps h)
 abbrev pub sent : Configuration → ℕ → List Event → List ℕ
 sent first c h = take (taken c h) (due c (past first h))
 
--- what c still awaits: the rest of the answers due
+-- What c still awaits: the rest of the answers due. It is said of open connections alone: none awaits anything once it is closed.
 abbrev pub waits : Configuration → ℕ → List Event → List ℕ
 waits first c h = drop (taken c h) (due c (past first h))
 

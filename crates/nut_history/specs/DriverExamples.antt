@@ -1,9 +1,13 @@
 -- Histories of drivers and users, and what is answered in them: each of these is computed from the definitions.
-use Rattle.std.specs.Prelude.{◌≡◌, ℕ, List, [], ◌∷◌, ◌++◌, codes, Some, None}
+use Rattle.std.specs.Prelude.{◌≡◌, ℕ, true, false, List, [], ◌∷◌, ◌++◌, codes, Some, None}
 use Rattle.nut_conf.specs.declared.users.Action.TheVariants as actions
 use Rattle.nut_conf.specs.declared.users.Role.TheVariants as roles
+use Rattle.nut_proto.specs.declared.refusal.Refusal.TheVariants.{SetFailed}
+use Rattle.nut_proto.specs.declared.reply.Reply.TheVariants.{Accepted}
 use Rattle.nut_history.specs.declared.Refused.TheVariants.{NotConnected, PieceTooLong, TooMuchTaken}
 use Rattle.nut_history.specs.Configuration.{Configuration}
+use Rattle.nut_history.specs.Device.{Device, absent, fits, needs_ping}
+use Rattle.nut_history.specs.Answer.{Line, handed_on, refused}
 use Rattle.nut_history.specs.Event.{Event, Moment, Open, Bytes, Close, DriverUp, DriverBytes, DriverTook, DriverDown}
 use Rattle.nut_history.specs.Trace.{due, driver_sent, driver_waits}
 use Rattle.nut_history.specs.Content.{content, past}
@@ -89,6 +93,22 @@ pub record DriverExamples : Type 0 where
   pub long_report : refusal (content room joined_up) (DriverBytes 0 (many 513 65)) ≡ Some PieceTooLong
   pub too_much : refusal (content room joined_up) (DriverTook 0 1) ≡ Some TooMuchTaken
   pub gone_already : refusal (content room (DriverDown 0 ∷ joined_up)) (DriverDown 0) ≡ Some NotConnected
+
+-- a UPS whose driver is connected since the start, and for whose driver n bytes wait
+abbrev pub laden : ℕ → Device
+laden n = record absent { connected = true; waits = many n 65 }
+
+-- what just fits behind 4,096 bytes that may wait, and what doesn't; and a third of a MAXAGE that three doesn't divide
+pub record EdgeExamples : Type 0 where
+  pub most_fits : fits (many 28 65) (laden 4068) ≡ true
+  pub one_byte_more : fits (many 29 65) (laden 4068) ≡ false
+  pub one_byte_waits_more : fits (many 28 65) (laden 4069) ≡ false
+  pub last_set_is_handed_on : handed_on SetFailed (many 28 65) (laden 4068) ≡ Line Accepted
+  pub first_set_is_refused : handed_on SetFailed (many 28 65) (laden 4069) ≡ refused SetFailed
+  pub last_ping : needs_ping 15 6 (laden 4091) ≡ true
+  pub first_ping_left_out : needs_ping 15 6 (laden 4092) ≡ false
+  pub third_is_rounded_down : needs_ping 11 4 (laden 0) ≡ true
+  pub third_has_not_passed : needs_ping 11 3 (laden 0) ≡ false
 
 -- the names and passwords of users, as their clients give them
 abbrev pub as_admin : List ℕ

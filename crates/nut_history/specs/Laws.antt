@@ -2,11 +2,12 @@
 use Rattle.std.specs.Prelude.{◌≡◌, ℕ, ◌<◌, ◌≤◌, ◌==◌, ◌+◌, false, true, if◌then◌else◌, List, [], ◌∷◌, ◌++◌, length, map, take, Option, Some, None, Result}
 use Rattle.nut_words.specs.Quoting.{Begins}
 use Rattle.nut_words.specs.Cutter.{kept_of}
+use Rattle.nut_words.specs.Lines.{rest}
 use Rattle.nut_history.specs.Configuration.{Configuration}
-use Rattle.nut_history.specs.Device.{most_waiting}
-use Rattle.nut_history.specs.Event.{Event, Moment, Open, Bytes, Took, Close, WriteFailed, DriverUp, DriverBytes, DriverTook, DriverDown}
-use Rattle.nut_history.specs.Trace.{due, driver_due, driver_sent}
-use Rattle.nut_history.specs.Content.{Session, Supply, Content, content, past, sent}
+use Rattle.nut_history.specs.Device.{Device, most_waiting}
+use Rattle.nut_history.specs.Event.{Event, Moment, Open, Bytes, Took, Close, WriteFailed, DriverUp, DriverBytes, DriverTook, DriverDown, input, driver_input, steps}
+use Rattle.nut_history.specs.Trace.{device, due, driver_due, driver_sent, logged_out}
+use Rattle.nut_history.specs.Content.{Session, Supply, Content, content, past, sent, session}
 use Rattle.nut_history.specs.declared.Refused.{Refused}
 use Rattle.nut_history.specs.Acceptance.{IsAccepted, Tells, session_of, waiting_of, supply_of, asks_of}
 use Rattle.nut_history.specs.Machine.{fresh}
@@ -23,6 +24,78 @@ abbrev pub DriverCutsDoNotMatter : Type 0
 DriverCutsDoNotMatter =
     (first : Configuration) (h : List Event) (u : ℕ) (x y : List ℕ) →
     content first (DriverBytes u (x ++ y) ∷ h) ≡ content first (DriverBytes u y ∷ DriverBytes u x ∷ h)
+
+-- What goes on while one connection or one driver sends: a piece of its bytes, or so many bytes that somebody takes.
+pub data Turn : Type 0 where
+  Piece : (bytes : List ℕ) → Turn
+  Taken : (who : ℕ) (n : ℕ) → Turn
+
+-- the bytes of the pieces, joined
+abbrev pub bytes_of : List Turn → List ℕ
+bytes_of [] = []
+bytes_of (Piece bytes ∷ turns) = bytes_of turns ++ bytes
+bytes_of (Taken who n ∷ turns) = bytes_of turns
+
+-- the history h goes on by these turns, the newest first: c sends the pieces, and connections take bytes
+abbrev pub sending : ℕ → List Turn → List Event → List Event
+sending c [] h = h
+sending c (Piece bytes ∷ turns) h = Bytes c bytes ∷ sending c turns h
+sending c (Taken d n ∷ turns) h = Took d n ∷ sending c turns h
+
+-- the same of the driver of u: it sends the pieces, and drivers take bytes
+abbrev pub reporting : ℕ → List Turn → List Event → List Event
+reporting u [] h = h
+reporting u (Piece bytes ∷ turns) h = DriverBytes u bytes ∷ reporting u turns h
+reporting u (Taken v n ∷ turns) h = DriverTook v n ∷ reporting u turns h
+
+-- Histories of the same steps have the same answers, and ask the same of drivers.
+abbrev pub SameStepsSameAnswers : Type 0
+SameStepsSameAnswers =
+    (first : Configuration) (g h : List Event) → steps g ≡ steps h →
+    ((c : ℕ) → due c (past first g) ≡ due c (past first h)) × ((u : ℕ) → driver_due u (past first g) ≡ driver_due u (past first h))
+
+-- However the bytes of a connection are cut, and whatever is taken between the pieces: the steps are those of all the bytes in
+-- one piece. So all else being the same, the same bytes have the same answers.
+pub record CutsAndWritesDoNotMatter : Type 0 where
+  pub one_piece : (h : List Event) (c : ℕ) (turns : List Turn) → steps (sending c turns h) ≡ steps (Bytes c (bytes_of turns) ∷ h)
+  pub same_answers :
+      (first : Configuration) (h : List Event) (c : ℕ) (turns others : List Turn) → bytes_of turns ≡ bytes_of others →
+      past first (sending c turns h) ≡ past first (sending c others h)
+
+-- a UPS but for what its driver still has to take
+abbrev pub told_of : Device → Device
+told_of d = record d { waits = [] }
+
+-- However the bytes of a driver are cut, and whatever drivers take between the pieces: what is known of each UPS, what each
+-- driver was asked, and what each connection was answered, are those of all the bytes in one piece.
+pub record DriverCutsAndWritesDoNotMatter : Type 0 where
+  pub same_devices :
+      (first : Configuration) (h : List Event) (u : ℕ) (turns : List Turn) (v : ℕ) →
+      told_of (device first (past first (reporting u turns h)) v) ≡ told_of (device first (past first (DriverBytes u (bytes_of turns) ∷ h)) v)
+  pub same_rest :
+      (h : List Event) (u : ℕ) (turns : List Turn) (v : ℕ) → driver_input v (reporting u turns h) ≡ driver_input v (DriverBytes u (bytes_of turns) ∷ h)
+  pub same_requests :
+      (first : Configuration) (h : List Event) (u : ℕ) (turns : List Turn) (v : ℕ) →
+      driver_due v (past first (reporting u turns h)) ≡ driver_due v (past first (DriverBytes u (bytes_of turns) ∷ h))
+  pub same_answers :
+      (first : Configuration) (h : List Event) (u : ℕ) (turns : List Turn) (c : ℕ) →
+      due c (past first (reporting u turns h)) ≡ due c (past first (DriverBytes u (bytes_of turns) ∷ h))
+
+-- A piece of a connection that has logged out is answered by nothing, asks nothing of a driver, and changes nothing but what is
+-- kept of the connection's unfinished line.
+pub record LogoutIsFinal : Type 0 where
+  pub no_answers :
+      (first : Configuration) (h : List Event) (c : ℕ) (piece : List ℕ) → logged_out c (past first h) ≡ true →
+      (d : ℕ) → due d (past first (Bytes c piece ∷ h)) ≡ due d (past first h)
+  pub no_requests :
+      (first : Configuration) (h : List Event) (c : ℕ) (piece : List ℕ) → logged_out c (past first h) ≡ true →
+      (u : ℕ) → driver_due u (past first (Bytes c piece ∷ h)) ≡ driver_due u (past first h)
+  pub same_sessions :
+      (first : Configuration) (h : List Event) (c : ℕ) (piece : List ℕ) → logged_out c (past first h) ≡ true →
+      (d : ℕ) → session first (Bytes c piece ∷ h) d ≡ record (session first h d) { rest = rest (input d (Bytes c piece ∷ h)) }
+  pub same_devices :
+      (first : Configuration) (h : List Event) (c : ℕ) (piece : List ℕ) → logged_out c (past first h) ≡ true →
+      (u : ℕ) → device first (past first (Bytes c piece ∷ h)) u ≡ device first (past first h) u
 
 -- ---- what is sent
 
@@ -167,6 +240,17 @@ BoundsHold =
     (first : Configuration) (h : List Event) → IsAccepted first h →
     ((c : ℕ) (k : Session) → session_of c (content first h).sessions ≡ Some k → IsBoundedSession k)
     × ((u : ℕ) (d : Supply) → supply_of u (content first h).supplies ≡ Some d → IsBoundedSupply d)
+
+-- No more connections are open than the configuration allows, no more were opened than there are numbers, and each that is open
+-- has one of the numbers that were given.
+pub record HasFewConnections (s : Content) : Type 0 where
+  pub few : length s.sessions ≤ s.configuration.most_connections
+  pub given : s.opened ≤ 4_294_967_295
+  pub each : IsUpTo s.opened (numbers s)
+
+-- So it is in every history of accepted events.
+abbrev pub ConnectionsAreFew : Type 0
+ConnectionsAreFew = (first : Configuration) (h : List Event) → IsAccepted first h → HasFewConnections (content first h)
 
 -- the history before the newest piece of c; where none came, that of nothing
 abbrev pub before_piece : ℕ → List Event → List Event

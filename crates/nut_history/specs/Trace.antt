@@ -203,7 +203,8 @@ driver_sent u past = take (driver_taken u past) (driver_due u past)
 abbrev pub driver_waits : ℕ → List Entry → List ℕ
 driver_waits u past = if connected u past then drop (driver_taken u past) (driver_due u past) else []
 
--- the UPS u as this past leaves it
+-- The UPS u as this past leaves it. Its table is the one to which the driver's lines lead, step by step; what that holds, found by
+-- looking back over the lines, is the law `every_table_holds` of nut_state.
 abbrev pub device : Configuration → List Entry → ℕ → Device
 device first past u = record {
   connected = connected u past;

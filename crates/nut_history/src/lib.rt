@@ -4,9 +4,9 @@
 
 ghost use Rattle.nut_history.specs.Machine.{KeepsContent};
 ghost use Rattle.nut_history.specs.Examples.{ConnectionExamples};
-ghost use Rattle.nut_history.specs.DriverExamples.{DriverExamples, UserExamples};
-ghost use Rattle.nut_history.specs.Laws.{AnswersKeepContent, BoundsHold, ClosedStaysClosed, CutsDoNotMatter, DriverCutsDoNotMatter, DriverSentAndWaitingIsDue, DriverSentIsReceived, NumbersRise, OpenedIsFresh, OtherDriversStay, OthersStay, SentAndWaitingIsDue, SentIsFrontOfDue, SentIsReceived, WaitsForOnePiece};
-ghost use Rattle.nut_history.specs.Limits.{WaitsAreBounded};
+ghost use Rattle.nut_history.specs.DriverExamples.{DriverExamples, EdgeExamples, UserExamples};
+ghost use Rattle.nut_history.specs.Laws.{AnswersKeepContent, BoundsHold, ClosedStaysClosed, ConnectionsAreFew, CutsAndWritesDoNotMatter, CutsDoNotMatter, DriverCutsAndWritesDoNotMatter, DriverCutsDoNotMatter, DriverSentAndWaitingIsDue, DriverSentIsReceived, LogoutIsFinal, NumbersRise, OpenedIsFresh, OtherDriversStay, OthersStay, SameStepsSameAnswers, SentAndWaitingIsDue, SentIsFrontOfDue, SentIsReceived, WaitsForOnePiece};
+ghost use Rattle.nut_history.specs.Limits.{AnswersAreBounded, WaitsAreBounded};
 
 use nut_state::every_table_holds;
 use thiserror::Error;
@@ -64,6 +64,29 @@ pub fn cuts_do_not_matter()
 /// However a driver's bytes are cut into pieces, the content is the same.
 pub fn driver_cuts_do_not_matter()
     ensures { DriverCutsDoNotMatter }
+{}
+
+/// Histories of the same steps have the same answers, and ask the same of drivers.
+pub fn same_steps_same_answers()
+    ensures { SameStepsSameAnswers }
+{}
+
+/// However a connection's bytes are cut, and whatever connections take between the pieces, the steps and so the answers
+/// are those of all the bytes in one piece.
+pub fn cuts_and_writes_do_not_matter()
+    ensures { CutsAndWritesDoNotMatter }
+{}
+
+/// However a driver's bytes are cut, and whatever drivers take between the pieces, what is known of each UPS, asked of each
+/// driver and answered to each connection is that of all the bytes in one piece.
+pub fn driver_cuts_and_writes_do_not_matter()
+    ensures { DriverCutsAndWritesDoNotMatter }
+{}
+
+/// A piece of a connection that has logged out is answered by nothing, asks nothing of a driver, and changes nothing but what
+/// is kept of the connection's unfinished line.
+pub fn logout_is_final()
+    ensures { LogoutIsFinal }
 {}
 
 /// Whatever a server may answer to an event, what it has then is the content of the history after it.
@@ -126,6 +149,19 @@ pub fn bounds_hold()
     ensures { BoundsHold }
 {}
 
+/// No more connections are open than the configuration allows, and no more were opened than 4,294,967,295.
+pub fn connections_are_few()
+    ensures { ConnectionsAreFew }
+{}
+
+/// Where the configuration is within the limits that its files have, no answer to one line is longer than 184,930 bytes:
+/// that to a LIST VAR of 512 variables.
+pub fn answers_are_bounded()
+    ensures { AnswersAreBounded }
+{
+    every_table_holds();
+}
+
 /// What waits for a client is an end of the answers to its newest piece: all earlier ones were sent.
 pub fn waits_for_one_piece()
     ensures { WaitsForOnePiece }
@@ -143,5 +179,6 @@ pub fn waits_are_bounded()
 pub fn worked_examples()
     ensures connections { ConnectionExamples }
     ensures drivers { DriverExamples }
+    ensures edges { EdgeExamples }
     ensures users { UserExamples }
 {}

@@ -17,6 +17,8 @@ use Rattle.nut_decision.specs.declared.Notice.{Notice}
 use Rattle.nut_monitor.specs.declared.answer.Scene.{Scene}
 use Rattle.nut_monitor.specs.Hearing.{HearsPiece}
 use Rattle.nut_monitor.specs.Sound.{is_memory, lacks_memory}
+use Rattle.nut_monitor.specs.Kept.{AreLinksBounded, IsLinkBounded}
+use Rattle.nut_monitor.proofs.Bounded.{at_bounded, heard_bounded}
 use Rattle.nut_monitor.proofs.Links.{ran_out}
 use Rattle.nut_monitor.proofs.Steps.{bytes_accepted, heard_content, here, linked_here, out_content}
 
@@ -78,3 +80,12 @@ module _ (s : Content) (i : ℕ) (p : List ℕ) (w w' : Watch) (scene : Scene) (
   bytes_lack wanting =
       let runs : MayRunOut r.0 p w.link = subst (MayRunOut r.0 p) (sym found.1) (heard.link.exchange, lack wanting) in
       (bytes_free, (refl, subst (MayRunOutIn r.0 p) (sym at) runs))
+
+-- the link of a line that hears a piece stays within its bounds
+pub piece_bounded : (s : Content) (i : ℕ) (p : List ℕ) (w w' : Watch) (scene : Scene) (r : ℕ × Result (Unit {0}) LinkFault) (news : List Notice) → i < length s.watches → w ≡ slice_index_or s.watches i w
+    → is_linked (watch_at i s.watches) ≡ true → ((v : LinkValue) → w.link ≡ Some v → HearsPiece s.configuration scene p v w s.notices r w' news) → AreLinksBounded s.watches → IsLinkBounded w'.link
+piece_bounded s i p w w' scene r news lt is linked hears bounded =
+    let found = some_of w.link (linked_here (watch_at i s.watches) w true (here i s.watches w lt is) linked) in
+    let heard = hears found.0 found.1 in
+    subst (λ (x : Watch). IsLinkBounded x.link) (sym heard.watch)
+    (heard_bounded s.configuration scene.clock scene.watching found.0 heard.link w p r.0 r.1 heard.feeds found.1 (at_bounded s.watches i w lt is bounded))

@@ -1,10 +1,10 @@
 pub mod FlagLemmas
 pub mod Loops
 pub mod Counts
-pub mod Writables
 pub mod Links
 pub mod Steps
 pub mod Marks
 pub mod Bytes
 pub mod Arrives
 pub mod Begun
+pub mod Bounded

@@ -23,6 +23,8 @@ use Rattle.nut_decision.specs.declared.Query.{Query}
 use Rattle.nut_decision.specs.Decision.{is_bad}
 use Rattle.nut_monitor.specs.Answers.{beginning}
 use Rattle.nut_monitor.specs.Inside.{IsOrderly, to_lose, to_shut, unwatched}
+use Rattle.nut_monitor.specs.Kept.{AreLinksBounded, IsLinkBounded}
+use Rattle.nut_monitor.proofs.Bounded.{AreWritable, asked_bounded, set_bounded, unwatched_bounded}
 
 -- ---- one line
 
@@ -62,20 +64,27 @@ losable : (ws : List Watch) → sum_by to_lose ws ≤ length ws
 losable [] = omega arith
 losable (w ∷ ws) = omega (arith, sum_by-cons to_lose w ws, to_lose-le (is_bad w.known.communication), losable ws)
 
-pub set_orderly : (s : Content) (i : ℕ) (w w' : Watch) → i < length s.watches → w ≡ slice_index_or s.watches i w → to_lose w' ≡ to_lose w → IsOrderly s → IsOrderly (record s { watches = slice_set s.watches i w' })
-set_orderly s i w w' lt is same o =
+pub set_orderly : (s : Content) (i : ℕ) (w w' : Watch) → i < length s.watches → w ≡ slice_index_or s.watches i w → to_lose w' ≡ to_lose w → IsLinkBounded w'.link → IsOrderly s
+    → IsOrderly (record s { watches = slice_set s.watches i w' })
+set_orderly s i w w' lt is same bounded o =
     let read : to_lose (slice_index_or s.watches i w) ≡ to_lose w = ap to_lose (sym is) in
     let sums = sum_by-set to_lose s.watches i w' w lt in
     let long : length (slice_set s.watches i w') ≡ length s.watches = length-set s.watches i w' in
-    record { all = long ∙ o.all; most = omega (arith, long, o.most); few = omega (arith, read, sums, same, o.few) }
+    record {
+      all = long ∙ o.all;
+      most = omega (arith, long, o.most);
+      few = omega (arith, read, sums, same, o.few);
+      links = set_bounded s.watches i w' o.links bounded;
+    }
 
 -- what is told between two moments or pieces fits
-pub anew_orderly : (s : Content) (clock : ℕ) (news : List Notice) (ws : List Watch) → length ws ≡ length s.watches → length news ≤ 32 → IsOrderly s
+pub anew_orderly : (s : Content) (clock : ℕ) (news : List Notice) (ws : List Watch) → length ws ≡ length s.watches → length news ≤ 32 → AreLinksBounded ws → IsOrderly s
     → IsOrderly (record s { clock = clock; notices = news; watches = ws })
-anew_orderly s clock news ws same few o = record {
+anew_orderly s clock news ws same few bounded o = record {
   all = same ∙ o.all;
   most = omega (arith, same, o.most);
   few = omega (arith, losable ws, same, few, o.most, to_lose-le (is_some s.ended));
+  links = bounded;
 }
 
 unwatched_length : (ls : List Line) → length (map (λ line. unwatched) ls) ≡ length ls
@@ -91,6 +100,7 @@ beginning_orderly u s is = subst IsOrderly (sym is) (record {
   all = unwatched_length (map line_of u.monitors.lines.items);
   most = omega (arith, unwatched_length (map line_of u.monitors.lines.items), lines_length u.monitors.lines.items, u.monitors.few);
   few = omega (arith, losable (beginning (configuration_of u)).watches, unwatched_length (map line_of u.monitors.lines.items), lines_length u.monitors.lines.items, u.monitors.few);
+  links = unwatched_bounded (map line_of u.monitors.lines.items);
 })
 
 pub all_unwatched : (ms : List Monitored) → map (λ line. unwatched) ms ≡ map (λ line. unwatched) (map line_of ms)
@@ -119,13 +129,14 @@ asked_sum c k p (l ∷ ls) (w ∷ ws) =
     let same : to_lose (asked_next c k p l w) ≡ to_lose w = ap (λ known. if is_bad known.communication then 0 else 1) (put_known l k _ w) in
     omega (arith, sum_by-cons to_lose (asked_next c k p l w) (all_asked c k p ls ws), sum_by-cons to_lose w ws, same, asked_sum c k p ls ws)
 
-pub asked_orderly : (s : Content) (p : Phase) → IsOrderly s → IsOrderly (record s { watches = all_asked s.configuration s.clock p s.configuration.lines s.watches })
-asked_orderly s p o =
+pub asked_orderly : (s : Content) (p : Phase) → AreWritable s.configuration.lines → IsOrderly s → IsOrderly (record s { watches = all_asked s.configuration s.clock p s.configuration.lines s.watches })
+asked_orderly s p writable o =
     let long = asked_length s.configuration s.clock p s.configuration.lines s.watches o.all in
     record {
       all = long ∙ o.all;
       most = omega (arith, long, o.most);
       few = omega (arith, asked_sum s.configuration s.clock p s.configuration.lines s.watches, o.few);
+      links = asked_bounded s.configuration s.clock p s.configuration.lines s.watches writable o.links;
     }
 
 -- ---- what stands before it

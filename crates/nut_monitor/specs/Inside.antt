@@ -5,6 +5,7 @@ use Rattle.nut_decision.specs.Content.{Watch, Content}
 use Rattle.nut_decision.specs.Configuration.{Configuration, Line}
 use Rattle.nut_decision.specs.Decision.{is_alone, is_bad, is_critical}
 use Rattle.nut_decision.specs.declared.Known.{Known}
+use Rattle.nut_monitor.specs.Kept.{AreLinksBounded}
 
 -- a line without a link, of whose UPS nothing is known
 abbrev pub unwatched : Watch
@@ -40,8 +41,10 @@ to_lose w = if is_bad w.known.communication then 0 else 1
 abbrev pub to_shut : Option ℕ → ℕ
 to_shut ended = if is_some ended then 0 else 1
 
--- Each line has its watch, at most 32, and there is room for all notices that may come before the next moment or piece.
+-- Each line has its watch, at most 32, there is room for all notices that may come before the next moment or piece, and each
+-- link keeps no more than it may.
 pub record IsOrderly (s : Content) : Type 0 where
   pub all : length s.watches ≡ length s.configuration.lines
   pub most : length s.watches ≤ 32
   pub few : length s.notices + sum_by to_lose s.watches + to_shut s.ended ≤ 65
+  pub links : AreLinksBounded s.watches

@@ -1,6 +1,7 @@
 pub mod Events
 pub mod Sound
 pub mod Hearing
+pub mod Kept
 pub mod Inside
 pub mod Answers
 pub mod Texts

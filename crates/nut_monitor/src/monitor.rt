@@ -1,5 +1,5 @@
 //! The monitor.
-ghost use Rattle.std.specs.Prelude.{◌≡◌, ◌++◌, List, Some, None, Err, IfOk, IfErr, OnOk, OnErr, [], drop, length, ◌<◌, ◌+◌, vec_capacity, vec_len};
+ghost use Rattle.std.specs.Prelude.{◌≡◌, ◌++◌, List, Some, None, Err, IfOk, IfErr, OnOk, OnErr, [], drop, length, ◌<◌, ◌≤◌, ◌+◌, vec_capacity, vec_len};
 ghost use Rattle.nut_decision.specs.declared.MonitorFault.{MonitorFault as AnyFault};
 ghost use Rattle.nut_decision.specs.declared.MonitorFault.TheVariants as faults;
 ghost use Rattle.nut_decision.specs.Acceptance.{Tells, is_linked, refusal, waiting_on, watch_at};
@@ -8,8 +8,10 @@ ghost use Rattle.nut_decision.specs.Content.{content, phase_of};
 ghost use Rattle.nut_decision.specs.Event.{Event as Events};
 ghost use Rattle.nut_decision.specs.Handing.{after_asking};
 ghost use Rattle.nut_decision.specs.Outcome.{IsAnswer, after, content_after};
+ghost use Rattle.nut_decision.specs.Trace.{linked as is_there, trace, waits};
 ghost use Rattle.nut_monitor.specs.Answers.{beginning};
 ghost use Rattle.nut_monitor.specs.Events.{event_of};
+ghost use Rattle.nut_monitor.specs.Kept.{KeepsLittle};
 ghost use Rattle.nut_monitor.specs.Sound.{first_of};
 ghost use Rattle.nut_monitor.specs.Texts.{text_of};
 
@@ -51,6 +53,7 @@ impl Monitor {
     ///
     /// `Memory` without a link, where that memory isn't to be had.
     pub fn new(alloc: Global, config: UpsmonConf) -> Result<Monitor, MonitorFault>
+        // What it holds is the content of the history of nothing; `made` says the same without a history.
         ensures made { IfOk result (λ monitor. monitor ≡ record { config = config; content = beginning (configuration_of config) }) }
         ensures fresh { IfOk result (λ monitor. monitor.content ≡ content (configuration_of config) []) }
         ensures fault { IfErr result (λ fault. fault ≡ faults.Memory None 0) }
@@ -75,23 +78,41 @@ impl Monitor {
         &self.config
     }
 
-    /// How many MONITOR lines there are.
+    /// How many MONITOR lines there are, at most 32.
     pub fn lines(&self) -> usize
-        ensures { result ≡ length self.now.content.watches }
+        ensures value { result ≡ length self.now.content.watches }
+        ensures few { result ≤ 32 }
     {
         self.state.watches.len()
     }
 
-    /// Whether the link of the MONITOR line with this number is there.
+    /// Does nothing when it runs. Its contract says how little is kept, whatever the monitor was told.
+    fn keeps_little(&self)
+        ensures { KeepsLittle self.now.content }
+    {
+        let _state = &self.state;
+    }
+
+    /// Whether the link of the MONITOR line with this number is there: it was made, and not lost since. False where no line
+    /// has the number.
     pub fn linked(&self, i: usize) -> bool
-        ensures { result ≡ is_linked (watch_at i self.now.content.watches) }
+        ensures value { result ≡ is_linked (watch_at i self.now.content.watches) }
+
+        // After every history that the monitor was told, it is what the history says.
+        ensures told { (configuration : Configuration) (events : List Events) → Tells configuration events self.now.content
+            → result ≡ is_there i (trace configuration events) }
     {
         self.state.is_linked(i)
     }
 
-    /// The bytes that wait for the server of that link.
+    /// The bytes that wait for the server of that link: what is left of the queries put on it since it was made. None where
+    /// it isn't there, or no line has the number.
     pub fn waiting(&self, i: usize) -> &[u8]
-        ensures { result.now ≡ waiting_on (watch_at i self.now.content.watches) }
+        ensures value { result.now ≡ waiting_on (watch_at i self.now.content.watches) }
+
+        // After every history that the monitor was told, it is what the history says.
+        ensures told { (configuration : Configuration) (events : List Events) → Tells configuration events self.now.content
+            → result.now ≡ waits configuration i (trace configuration events) }
     {
         self.state.waiting(i)
     }
@@ -168,12 +189,19 @@ impl Monitor {
         // What stands then is what the history says, which goes on by the answer.
         ensures stands { (configuration : Configuration) (events : List Events) → Tells configuration events self.old.content
             → Tells configuration (after result (event_of event.entry) events) self.new.content }
+
+        // The same as one step from the content before, for proofs that have no history at hand.
         ensures content { self.new ≡ record { config = self.old.config; content = content_after result self.old.content (event_of event.entry) } }
 
         // A refused event changes nothing.
         ensures unchanged { (fault : AnyFault) → refusal self.old.content (event_of event.entry) ≡ Some fault
             → (result ≡ Err fault) × (self.new ≡ self.old) }
+
+        // At most 128 notices wait, and each link keeps at most one query, 512 bytes of a line and 512 rows, whatever was told.
+        ensures little { KeepsLittle self.new.content }
     {
-        self.step(event)
+        let answer = self.step(event);
+        self.keeps_little();
+        answer
     }
 }

@@ -5,3 +5,4 @@ pub mod Unconnected
 pub mod Arrivals
 pub mod Settles
 pub mod Noted
+pub mod MemoryLaws

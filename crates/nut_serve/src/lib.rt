@@ -12,6 +12,6 @@ mod world;
 pub use memory::MemoryWorld;
 pub use replay::serve_memory;
 pub use serving::serve;
-pub use streams::{StreamWorld, read_piece, write_some};
+pub use streams::{Stream, StreamWorld, read_piece, write_some};
 pub use types::{Address, Fault, Given, Next, Note, Piece, ServeFault, Written};
 pub use world::World;

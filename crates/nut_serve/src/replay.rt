@@ -1,7 +1,9 @@
 //! The loop over a world in memory.
 
-ghost use Rattle.std.specs.Prelude.{◌≡◌, ◌<◌, ◌-◌, ◌^◌, [], OnOk, OnErr};
+ghost use Rattle.std.specs.Prelude.{◌≡◌, ◌<◌, ◌-◌, ◌^◌, List, [], Some, OnOk, OnErr};
 ghost use Rattle.nut_history.specs.Content.{content};
+ghost use Rattle.nut_serve.specs.Memory.{GoesOn};
+ghost use Rattle.nut_serve.specs.Served.{Ended, Served};
 ghost use Rattle.nut_serve.specs.ServedAll.{ServedAll};
 
 use crate::{MemoryWorld, ServeFault, serve};
@@ -11,7 +13,7 @@ use std::sync::Wait;
 /// Serves a list of arrivals to its end: all are given but bytes of connections that may not be read.
 ///
 /// # Errors
-/// `ServeFault::World` where memory for a note was refused.
+/// `ServeFault::World` where memory for a note was refused: what was noted before stands.
 pub fn serve_memory(
     rt: &impl Wait,
     server: &mut Server,
@@ -21,6 +23,8 @@ pub fn serve_memory(
     requires blank { world.old.log ≡ [] }
     requires few { world.old.faults < 2 ^ 64 - 1 }
     ensures all { OnOk result (ServedAll server.old.configuration world.old world.new server.new) }
+    ensures err { OnErr result ((owed : List Ended) × Served server.old.configuration (Some world.new.log) server.new owed) }
+    ensures reached { GoesOn world.old world.new }
     ensures fault { OnErr result (world.old.faults < world.new.faults) }
 {
     serve(rt, server, world)

@@ -24,6 +24,15 @@ enum Stage {
     Ended,
 }
 
+/// A stream of a world over standard streams.
+#[derive(Clone, Copy, Debug, PartialEq, Eq)]
+pub enum Stream {
+    /// The reader that the client's bytes come from.
+    Input,
+    /// The writer that replies go to.
+    Output,
+}
+
 /// A world with one client and no drivers. The client's bytes come from a reader, and replies go to a writer at once.
 ///
 /// It ends where the client may be read no more, and at the end of the input. A failed read or write is a fault.
@@ -34,19 +43,29 @@ pub struct StreamWorld<'a, R, T> {
     output: &'a mut T,
     stage: Stage,
     faults: u64,
+    failed: Option<Stream>,
 }
 
 impl<'a, R: Read, T: Write> StreamWorld<'a, R, T> {
     /// A world whose client is about to connect.
     pub fn new(input: &'a mut R, output: &'a mut T) -> Self
-        ensures { result.faults ≡ 0 }
+        ensures faults { result.faults ≡ 0 }
+        ensures failed { result.failed ≡ None }
     {
         StreamWorld {
             input,
             output,
             stage: Stage::Arriving,
             faults: 0,
+            failed: None,
         }
+    }
+
+    /// The stream that failed last, if one did.
+    pub fn failed(&self) -> Option<Stream>
+        ensures { result ≡ self.now.failed }
+    {
+        self.failed
     }
 }
 
@@ -87,6 +106,7 @@ impl<'a, R: Read, T: Write> World for StreamWorld<'a, R, T> {
             }
             Ok(_) => Ok(Next::Bytes(CLIENT)),
             Err(_) => {
+                self.failed = Some(Stream::Input);
                 self.faults += 1;
                 Err(Fault)
             }
@@ -97,6 +117,7 @@ impl<'a, R: Read, T: Write> World for StreamWorld<'a, R, T> {
         match write_some(self.output, bytes) {
             Ok(n) if n > 0 => Ok(Written::Took(n)),
             _ => {
+                self.failed = Some(Stream::Output);
                 self.faults += 1;
                 Err(Fault)
             }

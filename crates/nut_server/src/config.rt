@@ -104,9 +104,10 @@ impl Config {
         &self.ups
     }
 
-    /// What upsd.users sets.
+    /// What upsd.users sets: at most 64 users.
     pub fn users(&self) -> &UsersConf
-        ensures { users_of result.now ≡ self.now.users }
+        ensures value { users_of result.now ≡ self.now.users }
+        ensures few { length self.now.users ≤ 64 }
     {
         &self.users
     }

@@ -163,7 +163,8 @@ impl Connection {
 
     /// How many bytes are kept of an unfinished line.
     pub fn kept(&self) -> usize
-        ensures { result ≡ kept_of self.now.rest }
+        ensures value { result ≡ kept_of self.now.rest }
+        ensures within { result ≤ 512 }
     {
         self.cutter.kept()
     }

@@ -8,7 +8,8 @@ ghost use Rattle.nut_history.specs.Content.{content};
 ghost use Rattle.nut_history.specs.Trace.{below};
 ghost use Rattle.nut_server.specs.Server.{unheard};
 ghost use Rattle.nut_history.specs.Acceptance.{Tells, refusal, session_of, supply_of, waiting_of, asks_of, may_read, leaves, kept, is_connected};
-ghost use Rattle.nut_history.specs.Limits.{most_waits};
+ghost use Rattle.nut_history.specs.Laws.{HasFewConnections};
+ghost use Rattle.nut_history.specs.Limits.{IsWithin, most_waits};
 ghost use Rattle.nut_history.specs.Outcome.{IsAnswer, after, content_after};
 ghost use Rattle.nut_server.specs.Arrival.{event_of};
 ghost use Rattle.nut_server.specs.Settling.{IsNextUnsettled, IsNextWaiting};
@@ -148,32 +149,49 @@ impl Server {
         // What stands after it is what the history says, which goes on by the answer.
         ensures stands { (first : Configuration) (h : List Event) → Tells first h self.old
             → Tells first (after result (event_of arrival.entry) h) self.new }
+
+        // The same as one step from the content before, for proofs that have no history at hand.
         ensures content { self.new ≡ content_after result self.old (event_of arrival.entry) }
 
         // A refused arrival changes nothing.
         ensures unchanged { (r : Refused) → refusal self.old (event_of arrival.entry) ≡ Some r
             → (result ≡ Err r) × (self.new ≡ self.old) }
+
+        // No more connections are open than MAXCONN, and no more were opened than have numbers, whatever was told.
+        ensures few { HasFewConnections self.new }
     {
-        self.step(arrival)
+        let answer = self.step(arrival);
+        self.has_few_connections();
+        answer
     }
 
-    /// How many connections were opened: the number of the newest.
+    /// Does nothing when it runs. Its contract says how many connections there are at most, whatever the server was told.
+    fn has_few_connections(&self)
+        ensures { HasFewConnections self.now }
+    {
+        let _connections = &self.connections;
+    }
+
+    /// How many connections were opened: the number of the newest, at most 4,294,967,295.
     pub fn opened(&self) -> u64
-        ensures { result ≡ self.now.opened }
+        ensures value { result ≡ self.now.opened }
+        ensures few { result ≤ 4_294_967_295 }
     {
         self.opened
     }
 
     /// What the server was made with.
     pub fn config(&self) -> &Config
-        ensures { result.now ≡ self.now.configuration }
+        ensures value { result.now ≡ self.now.configuration }
+        ensures limits { IsWithin self.now.configuration }
     {
         &self.config
     }
 
-    /// How many UPSes there are.
+    /// How many UPSes there are, at most 32.
     pub fn number_of_upses(&self) -> usize
-        ensures { result ≡ length self.now.configuration.upses }
+        ensures len { result ≡ length self.now.configuration.upses }
+        ensures few { result ≤ 32 }
     {
         self.config.number_of_upses()
     }
@@ -225,7 +243,8 @@ impl Server {
 
     /// How many bytes are kept of a connection's unfinished line, at most 512.
     pub fn kept(&self, c: u64) -> usize
-        ensures { result ≡ kept (session_of c self.now.sessions) }
+        ensures value { result ≡ kept (session_of c self.now.sessions) }
+        ensures within { result ≤ 512 }
     {
         match self.connections.get(c) {
             Some(connection) => connection.kept(),
@@ -245,7 +264,8 @@ impl Server {
 
     /// How many bytes wait for the driver of a UPS, at most 4,096: 0 where there is no such UPS.
     pub fn waits_for_driver(&self, u: usize) -> usize
-        ensures { result ≡ length (asks_of u self.now.supplies) }
+        ensures value { result ≡ length (asks_of u self.now.supplies) }
+        ensures within { result ≤ 4096 }
     {
         match self.devices.get(u) {
             Some(device) => device.waits(),

@@ -55,7 +55,7 @@ fn is_in_ranges(number: Option<i32>, ranges: &[Range]) -> bool
     }
 }
 
-/// Why a variable doesn't take a value of at most 128 bytes, by its kind.
+/// Why a variable doesn't take a value that isn't too long, by its kind.
 fn misfit_by(kind: VariableKind, variable: &Variable, value: &[u8]) -> Option<Refusal>
     ensures { result ≡ misfit_by kind variable.now value.now }
 {

@@ -8,17 +8,17 @@ use Rattle.nut_watch.proofs.watching.write_once.Goals as goal
 
 pub returns-in-Took-clause-ok : goal.returns-in-Took-clause-ok
 returns-in-Took-clause-ok g c =
-    write_took g.first _ _ _ _ c.args.i c.waiting.result.now _ c.in-Took.n _ c.requires.1.1.1 c.in-Took.is c.in_ok-n.ensures.ok c.in_ok-n.ensures.within c.waiting.ensures c.arrive.ensures.answered
+    write_took g.first _ _ _ _ c.args.i c.waiting.result.now _ c.in-Took.n _ c.requires.1.1.1 c.in-Took.is c.in_ok-n.ensures.ok c.in_ok-n.ensures.within c.waiting.ensures.value c.arrive.ensures.answered
     (ap (λ (m : MonitorValue). m.content) c.arrive.ensures.content)
 
 pub returns-in-Took-clause-less : goal.returns-in-Took-clause-less
 returns-in-Took-clause-less g c =
-    waits_less g.first _ _ _ c.args.i c.waiting.result.now _ c.in-Took.n _ c.requires.1.1.1 c.in-Took.is c.in_ok-n.ensures.within c.waiting.ensures c.arrive.ensures.answered
+    waits_less g.first _ _ _ c.args.i c.waiting.result.now _ c.in-Took.n _ c.requires.1.1.1 c.in-Took.is c.in_ok-n.ensures.within c.waiting.ensures.value c.arrive.ensures.answered
     (ap (λ (m : MonitorValue). m.content) c.arrive.ensures.content)
 
 pub returns-in-Took-clause-only : goal.returns-in-Took-clause-only
 returns-in-Took-clause-only g c =
-    only_took g.first _ _ _ c.args.i c.waiting.result.now _ c.in-Took.n _ c.requires.1.1.1 c.in-Took.is c.in_ok-n.ensures.within c.waiting.ensures c.arrive.ensures.answered
+    only_took g.first _ _ _ c.args.i c.waiting.result.now _ c.in-Took.n _ c.requires.1.1.1 c.in-Took.is c.in_ok-n.ensures.within c.waiting.ensures.value c.arrive.ensures.answered
     (ap (λ (m : MonitorValue). m.content) c.arrive.ensures.content)
 
 pub returns-in-Later-clause-ok : goal.returns-in-Later-clause-ok

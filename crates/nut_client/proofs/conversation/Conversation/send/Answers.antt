@@ -5,7 +5,7 @@ use Rattle.nut_client.proofs.conversation.Conversation.send.Goals as goal
 
 pub loop-preserved-in-Continue-branch-2 : goal.loop-preserved-in-Continue-branch-2
 loop-preserved-in-Continue-branch-2 g c = record {
-  sending = sent_more c.args.request.now _ _ _ _ _ c.in-Bytes.n c.waiting-in-loop.result.now c.loop.invariant.sending c.waiting-in-loop.ensures (le-leb c.in-Bytes.n (length c.waiting-in-loop.result.now) c.in-Bytes.ensures.took.0) c.in-Bytes.ensures.took.1 c.took.ensures.stands;
+  sending = sent_more c.args.request.now _ _ _ _ _ c.in-Bytes.n c.waiting-in-loop.result.now c.loop.invariant.sending c.waiting-in-loop.ensures.value (le-leb c.in-Bytes.n (length c.waiting-in-loop.result.now) c.in-Bytes.ensures.took.0) c.in-Bytes.ensures.took.1 c.took.ensures.stands;
   unread = c.loop.invariant.unread;
   remaining = c.in-Bytes.ensures.kept ∙ c.loop.invariant.remaining;
 }

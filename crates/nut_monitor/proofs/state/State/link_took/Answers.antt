@@ -1,8 +1,11 @@
-use Rattle.std.proofs.Common.{◌≡◌, ◌≤◌, length, ◌∙◌, ap, refl, sym, arith}
+use Rattle.std.proofs.Common.{◌≡◌, ◌≤◌, length, ◌∙◌, ap, refl, sym, subst, arith}
 use Rattle.nut_decision.specs.Acceptance.{waits_on, watch_at}
+use Rattle.nut_decision.specs.Content.{Watch}
 use Rattle.nut_decision.specs.Machine.{took}
 use Rattle.nut_monitor.specs.Inside.{to_lose}
+use Rattle.nut_monitor.specs.Kept.{IsLinkBounded}
 use Rattle.nut_monitor.specs.Steps.{content_in}
+use Rattle.nut_monitor.proofs.Bounded.{at_bounded, took_bounded}
 use Rattle.nut_monitor.proofs.Steps.{here, set_orderly, set_update, some_same, took_accepted}
 use Rattle.nut_monitor.proofs.state.State.link_took.Goals as goal
 
@@ -21,6 +24,7 @@ returns c =
           record {
             answered = (took_accepted c.args.n (watch_at i s.watches) w at checked.1 le, tt);
             content = ap (λ ws. record s { watches = ws }) (set_update (took c.args.n) i s.watches w c.took.new.self checked.0 is c.took.ensures);
-            orderly = set_orderly s i w c.took.new.self checked.0 is (ap to_lose c.took.ensures) orderly;
+            orderly = set_orderly s i w c.took.new.self checked.0 is (ap to_lose c.took.ensures)
+                (subst (λ (x : Watch). IsLinkBounded x.link) (sym c.took.ensures) (took_bounded c.args.n w (at_bounded s.watches i w checked.0 is orderly.links))) orderly;
           };
     }

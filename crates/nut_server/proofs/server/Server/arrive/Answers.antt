@@ -3,7 +3,7 @@ use Rattle.nut_server.proofs.Arrives.{stands_after, refused_is}
 use Rattle.nut_server.proofs.server.Server.arrive.Goals as goal
 
 pub returns-clause-stands : goal.returns-clause-stands
-returns-clause-stands c = stands_after c.args.self.now c.step.new.self (event_of c.args.arrival) c.step.result c.step.ensures.answered c.step.ensures.content
+returns-clause-stands c = stands_after c.args.self.now c.step-answer.new.self (event_of c.args.arrival) c.step-answer.result c.step-answer.ensures.answered c.step-answer.ensures.content
 
 pub returns-clause-unchanged : goal.returns-clause-unchanged
-returns-clause-unchanged c = refused_is c.args.self.now c.step.new.self (event_of c.args.arrival) c.step.result c.step.ensures.answered c.step.ensures.content
+returns-clause-unchanged c = refused_is c.args.self.now c.step-answer.new.self (event_of c.args.arrival) c.step-answer.result c.step-answer.ensures.answered c.step-answer.ensures.content

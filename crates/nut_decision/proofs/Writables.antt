@@ -1,7 +1,7 @@
 -- Each query of a MONITOR line can be written.
 use Rattle.std.proofs.Common.{◌≡◌, ℕ, ◌+◌, ◌*◌, ◌≤◌, nat_le, Bool, true, false, ◌&&◌, ◌||◌, cond, List, [], ◌∷◌, ◌++◌, length, map, refl, sym, ap, ◌∙◌, arith, length-append, leb-true, le-leb, codes, inl, inr}
 use Rattle.std.specs.Prelude.{◌==◌}
-use Rattle.std.proofs.lemmas.Bool.{and_from, cases_Bool}
+use Rattle.std.proofs.lemmas.Bool.{and_from, and_parts}
 use Rattle.std.proofs.lemmas.List.Folds.{list_all-append}
 use Rattle.std.specs.List.{flat_map, list_all, AllByRecursion}
 use Rattle.nut_words.specs.Quoting.{IsPrintable, escaped, quoted, stands_bare, word_text}
@@ -18,7 +18,12 @@ use Rattle.nut_decision.specs.Configuration.{line_of}
 use Rattle.nut_decision.specs.Query.{request}
 use Rattle.nut_decision.specs.declared.Query.{Query}
 use Rattle.nut_decision.specs.declared.Query.TheVariants.{Username, Password, Login, Primary, Status, Fsd, NumLogins}
-use Rattle.nut_monitor.proofs.Counts.{left_true, right_true}
+
+left_true : (a b : Bool) → (a && b) ≡ true → a ≡ true
+left_true a b h = (and_parts a b h).0
+
+right_true : (a b : Bool) → (a && b) ≡ true → b ≡ true
+right_true a b h = (and_parts a b h).1
 
 escaped_printing : (b : Bool) (c : ℕ) → is_printing c ≡ true → list_all is_printing (cond b (92 ∷ c ∷ []) (c ∷ [])) ≡ true
 escaped_printing true c h = ap (λ b. b && true) h

@@ -1,0 +1,10 @@
+use Rattle.std.proofs.Common.{ap, ◌∙◌}
+use Rattle.nut_decision.specs.Acceptance.{is_linked, watch_at}
+use Rattle.nut_monitor.specs.Monitors.{MonitorValue}
+use Rattle.nut_monitor.proofs.Arrives.{linked_told}
+use Rattle.nut_monitor.proofs.monitor.Monitor.linked.Goals as goal
+
+pub returns-clause-told : goal.returns-clause-told
+returns-clause-told c =
+    linked_told c.args.self.now.content c.args.i c.is_linked.result
+    (c.is_linked.ensures ∙ ap (λ (m : MonitorValue). is_linked (watch_at c.args.i m.content.watches)) c.self.view_is)

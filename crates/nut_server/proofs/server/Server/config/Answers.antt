@@ -1,0 +1,7 @@
+use Rattle.std.proofs.Common.{subst}
+use Rattle.nut_history.specs.Content.{Content}
+use Rattle.nut_history.specs.Limits.{IsWithin}
+use Rattle.nut_server.proofs.server.Server.config.Goals as goal
+
+pub returns-clause-limits : goal.returns-clause-limits
+returns-clause-limits c = subst (λ (s : Content). IsWithin s.configuration) c.self.view_is c.self.invariant.limits
