@@ -58,6 +58,7 @@ def pass_all(count):
     if count.failed == 0:
         count.run(["rt", "ci"])
     if count.failed == 0:
+        count.run_test("wrong_bodies_test.py")
         count.run_test("wrong_bodies.py")
         for test, programs in TESTS:
             count.run_test(test, *[os.path.join("crates", program, "out", program) for program in programs])

@@ -83,9 +83,11 @@ class Stopwatch:
                 self.seen[pid, running[pid][1]] = check, ticks_below(pid, running, children)
 
     def seconds(self):
-        """The processor seconds of each crate, by the part of the gate."""
+        """The processor seconds of each crate of the repository, by the part of the gate."""
         found = {}
         for (crate, part), ticks in self.seen.values():
+            if not os.path.isdir(os.path.join(ROOT, "crates", crate)):
+                continue
             parts = found.setdefault(crate, dict.fromkeys(PARTS, 0.0))
             parts[part] += ticks / os.sysconf("SC_CLK_TCK")
         return found
