@@ -1,5 +1,7 @@
 # make               proves and builds every program into bin/
 # make check         passes all tests; its last line is 'N passed, M failed'
+# make check-edits   tries each wrong body one by one, which takes hours; CRATES='a b' tries those of some crates
+# make check-times   keeps the processor times of the last make check, with which the next one compares its own
 # make check-peers   joins the programs in bin/ with NUT's own, where those are installed
 # make bench         measures the programs in bin/ on this machine
 # make install       builds, and installs programs, pages, units and examples under PREFIX; install-built doesn't build
@@ -17,7 +19,7 @@ BIN ?= bin
 
 INSTALLER = PREFIX='$(PREFIX)' DESTDIR='$(DESTDIR)' CONFDIR='$(CONFDIR)' BIN='$(BIN)' sh packaging/install.sh
 
-.PHONY: all check check-peers bench install install-built uninstall clean toolchain $(PROGRAMS)
+.PHONY: all check check-edits check-times check-peers bench install install-built uninstall clean toolchain $(PROGRAMS)
 
 all: $(PROGRAMS)
 
@@ -32,6 +34,12 @@ $(PROGRAMS): toolchain
 
 check: toolchain
 	@python3 tests/check.py
+
+check-edits: toolchain
+	@python3 tests/wrong_bodies.py --one-by-one $(CRATES)
+
+check-times:
+	@python3 tests/gate_times.py --keep
 
 check-peers: all
 	@python3 tests/peers_server.py bin/upsd bin/dummy-ups

@@ -1,0 +1,47 @@
+#!/usr/bin/env python3
+"""How long the first builds and the whole gate take on some of this machine's processors.
+
+usage: builds.py PROCESSORS..
+
+For each number it clones the repository into a folder of its own, and there runs `make upsd`, then `make` (both times from
+nothing, so the second has the first's in it), and then `make check`. It prints minutes of the clock and of processors."""
+
+import os
+import resource
+import subprocess
+import sys
+import tempfile
+import time
+
+ROOT = os.path.dirname(os.path.dirname(os.path.abspath(__file__)))
+
+
+def processor_time():
+    used = resource.getrusage(resource.RUSAGE_CHILDREN)
+    return used.ru_utime + used.ru_stime
+
+
+def measure(processors, folder):
+    os.sched_setaffinity(0, sorted(os.sched_getaffinity(0))[:processors])
+    subprocess.run(["git", "clone", "--quiet", ROOT, folder], check=True)
+    started, used = time.monotonic(), processor_time()
+    for words in (["upsd"], [], ["check"]):
+        if words == ["check"]:
+            started, used = time.monotonic(), processor_time()
+        ran = subprocess.run(["make", *words], cwd=folder, stdout=subprocess.PIPE, stderr=subprocess.STDOUT, text=True, errors="replace")
+        clock, processor = (time.monotonic() - started) / 60, (processor_time() - used) / 60
+        print(f"{processors} processors, {' '.join(['make', *words])}: {clock:.0f} minutes, {processor:.0f} of processor", flush=True)
+        if ran.returncode or words == ["check"]:
+            print(ran.stdout[-6000:])
+
+
+def main(words):
+    everywhere = os.sched_getaffinity(0)
+    for processors in map(int, words):
+        with tempfile.TemporaryDirectory(prefix="mulgefa-") as folder:
+            measure(processors, os.path.join(folder, "mulgefa"))
+        os.sched_setaffinity(0, everywhere)
+
+
+if __name__ == "__main__":
+    main(sys.argv[1:])

@@ -1,0 +1,406 @@
+#!/usr/bin/env python3
+"""Sees that the prover refuses wrong bodies: many of them in one check, each in the function that it edits.
+
+usage: wrong_bodies.py [--look | --one-by-one] [CRATE ..]
+
+The edits are crates/NAME/wrong-bodies/*.edit, and crates/NAME/must-fail/*.edit, which the toolchain's own gate tries too.
+docs/tests.md says how one is written. A round applies edits of different functions to a copy of their crate and checks these
+functions alone, with the proofs of all others left open. A control round shows that the unedited functions pass that check.
+--look says only which edits cannot be applied. --one-by-one also tries each edit as the toolchain's gate does, in a check of
+the whole crate, and fails where the two disagree. Both need the libraries below a crate: those that the gate has just built
+serve, and what is missing is built. The last line is 'N passed, M failed'."""
+
+import functools
+import importlib.machinery
+import importlib.util
+import json
+import os
+import re
+import shutil
+import subprocess
+import sys
+import tempfile
+import threading
+
+ROOT = os.path.dirname(os.path.dirname(os.path.abspath(__file__)))
+FOLDERS = ("wrong-bodies", "must-fail")
+# A goal of a function that is open, on a line above the function's own.
+GOAL = re.compile(r"note: (src/\S+: .*\(`\S+`\).*)")
+# What antt says of a proof file that names what an edit took away.
+NAMES = re.compile(r"has no field|is not in scope|has no `|was not admitted")
+
+
+@functools.lru_cache(maxsize=None)
+def toolchain():
+    """The toolchain's own gate as a module: it knows how an edit is read and how a crate is checked."""
+    said = subprocess.run(["rt", "doc"], stdout=subprocess.PIPE, text=True, check=True).stdout
+    path = os.path.join(os.path.dirname(said.strip()), "bin", "rt")
+    loader = importlib.machinery.SourceFileLoader("rt", path)
+    module = importlib.util.module_from_spec(importlib.util.spec_from_loader("rt", loader))
+    loader.exec_module(module)
+    module.rtlib.guarded()
+    return module
+
+
+class Function:
+    """Where a function of a crate stands, and what a check calls it."""
+
+    def __init__(self, file, parts, first, end):
+        self.file, self.parts, self.first, self.end = file, parts, first, end
+
+    @property
+    def path(self):
+        return "::".join(self.parts)
+
+    def holds(self, file, at):
+        return file == self.file and self.first <= at < self.end
+
+
+def impl_name(words):
+    """What a check calls an impl, by the words of its header: the type, and then the trait and its arguments."""
+    depth, before, parameters = 0, "", []
+    while words and (depth or words[0] == "<"):
+        depth += {"<": 1, ">": -1}.get(words[0], 0)
+        parameters += [words[0]] if depth == 1 and before in ("<", ",", "const") else []
+        before, words = words[0], words[1:]
+    words = words[: words.index("where")] if "where" in words else words
+    names = [word for word, after in zip(words, words[1:] + [""]) if word == "for" or word not in parameters and after != ":"]
+    names = [word for word in names if re.fullmatch(r"[A-Za-z_]\w*|&", word) and word not in ("mut", "dyn", "const")]
+    if "for" not in names:
+        return names[0]
+    at = names.index("for")
+    return "".join("Ref" if word == "&" else word[0].upper() + word[1:] for word in names[at + 1 :] + names[:at])
+
+
+def items_in(file, tokens):
+    """The functions with bodies among a file's tokens of code, and the modules of the types that it declares."""
+    module = [it for it in file[len("src/") : -len(".rt")].split("/") if it not in ("lib", "main", "mod")]
+    functions, types, opened, item = [], {}, [], None
+    for number, (start, end, word) in enumerate(tokens):
+        after = tokens[number + 1][2] if number + 1 < len(tokens) else ""
+        if word in ("fn", "mod", "trait") and re.match(r"\w", after):
+            item = (word, after)
+        elif word in ("struct", "enum"):
+            types[after] = module + [it[1] for it, _ in opened if it]
+        elif word == "impl" and item is None:
+            header = [it[2] for it in tokens[number + 1 : number + 200]]
+            item = (word, impl_name(header[: header.index("{")]))
+        elif word == ";":
+            item = None
+        elif word == "{":
+            opened.append((item, start))
+            item = None
+        elif word == "}":
+            closed, start = opened.pop()
+            if closed and closed[0] == "fn":
+                path = module + [it[1] for it, _ in opened if it] + [closed[1]]
+                functions.append(Function(file, path, start, end))
+    return functions, types
+
+
+def functions_of(folder):
+    """The functions of a crate, its tests left out, as the toolchain's formatter reads its files."""
+    walked = [os.path.join(at, name) for at, _, names in os.walk(f"{folder}/src") for name in names]
+    files = sorted(os.path.relpath(it, folder) for it in walked if it.endswith(".rt"))
+    words = [toolchain().rtlib.RATTLE, "fmt", "--tokens", *files]
+    said = subprocess.run(words, cwd=folder, stdout=subprocess.PIPE, text=True, check=True).stdout
+    found, types = [], {}
+    for file, rows in zip(files, re.split(r"(?m)^file \d+\n", said)[1:]):
+        tokens = re.findall(r'(?m)^\d+ (\d+) (\d+) Code (".*")$', rows)
+        functions, more = items_in(file, [(int(start), int(end), json.loads(word)) for start, end, word in tokens])
+        found += functions
+        types.update(more)
+    # a method's path is that of its type, in whatever module its impl stands
+    for it in found:
+        if len(it.parts) > 1 and it.parts[-2] in types:
+            it.parts = types[it.parts[-2]] + it.parts[-2:]
+    return [it for it in found if "tests" not in it.parts]
+
+
+class Edit:
+    """An edit, the functions that its texts stand in, and the one that has to refuse it."""
+
+    def __init__(self, crate, path, functions):
+        self.crate, self.path, self.name = crate, path, f"{crate.name}/{os.path.basename(path)}"
+        self.texts, self.fault = toolchain().read_edit(path, crate.folder)
+        with open(path, encoding="utf-8", errors="replace") as file:
+            lines = [line.rstrip("\n").partition(": ") for line in file]
+        self.refused_by = next((words.strip() for key, _, words in lines if key == "refused by"), None)
+        self.edited, file = set(), None
+        for key, _, words in lines:
+            file = words.strip() if key == "file" else file
+            if key == "old" and not self.fault:
+                self.edited.add(self.function_at(file, words, functions))
+        self.wanted = {self.refused_by} if self.refused_by else self.edited
+        if None in self.wanted and not self.fault:
+            self.fault = "it edits no function, and has no line 'refused by: FUNCTION'"
+
+    def function_at(self, file, text, functions):
+        """The function in which a text stands, or None. A text that an earlier pair has made stands where that pair does."""
+        with open(f"{self.crate.folder}/{file}", "rb") as it:
+            at = it.read().find(text.encode())
+        found = [it.path for it in functions if it.holds(file, at)]
+        return found[0] if found else next(iter(self.edited), None) if at < 0 else None
+
+    def is_of_bodies(self):
+        """Whether all that it edits are bodies, which no other function's proof looks into."""
+        return None not in self.edited and not self.refused_by
+
+
+class Report:
+    """What a check says of each function, by the function's path in its crate."""
+
+    def __init__(self, crate, said, changed):
+        self.lines = said.rstrip("\n").split("\n")
+        self.ended = self.lines[-1].startswith("only=")
+        self.is_stale = bool(toolchain().rtlib.STALE.search(said))
+        self.unread = [it for it in self.lines if toolchain().unread(it, changed)]
+        self.status, self.goals, goals = {}, {}, []
+        for line in self.lines:
+            found = re.match(rf"fn {crate.name}::(\S+): (.*)", line)
+            goals += [it[1] for it in [GOAL.match(line)] if it]
+            if found:
+                self.status[found[1]], self.goals[found[1]] = found[2], goals
+            if found or line.startswith("struct "):
+                goals = []
+
+    def of(self, path):
+        """The symbols of a function and of its closures."""
+        module, _, name = path.rpartition("::")
+        closures = re.compile(rf"{re.escape(module)}(::)?fn::{name}::|{re.escape(path)}::fn::")
+        return [it for it in self.status if it == path or closures.match(it)]
+
+    def passes(self, path):
+        return self.status.get(path, "").startswith(("no holes", "depends on a hole", "proved"))
+
+    def refusal(self, path):
+        """Why a function is refused in its own goals, or None; and what a proof file names that is gone."""
+        gone = None
+        for symbol in self.of(path):
+            if not self.status[symbol].startswith(("no proof", "not proved")):
+                continue
+            if self.goals[symbol]:
+                return self.goals[symbol][0], None
+            own = "proofs/" + symbol.replace("::", "/") + "/"
+            told = [it for it in self.lines if re.match(rf"(\./)?{re.escape(own)}\S+: error", it)]
+            first = next((it for it in told if not NAMES.search(it)), None)
+            if first or "`search` did not prove" in self.status[symbol]:
+                return first or self.status[symbol], None
+            gone = gone or next(iter(told), None)
+        return None, gone
+
+
+class Room:
+    """A copy of a crate in which the proofs of all but some functions are left open."""
+
+    def __init__(self, crate, functions, wanted, folder):
+        self.crate, self.folder, self.seconds, self.applied = crate, folder, 0.0, []
+        for part in toolchain().rtlib.PARTS:
+            if os.path.isdir(f"{crate.folder}/{part}"):
+                shutil.copytree(f"{crate.folder}/{part}", f"{folder}/{part}")
+        for function in functions:
+            if function.path not in wanted:
+                self.leave_open(function.path)
+
+    def leave_open(self, path):
+        proof = f"{self.folder}/proofs/{path.replace('::', '/')}"
+        shutil.rmtree(proof, ignore_errors=True)
+        os.makedirs(proof)
+        name = path.rpartition("::")[2]
+        with open(f"{proof}/Proof.antt", "w", encoding="utf-8") as file:
+            file.write(f"use Rattle.{self.crate.name}.proofs.{path.replace('::', '.')}.Statement.{{statement}}\n\n")
+            file.write(f"pub {name}_spec : {{M : Type 1}} → statement M\n{name}_spec = ?\n")
+
+    def apply(self, edits):
+        """Writes the crate's files with these edits alone, and gives those that fit beside the others."""
+        for path in {path for edit in self.applied for path in edit.texts}:
+            shutil.copyfile(f"{self.crate.folder}/{path}", f"{self.folder}/{path}")
+        self.applied = []
+        for edit in edits:
+            texts, fault = toolchain().read_edit(edit.path, self.folder)
+            if not fault:
+                self.applied.append(edit)
+                for path, text in texts.items():
+                    with open(f"{self.folder}/{path}", "w", encoding="utf-8") as file:
+                        file.write(text)
+        return self.applied
+
+    def check(self, wanted):
+        """Checks these functions, over what the room's earlier checks have kept."""
+        only = [word for path in sorted(wanted) for word in ("--only", path)]
+        flags = ["--jobs", "1", "--allow-holes", "--incremental", "kept", *only]
+        words = [*toolchain().rtlib.guarded(), toolchain().rtlib.RATTLE, "check", *self.crate.words(flags, keeps=False)]
+        how = {"stdin": subprocess.DEVNULL, "stdout": subprocess.PIPE, "stderr": subprocess.STDOUT}
+        run = subprocess.Popen(words, cwd=self.folder, **how)
+        said = run.stdout.read().decode(errors="replace")
+        _, status, used = os.wait4(run.pid, 0)
+        run.returncode = status
+        self.seconds += used.ru_utime + used.ru_stime
+        return Report(self.crate, said, {path for edit in self.applied for path in edit.texts})
+
+
+class Rounds:
+    """The rounds of one crate, and what they say of each of its edits."""
+
+    def __init__(self, crate, edits, functions, folder):
+        self.crate, self.edits, self.said, self.count = crate, edits, {}, 0
+        self.room = Room(crate, functions, {path for it in self.edits for path in it.wanted | it.edited}, folder)
+
+    def say(self, edit, refused, why):
+        self.said[edit] = refused, f"{edit.name}: {why}"
+
+    def run(self):
+        if self.edits and self.control():
+            for edits in self.shared():
+                for edit in self.round(edits):
+                    self.round([edit])
+        return self.said
+
+    def control(self):
+        """Whether the functions that are to fail pass in a copy that isn't edited."""
+        report = self.room.check({path for edit in self.edits for path in edit.wanted})
+        for edit in self.edits:
+            fallen = [it for it in sorted(edit.wanted) if not report.ended or not report.passes(it)]
+            if fallen:
+                said = report.status.get(fallen[0], report.lines[-1])
+                self.say(edit, False, f"NOT TRIED: without any edit the prover says of {fallen[0]}: {said[:300]}")
+        self.edits = [it for it in self.edits if it not in self.said]
+        return bool(self.edits)
+
+    def shared(self):
+        """The edits in rounds: no two of a round edit one function, and what edits more than bodies stands alone."""
+        rounds = []
+        for edit in [it for it in self.edits if it.is_of_bodies()]:
+            fits = [it for it in rounds if not any(other.edited & edit.edited for other in it)]
+            if fits:
+                fits[0].append(edit)
+            else:
+                rounds.append([edit])
+        return rounds + [[it] for it in self.edits if not it.is_of_bodies()]
+
+    def round(self, edits):
+        """Tries edits together, and gives those that have to be tried alone: another edit may be why they weren't refused."""
+        self.count += 1
+        applied = self.room.apply(edits)
+        report = self.room.check({path for edit in applied for path in edit.wanted})
+        for edit in applied:
+            if len(applied) == 1:
+                self.say(edit, *self.judged(edit, report))
+            elif report.ended and not report.unread and self.refusal(edit, report):
+                self.say(edit, True, self.refusal(edit, report))
+        return [it for it in edits if it not in self.said]
+
+    def refusal(self, edit, report):
+        found = [report.refusal(path)[0] for path in sorted(edit.wanted)]
+        by = "" if edit.is_of_bodies() else f" by {edit.refused_by}, in a round of its own, since it edits more than a body"
+        return f"refused, as it must be{by}: {next(filter(None, found))[:160]}" if any(found) else None
+
+    def judged(self, edit, report):
+        """What a round of this edit alone shows."""
+        gone = [it for it in (report.refusal(path)[1] for path in sorted(edit.wanted)) if it]
+        if report.unread or not report.ended:
+            told = report.unread or [it for it in report.lines if "error" in it] or report.lines
+            return False, f"BAD EDIT: the prover cannot read the edited text: {told[0][:200]}"
+        if self.refusal(edit, report):
+            return True, self.refusal(edit, report)
+        if gone:
+            return False, f"BAD EDIT: refused only because a name is gone: {gone[0][:200]}"
+        if all(report.passes(path) for path in edit.wanted):
+            return False, f"NOT REFUSED: {' and '.join(sorted(edit.wanted))} is still proved with this edit"
+        said = "; ".join(f"{path}: {report.status.get(path)}" for path in sorted(edit.wanted))
+        return False, f"NOT REFUSED in its own function, of which the prover says: {said[:300]}"
+
+
+def edits_of(crate):
+    """The crate's edits, and what lies beside them that is none."""
+    good, bad = [], []
+    for name in FOLDERS:
+        folder = f"{crate.folder}/{name}"
+        for file in sorted(os.listdir(folder) if os.path.isdir(folder) else []):
+            is_edit = re.fullmatch(r"[\w-][\w.-]*\.edit", file) and os.path.isfile(f"{folder}/{file}")
+            (good if is_edit else bad).append(f"{folder}/{file}")
+    return good, [it for it in bad if not it.endswith(".md")]
+
+
+def is_newer(crate):
+    """Whether the crate's library was built after the last change of what it is made of."""
+    files = [it for made in [crate, *crate.below()] for it in toolchain().rtlib.files_of(made.folder)]
+    built = f"{crate.rlib}/format"
+    return os.path.isfile(built) and max(map(os.path.getmtime, files)) <= os.path.getmtime(built)
+
+
+def build_libraries(crates):
+    """Builds what the crates need of the libraries below them. Those of the gate have no stamp, and serve if all do."""
+    below = list(dict.fromkeys(it for crate in crates for it in crate.below()))
+    if all(not os.path.isfile(f"{it.folder}/out/rlib/stamp") and is_newer(it) for it in below):
+        return
+    for crate in below:
+        if crate.build_rlib(["--jobs", "1"], anew=False):
+            sys.exit(f"{crate.name} isn't proved, so no edit above it was tried\n0 passed, 1 failed")
+
+
+def look(crates):
+    """The edits of each crate, and those that cannot be applied."""
+    found, faults = {}, []
+    for crate in crates:
+        paths, bad = edits_of(crate)
+        functions = functions_of(crate.folder) if paths else []
+        found[crate] = functions, [Edit(crate, path, functions) for path in paths]
+        faults += [f"{it.name}: BAD EDIT: {it.fault}" for it in found[crate][1] if it.fault]
+        faults += [f"{os.path.relpath(it, ROOT)}: BAD EDIT: its name is of letters, digits, _, - and . and ends in .edit" for it in bad]
+    return found, faults
+
+
+def in_rounds(crate, functions, edits, printing):
+    """Runs the rounds of a crate, and gives what they say of each edit's path."""
+    with tempfile.TemporaryDirectory(prefix="wrong-bodies-") as folder:
+        rounds = Rounds(crate, edits, functions, folder)
+        said = rounds.run()
+    with printing:
+        print(*[why for _, why in said.values()], sep="\n")
+        print(f"{crate.name}: {len(edits)} edits, {rounds.count} rounds and the control round: {rounds.room.seconds:.0f} processor seconds", flush=True)
+    return {edit.path: refused for edit, (refused, _) in said.items()}
+
+
+def one_by_one(crate, edits, printing):
+    """Tries each edit as the toolchain's gate does, and gives what it says of each edit's path."""
+    tried = toolchain().must_fail_all(crate, [it.path for it in edits], ["--jobs", "1"])
+    with printing:
+        print(*[text for _, text in tried], sep="\n", flush=True)
+    return {edit.path: refused for edit, (refused, _) in zip(edits, tried)}
+
+
+def side_by_side(found, way):
+    """Runs a way of trying on each crate, as many as the machine has processors and memory for."""
+    printing, tasks = threading.Lock(), {}
+    for crate, (functions, edits) in found.items():
+        call = lambda given, jobs, it=crate, edits=edits, functions=functions: way(it, functions, edits, printing)
+        tasks[crate.name, "edits"] = [], len(edits), toolchain().need(crate), call
+    return {path: refused for said in toolchain().in_lanes(tasks).values() for path, refused in said.items()}
+
+
+def main(words):
+    os.chdir(ROOT)
+    names = [it for it in words if not it.startswith("--")]
+    crates = [it for it in toolchain().rtlib.crates_below(ROOT) if not names or it.name in names]
+    found, faults = look(crates)
+    print(*faults, sep="\n", end="\n" if faults else "")
+    found = {crate: it for crate, it in found.items() if it[1]}
+    passed, failed = 0, len(faults)
+    if "--look" not in words:
+        build_libraries(found)
+        for crate, (_, edits) in found.items():
+            edits[:] = [it for it in edits if not it.fault]
+        said = side_by_side(found, in_rounds)
+        passed, failed = sum(said.values()), failed + len(said) - sum(said.values())
+        if "--one-by-one" in words:
+            alone = side_by_side(found, lambda crate, _, edits, printing: one_by_one(crate, edits, printing))
+            differ = sorted(it for it in said if said[it] != alone[it])
+            print(*[f"{os.path.relpath(it, ROOT)}: the rounds and the toolchain's gate disagree" for it in differ], sep="\n")
+            failed += len(differ)
+    print(f"{passed} passed, {failed} failed")
+    return 1 if failed else 0
+
+
+if __name__ == "__main__":
+    sys.exit(main(sys.argv[1:]))
