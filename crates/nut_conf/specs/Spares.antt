@@ -7,7 +7,7 @@ use Rattle.nut_words.specs.Name.{is_name_byte}
 use Rattle.nut_conf.specs.Faults.{◌>>=◌, IsNoMemory, Spares}
 use Rattle.nut_conf.specs.Values.{Words, nth, values_of, one, one_of, name, text, number, is_numeral, decimal}
 use Rattle.nut_conf.specs.Hosts.{is_address}
-use Rattle.nut_conf.specs.Settings.{Setting, Text, Number, AllCommands, name_value, text_value, number_value, word_value}
+use Rattle.nut_conf.specs.Settings.{Text, AllCommands, name_value, text_value, number_value, word_value}
 use Rattle.nut_conf.specs.Target.{or_fault, target}
 use Rattle.nut_conf.specs.Users.{commands_value}
 use Rattle.nut_conf.specs.Upsd.{address, listen_value}

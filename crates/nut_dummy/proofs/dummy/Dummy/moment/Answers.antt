@@ -1,4 +1,4 @@
-use Rattle.std.proofs.Common.{◌≡◌, None, Ok, rules}
+use Rattle.std.proofs.Common.{◌≡◌, None, rules}
 use Rattle.nut_dummy.specs.Dummy.{moment_refusal, passed}
 use Rattle.nut_dummy.specs.contracts.dummy.Dummy.{the_view}
 use Rattle.nut_dummy.proofs.HistoryLemmas.{moment_moves}

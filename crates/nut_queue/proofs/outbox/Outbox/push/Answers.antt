@@ -1,4 +1,4 @@
-use Rattle.std.proofs.Common.{◌≡◌, ◌++◌, OnOk, drop, length, sym, ap, ◌∙◌, arith}
+use Rattle.std.proofs.Common.{◌≡◌, ◌++◌, sym, ap, ◌∙◌, arith}
 use Rattle.std.proofs.lemmas.List.{drop_all}
 use Rattle.nut_queue.specs.declared.outbox.Outbox.TheInside.{Inside}
 use Rattle.nut_queue.proofs.HistoryLemmas.{holds_pushed, where_ok}
