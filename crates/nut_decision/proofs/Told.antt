@@ -1,12 +1,11 @@
 -- A link that is there, and what waits on it, of every number: none is there of a number that no MONITOR line has.
-use Rattle.std.proofs.Common.{◌≡◌, ℕ, ◌<◌, ◌≤◌, Bool, true, false, eqb, List, [], ◌∷◌, length, drop, refl, sym, ◌∙◌, ap, arith, Option, Some, None, if◌then◌else◌, inl, inr}
+use Rattle.std.proofs.Common.{◌≡◌, ℕ, ◌≤◌, Bool, true, false, eqb, List, [], ◌∷◌, length, drop, refl, sym, ◌∙◌, ap, arith, Option, Some, None, if◌then◌else◌, inl, inr}
 use Rattle.std.specs.Prelude.{nat_lt}
 use Rattle.std.proofs.lemmas.Bool.{cases_Bool, eqb-true, ltb-true, ltb-false}
-use Rattle.nut_decision.specs.declared.MonitorFault.{MonitorFault}
 use Rattle.nut_decision.specs.declared.MonitorFault.TheVariants.{NoSuchLink}
 use Rattle.nut_decision.specs.Configuration.{Configuration}
 use Rattle.nut_decision.specs.Event.{Event, Moment, Linked, LinkBytes, LinkLost, LinkTook, OutOfMemory, NoticeTaken}
-use Rattle.nut_decision.specs.Trace.{Entry, is_link, since_linked, linked, taken, due, waits, came, notices_of, query_put, entry_of, trace}
+use Rattle.nut_decision.specs.Trace.{Entry, is_link, since_linked, linked, taken, due, waits, came, entry_of, trace}
 use Rattle.nut_decision.specs.Content.{Watch, watch, content}
 use Rattle.nut_decision.specs.Acceptance.{IsAccepted, is_linked, linked_refusal, waiting_on, watch_at}
 use Rattle.nut_decision.specs.Laws.{LinksAreTold}

@@ -1,5 +1,5 @@
 -- How many connections are open, and how many were opened.
-use Rattle.std.proofs.Common.{◌≡◌, ℕ, ◌+◌, ◌≤◌, List, [], ◌∷◌, length, ap, arith}
+use Rattle.std.proofs.Common.{◌≡◌, ◌≤◌, List, [], ◌∷◌, ap, arith}
 use Rattle.nut_history.specs.Configuration.{Configuration}
 use Rattle.nut_history.specs.Event.{Event, Moment, Open, Bytes, Took, Close, WriteFailed, DriverUp, DriverBytes, DriverTook, DriverDown, input, driver_input, steps, brought}
 use Rattle.nut_history.specs.Trace.{opened}

@@ -1,5 +1,5 @@
 -- Lines of a connection that has logged out change nothing.
-use Rattle.std.proofs.Common.{◌≡◌, ℕ, Bool, true, false, eqb, List, [], ◌∷◌, ◌++◌, drop, refl, ◌∙◌, ap, append-nil, Option, Some, None}
+use Rattle.std.proofs.Common.{◌≡◌, ℕ, Bool, true, false, eqb, List, [], ◌∷◌, drop, refl, ◌∙◌, ap, append-nil, Option, Some, None}
 use Rattle.std.specs.Prelude.{if◌then◌else◌}
 use mathlib.Core.Path.{fun_ext}
 use Rattle.nut_words.specs.Lines.{LineText, rest}
@@ -12,7 +12,7 @@ use Rattle.nut_history.specs.Event.{Event, Bytes, Step, Said, input, taken, step
 use Rattle.nut_history.specs.Answer.{Answer, Silence, text_of, answer}
 use Rattle.nut_history.specs.Effect.{user_then, password_then, login_then, logged_out_then, due_then, target, forced_then, request_of, at_target}
 use Rattle.nut_history.specs.Trace.{Entry, configuration, address, user, password, login, logged_out, due, connected, reports, heard_at, pinged_at, forced, driver_due, driver_taken, scene, caller, with_request, request_for, answer_to, trace}
-use Rattle.nut_history.specs.Content.{Session, past, session}
+use Rattle.nut_history.specs.Content.{Session, past}
 use Rattle.nut_history.specs.Laws.{LogoutIsFinal}
 
 -- ---- a silent answer changes nothing

@@ -1,5 +1,5 @@
 -- The links of a monitor keep no more than they may.
-use Rattle.std.proofs.Common.{◌≡◌, ℕ, zero, suc, ◌<◌, ◌≤◌, Bool, true, false, List, [], ◌∷◌, length, map, refl, sym, ap, subst, ◌∙◌, Option, Some, None, is_some, Result, slice_set, slice_index_or, arith, leb-true}
+use Rattle.std.proofs.Common.{◌≡◌, ℕ, zero, suc, ◌<◌, ◌≤◌, Bool, true, false, List, [], ◌∷◌, length, map, sym, subst, Option, Some, None, is_some, Result, slice_set, slice_index_or, arith, leb-true}
 use Rattle.std.specs.Prelude.{if◌then◌else◌, nat_le}
 use Rattle.std.specs.List.{AllByRecursion, list_all}
 use Rattle.std.proofs.lemmas.Bool.{and_parts}
@@ -8,8 +8,8 @@ use Rattle.nut_conf.specs.declared.monitor.Monitored.{Monitored}
 use Rattle.nut_proto.specs.Lines.{message}
 use Rattle.nut_proto.specs.Requests.{request_parts, request_line}
 use Rattle.nut_proto.specs.declared.request.Request.{Request}
-use Rattle.nut_client.specs.Asking.{is_writable, query_of}
-use Rattle.nut_client.specs.Bounds.{IsBounded, IsStageBounded}
+use Rattle.nut_client.specs.Asking.{is_writable}
+use Rattle.nut_client.specs.Bounds.{IsBounded}
 use Rattle.nut_client.specs.Hearing.{Feeds}
 use Rattle.nut_client.specs.Link.{LinkValue, outcome_of}
 use Rattle.nut_client.specs.declared.fault.LinkFault.{LinkFault}

@@ -5,4 +5,3 @@ pub mod Unconnected
 pub mod Arrivals
 pub mod Settles
 pub mod Noted
-pub mod MemoryLaws

@@ -4,7 +4,7 @@ ghost use Rattle.std.specs.Prelude.{◌≡◌, ◌+◌, ◌-◌, ◌^◌, ◌<�
 ghost use Rattle.nut_serve.specs.Record.{tells, tells_next, tells_write, tells_request, IsWithin, MayCome, late_after, arrival_of};
 ghost use Rattle.nut_serve.specs.Record as entry;
 ghost use Rattle.nut_serve.specs.Memory.{MemoryState, log_of, entry_of, event_of_given, may_come, first_coming, GivesAt, GoesOn};
-ghost use Rattle.nut_serve.proofs.MemoryLaws.{goes_on_self, goes_on_twice};
+ghost use Rattle.nut_serve.specs.MemoryLaws.{goes_on_self, goes_on_twice};
 
 use crate::{Address, Fault, Given, Next, Note, Piece, World, Written};
 use nut_server::Server;

@@ -5,4 +5,3 @@ pub mod Arrivals
 pub mod Writes
 pub mod Settles
 pub mod Noted
-pub mod MemoryLaws

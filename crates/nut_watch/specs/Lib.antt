@@ -2,4 +2,5 @@ pub mod Record
 pub mod Watched
 pub mod Kept
 pub mod Memory
+pub mod MemoryLaws
 pub mod WatchedAll

@@ -4,7 +4,7 @@ ghost use Rattle.std.specs.Prelude.{◌≡◌, ◌+◌, ◌-◌, ◌^◌, ◌<�
 ghost use Rattle.nut_watch.specs.Record.{tells, tells_next, tells_write, IsWithin, late_after, event_given};
 ghost use Rattle.nut_watch.specs.Record as entry;
 ghost use Rattle.nut_watch.specs.Memory.{MemoryState, log_of, entry_of, event_of, Gives, GoesOn};
-ghost use Rattle.nut_watch.proofs.MemoryLaws.{goes_on_self, goes_on_twice};
+ghost use Rattle.nut_watch.specs.MemoryLaws.{goes_on_self, goes_on_twice};
 
 use crate::{Given, MonWorld, Next, Note};
 use nut_monitor::{Monitor, Notice};

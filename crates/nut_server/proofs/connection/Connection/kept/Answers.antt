@@ -1,4 +1,4 @@
-use Rattle.std.proofs.Common.{◌≤◌, ℕ, sym, subst, arith}
+use Rattle.std.proofs.Common.{◌≤◌, sym, subst, arith}
 use Rattle.nut_words.specs.Lines.{LineText, last_of, parts}
 use Rattle.nut_words.specs.Cutter.{kept_of}
 use Rattle.nut_history.proofs.Bounds.{line-bound}

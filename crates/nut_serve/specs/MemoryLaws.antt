@@ -1,6 +1,7 @@
 -- What a world over memory may become by its calls, and by calls after calls.
 use Rattle.std.specs.Prelude.{◌≡◌, ◌+◌, Bool, List, [], ◌∷◌, ◌++◌, map, count_by, refl}
-use Rattle.std.proofs.Common.{cond, sym, ◌∙◌, ap, zero-add, append_assoc, arith}
+use Rattle.std.proofs.Common.{cond, sym, ◌∙◌, ap, add_assoc, zero-add, append_assoc}
+use Rattle.std.proofs.Math.Nat.{add_comm}
 use Rattle.std.proofs.lemmas.List.Sums.{sum_by-append}
 use Rattle.nut_history.specs.Event.{Event}
 use Rattle.nut_serve.specs.Record as entry
@@ -31,8 +32,11 @@ goes_on_twice a b c first second =
       more = second.more ++ first.more;
       grown = second.grown ∙ ap (λ x. second.more ++ x) first.grown ∙ sym (append_assoc second.more first.more a.log);
       each = λ p.
-          let joined : count_by p (gave_of (second.more ++ first.more)) ≡ count_by p (gave_of second.more) + count_by p (gave_of first.more) =
+          let before = count_by p (gave_of first.more) in
+          let later = count_by p (gave_of second.more) in
+          let left = count_by p (map event_of_given c.left) in
+          let joined : count_by p (gave_of (second.more ++ first.more)) ≡ later + before =
           ap (count_by p) (gave_of-append second.more first.more) ∙ count-append p (gave_of second.more) (gave_of first.more)
           in
-          omega (arith, first.each p, second.each p, joined);
+          first.each p ∙ ap (λ n. before + n) (second.each p) ∙ sym (add_assoc before later left) ∙ ap (λ n. n + left) (add_comm before later ∙ sym joined);
     }
