@@ -173,15 +173,16 @@ class Report:
     def passes(self, path):
         return self.status.get(path, "").startswith(("no holes", "depends on a hole", "proved"))
 
-    def refusal(self, path):
-        """Why a function is refused in its own goals, or None; and what a proof file names that is gone."""
+    def refusal(self, path, is_of_body):
+        """Why a function is refused in its own goals, or None; and what a proof file names that is gone. Where an edit isn't
+        of a body, the lemmas that the function stands on count too."""
         gone = None
         for symbol in self.of(path):
             if not self.status[symbol].startswith(("no proof", "not proved")):
                 continue
             if self.goals[symbol]:
                 return self.goals[symbol][0], None
-            own = "proofs/" + symbol.replace("::", "/") + "/"
+            own = f"proofs/{symbol.replace('::', '/')}/" if is_of_body else "proofs/"
             told = [it for it in self.lines if re.match(rf"(\./)?{re.escape(own)}\S+: error", it)]
             first = next((it for it in told if not NAMES.search(it)), None)
             if first or "`search` did not prove" in self.status[symbol]:
@@ -291,13 +292,13 @@ class Rounds:
         return [it for it in edits if it not in self.said]
 
     def refusal(self, edit, report):
-        found = [report.refusal(path)[0] for path in sorted(edit.wanted)]
+        found = [report.refusal(path, edit.is_of_bodies())[0] for path in sorted(edit.wanted)]
         by = "" if edit.is_of_bodies() else f" by {edit.refused_by}, in a round of its own, since it edits more than a body"
         return f"refused, as it must be{by}: {next(filter(None, found))[:160]}" if any(found) else None
 
     def judged(self, edit, report):
         """What a round of this edit alone shows."""
-        gone = [it for it in (report.refusal(path)[1] for path in sorted(edit.wanted)) if it]
+        gone = [it for it in (report.refusal(path, edit.is_of_bodies())[1] for path in sorted(edit.wanted)) if it]
         if report.unread or not report.ended:
             told = report.unread or [it for it in report.lines if "error" in it] or report.lines
             return False, f"BAD EDIT: the prover cannot read the edited text: {told[0][:200]}"
