@@ -21,6 +21,7 @@ TESTS = (
     ("monitor_rehearsal.py", ("monitor_rehearsal",)),
     ("tools.py", ("upsc", "upsrw", "upscmd")),
     ("sockets.py", ("upsd", "dummy_ups")),
+    ("hostile_clients.py", ("upsd", "dummy_ups")),
     ("monitor.py", ("upsd", "dummy_ups", "upsc", "upsmon")),
     ("install.py", ("upsd", "dummy_ups", "upsc", "upsrw", "upscmd", "upsmon")),
 )

@@ -35,15 +35,20 @@ def ensure(holds, what):
         raise Failed(what)
 
 
-def build_shim(folder):
-    """Builds the library that makes a program's calls fail, out of refuse.c, and gives its path."""
-    shim = os.path.join(folder, "refuse.so")
+def build_library(name, folder):
+    """Builds a library that is preloaded into programs, out of its file in C here, and gives its path."""
+    library = os.path.join(folder, f"{name}.so")
     compiler = shutil.which("cc") or shutil.which("clang")
     if compiler is None:
-        print("a C compiler is missing: the tests that make calls fail need one (cc or clang)")
+        print(f"a C compiler is missing: the tests that need {name}.c need one (cc or clang)")
     else:
-        subprocess.run([compiler, "-shared", "-fPIC", "-o", shim, os.path.join(HERE, "refuse.c"), "-ldl"], check=True)
-    return shim
+        subprocess.run([compiler, "-shared", "-fPIC", "-o", library, os.path.join(HERE, f"{name}.c"), "-ldl"], check=True)
+    return library
+
+
+def build_shim(folder):
+    """Builds the library that makes a program's calls fail, and gives its path."""
+    return build_library("refuse", folder)
 
 
 def was_reached(count, at):

@@ -78,13 +78,40 @@ fn serve_sockets<R: Wait + Files + Net + Clock, E: Write>(
     err: &mut E,
 ) -> Result<(), Failure<UpsdFault>> {
     let _held = hold_closed_streams(rt, alloc)?;
+    serve_settings(rt, alloc, settings, folder, is_quiet, err)
+}
+
+/// Listens, and serves whoever connects.
+fn serve_settings<R: Wait + Net + Clock, E: Write>(
+    rt: &R,
+    alloc: Global,
+    settings: Settings,
+    folder: &str,
+    is_quiet: bool,
+    err: &mut E,
+) -> Result<(), Failure<UpsdFault>> {
     let listeners = listen(rt, alloc, &settings.upsd)?;
     let mut server = Server::new(alloc, settings.into_config())?;
+    serve_listeners(rt, alloc, &mut server, listeners, folder, is_quiet, err)
+}
+
+/// Serves whoever connects at the listeners.
+fn serve_listeners<R: Wait + Net + Clock, E: Write>(
+    rt: &R,
+    alloc: Global,
+    server: &mut Server,
+    listeners: Vec<TcpListener>,
+    folder: &str,
+    is_quiet: bool,
+    err: &mut E,
+) -> Result<(), Failure<UpsdFault>>
+    requires { server.old ≡ content server.old.configuration [] }
+{
     let drivers = drivers_of(alloc, server.config(), folder)?;
     tell_start(&listeners, &drivers, is_quiet, err);
     let reports = Reports::new("upsd", err, !is_quiet);
     let world = MioWorld::new(rt, alloc, listeners, drivers, reports)?;
-    serve_world(rt, &mut server, world)?;
+    serve_world(rt, server, world)?;
     Ok(())
 }
 

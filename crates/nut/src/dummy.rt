@@ -1,6 +1,7 @@
 //! dummy-ups: a driver without a device.
 
 use crate::conf_file::read_file;
+use crate::driver_socket::{has_listener, listen_at};
 use crate::failure::Failure;
 use crate::streams::hold_closed_streams;
 use clap::{Arg, Command};
@@ -16,15 +17,22 @@ use std::sync::Wait;
 use std::time::Clock;
 use std::{fmt, fs, io};
 
+/// How many bytes a script's file may have: 16 MiB, which is many times its 4,096 settings of at most 512 bytes.
+const FILE_MAX: u64 = 16_777_216;
+
 /// What dummy-ups alone meets, before anything is told.
 #[derive(Drop)]
 enum DummyUpsFault<'a> {
     /// The file's name doesn't end in `.dev` or `.seq`.
     UnknownKind(&'a str),
-    /// The file isn't there, is a folder, may not be read, or a read failed.
+    /// The file isn't there, is no plain file, may not be read, or a read failed.
     CannotRead(&'a str),
+    /// The file is too long.
+    TooLong(&'a str),
     /// The file has this fault.
     Script(&'a str, ScriptFault),
+    /// Another driver listens at this socket.
+    InUse(&'a str),
     /// No listener can be made at this socket.
     Listen(&'a str),
 }
@@ -34,7 +42,9 @@ impl<'a> fmt::Display for DummyUpsFault<'a> {
         match self {
             DummyUpsFault::UnknownKind(file) => write!(f, "{file}: unknown kind"),
             DummyUpsFault::CannotRead(file) => write!(f, "{file}: cannot read"),
+            DummyUpsFault::TooLong(file) => write!(f, "{file}: more than {FILE_MAX} bytes"),
             DummyUpsFault::Script(file, fault) => write!(f, "{file}:{fault}"),
+            DummyUpsFault::InUse(socket) => write!(f, "{socket}: another driver listens there"),
             DummyUpsFault::Listen(socket) => write!(f, "cannot listen on {socket}"),
         }
     }
@@ -49,14 +59,15 @@ impl<'a> From<DummyFault> for Failure<DummyUpsFault<'a>> {
 /// Runs dummy-ups, and gives its exit status.
 ///
 /// The words are those of the command line `dummy-ups FILE SOCKET`, with the program's name first. The script in FILE is
-/// told, from now on, to one server at a time, which connects at SOCKET; a file that lies there is removed. A script is of
-/// a kind by the end of its name: `.dev` is told once, `.seq` round after round. It ends where a wait for the socket or the
-/// clock fails, which is told as `dummy-ups: I/O failed`, with status 1.
+/// told, from now on, to one server at a time, which connects at SOCKET; a file that lies there is removed, if no other
+/// driver listens at it. A script is of a kind by the end of its name: `.dev` is told once, `.seq` round after round. It
+/// ends where a wait for the socket or the clock fails, which is told as `dummy-ups: I/O failed`, with status 1.
 ///
 /// Where the words don't read, clap's text says so on `err`, and the status is 2; the help and the version go to `out`,
 /// with status 0. Before anything is told to a server, the first of these is told on `err`, with status 1:
-/// `dummy-ups: FILE: unknown kind`; `dummy-ups: FILE: cannot read`; the first fault of the script, as
-/// `dummy-ups: FILE:2: BadName`; `dummy-ups: cannot listen on SOCKET`; `dummy-ups: out of memory` where that came first.
+/// `dummy-ups: FILE: unknown kind`; `dummy-ups: FILE: cannot read`; `dummy-ups: FILE: more than 16777216 bytes`; the first
+/// fault of the script, as `dummy-ups: FILE:2: BadName`; `dummy-ups: SOCKET: another driver listens there`;
+/// `dummy-ups: cannot listen on SOCKET`; `dummy-ups: out of memory` where that came first.
 pub fn run_dummy_ups<S: AsStr, O: Write, E: Write>(
     rt: &(impl Wait + Files + Net + Clock),
     alloc: Global,
@@ -78,13 +89,37 @@ fn run<'a, S: AsStr>(
     let matches = command(alloc)?.try_get_matches_from(words)?;
     let file = matches.get_str("file").unwrap_or("");
     let socket = matches.get_str("socket").unwrap_or("");
+    tell_file(rt, alloc, file, socket)
+}
+
+/// Tells the script of a file at a socket.
+fn tell_file<'a>(
+    rt: &(impl Wait + Files + Net + Clock),
+    alloc: Global,
+    file: &'a str,
+    socket: &'a str,
+) -> Result<(), Failure<DummyUpsFault<'a>>> {
     let script = read_script(rt, alloc, file)?;
     let dummy = Dummy::new(alloc, script, 0)?;
+    tell(rt, alloc, dummy, socket)
+}
+
+/// Has a dummy driver speak at a socket.
+fn tell<'a>(
+    rt: &(impl Wait + Files + Net + Clock),
+    alloc: Global,
+    dummy: Dummy,
+    socket: &'a str,
+) -> Result<(), Failure<DummyUpsFault<'a>>> {
     let _held = hold_closed_streams(rt, alloc)?;
-    let Ok(listener) = listen(rt, socket) else {
-        return Err(Failure::Own(DummyUpsFault::Listen(socket)));
-    };
-    let mut driver = DummyDriver::new(rt, alloc, listener, dummy)?;
+    let listener = listen(rt, socket)?;
+    let driver = DummyDriver::new(rt, alloc, listener, dummy)?;
+    turn_for_ever(rt, driver)?;
+    Ok(())
+}
+
+/// Lets a driver do what there is to do, until a wait fails.
+fn turn_for_ever(rt: &(impl Wait + Clock), mut driver: DummyDriver) -> io::Result<()> {
     for _ in rt.forever() {
         driver.turn(rt)?;
     }
@@ -100,16 +135,35 @@ fn read_script<'a>(
     let Some(kind) = kind_of(file) else {
         return Err(Failure::Own(DummyUpsFault::UnknownKind(file)));
     };
-    let bytes = match read_file(files, alloc, file, u64::MAX) {
-        Ok(bytes) => bytes,
-        Err(error) if error.kind() == ErrorKind::OutOfMemory => return Err(Failure::Memory),
-        Err(_) => return Err(Failure::Own(DummyUpsFault::CannotRead(file))),
-    };
+    let bytes = contents(files, alloc, file)?;
     match Script::read(alloc, kind, bytes.as_slice()) {
         Ok(script) => Ok(script),
         Err(fault) if fault.kind == ScriptFaultKind::Memory => Err(Failure::Memory),
         Err(fault) => Err(Failure::Own(DummyUpsFault::Script(file, fault))),
     }
+}
+
+/// The bytes of a script's file.
+fn contents<'a>(
+    files: &impl Files,
+    alloc: Global,
+    file: &'a str,
+) -> Result<Vec<u8>, Failure<DummyUpsFault<'a>>> {
+    match read_plain_file(files, alloc, file) {
+        Ok(bytes) if bytes.len() as u64 <= FILE_MAX => Ok(bytes),
+        Ok(_) => Err(Failure::Own(DummyUpsFault::TooLong(file))),
+        Err(error) if error.kind() == ErrorKind::OutOfMemory => Err(Failure::Memory),
+        Err(_) => Err(Failure::Own(DummyUpsFault::CannotRead(file))),
+    }
+}
+
+/// The bytes of a plain file, up to one more than a script may have. A pipe would be waited for, and a device may have no
+/// end.
+fn read_plain_file(files: &impl Files, alloc: Global, file: &str) -> io::Result<Vec<u8>> {
+    if !fs::metadata(files, file)?.is_file() {
+        return Err(io::Error::from(ErrorKind::InvalidInput));
+    }
+    read_file(files, alloc, file, FILE_MAX + 1)
 }
 
 /// The kind of a script, by the end of its name.
@@ -123,13 +177,18 @@ fn kind_of(file: &str) -> Option<ScriptKind> {
     }
 }
 
-/// Listens at a socket, in place of a file that lies there. Without a name the system would choose one.
-fn listen(rt: &(impl Files + Net), socket: &str) -> io::Result<UnixListener> {
-    if socket.is_empty() {
-        return Err(io::Error::from(ErrorKind::InvalidInput));
+/// Listens at a socket where no other driver listens.
+fn listen<'a>(
+    rt: &(impl Files + Net),
+    socket: &'a str,
+) -> Result<UnixListener, Failure<DummyUpsFault<'a>>> {
+    if has_listener(rt, socket) {
+        return Err(Failure::Own(DummyUpsFault::InUse(socket)));
     }
-    let _ = fs::remove_file(rt, socket);
-    UnixListener::bind(rt, socket)
+    match listen_at(rt, socket) {
+        Ok(listener) => Ok(listener),
+        Err(_) => Err(Failure::Own(DummyUpsFault::Listen(socket))),
+    }
 }
 
 /// The command line.

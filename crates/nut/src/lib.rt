@@ -7,6 +7,7 @@ mod conf_file;
 mod configuration;
 mod crier;
 mod daemon;
+mod driver_socket;
 mod dummy;
 mod failure;
 mod halt;

@@ -1,5 +1,6 @@
 pub mod Arrival
 pub mod Settling
+pub mod Login
 pub mod Place
 pub mod Inside
 pub mod Verdicts

@@ -12,6 +12,7 @@ ghost use Rattle.nut_history.specs.Laws.{HasFewConnections};
 ghost use Rattle.nut_history.specs.Limits.{IsWithin, most_waits};
 ghost use Rattle.nut_history.specs.Outcome.{IsAnswer, after, content_after};
 ghost use Rattle.nut_server.specs.Arrival.{event_of};
+ghost use Rattle.nut_server.specs.Login.{has_login};
 ghost use Rattle.nut_server.specs.Settling.{IsNextUnsettled, IsNextWaiting};
 
 use crate::address::address_of;
@@ -237,6 +238,16 @@ impl Server {
     {
         match self.connections.get(c) {
             Some(connection) => connection.leaves(),
+            None => false,
+        }
+    }
+
+    /// Whether the client of a connection is logged in to a UPS: false where the connection isn't open.
+    pub fn is_logged_in(&self, c: u64) -> bool
+        ensures { result ≡ has_login (session_of c self.now.sessions) }
+    {
+        match self.connections.get(c) {
+            Some(connection) => connection.login().is_some(),
             None => false,
         }
     }

@@ -1,4 +1,4 @@
--- Which links are noted as late.
+-- Who is noted as late.
 use Rattle.std.proofs.Common.{◌≡◌, ℕ, Bool, true, false, ◌||◌, ◌==◌, List, [], ◌∷◌, refl, sym, ap, ◌∙◌}
 use Rattle.std.specs.Prelude.{nat_eq}
 use Rattle.std.specs.List.{list_any}
@@ -24,7 +24,7 @@ turned i (k ∷ noted) is = elim (nat_eq k i) as (λ b. nat_eq k i ≡ b → (b 
   | false ↦ λ _ rest. or_true _ (nat_eq i k) (turned i noted rest)
 ] refl is
 
--- a link that is noted needs no second note
+-- a number that is noted needs no second note
 pub noted_once : (i j : ℕ) (noted : List ℕ) → list_any (λ x. nat_eq x i) noted ≡ true →
     list_any (λ x. nat_eq j x) noted ≡ (list_any (λ x. nat_eq j x) noted || (j == i))
 noted_once i j noted is = elim (j == i) as (λ b. (j == i) ≡ b → list_any (λ x. nat_eq j x) noted ≡ (list_any (λ x. nat_eq j x) noted || b)) [

@@ -3,24 +3,29 @@
 ghost use Rattle.std.specs.Prelude.{length};
 ghost use Rattle.nut_serve.specs.Record.{IsWithin};
 
-use crate::link::{Heard, Link};
+use crate::client::Client;
+use crate::door::Guest;
+use crate::keepalive::keep_alive;
+use crate::link::Heard;
 use crate::source::Source;
 use mio::event::Event;
-use mio::net::TcpStream;
 use mio::{Interest, Registry};
 use nut_serve::{Piece, Written};
+use nut_server::Server;
 use slab::Slab;
 use std::alloc::Global;
 use std::collections::HashMap;
+use std::net::IpAddr;
 
-/// A client's socket.
-#[derive(Drop)]
-struct Client {
+/// A client that has been silent for too long.
+#[derive(Clone, Copy)]
+pub struct Silent {
     /// The number of its connection.
-    number: u64,
-    link: Link<TcpStream>,
-    /// Whether there is something to read that isn't read while a reply waits.
-    parked: bool,
+    pub number: u64,
+    /// Where it connected from.
+    pub address: IpAddr,
+    /// How many seconds of silence it was granted.
+    pub seconds: u64,
 }
 
 /// The sockets of the connections that are open. A socket's token has its key, which is used again once it is closed;
@@ -29,6 +34,8 @@ struct Client {
 pub struct Clients {
     sockets: Slab<Client>,
     keys: HashMap<u64, usize>,
+    /// How many seconds the server has been awake. Those in which it stood still are no client's silence.
+    second: u64,
 }
 
 impl Clients {
@@ -37,6 +44,7 @@ impl Clients {
         Clients {
             sockets: Slab::new(alloc),
             keys: HashMap::new(alloc),
+            second: 0,
         }
     }
 
@@ -46,18 +54,19 @@ impl Clients {
     }
 
     /// Keeps the socket of a connection, and has it watched. Where that can't be it is closed, and the answer is false.
-    pub fn add(&mut self, registry: &Registry, number: u64, mut stream: TcpStream) -> bool {
+    pub fn add(&mut self, registry: &Registry, number: u64, guest: Guest) -> bool {
+        let Guest {
+            mut stream,
+            address,
+        } = guest;
         let key = self.sockets.vacant_key();
-        let both = Interest::READABLE | Interest::WRITABLE;
+        let all = Interest::READABLE | Interest::WRITABLE | Interest::PRIORITY;
         let token = Source::Client(key).token();
-        if registry.register(&mut stream, token, both).is_err() {
+        if registry.register(&mut stream, token, all).is_err() {
             return false;
         }
-        let client = Client {
-            number,
-            link: Link::new(stream),
-            parked: false,
-        };
+        let _ = keep_alive(&stream);
+        let client = Client::new(number, address, stream, self.second);
         if self.keys.insert(number, key).is_err() {
             return false;
         }
@@ -71,7 +80,7 @@ impl Clients {
     /// The number of the connection whose socket has this key.
     pub fn number(&self, key: usize) -> Option<u64> {
         match self.sockets.get(key) {
-            Some(client) => Some(client.number),
+            Some(client) => Some(client.number()),
             None => None,
         }
     }
@@ -79,7 +88,7 @@ impl Clients {
     /// Reads of a socket.
     pub fn hear(&mut self, key: usize, piece: &mut Piece) -> Heard {
         match self.sockets.get_mut(key) {
-            Some(client) => client.link.hear(piece),
+            Some(client) => client.hear(piece, self.second),
             None => Heard::Nothing,
         }
     }
@@ -87,14 +96,14 @@ impl Clients {
     /// Leaves what a socket has to read until a write to it succeeds.
     pub fn park(&mut self, key: usize) {
         if let Some(client) = self.sockets.get_mut(key) {
-            client.parked = true;
+            client.park();
         }
     }
 
     /// Notes what was reported of a socket.
     pub fn note(&mut self, key: usize, event: &Event) {
         if let Some(client) = self.sockets.get_mut(key) {
-            client.link.note(event);
+            client.note(event);
         }
     }
 
@@ -108,12 +117,29 @@ impl Clients {
         let Some(client) = self.sockets.get_mut(key) else {
             return (Written::Failed, None);
         };
-        let written = client.link.offer(bytes);
-        if client.parked && matches!(written, Written::Took(_)) {
-            client.parked = false;
-            return (written, Some(key));
+        match client.offer(bytes, self.second) {
+            (written, true) => (written, Some(key)),
+            (written, false) => (written, None),
         }
-        (written, None)
+    }
+
+    /// A second has passed.
+    pub fn second(&mut self) {
+        self.second = self.second.saturating_add(1);
+    }
+
+    /// A client that has been silent for too long.
+    pub fn find_silent(&self, server: &Server) -> Option<Silent> {
+        for (_, client) in self.sockets.iter() {
+            if let Some(seconds) = client.oversilent(server, self.second) {
+                return Some(Silent {
+                    number: client.number(),
+                    address: client.address(),
+                    seconds,
+                });
+            }
+        }
+        None
     }
 
     /// Closes the socket of a connection.

@@ -21,6 +21,8 @@ pub struct Driver {
     link: Option<Link<UnixStream>>,
     /// Whether a call of it failed since it was last connected.
     is_missed: bool,
+    /// Whether clients wait for a word of it.
+    is_awaited: bool,
 }
 
 impl Driver {
@@ -38,6 +40,7 @@ impl Driver {
             path: format!(in alloc; "{folder}/{driver}-{name}")?,
             link: None,
             is_missed: false,
+            is_awaited: false,
         })
     }
 
@@ -73,12 +76,26 @@ impl Driver {
         is_first
     }
 
+    /// Has clients wait for a word of it, if it is connected.
+    pub fn await_word(&mut self) {
+        self.is_awaited = self.is_connected();
+    }
+
+    /// Whether clients wait for a word of it.
+    pub fn is_awaited(&self) -> bool {
+        self.is_awaited
+    }
+
     /// Reads.
     pub fn hear(&mut self, piece: &mut Piece) -> Heard {
-        match &mut self.link {
-            Some(link) => link.hear(piece),
-            None => Heard::Nothing,
+        let Some(link) = &mut self.link else {
+            return Heard::Nothing;
+        };
+        let heard = link.hear(piece);
+        if heard != Heard::Nothing {
+            self.is_awaited = false;
         }
+        heard
     }
 
     /// Offers bytes.
@@ -101,5 +118,6 @@ impl Driver {
     /// Closes the link.
     pub fn close(&mut self) {
         self.link = None;
+        self.is_awaited = false;
     }
 }

@@ -1,12 +1,17 @@
 //! The real sockets: the worlds of a server and of a monitor, and the dummy driver on its socket.
 #![tactic(auto)]
 
+mod batches;
+mod client;
 mod clients;
 mod dialler;
+mod door;
 mod drivers;
 mod dummy_driver;
 mod herald;
 mod host;
+mod keepalive;
+mod lateness;
 mod link;
 mod links;
 mod mio_mon_world;
@@ -17,6 +22,7 @@ mod rounds;
 mod seconds;
 mod sockets;
 mod source;
+mod stall;
 mod text;
 mod upstream;
 

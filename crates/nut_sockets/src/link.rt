@@ -29,6 +29,8 @@ pub struct Link<S> {
     takes: bool,
     /// Whether the other end said that it ends: no report comes of that again.
     ends: bool,
+    /// Whether the other end sent urgent data: a read stops before it, and no report comes of what is behind.
+    is_urgent: bool,
 }
 
 impl<S: Read + Write> Link<S> {
@@ -38,6 +40,7 @@ impl<S: Read + Write> Link<S> {
             stream,
             takes: true,
             ends: false,
+            is_urgent: false,
         }
     }
 
@@ -46,13 +49,17 @@ impl<S: Read + Write> Link<S> {
         &self.stream
     }
 
-    /// Reads what is there, up to a piece. Fewer bytes than that were all, but where the other end ends.
+    /// Reads what is there, up to a piece. Fewer bytes than that were all, but where the other end ends or sent urgent data,
+    /// which itself is passed over.
     pub fn hear(&mut self, piece: &mut Piece) -> Heard {
         match read_piece(&mut self.stream, piece) {
             Ok(0) => Heard::End,
-            Ok(n) if n == piece.capacity() || self.ends => Heard::Part,
+            Ok(n) if n == piece.capacity() || self.ends || self.is_urgent => Heard::Part,
             Ok(_) => Heard::All,
-            Err(error) if error.kind() == ErrorKind::WouldBlock => Heard::Nothing,
+            Err(error) if error.kind() == ErrorKind::WouldBlock => {
+                self.is_urgent = false;
+                Heard::Nothing
+            }
             Err(_) => Heard::End,
         }
     }
@@ -82,6 +89,9 @@ impl<S: Read + Write> Link<S> {
         }
         if event.is_read_closed() || event.is_error() {
             self.ends = true;
+        }
+        if event.is_priority() {
+            self.is_urgent = true;
         }
     }
 }

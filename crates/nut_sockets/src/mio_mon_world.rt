@@ -1,9 +1,12 @@
 //! The world of a monitor's links.
 
-ghost use Rattle.std.specs.Prelude.{◌≡◌, ◌==◌, ◌||◌, ℕ, Bool, true, nat_eq, None, length};
-ghost use Rattle.std.specs.List.{list_any};
+ghost use Rattle.std.specs.Prelude.{◌≡◌, ◌<◌, ℕ, length, IsOk, IfOk, OnOk, OnErr};
+ghost use Rattle.nut_watch.specs.Record.{WasClosed, WasTold, tells, tells_write, IsWithin, late_after};
+ghost use Rattle.nut_sockets.specs.Late.{is_noted};
+ghost use Rattle.nut_sockets.specs.Untold.{untold_watch};
 
 use crate::herald::Herald;
+use crate::lateness::note_written;
 use crate::links::Links;
 use crate::reports::Reports;
 use arrayvec::ArrayVec;
@@ -30,7 +33,7 @@ use std::time::Clock;
 pub struct MioMonWorld<'r, 'e, R, H, E> {
     links: Links<'r, 'e, R, E>,
     herald: H,
-    late: ArrayVec<usize, 32>,
+    late: ArrayVec<u64, 32>,
     faults: u64,
 }
 
@@ -61,9 +64,9 @@ impl<'r, 'e, R: Net + Clock, H: Herald, E: Write> MioMonWorld<'r, 'e, R, H, E> {
 ghost use Rattle.std.specs.Prelude.{◌≢◌, ◌<◌, ◌≤◌, IfOk, IfSome, Some, Ok};
 
 impl<'r, 'e, R: Net + Clock, H: Herald, E: Write> MonWorld for MioMonWorld<'r, 'e, R, H, E> {
-    ghost log = { λ w. None };
+    ghost log = { λ w. untold_watch };
 
-    ghost late = { λ w i. list_any (λ x. nat_eq i x) w.late.items };
+    ghost late = { λ w i. is_noted w.late.items i };
 
     ghost fault_count = { λ w. w.faults };
 
@@ -95,42 +98,38 @@ impl<'r, 'e, R: Net + Clock, H: Herald, E: Write> MonWorld for MioMonWorld<'r, '
         }
     }
 
-    fn write(&mut self, i: usize, bytes: &[u8]) -> Result<Written, Fault> {
-        match self.links.offer(i, bytes) {
-            Written::Took(n) => Ok(Written::Took(n)),
-            Written::Failed => Ok(Written::Failed),
-            Written::Later => {
-                if !note_late(&mut self.late, i) {
-                    self.faults += 1;
-                    return Err(Fault);
-                }
-                Ok(Written::Later)
-            }
-        }
+    fn write(&mut self, i: usize, bytes: &[u8]) -> Result<Written, Fault>
+        requires { 0 < length bytes.now }
+        ensures no_fault { IsOk result }
+        ensures count { self.new.faults ≡ self.old.faults }
+        ensures ok { IfOk result (λ w. untold_watch ≡ tells_write w i bytes.now untold_watch) }
+        ensures err { OnErr result (untold_watch ≡ untold_watch) }
+        ensures within { IfOk result (λ w. IsWithin w (length bytes.now)) }
+        ensures late { IfOk result (λ w. (j : ℕ) → is_noted self.new.late.items j ≡ late_after w i (is_noted self.old.late.items) j) }
+    {
+        let written = self.links.offer(i, bytes);
+        Ok(note_written(&mut self.late, i as u64, written))
     }
 
-    fn close(&mut self, i: usize) -> Result<(), Fault> {
+    fn close(&mut self, i: usize) -> Result<(), Fault>
+        ensures no_fault { IsOk result }
+        ensures count { self.new.faults ≡ self.old.faults }
+        ensures ok { OnOk result (untold_watch ≡ tells (WasClosed i) untold_watch) }
+        ensures err { OnErr result (untold_watch ≡ untold_watch) }
+        ensures late { (j : ℕ) → is_noted self.new.late.items j ≡ is_noted self.old.late.items j }
+    {
         self.links.close(i);
         Ok(())
     }
 
-    fn notice(&mut self, monitor: &Monitor, notice: Notice) -> Result<(), Fault> {
+    fn notice(&mut self, monitor: &Monitor, notice: Notice) -> Result<(), Fault>
+        ensures no_fault { IsOk result }
+        ensures count { self.new.faults ≡ self.old.faults }
+        ensures ok { OnOk result (untold_watch ≡ tells (WasTold notice) untold_watch) }
+        ensures err { OnErr result (untold_watch ≡ untold_watch) }
+        ensures late { (j : ℕ) → is_noted self.new.late.items j ≡ is_noted self.old.late.items j }
+    {
         self.herald.announce(monitor, notice);
         Ok(())
     }
-}
-
-/// Notes that a link is late, if that isn't noted yet. It says whether there was room.
-#[tactic(auto, using(crate::proofs::Late::noted_once))]
-fn note_late(late: &mut ArrayVec<usize, 32>, i: usize) -> bool
-    ensures { result ≡ true → (j : ℕ) → list_any (λ x. nat_eq j x) late.new.items ≡ (list_any (λ x. nat_eq j x) late.old.items || (j == i)) }
-{
-    if late.contains(&i) {
-        return true;
-    }
-    if late.is_full() {
-        return false;
-    }
-    late.push(i);
-    true
 }

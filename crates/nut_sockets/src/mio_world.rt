@@ -1,9 +1,13 @@
 //! The world of sockets.
 
-ghost use Rattle.std.specs.Prelude.{◌≡◌, ℕ, Bool, nat_eq, None, length};
-ghost use Rattle.std.specs.List.{list_any};
+ghost use Rattle.std.specs.Prelude.{◌≡◌, ◌<◌, ℕ, length, IsOk, IfOk, OnOk, OnErr};
+ghost use Rattle.nut_serve.specs.Record.{tells, tells_write, tells_request, IsWithin, late_after};
+ghost use Rattle.nut_serve.specs.Record as entry;
+ghost use Rattle.nut_sockets.specs.Late.{is_noted};
+ghost use Rattle.nut_sockets.specs.Untold.{untold};
 
 use crate::drivers::Driver;
+use crate::lateness::note_written;
 use crate::reports::Reports;
 use crate::sockets::Sockets;
 use arrayvec::ArrayVec;
@@ -25,7 +29,7 @@ use std::time::Clock;
 pub struct MioWorld<'r, 'e, R, E> {
     sockets: Sockets<'r, 'e, R, E>,
     late: ArrayVec<u64, 256>,
-    late_drivers: ArrayVec<usize, 32>,
+    late_drivers: ArrayVec<u64, 32>,
     faults: u64,
 }
 
@@ -53,11 +57,11 @@ impl<'r, 'e, R: Net + Clock, E: Write> MioWorld<'r, 'e, R, E> {
 ghost use Rattle.std.specs.Prelude.{◌≢◌, ◌<◌, ◌≤◌, IfOk, IfSome, Some, Ok};
 
 impl<'r, 'e, R: Net + Clock, E: Write> World for MioWorld<'r, 'e, R, E> {
-    ghost log = { λ w. None };
+    ghost log = { λ w. untold };
 
-    ghost late = { λ w c. list_any (λ x. nat_eq c x) w.late.items };
+    ghost late = { λ w c. is_noted w.late.items c };
 
-    ghost driver_late = { λ w u. list_any (λ x. nat_eq u x) w.late_drivers.items };
+    ghost driver_late = { λ w u. is_noted w.late_drivers.items u };
 
     ghost fault_count = { λ w. w.faults };
 
@@ -85,42 +89,54 @@ impl<'r, 'e, R: Net + Clock, E: Write> World for MioWorld<'r, 'e, R, E> {
         }
     }
 
-    fn write(&mut self, c: u64, bytes: &[u8]) -> Result<Written, Fault> {
-        match self.sockets.offer(c, bytes) {
-            Written::Took(n) => Ok(Written::Took(n)),
-            Written::Failed => Ok(Written::Failed),
-            Written::Later => {
-                if self.late.is_full() {
-                    self.faults += 1;
-                    return Err(Fault);
-                }
-                self.late.push(c);
-                Ok(Written::Later)
-            }
-        }
+    fn write(&mut self, c: u64, bytes: &[u8]) -> Result<Written, Fault>
+        requires { 0 < length bytes.now }
+        ensures no_fault { IsOk result }
+        ensures count { self.new.faults ≡ self.old.faults }
+        ensures ok { IfOk result (λ w. untold ≡ tells_write w c bytes.now untold) }
+        ensures err { OnErr result (untold ≡ untold) }
+        ensures within { IfOk result (λ w. IsWithin w (length bytes.now)) }
+        ensures late { IfOk result (λ w. (d : ℕ) → is_noted self.new.late.items d ≡ late_after w c (is_noted self.old.late.items) d) }
+        ensures drivers { (u : ℕ) → is_noted self.new.late_drivers.items u ≡ is_noted self.old.late_drivers.items u }
+    {
+        let written = self.sockets.offer(c, bytes);
+        Ok(note_written(&mut self.late, c, written))
     }
 
-    fn write_driver(&mut self, u: usize, bytes: &[u8]) -> Result<Written, Fault> {
-        match self.sockets.offer_driver(u, bytes) {
-            Written::Took(n) => Ok(Written::Took(n)),
-            Written::Failed => Ok(Written::Failed),
-            Written::Later => {
-                if self.late_drivers.is_full() {
-                    self.faults += 1;
-                    return Err(Fault);
-                }
-                self.late_drivers.push(u);
-                Ok(Written::Later)
-            }
-        }
+    fn write_driver(&mut self, u: usize, bytes: &[u8]) -> Result<Written, Fault>
+        requires { 0 < length bytes.now }
+        ensures no_fault { IsOk result }
+        ensures count { self.new.faults ≡ self.old.faults }
+        ensures ok { IfOk result (λ w. untold ≡ tells_request w u bytes.now untold) }
+        ensures err { OnErr result (untold ≡ untold) }
+        ensures within { IfOk result (λ w. IsWithin w (length bytes.now)) }
+        ensures late { (d : ℕ) → is_noted self.new.late.items d ≡ is_noted self.old.late.items d }
+        ensures drivers { IfOk result (λ w. (v : ℕ) → is_noted self.new.late_drivers.items v ≡ late_after w u (is_noted self.old.late_drivers.items) v) }
+    {
+        let written = self.sockets.offer_driver(u, bytes);
+        Ok(note_written(&mut self.late_drivers, u as u64, written))
     }
 
-    fn close(&mut self, c: u64) -> Result<(), Fault> {
+    fn close(&mut self, c: u64) -> Result<(), Fault>
+        ensures no_fault { IsOk result }
+        ensures count { self.new.faults ≡ self.old.faults }
+        ensures ok { OnOk result (untold ≡ tells (entry.WasClosed c) untold) }
+        ensures err { OnErr result (untold ≡ untold) }
+        ensures late { (d : ℕ) → is_noted self.new.late.items d ≡ is_noted self.old.late.items d }
+        ensures drivers { (v : ℕ) → is_noted self.new.late_drivers.items v ≡ is_noted self.old.late_drivers.items v }
+    {
         self.sockets.close(c);
         Ok(())
     }
 
-    fn close_driver(&mut self, u: usize) -> Result<(), Fault> {
+    fn close_driver(&mut self, u: usize) -> Result<(), Fault>
+        ensures no_fault { IsOk result }
+        ensures count { self.new.faults ≡ self.old.faults }
+        ensures ok { OnOk result (untold ≡ tells (entry.DriverWasClosed u) untold) }
+        ensures err { OnErr result (untold ≡ untold) }
+        ensures late { (d : ℕ) → is_noted self.new.late.items d ≡ is_noted self.old.late.items d }
+        ensures drivers { (v : ℕ) → is_noted self.new.late_drivers.items v ≡ is_noted self.old.late_drivers.items v }
+    {
         self.sockets.close_driver(u);
         Ok(())
     }

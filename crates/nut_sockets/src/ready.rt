@@ -51,6 +51,17 @@ impl Ready {
         }
     }
 
+    /// Puts those of another set into the next round, and leaves that set empty.
+    pub fn append(&mut self, other: &mut Ready) {
+        other.turn();
+        for _ in 0..SOCKETS {
+            let Some(token) = other.take() else {
+                return;
+            };
+            self.insert(token);
+        }
+    }
+
     /// Takes a socket out of this round: of those that are left the one that came first.
     pub fn take(&mut self) -> Option<Token> {
         if self.round == 0 {

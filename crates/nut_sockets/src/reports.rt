@@ -1,7 +1,7 @@
 //! What a daemon tells its operator.
 
 use std::io::Write;
-use std::net::SocketAddr;
+use std::net::{IpAddr, SocketAddr};
 use std::{fmt, io};
 
 /// What happened.
@@ -19,6 +19,8 @@ pub enum Report<'a> {
     Lost(&'a str),
     /// A client can't be let in.
     ShutOut(io::Error),
+    /// A client that comes from there was silent for so many seconds, and its connection is closed.
+    Shed(IpAddr, u64),
     /// A UPS is watched, which is named as in upsmon.conf: whether as primary, and its power value.
     Watching(&'a str, bool, u32),
     /// The server of a watched UPS is connected.
@@ -38,6 +40,9 @@ impl<'a> fmt::Display for Report<'a> {
             Report::Missed(name, error) => write!(f, "UPS {name}: no driver yet: {error}"),
             Report::Lost(name) => write!(f, "UPS {name}: driver lost"),
             Report::ShutOut(error) => write!(f, "cannot let a client in: {error}"),
+            Report::Shed(address, seconds) => {
+                write!(f, "client {address} closed: silent for {seconds} s")
+            }
             Report::Watching(target, is_primary, power) => {
                 let role = if *is_primary { "primary" } else { "secondary" };
                 write!(f, "UPS {target}: watched as {role}, power value {power}")

@@ -6,14 +6,16 @@ ghost use Rattle.nut_serve.specs.declared.types.Next.TheVariants as next;
 ghost use Rattle.nut_history.specs.Content.{Content};
 
 use crate::clients::Clients;
+use crate::door::{Door, concerns_one};
 use crate::drivers::Driver;
 use crate::link::Heard;
 use crate::ready::{Ready, SOCKETS, may_be_read};
 use crate::reports::{Report, Reports};
 use crate::rounds::Rounds;
-use crate::source::{FIXED, Source};
-use mio::net::{TcpListener, TcpStream};
-use mio::{Events, Interest};
+use crate::source::{LISTENERS, Source};
+use crate::stall::Stall;
+use mio::Events;
+use mio::net::TcpListener;
 use nut_serve::{Address, Next, Piece, Written};
 use nut_server::Server;
 use std::alloc::Global;
@@ -22,24 +24,26 @@ use std::io::{ErrorKind, Write};
 use std::net::{IpAddr, Net};
 use std::time::Clock;
 
-/// A client that was let in, of which the server hasn't said yet whether it accepts the connection.
-#[derive(Drop)]
-struct Arrival {
-    stream: TcpStream,
-    /// How many connections were opened before.
-    opened: u64,
-}
+/// How many pieces of one driver are heard at most before the next one is looked at: more than its socket holds.
+const PIECES: usize = 1024;
 
 /// The listeners, the clients and the drivers of a server, and its clock.
 #[derive(Drop)]
 pub struct Sockets<'r, 'e, R, E> {
     rt: &'r R,
     rounds: Rounds,
-    listeners: Vec<TcpListener>,
-    arrival: Option<Arrival>,
+    door: Door,
     clients: Clients,
     drivers: Vec<Driver>,
     reports: Reports<'e, E>,
+    /// The moment that was given last.
+    moment: u64,
+    /// Whether silent clients are still to be looked for in this second.
+    sheds: bool,
+    /// Which driver is to be looked at next in this second, and how many of its pieces may be heard.
+    roll: usize,
+    pieces: usize,
+    stall: Stall,
 }
 
 impl<'r, 'e, R: Net + Clock, E: Write> Sockets<'r, 'e, R, E> {
@@ -47,29 +51,32 @@ impl<'r, 'e, R: Net + Clock, E: Write> Sockets<'r, 'e, R, E> {
     pub fn new(
         rt: &'r R,
         alloc: Global,
-        mut listeners: Vec<TcpListener>,
+        listeners: Vec<TcpListener>,
         drivers: Vec<Driver>,
         reports: Reports<'e, E>,
     ) -> io::Result<Sockets<'r, 'e, R, E>> {
-        let rounds = Rounds::new(rt, alloc, FIXED)?;
-        for (i, listener) in listeners.iter_mut().enumerate() {
-            let token = Source::Listener(i).token();
-            rounds
-                .registry()
-                .register(listener, token, Interest::READABLE)?;
-        }
+        let stall = Stall::new(alloc)?;
+        let rounds = Rounds::new(rt, alloc, LISTENERS)?;
+        let door = Door::new(rounds.registry(), listeners)?;
         Ok(Sockets {
             rt,
             rounds,
-            listeners,
-            arrival: None,
+            door,
             clients: Clients::new(alloc),
             drivers,
             reports,
+            moment: 0,
+            sheds: false,
+            roll: 0,
+            pieces: PIECES,
+            stall,
         })
     }
 
-    /// What comes next, after at most one wait.
+    /// What comes next, after at most one wait. At each second silent clients come first, and then the drivers.
+    ///
+    /// # Errors
+    /// That of the wait, or of the clock.
     pub fn next(&mut self, server: &Server, piece: &mut Piece) -> io::Result<Next>
         ensures may { IfOk result (λ n. MayCome n server.now) }
         ensures goes_on { IfOk result (λ n. n ≢ next.End) }
@@ -77,10 +84,14 @@ impl<'r, 'e, R: Net + Clock, E: Write> Sockets<'r, 'e, R, E> {
         if let Some(number) = self.seat(server) {
             return Ok(Next::Close(number));
         }
+        if let Some(number) = self.shed(server) {
+            return Ok(Next::Close(number));
+        }
         if let Some(next) = self.look(server, piece) {
             return Ok(next);
         }
         if let Some(moment) = self.wait()? {
+            self.begin_second(server, moment);
             return Ok(Next::Moment(moment));
         }
         Ok(self.look(server, piece).unwrap_or(Next::Again))
@@ -123,25 +134,73 @@ impl<'r, 'e, R: Net + Clock, E: Write> Sockets<'r, 'e, R, E> {
     /// Keeps the socket of a connection that the server accepted, and closes that of one which it refused. It gives the
     /// number of a connection that was accepted and whose socket can't be kept.
     fn seat(&mut self, server: &Server) -> Option<u64> {
-        let Arrival { stream, opened } = self.arrival.take()?;
-        let number = server.opened();
-        if number <= opened || self.clients.add(self.rounds.registry(), number, stream) {
+        let (number, guest) = self.door.seat(server)?;
+        if self.clients.add(self.rounds.registry(), number, guest) {
             return None;
         }
         Some(number)
     }
 
-    /// Looks at the sockets of this round, up to the first that has something.
+    /// Closes a client that was silent for too long, and gives the number of its connection.
+    fn shed(&mut self, server: &Server) -> Option<u64> {
+        if !self.sheds {
+            return None;
+        }
+        let Some(silent) = self.clients.find_silent(server) else {
+            self.sheds = false;
+            return None;
+        };
+        self.clients.close(silent.number);
+        self.reports
+            .tell(Report::Shed(silent.address, silent.seconds));
+        Some(silent.number)
+    }
+
+    /// Looks at the drivers, if they weren't looked at in this second yet, and at the sockets of this round, up to the first
+    /// that has something.
     fn look(&mut self, server: &Server, piece: &mut Piece) -> Option<Next>
         ensures may { IfSome result (λ n. MayCome n server.now) }
         ensures goes_on { IfSome result (λ n. n ≢ next.End) }
     {
+        if let Some(next) = self.call_roll(piece) {
+            return Some(next);
+        }
+        self.end_stall();
         for _ in 0..SOCKETS {
-            let next = match Source::of(self.rounds.ready.take()?) {
-                Source::Listener(i) => self.look_at_listener(server, i),
-                Source::Driver(u) => self.look_at_driver(u, piece),
-                Source::Client(key) => self.look_at_client(server, key, piece),
-            };
+            let token = self.rounds.ready.take()?;
+            let next = self.look_at(server, Source::of(token), piece);
+            if next.is_some() {
+                return next;
+            }
+        }
+        None
+    }
+
+    /// Looks at a source.
+    fn look_at(&mut self, server: &Server, source: Source, piece: &mut Piece) -> Option<Next>
+        ensures may { IfSome result (λ n. MayCome n server.now) }
+        ensures goes_on { IfSome result (λ n. n ≢ next.End) }
+    {
+        match source {
+            Source::Listener(i) => self.look_at_listener(server, i),
+            Source::Driver(u) => self.look_at_driver(u, piece),
+            Source::Client(key) => self.look_at_client(server, key, piece),
+        }
+    }
+
+    /// Looks at each driver once in a second, as long as it has something, whether that was reported or not.
+    fn call_roll(&mut self, piece: &mut Piece) -> Option<Next>
+        ensures may { (s : Content) → IfSome result (λ n. MayCome n s) }
+        ensures goes_on { IfSome result (λ n. n ≢ next.End) }
+    {
+        for _ in self.roll..self.drivers.len() {
+            let next = self.look_at_driver(self.roll, piece);
+            if self.pieces > 0 && matches!(next, Some(Next::DriverBytes(_))) {
+                self.pieces -= 1;
+            } else {
+                self.roll = self.roll.saturating_add(1);
+                self.pieces = PIECES;
+            }
             if next.is_some() {
                 return next;
             }
@@ -154,22 +213,18 @@ impl<'r, 'e, R: Net + Clock, E: Write> Sockets<'r, 'e, R, E> {
         ensures may { IfSome result (λ n. MayCome n server.now) }
         ensures goes_on { IfSome result (λ n. n ≢ next.End) }
     {
-        let listener = self.listeners.get(i)?;
         if !self.clients.make_room() {
             return None;
         }
-        match listener.accept() {
-            Ok((stream, address)) => {
-                let _ = stream.set_nodelay(true);
-                self.arrival = Some(Arrival {
-                    stream,
-                    opened: server.opened(),
-                });
+        match self.door.let_in(i, server.opened()) {
+            Ok(address) => {
                 self.rounds.ready.insert(Source::Listener(i).token());
-                Some(Next::Open(address_of(address.ip())))
+                Some(Next::Open(address_of(address)))
             }
             Err(error) => {
-                if error.kind() != ErrorKind::WouldBlock {
+                if concerns_one(&error) {
+                    self.rounds.ready.insert(Source::Listener(i).token());
+                } else if error.kind() != ErrorKind::WouldBlock {
                     self.reports.tell(Report::ShutOut(error));
                 }
                 None
@@ -209,12 +264,17 @@ impl<'r, 'e, R: Net + Clock, E: Write> Sockets<'r, 'e, R, E> {
         }
     }
 
-    /// Reads of a client that may be read.
+    /// Reads of a client that may be read, but while clients wait for the drivers.
     fn look_at_client(&mut self, server: &Server, key: usize, piece: &mut Piece) -> Option<Next>
         ensures may { IfSome result (λ n. MayCome n server.now) }
         ensures goes_on { IfSome result (λ n. n ≢ next.End) }
     {
+        let token = Source::Client(key).token();
         let number = self.clients.number(key)?;
+        if self.stall.is_on() {
+            self.stall.hold(token);
+            return None;
+        }
         if !server.may_read(number) {
             self.clients.park(key);
             return None;
@@ -223,7 +283,7 @@ impl<'r, 'e, R: Net + Clock, E: Write> Sockets<'r, 'e, R, E> {
             Heard::Nothing => None,
             Heard::All => Some(Next::Bytes(number)),
             Heard::Part => {
-                self.rounds.ready.insert(Source::Client(key).token());
+                self.rounds.ready.insert(token);
                 Some(Next::Bytes(number))
             }
             Heard::End => {
@@ -245,6 +305,32 @@ impl<'r, 'e, R: Net + Clock, E: Write> Sockets<'r, 'e, R, E> {
         );
         self.rounds.turn(self.rt)
     }
+
+    /// Begins a second: silent clients and drivers are to be looked at. Where so many seconds were missed that each driver
+    /// is asked for a sign of life now, clients wait for that.
+    fn begin_second(&mut self, server: &Server, moment: u64) {
+        let passed = moment.saturating_sub(self.moment);
+        self.moment = moment;
+        self.clients.second();
+        self.sheds = true;
+        self.roll = 0;
+        self.pieces = PIECES;
+        if passed > 1 && passed > u64::from(server.config().max_age() / 3) {
+            for driver in self.drivers.iter_mut() {
+                driver.await_word();
+            }
+            self.stall.begin();
+        } else {
+            self.stall.second(&mut self.rounds.ready);
+        }
+    }
+
+    /// Has clients wait no longer, once each driver was heard.
+    fn end_stall(&mut self) {
+        if self.stall.is_on() && !self.drivers.iter().any(|driver| driver.is_awaited()) {
+            self.stall.end(&mut self.rounds.ready);
+        }
+    }
 }
 
 /// Notes what was reported.
@@ -265,9 +351,8 @@ fn note(events: &Events, ready: &mut Ready, clients: &mut Clients, drivers: &mut
     }
 }
 
-/// The address of a client, as the server knows it. An IPv4 address is shown as such also where it came by IPv6.
+/// The address of a client, as the server knows it.
 fn address_of(ip: IpAddr) -> Address {
-    let ip = ip.to_canonical();
     let mut address = Address::new();
     let _ = write!(&mut address, "{ip}");
     address

@@ -2,11 +2,11 @@
 
 use mio::Token;
 
-/// How many listeners there are at most.
-const LISTENERS: usize = 16;
+/// How many listeners there are at most: theirs are the first tokens.
+pub const LISTENERS: usize = 16;
 
-/// How many listeners and drivers there are at most: theirs are the first tokens.
-pub const FIXED: usize = LISTENERS + 32;
+/// How many listeners and drivers there are at most: theirs come before those of clients.
+const FIXED: usize = LISTENERS + 32;
 
 /// What a socket is for, by its place among its like.
 #[derive(Clone, Copy)]

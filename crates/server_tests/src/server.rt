@@ -43,6 +43,8 @@ enum Step {
     Waits(u64, &'static [u8]),
     /// Whether a connection may be read from, and whether it is to be closed.
     Stands(u64, bool, bool),
+    /// Whether the client of a connection is logged in.
+    LoggedIn(u64, bool),
     /// So many bytes of a connection's unfinished line are kept.
     Kept(u64, usize),
     /// So many connections were opened.
@@ -99,6 +101,7 @@ fn does(server: &mut Server, step: Step) -> bool {
         Step::Stands(c, may_read, leaves) => {
             server.may_read(c) == may_read && server.leaves(c) == leaves
         }
+        Step::LoggedIn(c, is_so) => server.is_logged_in(c) == is_so,
         Step::Kept(c, bytes) => server.kept(c) == bytes,
         Step::Opened(count) => server.opened() == count,
         Step::Report(lines) => server.arrive(Arrival::DriverBytes(0, lines)).is_ok(),

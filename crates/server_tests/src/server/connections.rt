@@ -31,15 +31,19 @@ fn name_and_password_are_wanted(rt: HostRuntime) -> Result<(), Fail> {
 
 #[test]
 fn logins_are_counted(rt: HostRuntime) -> Result<(), Fail> {
-    static STEPS: [Step; 9] = [
+    static STEPS: [Step; 13] = [
         UP,
         ON_LINE,
         OPEN,
+        Step::LoggedIn(1, false),
         Step::Ask(1, MONITOR, b"OK\nOK\nOK\n"),
+        Step::LoggedIn(1, true),
+        Step::LoggedIn(2, false),
         Step::Ask(1, b"LOGIN su700\n", b"ERR ALREADY-LOGGED-IN\n"),
         OPEN,
         Step::Ask(2, b"GET NUMLOGINS su700\n", b"NUMLOGINS su700 1\n"),
         Step::Tell(Arrival::Close(1)),
+        Step::LoggedIn(1, false),
         Step::Ask(2, b"GET NUMLOGINS su700\n", b"NUMLOGINS su700 0\n"),
     ];
     play(rt.alloc(), &STEPS)

@@ -1,0 +1,12 @@
+-- The records of worlds that tell nothing.
+use Rattle.std.specs.Prelude.{List, Option, None}
+use Rattle.nut_serve.specs.Record as server
+use Rattle.nut_watch.specs.Record as monitor
+
+-- that of a server's world
+abbrev pub untold : Option (List server.Entry)
+untold = None
+
+-- that of a monitor's world
+abbrev pub untold_watch : Option (List monitor.Entry)
+untold_watch = None
