@@ -23,6 +23,7 @@ TESTS = (
     ("sockets.py", ("upsd", "dummy_ups")),
     ("hostile_clients.py", ("upsd", "dummy_ups")),
     ("monitor.py", ("upsd", "dummy_ups", "upsc", "upsmon")),
+    ("links.py", ("upsd", "dummy_ups", "upsc", "upsmon")),
     ("install.py", ("upsd", "dummy_ups", "upsc", "upsrw", "upscmd", "upsmon")),
 )
 

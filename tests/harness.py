@@ -1,11 +1,13 @@
 """What the tests of built programs share: how a check fails, how calls of a program are made to fail, how tests are run
 and counted, and what a program takes of the processor, which the benches ask too."""
 
+import collections
 import functools
 import itertools
 import os
 import shutil
 import subprocess
+from concurrent import futures
 
 HERE = os.path.dirname(os.path.abspath(__file__))
 
@@ -86,25 +88,29 @@ class Rehearsal:
             self.wanted = file.read()
 
 
-def run_tests(tests, names=(), install=""):
-    """Runs each test_.. method, or those with one of these names in theirs, and prints a line for each, and last
-    'N passed, M failed'. It gives the exit status."""
-    passed = failed = skipped = 0
-    for name in sorted(it for it in dir(tests) if it.startswith("test_")):
-        if names and not any(it in name for it in names):
-            continue
-        shown = name[5:].replace("_", " ")
-        try:
-            getattr(tests, name)()
-            passed += 1
-            print(f"ok {shown}", flush=True)
-        except Missing as missing:
-            skipped += 1
-            print(f"skipped {shown}: {missing}", flush=True)
-        except (Failed, OSError, subprocess.SubprocessError, ValueError) as found:
-            failed += 1
-            print(f"FAILED {shown}: {found}", flush=True)
-    if skipped:
-        print(f"{skipped} skipped: {install}")
-    print(f"{passed} passed, {failed} failed")
-    return 1 if failed else 0
+def run_test(tests, name):
+    """Runs one test, and gives what became of it, with a line that says so."""
+    shown = name[5:].replace("_", " ")
+    try:
+        getattr(tests, name)()
+    except Missing as missing:
+        return "skipped", f"skipped {shown}: {missing}"
+    except (Failed, OSError, subprocess.SubprocessError, ValueError) as found:
+        return "failed", f"FAILED {shown}: {found}"
+    return "passed", f"ok {shown}"
+
+
+def run_tests(tests, names=(), install="", at_once=1):
+    """Runs each test_.. method, or those with one of these names in theirs, so many at once, and prints a line for each, and
+    last 'N passed, M failed'. It gives the exit status."""
+    chosen = [it for it in dir(tests) if it.startswith("test_") and (not names or any(name in it for name in names))]
+    counts = collections.Counter()
+    with futures.ThreadPoolExecutor(at_once) as pool:
+        run_all = pool.map if at_once > 1 else map
+        for what, line in run_all(functools.partial(run_test, tests), chosen):
+            counts[what] += 1
+            print(line, flush=True)
+    if counts["skipped"]:
+        print(f"{counts['skipped']} skipped: {install}")
+    print(f"{counts['passed']} passed, {counts['failed']} failed")
+    return 1 if counts["failed"] else 0

@@ -12,7 +12,7 @@ import sys
 import tempfile
 
 from harness import expect, run_tests
-from monitor import BATTERY_LOW, ESTABLISHED, FLAG, FORCED, LOST, ON_BATTERY, QUICK, SHUTDOWN, USERS, Watch
+from monitored import BATTERY_LOW, ESTABLISHED, FLAG, FORCED, LOST, ON_BATTERY, QUICK, SHUTDOWN, USERS, Watch
 from peers_server import NutRoom, needed
 from sockets import until
 

@@ -133,7 +133,7 @@ fn keep_watch<R: Wait + Net + Clock + Processes, O: Write, P: Print>(
 ///
 /// # Errors
 /// Where there are no sockets to be had, or a wait for them or the clock fails.
-fn watch_servers<R: Wait + Net + Clock, H: Herald, E: Write>(
+fn watch_servers<R: Wait + Net + Clock + Processes, H: Herald, E: Write>(
     rt: &R,
     alloc: Global,
     monitor: &mut Monitor,

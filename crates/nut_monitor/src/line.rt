@@ -164,6 +164,13 @@ impl MonitorLine {
         self.known
     }
 
+    /// The query that was put last on its link.
+    pub fn last_query(&self) -> Option<LastQuery>
+        ensures { result ≡ self.now.last }
+    {
+        self.last
+    }
+
     /// Its link is made.
     pub fn link(&mut self, alloc: Global)
         ensures { self.new ≡ made self.old }

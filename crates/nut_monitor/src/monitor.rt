@@ -14,12 +14,14 @@ ghost use Rattle.nut_monitor.specs.Events.{event_of};
 ghost use Rattle.nut_monitor.specs.Kept.{KeepsLittle};
 ghost use Rattle.nut_monitor.specs.Sound.{first_of};
 ghost use Rattle.nut_monitor.specs.Texts.{text_of};
+ghost use Rattle.nut_monitor.specs.Monitors.{last_on};
+ghost use Rattle.std.specs.Option.{option_map};
 
 use crate::event::Event;
 use crate::message::put_text;
 use crate::state::State;
 use nut_conf::UpsmonConf;
-use nut_decision::{MonitorFault, Notice, Phase};
+use nut_decision::{Known, LastQuery, MonitorFault, Notice, Phase};
 use std::alloc::{AllocError, Global};
 use std::marker::Model;
 
@@ -115,6 +117,20 @@ impl Monitor {
             → result.now ≡ waits configuration i (trace configuration events) }
     {
         self.state.waiting(i)
+    }
+
+    /// What is known of the UPS of the MONITOR line with this number. None where there is no such line.
+    pub fn known(&self, i: usize) -> Option<Known>
+        ensures { result ≡ option_map (λ w. w.known) (watch_at i self.now.content.watches) }
+    {
+        self.state.known(i)
+    }
+
+    /// The query that was put last on that link, and when. None where the link is new, or there is no such line.
+    pub fn last_query(&self, i: usize) -> Option<LastQuery>
+        ensures { result ≡ last_on (watch_at i self.now.content.watches) }
+    {
+        self.state.last_query(i)
     }
 
     /// How far the shutdown is.

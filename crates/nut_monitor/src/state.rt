@@ -1,5 +1,6 @@
 //! What a monitor knows and has decided, and how events move it.
 ghost use Rattle.std.specs.Prelude.{◌≡◌, ◌≤◌, ◌<◌, ◌+◌, ◌++◌, Some, IfOk, MatchResult, is_none, length, map};
+ghost use Rattle.std.specs.Option.{option_map};
 ghost use Rattle.nut_decision.specs.Acceptance.{is_linked, waiting_on, watch_at};
 ghost use Rattle.nut_decision.specs.Configuration.{Configuration, configuration_of};
 ghost use Rattle.nut_decision.specs.Content.{phase_of};
@@ -9,6 +10,7 @@ ghost use Rattle.nut_monitor.specs.Answers.{beginning};
 ghost use Rattle.nut_monitor.specs.Inside.{IsOrderly, unwatched};
 ghost use Rattle.nut_monitor.specs.Sound.{lacks_memory};
 ghost use Rattle.nut_monitor.specs.Steps.{Steps, checked_fault, content_in};
+ghost use Rattle.nut_monitor.specs.Monitors.{last_on};
 
 use crate::answer::Scene;
 use crate::event::{Event, PIECE_MAX};
@@ -17,7 +19,7 @@ use crate::notices::Notices;
 use crate::shutdown::{is_alone, is_forced, is_short, phase};
 use nut_client::LinkFault;
 use nut_conf::{Monitored, Notice as Kind, UpsmonConf};
-use nut_decision::{MonitorFault, Notice, Phase};
+use nut_decision::{Known, LastQuery, MonitorFault, Notice, Phase};
 use std::alloc::{AllocError, Global};
 
 /// What a monitor knows and has decided: the time, the moments at which its shutdown began and at which Final did, the
@@ -175,6 +177,26 @@ impl State {
         match self.watches.get(i) {
             Some(watch) => watch.waiting(),
             None => &[],
+        }
+    }
+
+    /// What is known of the UPS of a line.
+    pub fn known(&self, i: usize) -> Option<Known>
+        ensures { result ≡ option_map (λ w. w.known) (watch_at i self.now.watches.items) }
+    {
+        match self.watches.get(i) {
+            Some(watch) => Some(watch.known()),
+            None => None,
+        }
+    }
+
+    /// The query that was put last on the link of a line.
+    pub fn last_query(&self, i: usize) -> Option<LastQuery>
+        ensures { result ≡ last_on (watch_at i self.now.watches.items) }
+    {
+        match self.watches.get(i) {
+            Some(watch) => watch.last_query(),
+            None => None,
         }
     }
 

@@ -5,32 +5,56 @@ ghost use Rattle.nut_serve.specs.Record.{IsWithin};
 ghost use Rattle.nut_watch.specs.declared.types.Next.TheVariants as next;
 
 use crate::dialler::Dialler;
+use crate::inquiry::Reply;
+use crate::limits::{CALM, Limits};
 use crate::link::Heard;
+use crate::look_ups::LookUps;
 use crate::ready::{Ready, SOCKETS};
+use crate::refusals::title;
 use crate::reports::{Report, Reports};
 use crate::rounds::Rounds;
+use crate::text::text_of;
 use crate::upstream::Upstream;
 use mio::{Events, Token};
 use nut_conf::UpsmonConf;
-use nut_monitor::Monitor;
+use nut_monitor::{Monitor, Phase, Query};
 use nut_serve::{Piece, Written};
 use nut_watch::Next;
 use std::alloc::Global;
 use std::io;
 use std::io::Write;
 use std::net::Net;
-use std::time::Clock;
+use std::process::Processes;
+use std::time::{Clock, Duration};
+
+/// How many milliseconds a wait lasts at most while a look-up goes on, whose end isn't reported.
+const LOOK_UP_WAIT: u64 = 100;
+
+/// Why a link ends.
+#[derive(Clone, Copy)]
+enum Loss {
+    /// The server closed it, or it failed.
+    Closed,
+    /// The server didn't answer for so many seconds.
+    Silent(u8),
+}
 
 /// The links to the servers of the MONITOR lines, by their numbers, and a clock. The token of a link is its number.
 #[derive(Drop)]
-pub struct Links<'r, 'e, R, E> {
+pub struct Links<'r, 'e, R: Processes, E> {
     rt: &'r R,
+    alloc: Global,
     rounds: Rounds,
     upstreams: Vec<Upstream>,
+    look_ups: LookUps<'r, R>,
+    /// How long a server may take now.
+    limits: Limits,
+    /// Whether the shutdown has begun.
+    is_ending: bool,
     reports: Reports<'e, E>,
 }
 
-impl<'r, 'e, R: Net + Clock, E: Write> Links<'r, 'e, R, E> {
+impl<'r, 'e, R: Net + Clock + Processes, E: Write> Links<'r, 'e, R, E> {
     /// The links of a monitor with this configuration, whose servers are about to be called.
     pub fn new(
         rt: &'r R,
@@ -42,24 +66,35 @@ impl<'r, 'e, R: Net + Clock, E: Write> Links<'r, 'e, R, E> {
         for line in config.monitors.lines.iter() {
             upstreams.push(Upstream::new(alloc, line)?)?;
         }
-        Ok(Links {
+        let mut links = Links {
             rt,
+            alloc,
             rounds: Rounds::new(rt, alloc, upstreams.len())?,
             upstreams,
+            look_ups: LookUps::none(rt, alloc),
+            limits: CALM,
+            is_ending: false,
             reports,
-        })
+        };
+        links.look_up();
+        Ok(links)
     }
 
     /// What comes next, after at most one wait.
+    ///
+    /// A second is told once the sockets were looked at behind its end, so that what lay in them is heard before it.
     pub fn next(&mut self, monitor: &Monitor, piece: &mut Piece) -> io::Result<Next>
         ensures goes_on { IfOk result (λ n. n ≢ next.End) }
     {
+        self.follow(monitor);
         if let Some(next) = self.look(monitor, piece) {
             return Ok(next);
         }
-        if let Some(moment) = self.wait()? {
+        let all = self.may_catch_up();
+        if let Some(moment) = self.rounds.seconds.next(all) {
             return Ok(Next::Moment(moment));
         }
+        self.wait(monitor)?;
         Ok(self.look(monitor, piece).unwrap_or(Next::Again))
     }
 
@@ -75,12 +110,40 @@ impl<'r, 'e, R: Net + Clock, E: Write> Links<'r, 'e, R, E> {
 
     /// Closes a link.
     pub fn close(&mut self, i: usize) {
-        if let Some(upstream) = self.upstreams.get_mut(i) {
-            if upstream.is_up() {
-                self.reports.tell(Report::Gone(upstream.name()));
-            }
-            upstream.close();
+        self.end(i, Loss::Closed);
+    }
+
+    /// Closes a link, and tells of it: of a server that served, that it is lost, and of another one, once, that there is no
+    /// server yet.
+    fn end(&mut self, i: usize, loss: Loss) {
+        let Some(upstream) = self.upstreams.get_mut(i) else {
+            return;
+        };
+        if !upstream.is_up() {
+            return;
         }
+        if upstream.close(self.limits) {
+            self.reports.tell(lost(upstream.name(), loss));
+        } else if upstream.misses() {
+            self.reports.tell(unserved(upstream.name(), loss));
+        }
+    }
+
+    /// Follows the phase. A shutdown counts its own seconds, so those that were missed before it are forgotten, and no
+    /// look-up serves it any more.
+    fn follow(&mut self, monitor: &Monitor) {
+        if !self.is_ending && !matches!(monitor.phase(), Phase::Watching) {
+            self.is_ending = true;
+            self.rounds.seconds.forget_missed();
+            self.look_ups.end();
+        }
+    }
+
+    /// Whether seconds that were missed may be told at once: no server is about to tell what they would be judged by, or
+    /// nothing is judged any more.
+    fn may_catch_up(&self) -> bool {
+        let limits = self.limits;
+        self.is_ending || !self.upstreams.iter().any(|it| it.holds_clock(limits))
     }
 
     /// Looks at the links of this round, up to the first that has something.
@@ -102,7 +165,7 @@ impl<'r, 'e, R: Net + Clock, E: Write> Links<'r, 'e, R, E> {
         ensures goes_on { IfSome result (λ n. n ≢ next.End) }
     {
         match (self.upstreams.get(i)?.is_up(), monitor.linked(i)) {
-            (true, true) => self.hear(i, piece),
+            (true, true) => self.hear(monitor, i, piece),
             (false, false) => self.reach(i),
             (false, true) => Some(Next::LinkLost(i)),
             (true, false) => {
@@ -112,11 +175,12 @@ impl<'r, 'e, R: Net + Clock, E: Write> Links<'r, 'e, R, E> {
         }
     }
 
-    /// Reads of a link.
-    fn hear(&mut self, i: usize, piece: &mut Piece) -> Option<Next>
+    /// Reads of a link. One whose server doesn't answer in time is lost, whatever else it sends.
+    fn hear(&mut self, monitor: &Monitor, i: usize, piece: &mut Piece) -> Option<Next>
         ensures goes_on { IfSome result (λ n. n ≢ next.End) }
     {
-        match self.upstreams.get_mut(i)?.hear(piece) {
+        let heard = self.upstreams.get_mut(i)?.hear(piece);
+        let next = match heard {
             Heard::Nothing => None,
             Heard::All => Some(Next::LinkBytes(i)),
             Heard::Part => {
@@ -124,9 +188,48 @@ impl<'r, 'e, R: Net + Clock, E: Write> Links<'r, 'e, R, E> {
                 Some(Next::LinkBytes(i))
             }
             Heard::End => {
-                self.close(i);
-                Some(Next::LinkLost(i))
+                self.end(i, Loss::Closed);
+                return Some(Next::LinkLost(i));
             }
+        };
+        if next.is_some() {
+            self.note_reply(monitor, i, piece);
+        }
+        if self.upstreams.get(i)?.is_overdue(self.limits) {
+            self.end(i, Loss::Silent(self.limits.answer));
+            return Some(Next::LinkLost(i));
+        }
+        next
+    }
+
+    /// Notes what a piece says to the query on a link, and tells of a server that begins to serve, and of a refusal.
+    fn note_reply(&mut self, monitor: &Monitor, i: usize, piece: &Piece) {
+        let Some(last) = monitor.last_query(i) else {
+            return;
+        };
+        let Some(upstream) = self.upstreams.get_mut(i) else {
+            return;
+        };
+        if let Some(reply) = upstream.reply_in(self.alloc, piece.as_slice()) {
+            self.tell_reply(i, last.query, &reply);
+        }
+    }
+
+    /// Tells of a reply what is to be told of it.
+    fn tell_reply(&mut self, i: usize, query: Query, reply: &Reply) {
+        let Some(upstream) = self.upstreams.get_mut(i) else {
+            return;
+        };
+        let is_told = upstream.note_reply(query, reply);
+        if is_behind_opening(query) && upstream.begins_to_serve() {
+            self.reports.tell(Report::Reached(upstream.name()));
+        }
+        if is_told {
+            self.reports.tell(Report::Refused(
+                upstream.name(),
+                title(query),
+                text_of(reply.error()),
+            ));
         }
     }
 
@@ -145,7 +248,6 @@ impl<'r, 'e, R: Net + Clock, E: Write> Links<'r, 'e, R, E> {
             Ok(false) => None,
             Ok(true) => {
                 self.rounds.ready.insert(token);
-                self.reports.tell(Report::Reached(upstream.name()));
                 Some(Next::Linked(i))
             }
             Err(error) => {
@@ -158,23 +260,133 @@ impl<'r, 'e, R: Net + Clock, E: Write> Links<'r, 'e, R, E> {
         }
     }
 
-    /// Waits until something is reported or a second is full, or not at all where there is more to look at. It gives the
-    /// second, and begins the next round.
-    fn wait(&mut self) -> io::Result<Option<u64>> {
-        self.rounds.wait()?;
+    /// Waits until something is reported or a second is full, or not at all where there is more to do, and begins the next
+    /// round.
+    fn wait(&mut self, monitor: &Monitor) -> io::Result<()> {
+        if self.rounds.look_at_clock(self.rt)? {
+            self.second(monitor);
+        }
+        let patience = self.patience();
+        self.rounds.wait_for(patience)?;
         note(
             &self.rounds.events,
             &mut self.rounds.ready,
             &mut self.upstreams,
         );
-        let moment = self.rounds.turn(self.rt)?;
-        if moment.is_some() {
-            for upstream in self.upstreams.iter_mut() {
-                upstream.second();
+        self.take_look_up();
+        self.rounds.begin();
+        Ok(())
+    }
+
+    /// How long there is nothing to do but to hear.
+    fn patience(&self) -> Duration {
+        if self.rounds.seconds.has_next(self.may_catch_up()) {
+            return Duration::ZERO;
+        }
+        let ahead = self.rounds.seconds.ahead();
+        if self.look_ups.is_idle() {
+            ahead
+        } else {
+            ahead.min(Duration::from_millis(LOOK_UP_WAIT))
+        }
+    }
+
+    /// A second passed, or more did while this process stood still.
+    fn second(&mut self, monitor: &Monitor) {
+        self.limits = Limits::of(monitor);
+        for upstream in self.upstreams.iter_mut() {
+            upstream.second(self.limits);
+        }
+        self.look_ups.second();
+        if !self.is_ending && self.look_ups.has_room() {
+            self.look_up();
+        }
+    }
+
+    /// Begins one look-up, where any is due.
+    fn look_up(&mut self) {
+        let Some(i) = next_look_up(&self.upstreams, &self.look_ups) else {
+            return;
+        };
+        let Some(upstream) = self.upstreams.get_mut(i) else {
+            return;
+        };
+        if self.look_ups.start(upstream.host_name()).is_err() {
+            upstream.take_addresses(&[]);
+            if upstream.misses() {
+                let error = io::Error::other("getent, which looks its name up, cannot be started");
+                self.reports
+                    .tell(Report::Unreachable(upstream.name(), error));
             }
         }
-        Ok(moment)
     }
+
+    /// Takes what a look-up found that has ended: all links to that host are then called.
+    fn take_look_up(&mut self) {
+        let Some(found) = self.look_ups.take() else {
+            return;
+        };
+        if self.is_ending {
+            return;
+        }
+        for (i, upstream) in self.upstreams.iter_mut().enumerate() {
+            if upstream.host_name() == found.name.as_str() {
+                self.rounds.ready.insert(Token(i));
+                if !upstream.take_addresses(&found.addresses) && upstream.misses() {
+                    let error = io::Error::other(found.reason);
+                    self.reports
+                        .tell(Report::Unreachable(upstream.name(), error));
+                }
+            }
+        }
+    }
+}
+
+/// The link whose host is to be looked up next, where any is: of those that are due one that was looked up in vain the least
+/// often.
+fn next_look_up<R: Processes>(upstreams: &[Upstream], look_ups: &LookUps<'_, R>) -> Option<usize> {
+    let mut best: Option<(u8, usize)> = None;
+    for (i, upstream) in upstreams.iter().enumerate() {
+        let Some(pause) = upstream.due_look_up() else {
+            continue;
+        };
+        if look_ups.is_going(upstream.host_name()) {
+            continue;
+        }
+        match best {
+            Some((least, _)) if least <= pause => {}
+            Some(_) | None => best = Some((pause, i)),
+        }
+    }
+    match best {
+        Some((_, i)) => Some(i),
+        None => None,
+    }
+}
+
+/// Whether a query comes behind those that open a link.
+fn is_behind_opening(query: Query) -> bool {
+    match query {
+        Query::Status | Query::Fsd | Query::NumLogins => true,
+        Query::Username | Query::Password | Query::Login | Query::Primary => false,
+    }
+}
+
+/// That a server is lost which served.
+fn lost(name: &str, loss: Loss) -> Report<'_> {
+    match loss {
+        Loss::Closed => Report::Gone(name),
+        Loss::Silent(seconds) => Report::GivenUp(name, seconds),
+    }
+}
+
+/// That there is no server yet, where a link ended on which none served.
+fn unserved(name: &str, loss: Loss) -> Report<'_> {
+    let why = match loss {
+        Loss::Closed => "it closes the connection",
+        Loss::Silent(_) => "it does not answer",
+    };
+    Report::Unreachable(name, io::Error::other(why))
 }
 
 /// Notes what was reported.

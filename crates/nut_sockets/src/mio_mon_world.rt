@@ -18,26 +18,34 @@ use std::alloc::Global;
 use std::io;
 use std::io::Write;
 use std::net::Net;
+use std::process::Processes;
 use std::time::Clock;
 
 /// The world of a monitor whose servers are reached over TCP.
 ///
-/// One thread watches all sockets. A `Moment` comes each second, counted from the start, however much the servers send. A
-/// server whose link isn't made is called at the start and in each second, and nothing waits for its answer: the addresses
-/// of its host are dialled in turn, and one that doesn't answer for five seconds is given up. A host that is named is looked
-/// up at each call, and that does wait for the system's resolver; one that is given by its address isn't looked up.
+/// One thread watches all sockets, and nothing waits for a server or a name. A server whose link isn't made is called at the
+/// start and in each second: the addresses of its host are dialled in turn, and one that doesn't answer for five seconds is
+/// given up. One that closes its links before it served is called after pauses that grow. A host that is named is looked up
+/// by a process of its own, at the start and once none of the addresses that were found answers: one a second, with pauses
+/// that grow to 60 seconds, and none in a shutdown.
+///
+/// A server that doesn't answer for ten seconds, five while a UPS is on battery, is lost.
+///
+/// A `Moment` comes each second, counted from the start, however much the servers send, once what lay in the sockets at its
+/// end was heard. Seconds that were missed, since this process stood still, follow one at a time, each once no server is
+/// about to answer, so that none is judged by what it could not say; a shutdown that then begins counts its own.
 ///
 /// Notices go to a herald, who is told each second too. It never ends. A fault is that of the wait for the sockets, or of
 /// the clock: what happens to one link is no other's concern. It tells no record.
 #[derive(Drop)]
-pub struct MioMonWorld<'r, 'e, R, H, E> {
+pub struct MioMonWorld<'r, 'e, R: Processes, H, E> {
     links: Links<'r, 'e, R, E>,
     herald: H,
     late: ArrayVec<u64, 32>,
     faults: u64,
 }
 
-impl<'r, 'e, R: Net + Clock, H: Herald, E: Write> MioMonWorld<'r, 'e, R, H, E> {
+impl<'r, 'e, R: Net + Clock + Processes, H: Herald, E: Write> MioMonWorld<'r, 'e, R, H, E> {
     /// The world of a monitor that was made with this configuration: the server of each of its MONITOR lines is called.
     /// Servers that come and go are reported as they do.
     ///
@@ -63,7 +71,8 @@ impl<'r, 'e, R: Net + Clock, H: Herald, E: Write> MioMonWorld<'r, 'e, R, H, E> {
 
 ghost use Rattle.std.specs.Prelude.{◌≢◌, ◌<◌, ◌≤◌, IfOk, IfSome, Some, Ok};
 
-impl<'r, 'e, R: Net + Clock, H: Herald, E: Write> MonWorld for MioMonWorld<'r, 'e, R, H, E> {
+impl<'r, 'e, R: Net + Clock + Processes, H: Herald, E: Write> MonWorld
+    for MioMonWorld<'r, 'e, R, H, E> {
     ghost log = { λ w. untold_watch };
 
     ghost late = { λ w i. is_noted w.late.items i };

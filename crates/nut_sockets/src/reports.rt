@@ -29,6 +29,10 @@ pub enum Report<'a> {
     Unreachable(&'a str, io::Error),
     /// The server of a watched UPS went away.
     Gone(&'a str),
+    /// The server of a watched UPS didn't answer for so many seconds, and was given up.
+    GivenUp(&'a str, u8),
+    /// The server of a watched UPS refused what it was asked, with this error.
+    Refused(&'a str, &'a str, &'a str),
 }
 
 impl<'a> fmt::Display for Report<'a> {
@@ -50,6 +54,12 @@ impl<'a> fmt::Display for Report<'a> {
             Report::Reached(target) => write!(f, "UPS {target}: server connected"),
             Report::Unreachable(target, error) => write!(f, "UPS {target}: no server yet: {error}"),
             Report::Gone(target) => write!(f, "UPS {target}: server lost"),
+            Report::GivenUp(target, seconds) => {
+                write!(f, "UPS {target}: server lost: no answer for {seconds} s")
+            }
+            Report::Refused(target, what, error) => {
+                write!(f, "UPS {target}: {what} refused: {error}")
+            }
         }
     }
 }

@@ -19,7 +19,8 @@ pub struct Rounds {
     pub events: Events,
     /// The sockets to look at.
     pub ready: Ready,
-    seconds: Seconds,
+    /// The clock.
+    pub seconds: Seconds,
     fixed: usize,
 }
 
@@ -46,8 +47,14 @@ impl Rounds {
 
     /// Waits until something is reported or a second is full, or not at all where there is more to look at.
     pub fn wait(&mut self) -> io::Result<()> {
+        let ahead = self.seconds.ahead();
+        self.wait_for(ahead)
+    }
+
+    /// Waits until something is reported, for no longer than that, or not at all where there is more to look at.
+    pub fn wait_for(&mut self, patience: Duration) -> io::Result<()> {
         let patience = if self.ready.is_empty() {
-            self.seconds.ahead()
+            patience
         } else {
             Duration::ZERO
         };
@@ -60,7 +67,22 @@ impl Rounds {
         if moment.is_some() {
             self.ready.insert_first(self.fixed);
         }
-        self.ready.turn();
+        self.begin();
         Ok(moment)
+    }
+
+    /// Looks at the clock, and says whether a second became full: the sockets with the first tokens are then looked at in
+    /// the next round.
+    pub fn look_at_clock(&mut self, clock: &impl Clock) -> io::Result<bool> {
+        let is_full = self.seconds.look(clock)?;
+        if is_full {
+            self.ready.insert_first(self.fixed);
+        }
+        Ok(is_full)
+    }
+
+    /// Begins the next round.
+    pub fn begin(&mut self) {
+        self.ready.turn();
     }
 }

@@ -5,16 +5,21 @@ ghost use Rattle.nut_serve.specs.Record.{IsWithin};
 
 use crate::dialler::Dialler;
 use crate::host::Host;
+use crate::inquiry::{Inquiry, Reply};
+use crate::limits::Limits;
 use crate::link::{Heard, Link};
+use crate::pause::Pause;
 use crate::ready::may_be_read;
+use crate::refusals::Refusals;
 use crate::text::text_of;
 use mio::event::Event;
 use mio::net::TcpStream;
 use nut_conf::Monitored;
+use nut_monitor::Query;
 use nut_serve::{Piece, Written};
 use std::alloc::{AllocError, Global};
 use std::io::ErrorKind;
-use std::net::Net;
+use std::net::{IpAddr, Net};
 use std::{io, mem};
 
 /// How many full seconds an address has to answer.
@@ -27,8 +32,8 @@ enum Stage {
     Down,
     /// An address is dialled, and hasn't answered for so many seconds.
     Calling(Link<TcpStream>, u8),
-    /// It is made.
-    Up(Link<TcpStream>),
+    /// It is made, and these are the query and its answer.
+    Up(Link<TcpStream>, Inquiry),
 }
 
 /// The link to the server of a MONITOR line.
@@ -38,9 +43,14 @@ pub struct Upstream {
     name: String,
     host: Host,
     stage: Stage,
-    /// Whether the host is to be called, where there is no link.
-    is_due: bool,
-    /// Whether a call failed since the link was last made.
+    /// Before the host is called again.
+    pause: Pause,
+    /// Whether the server has answered a query behind those that open a link, since this one was made.
+    serves: bool,
+    refusals: Refusals,
+    /// For how many seconds the server has owed a status.
+    owed: u8,
+    /// Whether a call failed since the server last served.
     is_missed: bool,
 }
 
@@ -51,7 +61,10 @@ impl Upstream {
             name: String::from_str(alloc, text_of(line.written.as_slice()))?,
             host: Host::new(alloc, &line.target)?,
             stage: Stage::Down,
-            is_due: true,
+            pause: Pause::none(),
+            serves: false,
+            refusals: Refusals::none(),
+            owed: 0,
             is_missed: false,
         })
     }
@@ -61,38 +74,80 @@ impl Upstream {
         self.name.as_str()
     }
 
-    /// Whether the link is made.
-    pub fn is_up(&self) -> bool {
-        matches!(self.stage, Stage::Up(_))
+    /// The name of its host.
+    pub fn host_name(&self) -> &str {
+        self.host.name()
     }
 
-    /// A second is full: a host that isn't called is due again.
-    pub fn second(&mut self) {
-        match &mut self.stage {
-            Stage::Down => self.is_due = true,
-            Stage::Calling(_, waited) => *waited = waited.saturating_add(1),
-            Stage::Up(_) => {}
+    /// Whether the link is made.
+    pub fn is_up(&self) -> bool {
+        matches!(self.stage, Stage::Up(_, _))
+    }
+
+    /// Whether the server has told all that it was asked, the status above all.
+    fn is_settled(&self) -> bool {
+        match &self.stage {
+            Stage::Down | Stage::Calling(_, _) => false,
+            Stage::Up(_, inquiry) => !inquiry.is_outstanding() && !self.refusals.has_status(),
         }
     }
 
-    /// Calls the host where that is due, or goes on with the call, and says whether the link is now made. Where an address
-    /// refuses or doesn't answer in time, the next one is dialled.
+    /// Whether seconds that were missed shouldn't be told yet: the server was asked and may still answer in time, or it may
+    /// be called or tell a status again within the time that it has for an answer.
+    pub fn holds_clock(&self, limits: Limits) -> bool {
+        match &self.stage {
+            Stage::Up(_, inquiry) if inquiry.is_outstanding() => true,
+            Stage::Down | Stage::Calling(_, _) | Stage::Up(_, _) => {
+                !self.is_settled() && self.owed < limits.answer
+            }
+        }
+    }
+
+    /// A second passed.
+    pub fn second(&mut self, limits: Limits) {
+        self.owed = if self.is_settled() {
+            0
+        } else {
+            self.owed.saturating_add(1)
+        };
+        self.host.second();
+        self.pause.second(limits.pause);
+        match &mut self.stage {
+            Stage::Down => {}
+            Stage::Calling(_, waited) => *waited = waited.saturating_add(1),
+            Stage::Up(_, inquiry) => inquiry.second(),
+        }
+    }
+
+    /// How many seconds passed before the last look-up of its host, if another one is due.
+    pub fn due_look_up(&self) -> Option<u8> {
+        self.host.due_look_up()
+    }
+
+    /// Takes the addresses that a look-up of its host found, and says whether any is known.
+    pub fn take_addresses(&mut self, found: &[IpAddr]) -> bool {
+        self.host.take_addresses(found);
+        self.host.has_addresses()
+    }
+
+    /// Calls the host where that is due and its address is known, or goes on with the call, and says whether the link is now
+    /// made. Where an address refuses or doesn't answer in time, the next one is dialled.
     ///
     /// # Errors
-    /// That of the last address, or of the look-up: the call has then failed.
+    /// That of the last address: the call has then failed.
     pub fn reach(&mut self, dialler: &Dialler<'_, impl Net>) -> io::Result<bool> {
         match mem::replace(&mut self.stage, Stage::Down) {
             Stage::Down => {
-                if self.is_due {
-                    self.is_due = false;
-                    self.host.look_up(dialler.net)?;
+                if self.pause.is_over() && self.host.has_addresses() {
+                    self.pause.wait();
+                    self.host.begin();
                     self.call(dialler, io::Error::from(ErrorKind::NotFound))?;
                 }
                 Ok(false)
             }
             Stage::Calling(link, waited) => self.go_on(dialler, link, waited),
-            Stage::Up(link) => {
-                self.stage = Stage::Up(link);
+            Stage::Up(link, inquiry) => {
+                self.stage = Stage::Up(link, inquiry);
                 Ok(false)
             }
         }
@@ -114,8 +169,8 @@ impl Upstream {
     ) -> io::Result<bool> {
         match is_answered(link.stream(), waited) {
             Ok(true) => {
-                self.stage = Stage::Up(link);
-                self.is_missed = false;
+                self.stage = Stage::Up(link, Inquiry::new());
+                self.host.reach();
                 Ok(true)
             }
             Ok(false) => {
@@ -129,7 +184,7 @@ impl Upstream {
         }
     }
 
-    /// Whether this is the first call that failed since the link was last made.
+    /// Whether this is the first call that failed since the server last served.
     pub fn misses(&mut self) -> bool {
         !mem::replace(&mut self.is_missed, true)
     }
@@ -137,8 +192,39 @@ impl Upstream {
     /// Reads.
     pub fn hear(&mut self, piece: &mut Piece) -> Heard {
         match &mut self.stage {
-            Stage::Up(link) => link.hear(piece),
+            Stage::Up(link, _) => link.hear(piece),
             Stage::Down | Stage::Calling(_, _) => Heard::Nothing,
+        }
+    }
+
+    /// What a piece that was read says to the query, where a line is then complete that answers it.
+    pub fn reply_in(&mut self, alloc: Global, piece: &[u8]) -> Option<Reply> {
+        match &mut self.stage {
+            Stage::Up(_, inquiry) => inquiry.hear(alloc, piece),
+            Stage::Down | Stage::Calling(_, _) => None,
+        }
+    }
+
+    /// Notes what came of a query, and says whether it is a refusal that is now to be told.
+    pub fn note_reply(&mut self, query: Query, reply: &Reply) -> bool {
+        let is_told = self.refusals.note(query, reply);
+        if self.is_settled() {
+            self.owed = 0;
+        }
+        is_told
+    }
+
+    /// Notes that the server answered a query behind those that open a link, and says whether this is the first on it.
+    pub fn begins_to_serve(&mut self) -> bool {
+        self.is_missed = false;
+        !mem::replace(&mut self.serves, true)
+    }
+
+    /// Whether a query has been outstanding for too long.
+    pub fn is_overdue(&self, limits: Limits) -> bool {
+        match &self.stage {
+            Stage::Up(_, inquiry) => inquiry.is_overdue(limits.answer),
+            Stage::Down | Stage::Calling(_, _) => false,
         }
     }
 
@@ -147,7 +233,10 @@ impl Upstream {
         ensures { IsWithin result (length bytes.now) }
     {
         match &mut self.stage {
-            Stage::Up(link) => link.offer(bytes),
+            Stage::Up(link, inquiry) => {
+                inquiry.ask();
+                link.offer(bytes)
+            }
             Stage::Down | Stage::Calling(_, _) => Written::Failed,
         }
     }
@@ -160,16 +249,25 @@ impl Upstream {
                 link.note(event);
                 true
             }
-            Stage::Up(link) => {
+            Stage::Up(link, _) => {
                 link.note(event);
                 may_be_read(event)
             }
         }
     }
 
-    /// Closes the link. The host is called again in the next second.
-    pub fn close(&mut self) {
+    /// Closes the link, and says whether its server has served on it. One that has is called again in the next second; the
+    /// others after a pause, which grows from loss to loss.
+    pub fn close(&mut self, limits: Limits) -> bool {
         self.stage = Stage::Down;
+        let served = mem::replace(&mut self.serves, false);
+        if served {
+            self.pause = Pause::none();
+            self.refusals = Refusals::none();
+        } else {
+            self.pause.begin(limits.pause);
+        }
+        served
     }
 }
 

@@ -3,7 +3,7 @@
 use super::player::*;
 use crate::files::SECONDARY;
 use nut_conf::Notice as Kind;
-use nut_monitor::{Event, Phase};
+use nut_monitor::{Event, Phase, Query};
 use std::test::*;
 
 /// A UPS may be silent for long.
@@ -94,7 +94,25 @@ static COMMUNICATION_RUNS: [Run; 5] = [
     },
 ];
 
-static STATUS_RUNS: [Run; 4] = [
+static STATUS_RUNS: [Run; 5] = [
+    Run {
+        name: "what was asked and heard can be seen",
+        file: SECONDARY,
+        steps: &[
+            START,
+            Step::Tell(Event::Linked(0)),
+            Step::Asked(0, Query::Username),
+            Step::Ask(0, b"USERNAME mon\n", b"OK\n"),
+            Step::Asked(0, Query::Password),
+            Step::Ask(0, b"PASSWORD m1\n", b"OK\n"),
+            Step::Ask(0, b"LOGIN su700\n", b"OK\n"),
+            Step::Asked(0, Query::Status),
+            Step::OnBattery(0, false),
+            Step::Status(0, b"OB"),
+            Step::OnBattery(0, true),
+            Step::Tells(&[ONBATT]),
+        ],
+    },
     Run {
         name: "what stands is told once",
         file: SECONDARY,

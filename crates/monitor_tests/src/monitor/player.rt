@@ -2,7 +2,7 @@
 
 use super::memory::take_all;
 use nut_conf::{Notice as Kind, read_upsmon};
-use nut_monitor::{Event, Monitor, MonitorFault, Notice, Phase};
+use nut_monitor::{Event, Monitor, MonitorFault, Notice, Phase, Query};
 use std::alloc::{AllocError, Global};
 use std::test::*;
 use thiserror::Error;
@@ -29,6 +29,10 @@ pub enum Step {
     Waits(usize, &'static [u8]),
     /// Whether a link is there.
     Links(usize, bool),
+    /// This is the last query on a link.
+    Asked(usize, Query),
+    /// Whether a UPS is on battery, by its last status.
+    OnBattery(usize, bool),
     /// These notices are given, and no more.
     Tells(&'static [Told]),
     /// The monitor is so far.
@@ -122,6 +126,25 @@ fn tells(alloc: Global, monitor: &mut Monitor, notices: &[Told]) -> Result<bool,
     Ok(monitor.take_notice().is_none())
 }
 
+/// Whether this query is the last on a link.
+fn is_last(monitor: &Monitor, i: usize, query: Query) -> bool {
+    match monitor.last_query(i) {
+        Some(last) => last.query == query,
+        None => false,
+    }
+}
+
+/// Whether the last status of a UPS says that it is on battery.
+fn is_on_battery(monitor: &Monitor, i: usize) -> bool {
+    match monitor.known(i) {
+        Some(known) => match known.flags {
+            Some(flags) => flags.on_battery,
+            None => false,
+        },
+        None => false,
+    }
+}
+
 /// What a monitor answers while all memory is refused.
 fn starved(
     alloc: Global,
@@ -145,6 +168,8 @@ fn does(alloc: Global, monitor: &mut Monitor, step: Step) -> Result<bool, AllocE
         Step::Status(i, value) => is_status_asked(alloc, monitor, i, value)?,
         Step::Waits(i, bytes) => monitor.waiting(i) == bytes,
         Step::Links(i, there) => monitor.linked(i) == there,
+        Step::Asked(i, query) => is_last(monitor, i, query),
+        Step::OnBattery(i, wanted) => is_on_battery(monitor, i) == wanted,
         Step::Tells(notices) => tells(alloc, monitor, notices)?,
         Step::Is(phase) => monitor.phase() == phase,
     })

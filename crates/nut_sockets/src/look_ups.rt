@@ -1,0 +1,181 @@
+//! Look-ups of hosts, for which nobody waits.
+
+use std::alloc::Global;
+use std::io::Read;
+use std::net::IpAddr;
+use std::process::{Child, Command, OpenProcess, Processes, Stdio};
+use std::{io, str};
+
+/// How many addresses of a host are kept.
+pub const MOST_ADDRESSES: usize = 16;
+
+/// How many seconds a look-up may take.
+const PATIENCE: u8 = 5;
+
+/// How many look-ups may go on at a time.
+const MOST: usize = 8;
+
+/// How much of what a look-up prints is read. An address has at most 80 bytes there, in three lines.
+const OUTPUT: usize = 4096;
+
+/// What a look-up found.
+#[derive(Drop)]
+pub struct Found {
+    /// The host that was looked up.
+    pub name: String,
+    /// Its addresses, at most 16.
+    pub addresses: Vec<IpAddr>,
+    /// Why there are none, where that is so.
+    pub reason: &'static str,
+}
+
+/// A look-up that goes on.
+#[derive(Drop)]
+struct LookUp<P: OpenProcess> {
+    name: String,
+    child: Child<P>,
+    age: u8,
+}
+
+/// The look-ups that go on, each a process of its own that is killed after five seconds: a call of the system's resolver
+/// can't be given up. The process is `getent ahosts HOST`, which asks the resolver as any program here does.
+#[derive(Drop)]
+pub struct LookUps<'r, R: Processes> {
+    processes: &'r R,
+    alloc: Global,
+    going: Vec<LookUp<R::Started>>,
+}
+
+impl<'r, R: Processes> LookUps<'r, R> {
+    /// None goes on.
+    pub fn none(processes: &'r R, alloc: Global) -> LookUps<'r, R> {
+        LookUps {
+            processes,
+            alloc,
+            going: Vec::new(alloc),
+        }
+    }
+
+    /// Whether none goes on.
+    pub fn is_idle(&self) -> bool {
+        self.going.is_empty()
+    }
+
+    /// Whether this host is being looked up.
+    pub fn is_going(&self, name: &str) -> bool {
+        self.going.iter().any(|it| it.name.as_str() == name)
+    }
+
+    /// Whether another one may begin.
+    pub fn has_room(&self) -> bool {
+        self.going.len() < MOST
+    }
+
+    /// Begins to look a host up.
+    ///
+    /// # Errors
+    /// Where the process can't be started.
+    pub fn start(&mut self, name: &str) -> io::Result<()> {
+        self.going.reserve(1)?;
+        let look_up = LookUp {
+            name: String::from_str(self.alloc, name)?,
+            child: run(self.processes, self.alloc, name)?,
+            age: 0,
+        };
+        self.going.push(look_up)?;
+        Ok(())
+    }
+
+    /// A second passed: look-ups that take too long are ended.
+    pub fn second(&mut self) {
+        for look_up in self.going.iter_mut() {
+            look_up.age = look_up.age.saturating_add(1);
+            if look_up.age > PATIENCE {
+                let _ = look_up.child.kill();
+            }
+        }
+    }
+
+    /// Ends all.
+    pub fn end(&mut self) {
+        for look_up in self.going.iter_mut() {
+            let _ = look_up.child.kill();
+        }
+    }
+
+    /// What one of them found that has ended, if one has.
+    pub fn take(&mut self) -> Option<Found> {
+        let at = first_ended(&mut self.going)?;
+        if self.going.len() <= at {
+            return None;
+        }
+        let mut look_up = self.going.swap_remove(at);
+        let reason = if look_up.age > PATIENCE {
+            "its name is not looked up in time"
+        } else {
+            "its name is not known"
+        };
+        Some(Found {
+            addresses: addresses_of(self.alloc, &mut look_up.child),
+            name: look_up.name,
+            reason,
+        })
+    }
+}
+
+/// Starts the process of a look-up.
+fn run<R: Processes>(processes: &R, alloc: Global, name: &str) -> io::Result<Child<R::Started>> {
+    let mut command = Command::new(alloc, "getent")?;
+    command.arg("ahosts")?.arg(name)?;
+    command
+        .stdin(Stdio::null())
+        .stdout(Stdio::piped())
+        .stderr(Stdio::null());
+    command.spawn(processes)
+}
+
+/// Which one has ended.
+fn first_ended<P: OpenProcess + Drop>(going: &mut [LookUp<P>]) -> Option<usize> {
+    going
+        .iter_mut()
+        .position(|look_up| !matches!(look_up.child.try_wait(), Ok(None)))
+}
+
+/// What a look-up found that has ended, by what it printed.
+fn addresses_of<P: OpenProcess>(alloc: Global, child: &mut Child<P>) -> Vec<IpAddr> {
+    let mut addresses = Vec::new(alloc);
+    if let (Ok(Some(status)), Some(output)) = (child.try_wait(), &mut child.stdout) {
+        if status.success() {
+            let _ = read_addresses(output, &mut addresses);
+        }
+    }
+    addresses
+}
+
+/// Reads what a look-up printed that has ended. It is there at once, and is read once, so that a process which is left of it
+/// and prints nothing isn't waited for.
+fn read_addresses(output: &mut impl Read, addresses: &mut Vec<IpAddr>) -> io::Result<()> {
+    let mut text = [0; OUTPUT];
+    let length = output.read(&mut text)?;
+    let printed = text.get(..length).unwrap_or(&[]);
+    for line in printed.split(|byte| *byte == b'\n') {
+        if let Some(address) = address_in(line)
+            && addresses.len() < MOST_ADDRESSES
+        {
+            addresses.push(address)?;
+        }
+    }
+    Ok(())
+}
+
+/// The address in a line of `getent ahosts`, which prints it once for each type of socket: it is taken where that is
+/// `STREAM`.
+fn address_in(line: &[u8]) -> Option<IpAddr> {
+    let text = str::from_utf8(line).ok()?;
+    let mut words = text.split_ascii_whitespace();
+    let address = words.next()?;
+    if words.next()? != "STREAM" {
+        return None;
+    }
+    address.parse().ok()
+}
