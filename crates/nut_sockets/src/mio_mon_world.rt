@@ -27,8 +27,8 @@ use std::time::Clock;
 /// of its host are dialled in turn, and one that doesn't answer for five seconds is given up. A host that is named is looked
 /// up at each call, and that does wait for the system's resolver; one that is given by its address isn't looked up.
 ///
-/// Notices go to a herald, who is told each second too. It never ends. A fault is that of the wait for the sockets, or of
-/// the clock: what happens to one link is no other's concern. It tells no record.
+/// Notices go to a herald, who is told each second too. It never ends. Only `next` answers a fault, that of the wait for
+/// the sockets or of the clock: what happens to one link is no other's concern. It tells no record.
 #[derive(Drop)]
 pub struct MioMonWorld<'r, 'e, R, H, E> {
     links: Links<'r, 'e, R, E>,
