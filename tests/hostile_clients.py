@@ -62,11 +62,12 @@ def is_quiet(pid):
 
 
 class Hostile:
-    """A client that reads no more than a small buffer takes."""
+    """A client that reads nothing. Its buffers are small, and by its short segments those of the server are too."""
 
     def __init__(self, room, request):
         self.socket = socket.socket()
         self.socket.setsockopt(socket.SOL_SOCKET, socket.SO_RCVBUF, 2048)
+        self.socket.setsockopt(socket.IPPROTO_TCP, socket.TCP_MAXSEG, 536)
         self.socket.settimeout(SOON)
         self.socket.connect((room.host, room.port))
         self.socket.sendall(request)
@@ -136,14 +137,14 @@ class Tests:
             room.dummy(LONG)
             upsd = room.upsd()
             room.until(STATUS, ONLINE)
-            with closing(self.full(room, b"LIST VAR su700\n" * 30)) as clients:
+            with closing(self.full(room, b"LIST VAR su700\n" * 10)) as clients:
                 # each is answered until its buffers are full, and then none takes anything
                 until(lambda: is_quiet(upsd.pid), "a server whose clients don't read has nothing to do", 60)
                 for client in clients:
-                    client.socket.sendall(b"LIST VAR su700\n" * 30)
+                    client.socket.sendall(b"LIST VAR su700\n" * 10)
                 until(lambda: is_quiet(upsd.pid), "it has nothing to do again", 60)
                 expect(upsd.poll(), None, "a server whose clients don't read")
-                clients[0].lists(60)
+                clients[0].lists(20)
                 clients[0].socket.sendall(b"VER\n")
                 expect(clients[0].file.readline(), VERSION, "one that reads at last")
             until(room.serves, "a new client is served")

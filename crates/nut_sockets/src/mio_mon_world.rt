@@ -35,8 +35,8 @@ use std::time::Clock;
 /// end was heard. Seconds that were missed, since this process stood still, follow one at a time, each once no server is
 /// about to answer, so that none is judged by what it could not say; a shutdown that then begins counts its own.
 ///
-/// Notices go to a herald, who is told each second too. It never ends. A fault is that of the wait for the sockets, or of
-/// the clock: what happens to one link is no other's concern. It tells no record.
+/// Notices go to a herald, who is told each second too. It never ends. Only `next` answers a fault, that of the wait for
+/// the sockets or of the clock: what happens to one link is no other's concern. It tells no record.
 #[derive(Drop)]
 pub struct MioMonWorld<'r, 'e, R: Processes, H, E> {
     links: Links<'r, 'e, R, E>,

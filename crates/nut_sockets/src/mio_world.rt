@@ -22,9 +22,11 @@ use std::time::Clock;
 
 /// The world of a server whose clients come over TCP, and whose drivers listen on Unix sockets.
 ///
-/// One thread watches all sockets. A `Moment` comes each second, counted from the start; a driver that isn't connected is
-/// dialled then. A client that the server has no room for is let in and closed at once. It never ends. A fault is that of
-/// the wait for the sockets, or of the clock: what happens to one socket is no other's concern. It tells no record.
+/// One thread watches all sockets. A `Moment` comes each second, counted from the start; the drivers are looked at behind it,
+/// and one that isn't connected is dialled. A client that the server has no room for is let in and closed at once, and one
+/// that is silent for too long is closed: after 60 seconds without a line or a taken answer, 600 where it is logged in. It
+/// never ends. Only `next` answers a fault, that of the wait for the sockets or of the clock: what happens to one socket is
+/// no other's concern. It tells no record.
 #[derive(Drop)]
 pub struct MioWorld<'r, 'e, R, E> {
     sockets: Sockets<'r, 'e, R, E>,
