@@ -95,7 +95,7 @@ def run_test(tests, name):
         getattr(tests, name)()
     except Missing as missing:
         return "skipped", f"skipped {shown}: {missing}"
-    except (Failed, OSError, subprocess.SubprocessError, ValueError) as found:
+    except (Failed, OSError, subprocess.SubprocessError, ValueError, LookupError, AttributeError) as found:
         return "failed", f"FAILED {shown}: {found}"
     return "passed", f"ok {shown}"
 

@@ -114,13 +114,14 @@ class Tests:
             target = f"su700@127.0.0.1:{room.port}"
             room.dummy(b"ups.status: OB\n", "dev")
             server = room.upsd()
+            room.until(STATUS, b'VAR su700 ups.status "OB"\n')
             with self.watch(f"MONITOR {target} 1 mon m1 primary\nPOLLFREQ 1\nDEADTIME 60\n") as watch:
                 watch.until_printed(ON_BATTERY % target)
                 server.send_signal(signal.SIGSTOP)
                 try:
                     watch.until_printed(LOST % target, 20)
                     lost = f"server lost: no answer for {SHORT} s"
-                    expect(lost in reports_of(watch, target), True, "what is reported")
+                    ensure(lost in reports_of(watch, target), f"it is reported: {reports_of(watch, target)}")
                 finally:
                     server.send_signal(signal.SIGCONT)
                 watch.until_printed(ESTABLISHED % target, 20)

@@ -221,6 +221,7 @@ class Tests:
                 self.expect_halt(watch, [ON_BATTERY % server.target, BATTERY_LOW % server.target, SHUTDOWN])
 
     def test_silent_server_is_unavailable(self):
+        """Before it is given up, which takes longer (tests/links.py)."""
         with Silent() as server:
             with self.watch(f"MONITOR {server.target} 1 mon m1 primary\nNOCOMMWARNTIME 1\n") as watch:
                 watch.until_printed(UNAVAILABLE % server.target)
