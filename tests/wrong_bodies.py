@@ -10,6 +10,7 @@ functions alone, with the proofs of all others left open. A control round shows 
 the whole crate, and fails where the two disagree. Both need the libraries below a crate: those that the gate has just built
 serve, and what is missing is built. The last line is 'N passed, M failed'."""
 
+import glob
 import os
 import re
 import shutil
@@ -29,7 +30,7 @@ NAMES = re.compile(r"has no field|is not in scope|has no `|was not admitted")
 
 
 class Edit:
-    """An edit, the functions that its texts stand in, and the one that has to refuse it."""
+    """An edit, the functions that its texts stand in, and those that have to refuse it."""
 
     def __init__(self, crate, path, functions):
         self.crate, self.path, self.name = crate, path, f"{crate.name}/{os.path.basename(path)}"
@@ -37,25 +38,42 @@ class Edit:
         with open(path, encoding="utf-8", errors="replace") as file:
             lines = [line.rstrip("\n").partition(": ") for line in file]
         self.refused_by = next((words.strip() for key, _, words in lines if key == "refused by"), None)
-        self.edited, file = set(), None
-        for key, _, words in lines:
-            file = words.strip() if key == "file" else file
-            if key == "old" and not self.fault:
-                self.edited.add(self.function_at(file, words, functions))
+        self.edited = set() if self.fault else self.functions_at(lines, functions)
         self.wanted = {self.refused_by} if self.refused_by else self.edited
         if None in self.wanted and not self.fault:
             self.fault = "it edits no function, and has no line 'refused by: FUNCTION'"
 
-    def function_at(self, file, text, functions):
-        """The function in which a text stands, or None. A text that an earlier pair has made stands where that pair does."""
-        with open(f"{self.crate.folder}/{file}", "rb") as it:
-            at = it.read().find(text.encode())
-        found = [it.path for it in functions if it.holds(file, at)]
-        return found[0] if found else next(iter(self.edited), None) if at < 0 else None
+    def functions_at(self, lines, functions):
+        """The functions that the texts stand in, and None for a text that stands in none."""
+        found, file, texts, changes = set(), None, {}, {}
+        for key, _, words in lines:
+            if key == "file":
+                file = words.strip()
+                texts.setdefault(file, open_text(f"{self.crate.folder}/{file}"))
+            elif key == "old":
+                old, at = words.encode(), texts[file].find(words.encode())
+                here = place_before(changes.setdefault(file, []), at)
+                found.add(next((it.path for it in functions if it.holds(file, here)), None))
+            elif key == "new":
+                texts[file] = texts[file].replace(old, words.encode())
+                changes[file].append((at, len(old), len(words.encode())))
+        return found
 
     def is_of_bodies(self):
-        """Whether all that it edits are bodies, which no other function's proof looks into."""
-        return None not in self.edited and not self.refused_by
+        """Whether all that it edits are bodies, which no other function's proof looks into, and one of these refuses it."""
+        return None not in self.edited and self.wanted <= self.edited
+
+
+def open_text(path):
+    with open(path, "rb") as file:
+        return file.read()
+
+
+def place_before(changes, at):
+    """Where a place in an edited text stood before these changes, each of which put a text of one length for another's."""
+    for start, old, new in reversed(changes):
+        at = at - new + old if at >= start + new else min(at, start)
+    return at
 
 
 class Report:
@@ -114,6 +132,9 @@ class Room:
 
     def leave_open(self, path):
         proof = f"{self.folder}/proofs/{path.replace('::', '/')}"
+        # functions that call each other have one proof, +NAME: what stands beside it keeps its own
+        if glob.glob(f"{os.path.dirname(proof)}/+*"):
+            return
         shutil.rmtree(proof, ignore_errors=True)
         os.makedirs(proof)
         name = path.rpartition("::")[2]
