@@ -10,10 +10,7 @@ functions alone, with the proofs of all others left open. A control round shows 
 the whole crate, and fails where the two disagree. Both need the libraries below a crate: those that the gate has just built
 serve, and what is missing is built. The last line is 'N passed, M failed'."""
 
-import functools
-import importlib.machinery
-import importlib.util
-import json
+import glob
 import os
 import re
 import shutil
@@ -21,6 +18,8 @@ import subprocess
 import sys
 import tempfile
 import threading
+
+from functions import functions_of, toolchain
 
 ROOT = os.path.dirname(os.path.dirname(os.path.abspath(__file__)))
 FOLDERS = ("wrong-bodies", "must-fail")
@@ -30,95 +29,8 @@ GOAL = re.compile(r"note: (src/\S+: .*\(`\S+`\).*)")
 NAMES = re.compile(r"has no field|is not in scope|has no `|was not admitted")
 
 
-@functools.lru_cache(maxsize=None)
-def toolchain():
-    """The toolchain's own gate as a module: it knows how an edit is read and how a crate is checked."""
-    said = subprocess.run(["rt", "doc"], stdout=subprocess.PIPE, text=True, check=True).stdout
-    path = os.path.join(os.path.dirname(said.strip()), "bin", "rt")
-    loader = importlib.machinery.SourceFileLoader("rt", path)
-    module = importlib.util.module_from_spec(importlib.util.spec_from_loader("rt", loader))
-    loader.exec_module(module)
-    module.rtlib.guarded()
-    return module
-
-
-class Function:
-    """Where a function of a crate stands, and what a check calls it."""
-
-    def __init__(self, file, parts, first, end):
-        self.file, self.parts, self.first, self.end = file, parts, first, end
-
-    @property
-    def path(self):
-        return "::".join(self.parts)
-
-    def holds(self, file, at):
-        return file == self.file and self.first <= at < self.end
-
-
-def impl_name(words):
-    """What a check calls an impl, by the words of its header: the type, and then the trait and its arguments."""
-    depth, before, parameters = 0, "", []
-    while words and (depth or words[0] == "<"):
-        depth += {"<": 1, ">": -1}.get(words[0], 0)
-        parameters += [words[0]] if depth == 1 and before in ("<", ",", "const") else []
-        before, words = words[0], words[1:]
-    words = words[: words.index("where")] if "where" in words else words
-    names = [word for word, after in zip(words, words[1:] + [""]) if word == "for" or word not in parameters and after != ":"]
-    names = [word for word in names if re.fullmatch(r"[A-Za-z_]\w*|&", word) and word not in ("mut", "dyn", "const")]
-    if "for" not in names:
-        return names[0]
-    at = names.index("for")
-    return "".join("Ref" if word == "&" else word[0].upper() + word[1:] for word in names[at + 1 :] + names[:at])
-
-
-def items_in(file, tokens):
-    """The functions with bodies among a file's tokens of code, and the modules of the types that it declares."""
-    module = [it for it in file[len("src/") : -len(".rt")].split("/") if it not in ("lib", "main", "mod")]
-    functions, types, opened, item = [], {}, [], None
-    for number, (start, end, word) in enumerate(tokens):
-        after = tokens[number + 1][2] if number + 1 < len(tokens) else ""
-        if word in ("fn", "mod", "trait") and re.match(r"\w", after):
-            item = (word, after)
-        elif word in ("struct", "enum"):
-            types[after] = module + [it[1] for it, _ in opened if it]
-        elif word == "impl" and item is None:
-            header = [it[2] for it in tokens[number + 1 : number + 200]]
-            item = (word, impl_name(header[: header.index("{")]))
-        elif word == ";":
-            item = None
-        elif word == "{":
-            opened.append((item, start))
-            item = None
-        elif word == "}":
-            closed, start = opened.pop()
-            if closed and closed[0] == "fn":
-                path = module + [it[1] for it, _ in opened if it] + [closed[1]]
-                functions.append(Function(file, path, start, end))
-    return functions, types
-
-
-def functions_of(folder):
-    """The functions of a crate, its tests left out, as the toolchain's formatter reads its files."""
-    walked = [os.path.join(at, name) for at, _, names in os.walk(f"{folder}/src") for name in names]
-    files = sorted(os.path.relpath(it, folder) for it in walked if it.endswith(".rt"))
-    words = [toolchain().rtlib.RATTLE, "fmt", "--tokens", *files]
-    said = subprocess.run(words, cwd=folder, stdout=subprocess.PIPE, text=True, check=True).stdout
-    found, types = [], {}
-    for file, rows in zip(files, re.split(r"(?m)^file \d+\n", said)[1:]):
-        tokens = re.findall(r'(?m)^\d+ (\d+) (\d+) Code (".*")$', rows)
-        functions, more = items_in(file, [(int(start), int(end), json.loads(word)) for start, end, word in tokens])
-        found += functions
-        types.update(more)
-    # a method's path is that of its type, in whatever module its impl stands
-    for it in found:
-        if len(it.parts) > 1 and it.parts[-2] in types:
-            it.parts = types[it.parts[-2]] + it.parts[-2:]
-    return [it for it in found if "tests" not in it.parts]
-
-
 class Edit:
-    """An edit, the functions that its texts stand in, and the one that has to refuse it."""
+    """An edit, the functions that its texts stand in, and those that have to refuse it."""
 
     def __init__(self, crate, path, functions):
         self.crate, self.path, self.name = crate, path, f"{crate.name}/{os.path.basename(path)}"
@@ -126,25 +38,42 @@ class Edit:
         with open(path, encoding="utf-8", errors="replace") as file:
             lines = [line.rstrip("\n").partition(": ") for line in file]
         self.refused_by = next((words.strip() for key, _, words in lines if key == "refused by"), None)
-        self.edited, file = set(), None
-        for key, _, words in lines:
-            file = words.strip() if key == "file" else file
-            if key == "old" and not self.fault:
-                self.edited.add(self.function_at(file, words, functions))
+        self.edited = set() if self.fault else self.functions_at(lines, functions)
         self.wanted = {self.refused_by} if self.refused_by else self.edited
         if None in self.wanted and not self.fault:
             self.fault = "it edits no function, and has no line 'refused by: FUNCTION'"
 
-    def function_at(self, file, text, functions):
-        """The function in which a text stands, or None. A text that an earlier pair has made stands where that pair does."""
-        with open(f"{self.crate.folder}/{file}", "rb") as it:
-            at = it.read().find(text.encode())
-        found = [it.path for it in functions if it.holds(file, at)]
-        return found[0] if found else next(iter(self.edited), None) if at < 0 else None
+    def functions_at(self, lines, functions):
+        """The functions that the texts stand in, and None for a text that stands in none."""
+        found, file, texts, changes = set(), None, {}, {}
+        for key, _, words in lines:
+            if key == "file":
+                file = words.strip()
+                texts.setdefault(file, open_text(f"{self.crate.folder}/{file}"))
+            elif key == "old":
+                old, at = words.encode(), texts[file].find(words.encode())
+                here = place_before(changes.setdefault(file, []), at)
+                found.add(next((it.path for it in functions if it.holds(file, here)), None))
+            elif key == "new":
+                texts[file] = texts[file].replace(old, words.encode())
+                changes[file].append((at, len(old), len(words.encode())))
+        return found
 
     def is_of_bodies(self):
-        """Whether all that it edits are bodies, which no other function's proof looks into."""
-        return None not in self.edited and not self.refused_by
+        """Whether all that it edits are bodies, which no other function's proof looks into, and one of these refuses it."""
+        return None not in self.edited and self.wanted <= self.edited
+
+
+def open_text(path):
+    with open(path, "rb") as file:
+        return file.read()
+
+
+def place_before(changes, at):
+    """Where a place in an edited text stood before these changes, each of which put a text of one length for another's."""
+    for start, old, new in reversed(changes):
+        at = at - new + old if at >= start + new else min(at, start)
+    return at
 
 
 class Report:
@@ -153,7 +82,6 @@ class Report:
     def __init__(self, crate, said, changed):
         self.lines = said.rstrip("\n").split("\n")
         self.ended = self.lines[-1].startswith("only=")
-        self.is_stale = bool(toolchain().rtlib.STALE.search(said))
         self.unread = [it for it in self.lines if toolchain().unread(it, changed)]
         self.status, self.goals, goals = {}, {}, []
         for line in self.lines:
@@ -165,10 +93,9 @@ class Report:
                 goals = []
 
     def of(self, path):
-        """The symbols of a function and of its closures."""
-        module, _, name = path.rpartition("::")
-        closures = re.compile(rf"{re.escape(module)}(::)?fn::{name}::|{re.escape(path)}::fn::")
-        return [it for it in self.status if it == path or closures.match(it)]
+        """The symbols of a function and of its closures, as `m::fn::f::find` of a closure in `m::f`."""
+        plain = {it: re.sub(r"\bfn::", "", it, count=1) for it in self.status}
+        return [it for it in self.status if it == path or plain[it] != it and plain[it].startswith(f"{path}::")]
 
     def passes(self, path):
         return self.status.get(path, "").startswith(("no holes", "depends on a hole", "proved"))
@@ -205,6 +132,9 @@ class Room:
 
     def leave_open(self, path):
         proof = f"{self.folder}/proofs/{path.replace('::', '/')}"
+        # functions that call each other have one proof, +NAME: what stands beside it keeps its own
+        if glob.glob(f"{os.path.dirname(proof)}/+*"):
+            return
         shutil.rmtree(proof, ignore_errors=True)
         os.makedirs(proof)
         name = path.rpartition("::")[2]
@@ -232,11 +162,14 @@ class Room:
         flags = ["--jobs", "1", "--allow-holes", "--incremental", "kept", *only]
         words = [*toolchain().rtlib.guarded(), toolchain().rtlib.RATTLE, "check", *self.crate.words(flags, keeps=False)]
         how = {"stdin": subprocess.DEVNULL, "stdout": subprocess.PIPE, "stderr": subprocess.STDOUT}
-        run = subprocess.Popen(words, cwd=self.folder, **how)
-        said = run.stdout.read().decode(errors="replace")
-        _, status, used = os.wait4(run.pid, 0)
-        run.returncode = status
-        self.seconds += used.ru_utime + used.ru_stime
+        # a check that is killed, most likely for memory, is tried once more
+        for _ in range(2):
+            with subprocess.Popen(words, cwd=self.folder, **how) as run:
+                said = run.stdout.read().decode(errors="replace")
+                _, run.returncode, used = os.wait4(run.pid, 0)
+            self.seconds += used.ru_utime + used.ru_stime
+            if not os.WIFSIGNALED(run.returncode):
+                break
         return Report(self.crate, said, {path for edit in self.applied for path in edit.texts})
 
 
@@ -385,6 +318,7 @@ def main(words):
     names = [it for it in words if not it.startswith("--")]
     crates = [it for it in toolchain().rtlib.crates_below(ROOT) if not names or it.name in names]
     found, faults = look(crates)
+    faults += [f"{it}: crates.txt names no such crate" for it in names if it not in [crate.name for crate in crates]]
     print(*faults, sep="\n", end="\n" if faults else "")
     found = {crate: it for crate, it in found.items() if it[1]}
     passed, failed = 0, len(faults)

@@ -6,6 +6,7 @@ import os
 import sys
 import tempfile
 
+import functions
 import wrong_bodies
 
 CODE = """//! Functions whose bodies are edited.
@@ -81,7 +82,7 @@ def said_of_edits(root):
     for name, (texts, _) in EDITS.items():
         write(f"{root}/crates/edited/wrong-bodies/{name}.edit", f"file: src/lib.rt\nold: {texts}\n")
     os.chdir(root)
-    found, faults = wrong_bodies.look(wrong_bodies.toolchain().rtlib.crates_below(root))
+    found, faults = wrong_bodies.look(functions.toolchain().rtlib.crates_below(root))
     said = list(faults)
     for crate, (functions, edits) in found.items():
         with tempfile.TemporaryDirectory(prefix="wrong-bodies-") as folder:
