@@ -32,6 +32,8 @@ PROMISES = (
         ("nut_client", None, ("run_upsc", "run_upsrw", "run_upscmd")),)),
     ("The dummy driver", "`Script::read`, `Dummy::server_bytes`, and the laws over whole histories of a dummy driver", (
         ("nut_dummy", None, ("Script.read", "Dummy.new", "Dummy.server_bytes", "looks_back", "dump_is_the_table")),)),
+    ("A room", "`Fleet::new`, `Fleet::play` and `rooms_hold`: what every schedule of one server and its monitors leads to", (
+        ("nut_play", None, ("Fleet.new", "Fleet.play", "rooms_hold")),)),
 )
 
 HEAD = """# What has to be believed

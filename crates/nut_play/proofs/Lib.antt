@@ -1,0 +1,11 @@
+pub mod Hears
+pub mod Takes
+pub mod Places
+pub mod Written
+pub mod Fleets
+pub mod Fits
+pub mod Runs
+pub mod Changes
+pub mod Stepping
+pub mod Standing
+pub mod Rooms

@@ -1,0 +1,41 @@
+-- What a run of steps comes to.
+use Rattle.std.proofs.Common.{◌≡◌, ◌<◌, ◌≤◌, ◌++◌, ℕ, zero, suc, true, List, [], ◌∷◌, length, map, slice_get, Some, Result, Ok, Err, OnOk, is_err, false, refl, sym, ◌∙◌, ap, subst, arith}
+use Rattle.nut_fleet.specs.Schedule.{Step}
+use Rattle.nut_fleet.specs.Log.{Logged, logged}
+use Rattle.nut_play.specs.Kept.{Kept, next, fits}
+use Rattle.nut_play.specs.Play.{firsts, before_all, run, run_log, told_at, AreFit, IsPlayed}
+
+pub get-map : {A B : Type 0} (f : A → B) (xs : List A) (n : ℕ) (x : A) → slice_get xs n ≡ Some x → slice_get (map f xs) n ≡ Some (f x)
+get-map f [] n x is = cc
+get-map f (y ∷ xs) zero x is = let same : y ≡ x = cc in ap (λ z. Some (f z)) same
+get-map f (y ∷ xs) (suc n) x is = get-map f xs n x is
+
+pub some-get : {A : Type 0} (xs : List A) (n : ℕ) → n < length xs → (x : A) × (slice_get xs n ≡ Some x)
+some-get [] n lt = absurd (omega arith)
+some-get (x ∷ xs) zero lt = (x, refl)
+some-get (x ∷ xs) (suc n) lt = some-get xs n (omega arith)
+
+length-firsts : (n : ℕ) (steps : List Step) → n ≤ length steps → length (firsts n steps) ≡ n
+length-firsts zero steps le = refl
+length-firsts (suc n) steps le =
+    let x = some-get steps n (omega arith) in
+    ap (λ o. length (before_all o (firsts n steps))) x.1 ∙ ap suc (length-firsts n steps (omega arith))
+
+pub from-ok : {T E : Type 0} (P : Type 0) (r : Result T E) → is_err r ≡ false → OnOk r P → P
+from-ok P (Ok x) e p = p
+from-ok P (Err y) e p = cc
+
+module _ (k : Kept) (steps : List Step) (n : ℕ) (old new : Kept) (x : Step) (is : slice_get steps n ≡ Some x) where
+  pub played-more : IsPlayed k steps n old → fits old x ≡ true → new ≡ next old x → IsPlayed k steps (suc n) new
+  played-more before ok goes = record {
+    fit = subst (λ o. AreFit k (before_all o (firsts n steps))) (sym is) (before.fit, ap (λ y. fits y x) (sym before.fleet) ∙ ok);
+    fleet = goes ∙ ap (λ y. next y x) before.fleet ∙ sym (ap (λ o. run k (before_all o (firsts n steps))) is);
+  }
+
+  pub log-more : (l m : List Logged) → n < length steps → IsPlayed k steps n old → l ≡ run_log k (firsts n steps) →
+      m ≡ l ++ logged (suc n) (told_at old x) → m ≡ run_log k (firsts (suc n) steps)
+  log-more l m lt before was goes =
+      goes ∙ ap (λ ls. ls ++ logged (suc n) (told_at old x)) was
+      ∙ ap (λ j. run_log k (firsts n steps) ++ logged (suc j) (told_at old x)) (sym (length-firsts n steps (omega arith)))
+      ∙ ap (λ y. run_log k (firsts n steps) ++ logged (suc (length (firsts n steps))) (told_at y x)) before.fleet
+      ∙ sym (ap (λ o. run_log k (before_all o (firsts n steps))) is)

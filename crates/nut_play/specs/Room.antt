@@ -1,0 +1,59 @@
+-- What a fleet says of the whole schedule that it has played.
+use Rattle.std.specs.Prelude.{ℕ, ◌≡◌, ◌<◌, ◌≤◌, ◌+◌, ◌++◌, true, false, List, length, map, take, slice_get, Some}
+use Rattle.std.specs.List.{AllByRecursion}
+use Rattle.nut_conf.specs.declared.upsmon.UpsmonConf.{UpsmonConf}
+use Rattle.nut_history.specs.Configuration.{Configuration as ServerConfiguration}
+use Rattle.nut_decision.specs.Configuration.{configuration_of}
+use Rattle.nut_fleet.specs.Schedule as S
+use Rattle.nut_fleet.specs.World.{Setup, is_fit, world}
+use Rattle.nut_fleet.specs.Log.{Logged, log}
+use Rattle.nut_fleet.specs.Fleet.{EventsAreAccepted, PipesCarryBeginnings, StatusesWereShown, ShutdownsHaveCauses, SupplySufficesBefore, PrimariesGoLast}
+use Rattle.nut_play.specs.declared.types.Step.{Step}
+use Rattle.nut_play.specs.declared.types.FleetFault.{FleetFault}
+use Rattle.nut_play.specs.declared.types.FleetFault.TheVariants.{BadStep, Memory, Failed}
+use Rattle.nut_play.specs.Kept.{Kept, IsFleet}
+use Rattle.nut_play.specs.Steps.{step_of, steps_of}
+
+-- what a fleet is made with
+abbrev pub setup_of : ServerConfiguration → List UpsmonConf → Setup
+setup_of first monitors = record { server = first; monitors = map configuration_of monitors }
+
+-- The fleet is that of the world to which this schedule leads.
+abbrev pub HasPlayed : Setup → List S.Step → Kept → Type 0
+HasPlayed setup schedule k = IsFleet setup (world setup schedule) k
+
+-- each of these steps may be played
+abbrev pub AreFit : Setup → List S.Step → Type 0
+AreFit setup steps = AllByRecursion (λ step. is_fit setup step ≡ true) steps
+
+-- These steps, the newest first, were played behind those `before`, and this is what they told.
+pub record WerePlayed (setup : Setup) (before steps : List S.Step) (told : List Logged) (new : Kept) : Type 0 where
+  pub fit : AreFit setup steps
+  pub fleet : HasPlayed setup (steps ++ before) new
+  pub log : told ≡ log setup before steps
+
+-- The first n steps of a call were played, and the one behind them may not be played.
+pub record StopsBehind (setup : Setup) (before : List S.Step) (schedule : List Step) (n : ℕ) (new : Kept) : Type 0 where
+  pub fit : AreFit setup (steps_of (take n schedule))
+  pub fleet : HasPlayed setup (steps_of (take n schedule) ++ before) new
+  pub bad : (step : S.Step) × (slice_get (map step_of schedule) n ≡ Some step) × (is_fit setup step ≡ false)
+
+-- Why a call of a fleet that hasn't failed stops: at a step that may not be played, or for want of memory at one of its steps.
+abbrev pub IsFaultOf : Setup → List S.Step → List Step → FleetFault → Kept → Type 0
+IsFaultOf setup before schedule (BadStep at) new = (n : ℕ) × (at ≡ n + 1) × StopsBehind setup before schedule n new
+IsFaultOf setup before schedule (Memory at) new = (new.failed ≡ true) × (0 < at) × (at ≤ length schedule)
+IsFaultOf setup before schedule Failed new = ⊥
+
+-- What holds of a room after every schedule: nothing was refused or invented on the way, each status was shown, whoever began
+-- a shutdown had a cause, and a primary goes last or has waited.
+pub record RoomHolds (setup : Setup) (schedule : List S.Step) : Type 0 where
+  pub accepted : EventsAreAccepted setup (world setup schedule)
+  pub pipes : PipesCarryBeginnings setup (world setup schedule)
+  pub statuses : StatusesWereShown setup schedule
+  pub causes : ShutdownsHaveCauses setup schedule
+  pub supply : SupplySufficesBefore setup schedule
+  pub primaries : PrimariesGoLast setup schedule
+
+-- So it is whenever a fleet is that of a schedule's world.
+abbrev pub RoomsHold : Type 0
+RoomsHold = (setup : Setup) (schedule : List S.Step) (k : Kept) → HasPlayed setup schedule k → RoomHolds setup schedule

@@ -1,0 +1,350 @@
+//! The fleet.
+
+ghost use Rattle.std.specs.Prelude.{◌≡◌, ◌++◌, ◌∷◌, ◌<◌, ℕ, true, false, List, [], length, map, IfOk, IfErr, Err, OnOk, Some, slice_get};
+ghost use Rattle.std.specs.Option.{option_map};
+ghost use Rattle.nut_decision.specs.Configuration.{configuration_of};
+ghost use Rattle.nut_server.specs.Arrival.{event_of};
+ghost use Rattle.nut_monitor.specs.Events.{event_of as told_as};
+ghost use Rattle.nut_fleet.specs.Log.{logged};
+ghost use Rattle.nut_fleet.specs.Seen.{deed_by};
+ghost use Rattle.nut_play.specs.Kept.{fleet_of, is_played, tell_by, inform_by, reach_by, back_by, out_by, land_by, link_by, told_by, told_news, told_to, with_seat, hear_seat, reach_seat, back_seat, out_seat, land_seat, join_seat, known_of, link_of, fits, fits_link, next, said, reach_next, back_next, join_next, links_in, fresh_seat, fresh_fleet};
+ghost use Rattle.nut_play.specs.Steps.{step_of, steps_of, logged_of};
+ghost use Rattle.nut_play.specs.Play.{told_at, IsLog, IsFault};
+ghost use Rattle.nut_play.specs.Room.{setup_of, HasPlayed, WerePlayed, IsFaultOf, RoomHolds};
+ghost use Rattle.nut_fleet.specs.World.{Setup};
+ghost use Rattle.nut_fleet.specs.Schedule as S;
+ghost use Rattle.nut_play.specs.declared.types.FleetFault.TheVariants.{Failed, Memory};
+
+use crate::laws::rooms_hold;
+use crate::link::Place;
+use crate::seat::Seat;
+use crate::telling::{note, tell};
+use crate::types::{FleetFault, FleetLog, Lack, Logged, News, Step};
+use arrayvec::ArrayVec;
+use nut_conf::UpsmonConf;
+use nut_fleet::{configurations_are_spoken, fleets_go_on};
+use nut_monitor::Event;
+use nut_server::{Arrival, Config, Server};
+use std::alloc::Global;
+use std::marker::Model;
+
+/// A server and its monitors, with their links.
+#[derive(Drop)]
+pub struct Fleet {
+    server: Server,
+    seats: Vec<Seat>,
+    failed: bool,
+    alloc: Global,
+}
+
+impl Model for Fleet {
+    ghost use Rattle.nut_play.specs.Kept as kept;
+
+    ghost Value = { kept.Kept };
+
+    ghost view = { λ f. record { server = f.server; seats = f.seats.items; failed = f.failed } };
+}
+
+impl Fleet {
+    /// A fleet of which nothing was played yet.
+    ///
+    /// # Errors
+    ///
+    /// `Memory(0)` where memory was refused.
+    pub fn new(
+        alloc: Global,
+        config: Config,
+        monitors: Vec<UpsmonConf>,
+    ) -> Result<Fleet, FleetFault>
+        ensures made { IfOk result (λ fleet. fleet ≡ fresh_fleet config monitors.items) }
+        ensures world { IfOk result (λ fleet. HasPlayed (setup_of config monitors.items) [] fleet) }
+        ensures fault { IfErr result (λ fault. fault ≡ Memory 0) }
+    {
+        let Ok(server) = Server::new(alloc, config) else {
+            return Err(FleetFault::Memory(0));
+        };
+        let Ok(seats) = seats_of(alloc, monitors) else {
+            return Err(FleetFault::Memory(0));
+        };
+        Ok(Fleet {
+            server,
+            seats,
+            failed: false,
+            alloc,
+        })
+    }
+
+    /// What a monitor was made with.
+    pub fn config(&self, m: usize) -> Option<&UpsmonConf>
+        ensures { option_map (λ c. c.now) result ≡ option_map (λ seat. seat.monitor.config) (slice_get self.now.seats m) }
+    {
+        if m >= self.seats.len() {
+            return None;
+        }
+        Some(self.seats[m].monitor.config())
+    }
+
+    /// The server is told something.
+    fn serve(&mut self, arrival: Arrival<'_>) -> Result<bool, Lack>
+        ensures played { IfOk result (λ played. played ≡ is_played (tell_by self.old.server (event_of arrival.entry))) }
+        ensures fleet { OnOk result (self.new ≡ told_to self.old (event_of arrival.entry)) }
+    {
+        tell(&mut self.server, arrival)
+    }
+
+    /// A monitor is told something.
+    fn hear(
+        &mut self,
+        m: usize,
+        event: Event<'_>,
+        step: usize,
+        log: &mut Vec<Logged>,
+    ) -> Result<bool, Lack>
+        requires within { m < length self.old.seats }
+        ensures played { IfOk result (λ played. played ≡ is_played (inform_by m (known_of self.old m) (told_as event.entry))) }
+        ensures fleet { OnOk result (self.new ≡ with_seat self.old m (hear_seat m (told_as event.entry))) }
+        ensures log { OnOk result (map logged_of log.new.items
+            ≡ map logged_of log.old.items ++ logged step (told_news (inform_by m (known_of self.old m) (told_as event.entry)) (known_of self.old m))) }
+    {
+        self.seats[m].hear(m, event, step, log)
+    }
+
+    /// Bytes of a link reach the server.
+    fn reach(&mut self, m: usize, i: usize, n: usize) -> Result<bool, Lack>
+        requires within { m < length self.old.seats }
+        requires there { i < length (links_in (slice_get self.old.seats m)) }
+        ensures played { IfOk result (λ played. played ≡ is_played (reach_by self.old.server (link_of self.old m i) n)) }
+        ensures fleet { OnOk result (self.new ≡ reach_next self.old m i n) }
+    {
+        self.seats[m].reach(&mut self.server, i, n)
+    }
+
+    /// Bytes go from the server into the pipe of a link.
+    fn back(&mut self, m: usize, i: usize, n: usize) -> Result<bool, Lack>
+        requires within { m < length self.old.seats }
+        requires there { i < length (links_in (slice_get self.old.seats m)) }
+        ensures played { IfOk result (λ played. played ≡ is_played (back_by self.old.server (link_of self.old m i) n)) }
+        ensures fleet { OnOk result (self.new ≡ back_next self.old m i n) }
+    {
+        self.seats[m].back(&mut self.server, i, n)
+    }
+
+    /// Bytes go from a monitor into the pipe of a link.
+    fn send(&mut self, place: Place, n: usize, log: &mut Vec<Logged>) -> Result<bool, Lack>
+        requires within { place.monitor < length self.old.seats }
+        requires there { place.link < length (links_in (slice_get self.old.seats place.monitor)) }
+        ensures played { IfOk result (λ played. played ≡ is_played (out_by place.monitor (known_of self.old place.monitor) place.link n)) }
+        ensures fleet { OnOk result (self.new ≡ with_seat self.old place.monitor (out_seat self.old.server place.monitor place.link n)) }
+        ensures log { OnOk result (map logged_of log.new.items
+            ≡ map logged_of log.old.items ++ logged place.step (told_news (out_by place.monitor (known_of self.old place.monitor) place.link n) (known_of self.old place.monitor))) }
+    {
+        self.seats[place.monitor].send(&self.server, place, n, log)
+    }
+
+    /// Bytes of a link land at a monitor.
+    fn land(&mut self, place: Place, n: usize, log: &mut Vec<Logged>) -> Result<bool, Lack>
+        requires within { place.monitor < length self.old.seats }
+        requires there { place.link < length (links_in (slice_get self.old.seats place.monitor)) }
+        ensures played { IfOk result (λ played. played ≡ is_played (land_by place.monitor (known_of self.old place.monitor) place.link (link_of self.old place.monitor place.link) n)) }
+        ensures fleet { OnOk result (self.new ≡ with_seat self.old place.monitor (land_seat place.monitor place.link n)) }
+        ensures log { OnOk result (map logged_of log.new.items
+            ≡ map logged_of log.old.items ++ logged place.step (told_news (land_by place.monitor (known_of self.old place.monitor) place.link (link_of self.old place.monitor place.link) n) (known_of self.old place.monitor))) }
+    {
+        self.seats[place.monitor].land(place, n, log)
+    }
+
+    /// A link is made.
+    fn join(&mut self, place: Place, log: &mut Vec<Logged>) -> Result<bool, Lack>
+        requires within { place.monitor < length self.old.seats }
+        requires there { place.link < length (links_in (slice_get self.old.seats place.monitor)) }
+        requires watched { place.link < length (known_of self.old place.monitor).watches }
+        ensures played { IfOk result (λ played. played ≡ is_played (link_by place.monitor self.old.server (known_of self.old place.monitor) place.link (link_of self.old place.monitor place.link))) }
+        ensures fleet { OnOk result (self.new ≡ join_next self.old place.monitor place.link) }
+        ensures log { OnOk result (map logged_of log.new.items
+            ≡ map logged_of log.old.items ++ logged place.step (told_news (link_by place.monitor self.old.server (known_of self.old place.monitor) place.link (link_of self.old place.monitor place.link)) (known_of self.old place.monitor))) }
+    {
+        self.seats[place.monitor].join(&mut self.server, place, log)
+    }
+
+    /// The connection of a link.
+    fn connection(&self, m: usize, i: usize) -> u64
+        requires within { m < length self.now.seats }
+        requires there { i < length (links_in (slice_get self.now.seats m)) }
+        ensures { result ≡ (link_of self.now m i).connection }
+    {
+        let seat = &self.seats[m];
+        seat.links[i].connection
+    }
+
+    /// Plays one step, and logs what its monitor tells. It says whether the step was played, and else skipped.
+    #[tactic(auto, using(crate::proofs::Fits::fits_within, crate::proofs::Fits::fits_there, crate::proofs::Fits::fits_watched))]
+    fn step(&mut self, step: &Step, k: usize, log: &mut Vec<Logged>) -> Result<bool, Lack>
+        requires fit { fits self.old (step_of step.now) ≡ true }
+        ensures played { IfOk result (λ played. played ≡ is_played (deed_by (fleet_of self.old) (step_of step.now))) }
+        ensures fleet { OnOk result (self.new ≡ next self.old (step_of step.now)) }
+        ensures log { OnOk result (map logged_of log.new.items ≡ map logged_of log.old.items ++ logged k (said self.old (step_of step.now))) }
+    {
+        match step {
+            Step::ServerClock(t) => self.serve(Arrival::Moment(*t)),
+            Step::MonitorClock(m, t) => self.hear(*m, Event::Moment(*t), k, log),
+            Step::Up(u) => self.serve(Arrival::DriverUp(*u)),
+            Step::Driver(u, line) => {
+                let piece = with_feed(line.as_slice())?;
+                self.serve(Arrival::DriverBytes(*u, piece.as_slice()))
+            }
+            Step::Down(u) => self.serve(Arrival::DriverDown(*u)),
+            Step::Link(m, i) => self.join(place(*m, *i, k), log),
+            Step::Out(m, i, n) => self.send(place(*m, *i, k), *n, log),
+            Step::Reach(m, i, n) => self.reach(*m, *i, *n),
+            Step::Back(m, i, n) => self.back(*m, *i, *n),
+            Step::Land(m, i, n) => self.land(place(*m, *i, k), *n, log),
+            Step::CutServer(m, i) => {
+                let c = self.connection(*m, *i);
+                self.serve(Arrival::Close(c))
+            }
+            Step::CutMonitor(m, i) => self.hear(*m, Event::LinkLost(*i), k, log),
+        }
+    }
+
+    /// Whether there is such a link.
+    fn has_link(&self, m: usize, i: usize) -> bool
+        ensures { result ≡ fits_link self.now m i }
+    {
+        if m >= self.seats.len() {
+            return false;
+        }
+        let seat = &self.seats[m];
+        i < seat.links.len() && i < seat.monitor.lines()
+    }
+
+    /// Whether a step names only what there is, and its line isn't too long.
+    fn is_fit(&self, step: &Step) -> bool
+        ensures { result ≡ fits self.now (step_of step.now) }
+    {
+        match step {
+            Step::ServerClock(_) => true,
+            Step::MonitorClock(m, _) => *m < self.seats.len(),
+            Step::Up(u) | Step::Down(u) => *u < self.server.number_of_upses(),
+            Step::Driver(u, line) => *u < self.server.number_of_upses() && line.len() <= 511,
+            Step::Link(m, i)
+            | Step::Out(m, i, _)
+            | Step::Reach(m, i, _)
+            | Step::Back(m, i, _)
+            | Step::Land(m, i, _)
+            | Step::CutServer(m, i)
+            | Step::CutMonitor(m, i) => self.has_link(*m, *i),
+        }
+    }
+
+    /// Plays one step, and logs what it tells.
+    fn play_one(&mut self, step: &Step, k: usize, log: &mut Vec<Logged>) -> Result<(), Lack>
+        requires fit { fits self.old (step_of step.now) ≡ true }
+        ensures fleet { OnOk result (self.new ≡ next self.old (step_of step.now)) }
+        ensures log { OnOk result (map logged_of log.new.items ≡ map logged_of log.old.items ++ logged k (told_at self.old (step_of step.now))) }
+    {
+        if self.step(step, k, log)? {
+            return Ok(());
+        }
+        note(log, k, News::Skipped)
+    }
+
+    /// Plays the steps in their order, up to the first that doesn't fit.
+    fn run(&mut self, schedule: &[Step]) -> Result<FleetLog, FleetFault>
+        ensures failed { self.old.failed ≡ true → (result ≡ Err Failed) × (self.new ≡ self.old) }
+        ensures played { self.old.failed ≡ false → IfOk result (λ log. IsLog self.old (map step_of schedule.now) (map logged_of log.items) self.new) }
+        ensures fault { self.old.failed ≡ false → IfErr result (λ fault. IsFault self.old (map step_of schedule.now) fault self.new) }
+    {
+        if self.failed {
+            return Err(FleetFault::Failed);
+        }
+        let mut log = Vec::new(self.alloc);
+        for k in 0..schedule.len() {
+            if !self.is_fit(&schedule[k]) {
+                return Err(FleetFault::BadStep(k + 1));
+            }
+            if self.play_one(&schedule[k], k + 1, &mut log).is_err() {
+                self.failed = true;
+                return Err(FleetFault::Memory(k + 1));
+            }
+        }
+        Ok(log)
+    }
+
+    /// Plays the steps in their order. The log and the numbers of steps are of this call's, from 1 on.
+    ///
+    /// Whatever was played before, the fleet then is that of the world to which the whole schedule leads, and what holds of
+    /// every world holds of it: each status that a monitor has was shown by the server; whoever began a shutdown had a cause;
+    /// and a primary that goes on to the end was alone, or has waited.
+    ///
+    /// # Errors
+    ///
+    /// `BadStep` where a step isn't one that may be played: those before it stand. `Memory` where memory was refused: the
+    /// fleet has failed, nothing is claimed of it, and `Failed` is the answer to every later call.
+    pub fn play(&mut self, schedule: &[Step]) -> Result<FleetLog, FleetFault>
+        ensures failed { self.old.failed ≡ true → (result ≡ Err Failed) × (self.new ≡ self.old) }
+        ensures played { (setup : Setup) (before : List S.Step) → HasPlayed setup before self.old
+            → IfOk result (λ log. WerePlayed setup before (steps_of schedule.now) (map logged_of log.items) self.new) }
+        ensures fault { (setup : Setup) (before : List S.Step) → HasPlayed setup before self.old
+            → IfErr result (λ fault. IsFaultOf setup before schedule.now fault self.new) }
+        ensures holds { (setup : Setup) (before : List S.Step) → HasPlayed setup before self.old
+            → OnOk result (RoomHolds setup (steps_of schedule.now ++ before)) }
+    {
+        fleets_go_on();
+        configurations_are_spoken();
+        rooms_hold();
+        self.run(schedule)
+    }
+}
+
+/// The seats of these monitors, to whom nothing was told.
+fn seats_of(alloc: Global, monitors: Vec<UpsmonConf>) -> Result<Vec<Seat>, Lack>
+    ensures { IfOk result (λ seats. seats.items ≡ map fresh_seat monitors.items) }
+{
+    let mut seats = Vec::new(alloc);
+    for config in monitors {
+        let seat = Seat::new(alloc, config)?;
+        put_seat(&mut seats, seat)?;
+    }
+    Ok(seats)
+}
+
+/// One more seat.
+fn put_seat(seats: &mut Vec<Seat>, seat: Seat) -> Result<(), Lack>
+    ensures { OnOk result (seats.new.items ≡ seats.old.items ++ seat ∷ []) }
+{
+    match seats.push(seat) {
+        Ok(()) => Ok(()),
+        Err(_) => Err(Lack),
+    }
+}
+
+/// A link of a monitor at a step.
+fn place(monitor: usize, link: usize, step: usize) -> Place
+    ensures { result ≡ record { monitor = monitor; link = link; step = step } }
+{
+    Place {
+        monitor,
+        link,
+        step,
+    }
+}
+
+/// A driver's line with its line feed.
+fn with_feed(line: &[u8]) -> Result<ArrayVec<u8, 512>, Lack>
+    ensures { IfOk result (λ piece. piece.items ≡ line.now ++ 10 ∷ []) }
+{
+    let mut piece = ArrayVec::new();
+    put_text(&mut piece, line)?;
+    put_text(&mut piece, b"\n")?;
+    Ok(piece)
+}
+
+/// Bytes go behind others.
+fn put_text(piece: &mut ArrayVec<u8, 512>, bytes: &[u8]) -> Result<(), Lack>
+    ensures { OnOk result (piece.new.items ≡ piece.old.items ++ bytes.now) }
+{
+    match piece.try_extend_from_slice(bytes) {
+        Ok(()) => Ok(()),
+        Err(_) => Err(Lack),
+    }
+}

@@ -1,0 +1,296 @@
+//! A link with its pipes.
+
+ghost use Rattle.std.specs.Prelude.{◌≡◌, ◌++◌, ◌+◌, ◌≤◌, ◌<◌, IfOk, OnOk, [], ◌∷◌, ℕ, min, map, length, take, drop, is_some, true};
+ghost use Rattle.nut_history.specs.Acceptance.{session_of, waiting_of};
+ghost use Rattle.nut_history.specs.Event.{Took};
+ghost use Rattle.nut_history.specs.Machine.{advance};
+ghost use Rattle.nut_fleet.specs.World.{address_of};
+ghost use Rattle.nut_fleet.specs.Log.{logged};
+ghost use Rattle.nut_fleet.specs.Going.{put_on};
+ghost use Rattle.nut_play.specs.Kept.{is_played, reach_by, back_by, out_by, land_by, link_by, told_by, heard_by, told_news, reached_by, landed_by, back_put, out_put, made_by, open_by, waits_by, no_ends};
+ghost use Rattle.nut_play.specs.Steps.{logged_of};
+
+use crate::telling::{inform, is_open, tell};
+use crate::types::{Lack, Logged};
+use arrayvec::ArrayVec;
+use bytes::BytesMut;
+use itoa::Buffer;
+use nut_monitor::{Event, Monitor};
+use nut_server::{Arrival, PIECE_MAX, Server};
+use std::alloc::Global;
+use std::marker::Model;
+
+/// A link of a monitor at a step: their numbers.
+#[derive(Clone, Copy)]
+pub struct Place {
+    pub monitor: usize,
+    pub link: usize,
+    pub step: usize,
+}
+
+/// A link: the connection that it was given last, 0 where it was never made, and its pipes.
+#[derive(Drop)]
+pub struct Link {
+    pub connection: u64,
+    pub to_server: BytesMut<Global>,
+    pub to_monitor: BytesMut<Global>,
+}
+
+impl Model for Link {
+    ghost use Rattle.nut_fleet.specs.Seen.{Ends};
+
+    ghost Value = { Ends };
+
+    ghost view = { λ l. record { connection = l.connection; to_server = l.to_server.items; to_monitor = l.to_monitor.items } };
+}
+
+/// How many bytes a step moves that may move `n`, where so many are there.
+pub fn count_of(n: usize, there: usize) -> usize
+    ensures value { result ≡ min (min n 512) there }
+    ensures most { result ≤ 512 }
+    ensures within { result ≤ there }
+{
+    n.min(PIECE_MAX).min(there)
+}
+
+impl Link {
+    /// A link that was never made.
+    pub fn new(alloc: Global) -> Link
+        ensures { result ≡ no_ends }
+    {
+        Link {
+            connection: 0,
+            to_server: BytesMut::new(alloc),
+            to_monitor: BytesMut::new(alloc),
+        }
+    }
+
+    /// The link is made: its pipes are empty.
+    pub fn make(&mut self, connection: u64)
+        ensures { self.new ≡ record { connection = connection; to_server = []; to_monitor = [] } }
+    {
+        self.connection = connection;
+        self.to_server.clear();
+        self.to_monitor.clear();
+    }
+
+    /// Bytes reach the server. It says whether the step was played.
+    pub fn reach(&mut self, server: &mut Server, n: usize) -> Result<bool, Lack>
+        ensures played { IfOk result (λ played. played ≡ is_played (reach_by server.old self.old n)) }
+        ensures server { OnOk result (server.new ≡ told_by (reach_by server.old self.old n) 0 server.old) }
+        ensures link { OnOk result (self.new ≡ reached_by (reach_by server.old self.old n) self.old) }
+    {
+        if !is_open(server, self.connection) {
+            return Ok(false);
+        }
+        let count = count_of(n, self.to_server.len());
+        if count == 0 {
+            return Ok(true);
+        }
+        if !tell(
+            server,
+            Arrival::Bytes(self.connection, &self.to_server.as_slice()[..count]),
+        )? {
+            return Ok(false);
+        }
+        self.to_server.advance(count);
+        Ok(true)
+    }
+
+    /// Bytes land at monitor `m`, on its link `i`. It says whether the step was played.
+    pub fn land(
+        &mut self,
+        monitor: &mut Monitor,
+        place: Place,
+        n: usize,
+        log: &mut Vec<Logged>,
+    ) -> Result<bool, Lack>
+        ensures played { IfOk result (λ played. played ≡ is_played (land_by place.monitor monitor.old.content place.link self.old n)) }
+        ensures monitor { OnOk result (monitor.new ≡ record {
+          config = monitor.old.config;
+          content = heard_by (land_by place.monitor monitor.old.content place.link self.old n) monitor.old.content;
+        }) }
+        ensures link { OnOk result (self.new ≡ landed_by (land_by place.monitor monitor.old.content place.link self.old n) place.link self.old) }
+        ensures log { OnOk result (map logged_of log.new.items
+            ≡ map logged_of log.old.items ++ logged place.step (told_news (land_by place.monitor monitor.old.content place.link self.old n) monitor.old.content)) }
+    {
+        if !monitor.linked(place.link) {
+            return Ok(false);
+        }
+        let count = count_of(n, self.to_monitor.len());
+        if count == 0 {
+            return Ok(true);
+        }
+        let event = Event::LinkBytes(place.link, &self.to_monitor.as_slice()[..count]);
+        if !inform(monitor, event, place.monitor, place.step, log)? {
+            return Ok(false);
+        }
+        self.to_monitor.advance(count);
+        Ok(true)
+    }
+
+    /// Bytes go from monitor `m` into the pipe of its link `i`. It says whether the step was played.
+    pub fn send(
+        &mut self,
+        server: &Server,
+        monitor: &mut Monitor,
+        place: Place,
+        n: usize,
+        log: &mut Vec<Logged>,
+    ) -> Result<bool, Lack>
+        ensures played { IfOk result (λ played. played ≡ is_played (out_by place.monitor monitor.old.content place.link n)) }
+        ensures monitor { OnOk result (monitor.new ≡ record {
+          config = monitor.old.config;
+          content = heard_by (out_by place.monitor monitor.old.content place.link n) monitor.old.content;
+        }) }
+        ensures link { OnOk result (self.new ≡ out_put (out_by place.monitor monitor.old.content place.link n) place.link (open_by server.now self.old)
+            (waits_by monitor.old.content place.link) self.old) }
+        ensures log { OnOk result (map logged_of log.new.items
+            ≡ map logged_of log.old.items ++ logged place.step (told_news (out_by place.monitor monitor.old.content place.link n) monitor.old.content)) }
+    {
+        if !monitor.linked(place.link) {
+            return Ok(false);
+        }
+        let waiting = monitor.waiting(place.link);
+        let count = count_of(n, waiting.len());
+        if count == 0 {
+            return Ok(true);
+        }
+        if is_open(server, self.connection) {
+            put(&mut self.to_server, &waiting[..count])?;
+        }
+        let event = Event::LinkTook(place.link, count);
+        inform(monitor, event, place.monitor, place.step, log)
+    }
+
+    /// Bytes go from the server into the pipe of a link, which is there at its monitor, or isn't. It says whether the step
+    /// was played.
+    pub fn back(&mut self, server: &mut Server, linked: bool, n: usize) -> Result<bool, Lack>
+        ensures played { IfOk result (λ played. played ≡ is_played (back_by server.old self.old n)) }
+        ensures server { OnOk result (server.new ≡ told_by (back_by server.old self.old n) 0 server.old) }
+        ensures link { OnOk result (self.new ≡ back_put (back_by server.old self.old n) linked server.old self.old) }
+    {
+        if !is_open(server, self.connection) {
+            return Ok(false);
+        }
+        let count = count_of(n, server.waits(self.connection));
+        if count == 0 {
+            return Ok(true);
+        }
+        take_some(server, self.connection, &mut self.to_monitor, linked, count)?;
+        Ok(true)
+    }
+
+    /// The link is made. It says whether the step was played.
+    pub fn join(
+        &mut self,
+        server: &mut Server,
+        monitor: &mut Monitor,
+        place: Place,
+        log: &mut Vec<Logged>,
+    ) -> Result<bool, Lack>
+        requires there { place.link < length monitor.old.content.watches }
+        ensures played { IfOk result (λ played. played ≡ is_played (link_by place.monitor server.old monitor.old.content place.link self.old)) }
+        ensures server { OnOk result (server.new ≡ told_by (link_by place.monitor server.old monitor.old.content place.link self.old) place.monitor server.old) }
+        ensures monitor { OnOk result (monitor.new ≡ record {
+          config = monitor.old.config;
+          content = heard_by (link_by place.monitor server.old monitor.old.content place.link self.old) monitor.old.content;
+        }) }
+        ensures link { OnOk result (self.new ≡ made_by (link_by place.monitor server.old monitor.old.content place.link self.old) server.old self.old) }
+        ensures log { OnOk result (map logged_of log.new.items
+            ≡ map logged_of log.old.items ++ logged place.step (told_news (link_by place.monitor server.old monitor.old.content place.link self.old) monitor.old.content)) }
+    {
+        if is_open(server, self.connection) || monitor.linked(place.link) {
+            return Ok(false);
+        }
+        let address = address_of(place.monitor)?;
+        if !tell(server, Arrival::Open(address.as_slice()))? {
+            return Ok(false);
+        }
+        self.make(server.opened());
+        inform(
+            monitor,
+            Event::Linked(place.link),
+            place.monitor,
+            place.step,
+            log,
+        )
+    }
+}
+
+/// Bytes go into a pipe.
+fn put(pipe: &mut BytesMut<Global>, bytes: &[u8]) -> Result<(), Lack>
+    ensures { OnOk result (pipe.new.items ≡ pipe.old.items ++ bytes.now) }
+{
+    match pipe.extend_from_slice(bytes) {
+        Ok(()) => Ok(()),
+        Err(_) => Err(Lack),
+    }
+}
+
+/// The connection takes so many of the bytes that wait for it, and they go into the pipe, where the link is there.
+fn take_some(
+    server: &mut Server,
+    c: u64,
+    pipe: &mut BytesMut<Global>,
+    linked: bool,
+    count: usize,
+) -> Result<(), Lack>
+    requires up { is_some (session_of c server.old.sessions) ≡ true }
+    requires within { count ≤ length (waiting_of c server.old.sessions) }
+    ensures server { OnOk result (server.new ≡ advance server.old (Took c count)) }
+    ensures pipe { OnOk result (pipe.new.items ≡ put_on linked (take count (waiting_of c server.old.sessions)) pipe.old.items) }
+{
+    let mut moved = 0;
+    while moved < count {
+        moved += take_front(server, c, pipe, linked, count - moved)?;
+    }
+    Ok(())
+}
+
+/// The connection takes a front part of what waits for it, of at most so many bytes, and that goes into the pipe, where the
+/// link is there. It says how many these are.
+fn take_front(
+    server: &mut Server,
+    c: u64,
+    pipe: &mut BytesMut<Global>,
+    linked: bool,
+    most: usize,
+) -> Result<usize, Lack>
+    requires up { is_some (session_of c server.old.sessions) ≡ true }
+    requires within { most ≤ length (waiting_of c server.old.sessions) }
+    requires some { 0 < most }
+    ensures some { IfOk result (λ k. 0 < k) }
+    ensures few { IfOk result (λ k. k ≤ most) }
+    ensures server { IfOk result (λ k. server.new ≡ advance server.old (Took c k)) }
+    ensures pipe { IfOk result (λ k. pipe.new.items ≡ put_on linked (take k (waiting_of c server.old.sessions)) pipe.old.items) }
+{
+    let part = server.waiting(c);
+    let count = most.min(part.len());
+    if linked {
+        put(pipe, &part[..count])?;
+    }
+    tell(server, Arrival::Took(c, count))?;
+    Ok(count)
+}
+
+/// The address of the links of a monitor.
+fn address_of(m: usize) -> Result<ArrayVec<u8, 64>, Lack>
+    ensures { IfOk result (λ a. a.items ≡ address_of m) }
+{
+    let mut address = ArrayVec::new();
+    let mut buffer = Buffer::new();
+    put_text(&mut address, b"m")?;
+    put_text(&mut address, buffer.format(m).as_bytes())?;
+    Ok(address)
+}
+
+/// Bytes go behind an address.
+fn put_text(address: &mut ArrayVec<u8, 64>, bytes: &[u8]) -> Result<(), Lack>
+    ensures { OnOk result (address.new.items ≡ address.old.items ++ bytes.now) }
+{
+    match address.try_extend_from_slice(bytes) {
+        Ok(()) => Ok(()),
+        Err(_) => Err(Lack),
+    }
+}
