@@ -24,6 +24,7 @@ TESTS = (
     ("hostile_clients.py", ("upsd", "dummy_ups")),
     ("monitor.py", ("upsd", "dummy_ups", "upsc", "upsmon")),
     ("links.py", ("upsd", "dummy_ups", "upsc", "upsmon")),
+    ("halting.py", ("upsd", "dummy_ups", "upsc", "upsmon")),
     ("install.py", ("upsd", "dummy_ups", "upsc", "upsrw", "upscmd", "upsmon")),
 )
 
