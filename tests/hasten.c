@@ -1,22 +1,20 @@
 /* Makes the seconds of a program pass faster, so that what it does after a minute is seen after seconds, or slower. It is
  * preloaded; no program is linked with it.
  *
- *   cc -shared -fPIC -o hasten.so hasten.c -ldl
+ *   cc -shared -fPIC -o hasten.so hasten.c
  *   LD_PRELOAD=./hasten.so HASTE=20 PROGRAM ..
  *
  * The program's clock runs HASTE times as fast as the machine's, and it waits for its sockets as much shorter; HASTE may have
  * a fraction. With
  * ABORTED_ACCEPTS=N its first N accepts of a client fail as those of one that has gone away. */
 #define _GNU_SOURCE
-#include <dlfcn.h>
 #include <errno.h>
 #include <stdlib.h>
 #include <sys/epoll.h>
 #include <sys/socket.h>
+#include <sys/syscall.h>
 #include <time.h>
 #include <unistd.h>
-
-#define NEXT(name) dlsym(RTLD_NEXT, name)
 
 static double setting(const char *name, double otherwise) {
     const char *value = getenv(name);
@@ -24,11 +22,8 @@ static double setting(const char *name, double otherwise) {
 }
 
 int clock_gettime(clockid_t clock, struct timespec *time) {
-    static int (*next)(clockid_t, struct timespec *);
     static struct timespec start;
-    if (!next)
-        next = NEXT("clock_gettime");
-    int status = next(clock, time);
+    int status = syscall(SYS_clock_gettime, clock, time);
     if (status != 0 || clock != CLOCK_MONOTONIC)
         return status;
     if (start.tv_sec == 0)
@@ -41,18 +36,14 @@ int clock_gettime(clockid_t clock, struct timespec *time) {
 }
 
 int epoll_wait(int set, struct epoll_event *events, int most, int timeout) {
-    static int (*next)(int, struct epoll_event *, int, int);
-    if (!next)
-        next = NEXT("epoll_wait");
-    return next(set, events, most, timeout > 0 ? (int)(timeout / setting("HASTE", 1)) + 1 : timeout);
+    if (timeout > 0)
+        timeout = (int)(timeout / setting("HASTE", 1)) + 1;
+    return syscall(SYS_epoll_pwait, set, events, most, timeout, NULL, 8);
 }
 
 int accept4(int listener, struct sockaddr *address, socklen_t *length, int flags) {
-    static int (*next)(int, struct sockaddr *, socklen_t *, int);
     static long aborted;
-    if (!next)
-        next = NEXT("accept4");
-    int accepted = next(listener, address, length, flags);
+    int accepted = syscall(SYS_accept4, listener, address, length, flags);
     if (accepted >= 0 && aborted < setting("ABORTED_ACCEPTS", 0)) {
         aborted++;
         close(accepted);
