@@ -18,6 +18,7 @@ TESTS = (
     ("tools.py", ("upsc", "upsrw", "upscmd")),
     ("sockets.py", ("upsd", "dummy_ups")),
     ("monitor.py", ("upsd", "dummy_ups", "upsc", "upsmon")),
+    ("halting.py", ("upsd", "dummy_ups", "upsc", "upsmon")),
     ("install.py", ("upsd", "dummy_ups", "upsc", "upsrw", "upscmd", "upsmon")),
 )
 

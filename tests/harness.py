@@ -9,6 +9,9 @@ import subprocess
 
 HERE = os.path.dirname(os.path.abspath(__file__))
 
+# the files that tests make hold passwords, and a program warns where everybody can read such a file
+os.umask(0o077)
+
 
 def processor_time(pid):
     """How many seconds of processor time a process has used."""

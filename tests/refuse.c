@@ -5,8 +5,11 @@
  *
  * REFUSE is 'allocation', 'read', 'write' or 'file-read': the call of that kind with the number REFUSE_AT fails. It is
  * 'short-read', 'short-write' or 'short-file-read': from that call on each moves one byte. 'read' and 'write' are those
- * of standard input and output, 'file-read' is of any other file. Calls are counted from 1. At its end the program's
- * count of calls of that kind is written to the file that REFUSE_COUNT names. */
+ * of standard input and output, 'file-read' is of any other file. It is 'memory': each allocation fails as soon as the
+ * file that REFUSE_ONCE names is there. It is 'sleep': no pause takes any time. Calls are counted from 1. At its end the
+ * program's count of calls of that kind is written to the file that REFUSE_COUNT names.
+ *
+ * What the program starts isn't refused anything. */
 #define _GNU_SOURCE
 #include <dlfcn.h>
 #include <errno.h>
@@ -14,6 +17,7 @@
 #include <stdlib.h>
 #include <string.h>
 #include <sys/uio.h>
+#include <time.h>
 #include <unistd.h>
 
 static long calls;
@@ -32,13 +36,20 @@ static int is_refused(const char *kind, int from) {
     return from ? at > 0 && calls >= at : calls == at;
 }
 
+/* Whether this allocation is refused. */
+static int is_dry(void) {
+    if (strcmp(setting("REFUSE"), "memory") == 0)
+        return access(setting("REFUSE_ONCE"), F_OK) == 0;
+    return is_refused("allocation", 0);
+}
+
 #define NEXT(name) dlsym(RTLD_NEXT, name)
 
 void *malloc(size_t size) {
     static void *(*next)(size_t);
     if (!next)
         next = NEXT("malloc");
-    if (is_refused("allocation", 0)) {
+    if (is_dry()) {
         errno = ENOMEM;
         return NULL;
     }
@@ -49,7 +60,7 @@ void *realloc(void *old, size_t size) {
     static void *(*next)(void *, size_t);
     if (!next)
         next = NEXT("realloc");
-    if (is_refused("allocation", 0)) {
+    if (is_dry()) {
         errno = ENOMEM;
         return NULL;
     }
@@ -60,14 +71,14 @@ int posix_memalign(void **to, size_t alignment, size_t size) {
     static int (*next)(void **, size_t, size_t);
     if (!next)
         next = NEXT("posix_memalign");
-    return is_refused("allocation", 0) ? ENOMEM : next(to, alignment, size);
+    return is_dry() ? ENOMEM : next(to, alignment, size);
 }
 
 void *aligned_alloc(size_t alignment, size_t size) {
     static void *(*next)(size_t, size_t);
     if (!next)
         next = NEXT("aligned_alloc");
-    if (is_refused("allocation", 0)) {
+    if (is_dry()) {
         errno = ENOMEM;
         return NULL;
     }
@@ -98,6 +109,21 @@ ssize_t write(int file, const void *from, size_t size) {
     if (file == 1 && size > 1 && is_refused("short-write", 1))
         size = 1;
     return next(file, from, size);
+}
+
+int nanosleep(const struct timespec *asked, struct timespec *left) {
+    static int (*next)(const struct timespec *, struct timespec *);
+    if (!next)
+        next = NEXT("nanosleep");
+    if (strcmp(setting("REFUSE"), "sleep") == 0) {
+        calls++;
+        return 0;
+    }
+    return next(asked, left);
+}
+
+__attribute__((constructor)) static void stay_alone(void) {
+    unsetenv("LD_PRELOAD");
 }
 
 __attribute__((destructor)) static void say(void) {

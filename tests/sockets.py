@@ -132,14 +132,16 @@ class Room:
         for process in self.running:
             process.kill()
             process.wait()
-            process.stderr.close()
+            if process.stderr is not None:
+                process.stderr.close()
         shutil.rmtree(self.folder)
 
     def path(self, name):
         return os.path.join(self.folder, name)
 
     def start(self, words, **options):
-        process = subprocess.Popen(words, stdin=subprocess.DEVNULL, stdout=subprocess.DEVNULL, stderr=subprocess.PIPE, **options)
+        streams = {"stdin": subprocess.DEVNULL, "stdout": subprocess.DEVNULL, "stderr": subprocess.PIPE, **options}
+        process = subprocess.Popen(words, **streams)
         self.running.append(process)
         return process
 

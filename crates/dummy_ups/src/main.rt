@@ -1,27 +1,28 @@
 //! A driver without a device.
 #![tactic(auto)]
 
+use nut::LossyLines;
+use std::io::Stderr;
 use std::process::ExitCode;
 use std::{env, io};
 
 fn main(rt: HostRuntime) -> ExitCode {
-    let stderr = rt.stderr();
-    let mut err = io::writer(&stderr);
-    let status = match words(&rt) {
-        Ok(words) => nut::run_dummy_ups(
+    let status = match start(&rt) {
+        Ok((words, mut err)) => nut::run_dummy_ups(
             &rt,
             rt.alloc(),
             words.as_slice(),
             &mut io::writer(&rt),
             &mut err,
         ),
-        Err(error) => nut::refuse_arguments("dummy-ups", &error, &mut err),
+        Err(error) => nut::refuse_start("dummy-ups", &error, &mut rt.stderr()),
     };
     ExitCode::from(status)
 }
 
-/// The words of the command line, the program's name first.
-fn words(rt: &HostRuntime) -> io::Result<Vec<String>> {
+/// The words of the command line, the program's name first, and standard error.
+fn start(rt: &HostRuntime) -> io::Result<(Vec<String>, LossyLines<Stderr>)> {
     let words = env::args(rt)?.collect(rt.alloc())?;
-    Ok(words)
+    let err = LossyLines::new(rt, rt.alloc(), "dummy-ups", rt.stderr())?;
+    Ok((words, err))
 }

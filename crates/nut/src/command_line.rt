@@ -1,4 +1,4 @@
-//! The command line of upsd.
+//! The command lines of upsd and upsmon.
 
 use clap::{Arg, ArgAction, Command};
 use std::alloc::{AllocError, Global};
@@ -13,23 +13,22 @@ pub fn stdio_command<'a>(alloc: Global) -> Result<Command<'a>, AllocError> {
 
 /// The command line of upsd: of `upsd --stdio`, or of `upsd --conf DIR -s SOCKDIR`.
 pub fn upsd_command<'a>(alloc: Global) -> Result<Command<'a>, AllocError> {
-    let folder = Arg::new(alloc, "sockets")
-        .short('s')
-        .value_name("SOCKDIR")
-        .help("The folder of the drivers' sockets, DRIVER-NAME for each UPS")
-        .required_unless_present("stdio")?
-        .conflicts_with("stdio")?
-        .requires_arg("conf")?;
-    let quiet = Arg::new(alloc, "quiet")
-        .short('q')
-        .action(ArgAction::SetTrue)
-        .help("Tell nothing of listeners, UPSes and drivers");
     bare_command(alloc)
         .arg(conf(alloc)?)?
-        .arg(folder)?
-        .arg(quiet)?
+        .arg(sockets(alloc)?)?
+        .arg(quiet(alloc, "Tell nothing of listeners, UPSes and drivers"))?
         .arg(stdio(alloc))?
-        .arg(ups(alloc).requires_arg("stdio")?.conflicts_with("sockets")?)
+        .arg(ups_of_stdio(alloc)?)
+}
+
+/// The command line of upsmon: of the watch, or of the look for POWERDOWNFLAG.
+pub fn upsmon_command<'a>(alloc: Global) -> Result<Command<'a>, AllocError> {
+    Command::new(alloc, "upsmon")
+        .version("profile 1.2")
+        .about("A monitor of UPSes that halts its machine in time")
+        .arg(conf_of_upsmon(alloc)?)?
+        .arg(quiet(alloc, "Tell nothing of UPSes and servers"))?
+        .arg(kill_power(alloc)?)
 }
 
 fn bare_command<'a>(alloc: Global) -> Command<'a> {
@@ -59,4 +58,41 @@ fn ups<'a>(alloc: Global) -> Arg<'a> {
         .value_name("NAME=DESC")
         .action(ArgAction::Append)
         .help("A UPS and its description, parted at the first '='; may be given up to 32 times")
+}
+
+fn ups_of_stdio<'a>(alloc: Global) -> Result<Arg<'a>, AllocError> {
+    ups(alloc).requires_arg("stdio")?.conflicts_with("sockets")
+}
+
+fn sockets<'a>(alloc: Global) -> Result<Arg<'a>, AllocError> {
+    Arg::new(alloc, "sockets")
+        .short('s')
+        .value_name("SOCKDIR")
+        .help("The folder of the drivers' sockets, DRIVER-NAME for each UPS")
+        .required_unless_present("stdio")?
+        .conflicts_with("stdio")?
+        .requires_arg("conf")
+}
+
+fn quiet<'a>(alloc: Global, help: &'static str) -> Arg<'a> {
+    Arg::new(alloc, "quiet")
+        .short('q')
+        .action(ArgAction::SetTrue)
+        .help(help)
+}
+
+fn conf_of_upsmon<'a>(alloc: Global) -> Result<Arg<'a>, AllocError> {
+    Arg::new(alloc, "conf")
+        .long("conf")
+        .value_name("DIR")
+        .help("The folder of upsmon.conf; with -K, unless given, that of NUT_CONFPATH or /etc/nut")
+        .required_unless_present("killpower")
+}
+
+fn kill_power<'a>(alloc: Global) -> Result<Arg<'a>, AllocError> {
+    Arg::new(alloc, "killpower")
+        .short('K')
+        .action(ArgAction::SetTrue)
+        .help("Watch nothing: the status is 0 if POWERDOWNFLAG is set, else 1")
+        .conflicts_with("quiet")
 }

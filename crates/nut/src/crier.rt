@@ -5,49 +5,45 @@ use nut_conf::UpsmonConf;
 use nut_monitor::{Monitor, Notice};
 use nut_sockets::Herald;
 use std::alloc::{AllocError, Global};
-use std::io;
-use std::io::{Print, Write};
+use std::io::Write;
 use std::process::Processes;
 
-/// How long a line is at most: a text of 128 bytes whose `%s` is a target of 107, and a line feed.
-const LINE_MAX: usize = 234;
+/// How long a text is at most: 128 bytes whose `%s` is a target of 107.
+const TEXT_MAX: usize = 233;
 
 /// Prints each notice whose flags have SYSLOG or WALL as one line, and runs NOTIFYCMD with each whose flags have EXEC. With
 /// IGNORE neither is done, whatever stands beside it.
 ///
-/// A notice that can't be printed is let go, and so is a run of the command that can't be started, which is told on `err`.
+/// A run of the command that can't be started is let go, which is told on `err`.
 #[derive(Drop)]
-pub struct Crier<'a, R: Processes, O, P> {
-    out: &'a mut O,
-    err: &'a P,
-    line: Vec<u8>,
+pub struct Crier<'a, R: Processes, O, E> {
+    out: O,
+    err: E,
+    text: Vec<u8>,
     command: NotifyCommand<'a, R>,
 }
 
-impl<'a, R: Processes, O: Write, P: Print> Crier<'a, R, O, P> {
-    /// One who prints on `out`. It takes the memory for the longest line.
+impl<'a, R: Processes, O: Write + Drop, E: Write + Drop> Crier<'a, R, O, E> {
+    /// One who prints on `out`. It takes the memory for the longest text.
     pub fn new(
         processes: &'a R,
         alloc: Global,
         config: &UpsmonConf,
-        out: &'a mut O,
-        err: &'a P,
-    ) -> Result<Crier<'a, R, O, P>, AllocError> {
+        out: O,
+        err: E,
+    ) -> Result<Crier<'a, R, O, E>, AllocError> {
         Ok(Crier {
             out,
             err,
-            line: Vec::with_capacity(alloc, LINE_MAX)?,
+            text: Vec::with_capacity(alloc, TEXT_MAX)?,
             command: NotifyCommand::new(processes, alloc, config)?,
         })
     }
 
     /// Prints the text as a line of its own.
-    fn print(&mut self) -> io::Result<()> {
-        self.line.push(b'\n')?;
-        let printed = self.out.write_all(&self.line);
-        self.line.pop();
-        printed?;
-        self.out.flush()
+    fn print(&mut self) {
+        let _ = self.out.write_all(&self.text);
+        let _ = self.out.write_all(b"\n");
     }
 
     /// Runs the command with the text.
@@ -55,27 +51,27 @@ impl<'a, R: Processes, O: Write, P: Print> Crier<'a, R, O, P> {
         let called = self.command.call(Call {
             kind: notice.kind.word(),
             ups: ups_of(config, notice),
-            text: &self.line,
+            text: &self.text,
         });
         if let Err(fault) = called {
-            let _ = writeln!(io::writer(self.err), "upsmon: NOTIFYCMD {fault}");
+            let _ = writeln!(&mut self.err, "upsmon: NOTIFYCMD {fault}");
         }
     }
 }
 
-impl<'a, R: Processes, O: Write, P: Print> Herald for Crier<'a, R, O, P> {
+impl<'a, R: Processes, O: Write + Drop, E: Write + Drop> Herald for Crier<'a, R, O, E> {
     fn announce(&mut self, monitor: &Monitor, notice: Notice) {
         let config = monitor.config();
         let flags = config.flags(notice.kind);
         if flags.ignore {
             return;
         }
-        self.line.clear();
-        if monitor.notice_text(notice, &mut self.line).is_err() {
+        self.text.clear();
+        if monitor.notice_text(notice, &mut self.text).is_err() {
             return;
         }
         if flags.syslog || flags.wall {
-            let _ = self.print();
+            self.print();
         }
         if flags.exec {
             self.call(config, notice);

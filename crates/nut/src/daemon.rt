@@ -10,7 +10,9 @@ use crate::listeners::listen;
 use crate::stdio::serve_client;
 use crate::streams::hold_closed_streams;
 use crate::upsd_fault::UpsdFault;
+use crate::warning::{readable_file, warn};
 use mio::net::TcpListener;
+use nut_conf::UsersConf;
 use nut_serve::{ServeFault, World, serve};
 use nut_server::{Config, Server};
 use nut_sockets::{Driver, MioWorld, Report, Reports};
@@ -31,7 +33,8 @@ use std::time::Clock;
 /// status 1.
 ///
 /// What is listened on, which UPSes are served and which drivers come and go is told on `err`, a line each; with `-q` it
-/// isn't. Where nobody can listen at an address, `upsd: cannot listen on ADDRESS:PORT` is told, and the status is 1.
+/// isn't. That everybody can read the passwords of upsd.users is told all the same. Where nobody can listen at an address,
+/// `upsd: cannot listen on ADDRESS:PORT` is told, and the status is 1.
 ///
 /// [`run_stdio`]: crate::run_stdio
 pub fn run_upsd<S: AsStr, I: Read, O: Write, E: Write>(
@@ -60,6 +63,8 @@ fn run<S: AsStr, I: Read, O: Write, E: Write>(
     let settings = read_options(rt, alloc, &matches)?;
     match matches.get_str("sockets") {
         Some(folder) => {
+            let conf = matches.get_str("conf").unwrap_or("");
+            warn("upsd", readable_file::<UsersConf>(rt, alloc, conf)?, err);
             let is_quiet = matches.get_flag("quiet");
             serve_sockets(rt, alloc, settings, folder, is_quiet, err)
         }

@@ -1,21 +1,34 @@
 //! How the machine is halted.
 
+use crate::power_down_flag::{FlagFault, FlagState, PowerDownFlag};
+use crate::shell::shell_command;
+use linked_list_allocator::LocalHeap;
 use nut_conf::UpsmonConf;
 use nut_sockets::text_of;
-use std::alloc::Global;
+use std::alloc::{AllocError, Global};
 use std::io::Write;
-use std::process::{Command, ExitStatus, Processes, Stdio};
+use std::process::{Child, Command, ExitStatus, Processes};
 use std::rt::Files;
-use std::{fmt, fs, io};
+use std::time::{Clock, Duration};
+use std::{fmt, io, thread};
 
-/// What POWERDOWNFLAG holds: NUT's word for it, by which scripts know that the UPS is to cut its power.
-const FLAG: &str = "upsmon-shutdown-file\n";
+/// How many bytes are set apart for the start of SHUTDOWNCMD: for its words, and for a copy of an environment of up to 300
+/// KiB, which takes up to three times that while it grows.
+const HEAP: usize = 1 << 20;
+
+/// How often a start of SHUTDOWNCMD that failed is tried again.
+const TRIES: u32 = 30;
+
+/// How many seconds are waited before each of them.
+const PAUSE: u64 = 1;
 
 /// Why SHUTDOWNCMD doesn't halt the machine.
 #[derive(Drop)]
 pub enum HaltFault {
     /// It can't be started.
     NotStarted(io::Error),
+    /// It can't be waited for.
+    NotWaited(io::Error),
     /// It ended with another status than 0, or by a signal.
     Ended(ExitStatus),
 }
@@ -24,6 +37,7 @@ impl fmt::Display for HaltFault {
     fn fmt<W: fmt::Write>(&self, f: &mut fmt::Formatter<W>) -> fmt::Result {
         match self {
             HaltFault::NotStarted(error) => write!(f, "SHUTDOWNCMD cannot be started: {error}"),
+            HaltFault::NotWaited(error) => write!(f, "SHUTDOWNCMD cannot be waited for: {error}"),
             HaltFault::Ended(status) => match status.code() {
                 Some(code) => write!(f, "SHUTDOWNCMD ended with status {code}"),
                 None => write!(f, "SHUTDOWNCMD ended by a {status}"),
@@ -32,48 +46,136 @@ impl fmt::Display for HaltFault {
     }
 }
 
-/// Halts the machine: where `flag` is true, POWERDOWNFLAG is written, and then, written or not, SHUTDOWNCMD is run and waited
-/// for. What isn't set is left out.
-///
-/// A file that can't be written is told on `err`.
+/// The memory that a [`Halt`] takes when it is carried out.
 ///
 /// # Errors
-///
-/// Where SHUTDOWNCMD can't be started, or ends with another status than 0.
-pub fn halt<E: Write>(
-    rt: &(impl Files + Processes),
-    alloc: Global,
-    config: &UpsmonConf,
-    flag: bool,
+/// Where there isn't so much.
+pub fn halt_heap(alloc: Global) -> Result<LocalHeap, AllocError> {
+    LocalHeap::new(alloc, HEAP)
+}
+
+/// What is done to halt the machine, made ready at the start: carried out, it takes no memory but the heap's.
+#[derive(Drop)]
+pub struct Halt<'h> {
+    flag: Option<PowerDownFlag>,
+    command: Option<Command<&'h LocalHeap>>,
+}
+
+impl<'h> Halt<'h> {
+    /// What upsmon.conf sets. What isn't set is left out.
+    pub fn prepare(
+        alloc: Global,
+        heap: &'h LocalHeap,
+        config: &UpsmonConf,
+    ) -> Result<Halt<'h>, AllocError> {
+        let command = match &config.shutdown_cmd {
+            Some(command) => Some(shell_command(heap, text_of(command.as_bytes()))?),
+            None => None,
+        };
+        Ok(Halt {
+            flag: PowerDownFlag::of(alloc, config)?,
+            command,
+        })
+    }
+
+    /// Removes POWERDOWNFLAG where an earlier shutdown left it set: else the scripts of the next ordinary shutdown would have
+    /// the UPS cut its power. That it was removed is told on `err`, and so is what else lies there, which is left as it is.
+    pub fn clear_flag<E: Write>(&self, files: &impl Files, err: &mut E) {
+        let Some(flag) = &self.flag else {
+            return;
+        };
+        let path = flag.path();
+        let _ = match flag.clear(files) {
+            Ok(FlagState::Absent) => Ok(()),
+            Ok(FlagState::Set) => writeln!(
+                err,
+                "upsmon: POWERDOWNFLAG {path} of an earlier shutdown is removed"
+            ),
+            Ok(FlagState::Foreign) => writeln!(
+                err,
+                "upsmon: warning: POWERDOWNFLAG {path} {}",
+                FlagFault::Foreign
+            ),
+            Err(error) => writeln!(
+                err,
+                "upsmon: warning: POWERDOWNFLAG {path} cannot be removed: {error}"
+            ),
+        };
+    }
+
+    /// Halts the machine: where `is_flagged`, POWERDOWNFLAG is set, and then, set or not, SHUTDOWNCMD is run and waited for.
+    /// A start that fails is tried again each second, thirty times. A flag that can't be set, and each reason why a start
+    /// fails, is told on `err`, once.
+    ///
+    /// # Errors
+    /// Where SHUTDOWNCMD can't be started, or ends with another status than 0.
+    pub fn carry_out<E: Write>(
+        &mut self,
+        rt: &(impl Files + Processes + Clock),
+        is_flagged: bool,
+        err: &mut E,
+    ) -> Result<(), HaltFault> {
+        if is_flagged {
+            self.set_flag(rt, err);
+        }
+        match &mut self.command {
+            Some(command) => run(rt, command, err),
+            None => Ok(()),
+        }
+    }
+
+    /// Sets POWERDOWNFLAG, or tells why it isn't.
+    fn set_flag<E: Write>(&self, files: &impl Files, err: &mut E) {
+        if let Some(flag) = &self.flag {
+            if let Err(fault) = flag.set(files) {
+                let _ = writeln!(err, "upsmon: POWERDOWNFLAG {} {fault}", flag.path());
+            }
+        }
+    }
+}
+
+/// Runs a command to its end.
+fn run<E: Write>(
+    rt: &(impl Processes + Clock),
+    command: &mut Command<&LocalHeap>,
     err: &mut E,
 ) -> Result<(), HaltFault> {
-    if flag {
-        write_flag(rt, config, err);
-    }
-    let Some(command) = &config.shutdown_cmd else {
-        return Ok(());
+    let status = match start(rt, command, err)?.wait() {
+        Ok(status) => status,
+        Err(error) => return Err(HaltFault::NotWaited(error)),
     };
-    match run_command(rt, alloc, text_of(command.as_bytes())) {
-        Ok(status) if status.success() => Ok(()),
-        Ok(status) => Err(HaltFault::Ended(status)),
-        Err(error) => Err(HaltFault::NotStarted(error)),
+    if status.success() {
+        Ok(())
+    } else {
+        Err(HaltFault::Ended(status))
     }
 }
 
-fn write_flag<E: Write>(files: &impl Files, config: &UpsmonConf, err: &mut E) {
-    let Some(path) = &config.power_down_flag else {
-        return;
-    };
-    let path = text_of(path.as_bytes());
-    if fs::write(files, path, FLAG).is_err() {
-        let _ = writeln!(err, "upsmon: {path}: cannot write");
+/// Starts a command, if need be again and again. Each reason why it can't be started is told once.
+fn start<R: Processes + Clock, E: Write>(
+    rt: &R,
+    command: &mut Command<&LocalHeap>,
+    err: &mut E,
+) -> Result<Child<R::Started>, HaltFault> {
+    let mut told = None;
+    for _ in 0..TRIES {
+        match command.spawn(rt) {
+            Ok(child) => return Ok(child),
+            Err(error) => {
+                if told != Some(error.kind()) {
+                    told = Some(error.kind());
+                    tell_failed_start(&error, err);
+                }
+            }
+        }
+        thread::sleep(rt, Duration::from_secs(PAUSE));
     }
+    command.spawn(rt).map_err(HaltFault::NotStarted)
 }
 
-/// Has the shell run a command, and waits for it.
-fn run_command(processes: &impl Processes, alloc: Global, text: &str) -> io::Result<ExitStatus> {
-    let mut command = Command::new(alloc, "sh")?;
-    command.arg("-c")?.arg(text)?;
-    command.stdin(Stdio::null());
-    command.status(processes)
+fn tell_failed_start<E: Write>(error: &io::Error, err: &mut E) {
+    let _ = writeln!(
+        err,
+        "upsmon: SHUTDOWNCMD cannot be started yet: {error}; it is tried for {TRIES} seconds"
+    );
 }

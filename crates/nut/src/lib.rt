@@ -13,12 +13,16 @@ mod halt;
 mod listeners;
 mod monitor;
 mod notify_command;
+mod power_down_flag;
+mod shell;
 mod stdio;
 mod streams;
 mod ups_option;
 mod upsd_fault;
+mod upsmon_fault;
+mod warning;
 
-pub use arguments::refuse_arguments;
+pub use arguments::refuse_start;
 pub use conf_file::{ConfFile, FileFault, read_conf};
 pub use daemon::run_upsd;
 pub use dummy::run_dummy_ups;
@@ -27,7 +31,7 @@ pub use nut_serve::{
     Address, Fault, Given, MemoryWorld, Next, Note, Piece, ServeFault, StreamWorld, World, Written,
     serve, serve_memory,
 };
-pub use nut_sockets::{Driver, MioWorld, Report, Reports};
+pub use nut_sockets::{Driver, LossyLines, MioWorld, Report, Reports};
 pub use stdio::run_stdio;
 pub use ups_option::{add_ups_option, read_ups_options};
 

@@ -3,60 +3,42 @@
 ghost use Rattle.std.specs.Prelude.{◌≡◌, ◌<◌, ◌-◌, ◌^◌, [], IfSome};
 ghost use Rattle.nut_decision.specs.Content.{content};
 
-use crate::conf_file::{FileFault, read_conf};
+use crate::arguments::refuse_start;
+use crate::command_line::upsmon_command;
+use crate::conf_file::read_conf;
 use crate::crier::Crier;
 use crate::failure::Failure;
-use crate::halt::{HaltFault, halt};
+use crate::halt::{Halt, halt_heap};
+use crate::power_down_flag::{FlagState, PowerDownFlag};
 use crate::streams::hold_closed_streams;
-use clap::{Arg, ArgAction, Command};
+use crate::upsmon_fault::UpsmonFault;
+use crate::warning::{Warning, readable_file, warn};
+use clap::ArgMatches;
 use nut_conf::{Role, UpsmonConf};
-use nut_monitor::{Monitor, MonitorFault, Phase};
-use nut_sockets::{Herald, MioMonWorld, Report, Reports, text_of};
+use nut_monitor::{Monitor, Phase};
+use nut_sockets::{Herald, LossyLines, MioMonWorld, Report, Reports, text_of};
 use nut_watch::{MonWorld, watch};
-use std::alloc::{AllocError, Global};
+use std::alloc::{Alloc, Global};
 use std::convert::AsStr;
-use std::io::{ErrorKind, Print, Write};
+use std::env::{Env, VarError};
+use std::io::{ErrorKind, Write};
 use std::net::Net;
+use std::os::fd::AsRawFd;
 use std::process::Processes;
 use std::rt::Files;
 use std::sync::Wait;
 use std::time::Clock;
-use std::{fmt, io};
+use std::{env, io};
 
-/// What upsmon alone meets.
-#[derive(Drop)]
-enum UpsmonFault {
-    /// upsmon.conf gives no configuration.
-    File(FileFault),
-    /// The machine isn't halted.
-    Halt(HaltFault),
-}
+/// The folder in which `upsmon -K` looks for upsmon.conf, where neither the command line nor the environment names one.
+const FOLDER: &str = "/etc/nut";
 
-impl fmt::Display for UpsmonFault {
-    fn fmt<W: fmt::Write>(&self, f: &mut fmt::Formatter<W>) -> fmt::Result {
-        match self {
-            UpsmonFault::File(fault) => write!(f, "{fault}"),
-            UpsmonFault::Halt(fault) => write!(f, "{fault}"),
-        }
-    }
-}
-
-impl From<FileFault> for Failure<UpsmonFault> {
-    fn from(fault: FileFault) -> Self {
-        Failure::Own(UpsmonFault::File(fault))
-    }
-}
-
-impl From<HaltFault> for Failure<UpsmonFault> {
-    fn from(fault: HaltFault) -> Self {
-        Failure::Own(UpsmonFault::Halt(fault))
-    }
-}
-
-impl From<MonitorFault> for Failure<UpsmonFault> {
-    fn from(_: MonitorFault) -> Self {
-        Failure::Memory
-    }
+/// Who is told: what upsmon tells is written to standard output and error line by line, and a line that isn't taken at once
+/// is let go.
+#[derive(Clone, Copy)]
+struct Streams<O, E> {
+    out: O,
+    err: E,
 }
 
 /// Runs upsmon, and gives its exit status.
@@ -64,68 +46,186 @@ impl From<MonitorFault> for Failure<UpsmonFault> {
 /// The words are those of the command line `upsmon --conf DIR [-q]`, with the program's name first. The UPSes of upsmon.conf
 /// in the folder DIR are watched until the machine is to be halted; each server that isn't linked is dialled again each
 /// second. A notice is printed on `out` as one line where its flags have SYSLOG or WALL, and NOTIFYCMD is run with it where
-/// they have EXEC; IGNORE asks for neither. At the halt POWERDOWNFLAG is written where a MONITOR line is primary, and then
-/// SHUTDOWNCMD is run. The status is 0 where that ended with 0 or there is none, else 1.
+/// they have EXEC; IGNORE asks for neither. At the halt POWERDOWNFLAG is set where a MONITOR line is primary, and then
+/// SHUTDOWNCMD is run, for which all is made ready before anything is watched. The status is 0 where that ended with 0 or
+/// there is none, else 1. A POWERDOWNFLAG that an earlier shutdown left is removed at the start.
 ///
-/// The UPSes that are watched are told on `err`, a line each; with `-q` they aren't.
+/// With `-K` nothing is watched: the status is 0 where POWERDOWNFLAG is set, else 1. Without `--conf` the folder is then
+/// that of the variable NUT_CONFPATH, or `/etc/nut`.
+///
+/// What upsmon.conf should set otherwise is told on `err`, and so are the UPSes that are watched, a line each; with `-q`
+/// the UPSes aren't. A line that `out` or `err` doesn't take at once is let go ([`LossyLines`]): nobody who reads them
+/// holds up a halt.
 ///
 /// Where the words don't read, clap's text says so on `err`, and the status is 2; the help and the version go to `out`,
 /// with status 0. Before anything is watched, the first of these is told on `err`, with status 1:
 /// `upsmon: upsmon.conf: cannot read`; the file's first fault, as `upsmon: upsmon.conf:2: BadName`; `upsmon: out of memory`.
 /// It ends with `upsmon: I/O failed`, and status 1, where a wait for the sockets or the clock fails.
-pub fn run_upsmon<R, S: AsStr, O: Write, P: Print>(
+pub fn run_upsmon<R, S: AsStr, O, E>(
     rt: &R,
     alloc: Global,
     words: &[S],
-    out: &mut O,
-    err: &P,
+    mut out: O,
+    mut err: E,
 ) -> u8
 where
-    R: Wait + Files + Net + Clock + Processes,
+    R: Wait + Files + Net + Clock + Processes + Env + Alloc,
+    O: Write + AsRawFd + Copy,
+    E: Write + AsRawFd + Copy,
 {
-    match run(rt, alloc, words, out, err) {
-        Ok(()) => 0,
-        Err(failure) => failure.tell("upsmon", out, &mut io::writer(err)),
+    let mut told = match LossyLines::new(rt, alloc, "upsmon", err) {
+        Ok(lines) => lines,
+        Err(error) => return refuse_start("upsmon", &error, &mut err),
+    };
+    match run(rt, alloc, words, Streams { out, err }, &mut told) {
+        Ok(status) => status,
+        Err(failure) => failure.tell("upsmon", &mut out, &mut told),
     }
 }
 
-fn run<R, S: AsStr, O: Write, P: Print>(
+/// Does what the words of the command line ask for, and gives the exit status.
+fn run<R, S: AsStr, O, E>(
     rt: &R,
     alloc: Global,
     words: &[S],
-    out: &mut O,
-    err: &P,
+    streams: Streams<O, E>,
+    told: &mut LossyLines<E>,
+) -> Result<u8, Failure<UpsmonFault>>
+where
+    R: Wait + Files + Net + Clock + Processes + Env + Alloc,
+    O: Write + AsRawFd + Copy,
+    E: Write + AsRawFd + Copy,
+{
+    let matches = upsmon_command(alloc)?.try_get_matches_from(words)?;
+    if matches.get_flag("killpower") {
+        return look_for_flag(rt, alloc, &matches);
+    }
+    let folder = matches.get_str("conf").unwrap_or("");
+    guard(rt, alloc, folder, matches.get_flag("quiet"), streams, told)?;
+    Ok(0)
+}
+
+/// Whether the flag that upsmon.conf names is set, as an exit status: 0 where it is, else 1.
+fn look_for_flag<R: Files + Env + Alloc>(
+    rt: &R,
+    alloc: Global,
+    matches: &ArgMatches<'_>,
+) -> Result<u8, Failure<UpsmonFault>> {
+    if let Some(folder) = matches.get_str("conf") {
+        return Ok(u8::from(!is_flag_set(rt, alloc, folder)?));
+    }
+    let is_set = match env::var(rt, "NUT_CONFPATH") {
+        Ok(folder) => is_flag_set(rt, alloc, folder.as_str())?,
+        Err(VarError::OutOfMemory) => return Err(Failure::Memory),
+        Err(_) => is_flag_set(rt, alloc, FOLDER)?,
+    };
+    Ok(u8::from(!is_set))
+}
+
+/// Whether the flag that upsmon.conf of this folder names is set.
+fn is_flag_set(
+    files: &impl Files,
+    alloc: Global,
+    folder: &str,
+) -> Result<bool, Failure<UpsmonFault>> {
+    let config: UpsmonConf = read_conf(files, alloc, folder)?;
+    Ok(match PowerDownFlag::of(alloc, &config)? {
+        Some(flag) => matches!(flag.state(files), Ok(FlagState::Set)),
+        None => false,
+    })
+}
+
+/// Watches the UPSes of upsmon.conf in this folder until the machine is to be halted, and halts it.
+fn guard<R, O, E>(
+    rt: &R,
+    alloc: Global,
+    folder: &str,
+    is_quiet: bool,
+    streams: Streams<O, E>,
+    told: &mut LossyLines<E>,
 ) -> Result<(), Failure<UpsmonFault>>
 where
     R: Wait + Files + Net + Clock + Processes,
+    O: Write + AsRawFd + Copy,
+    E: Write + AsRawFd + Copy,
 {
-    let matches = command(alloc)?.try_get_matches_from(words)?;
-    let config = read_conf(rt, alloc, matches.get_str("conf").unwrap_or(""))?;
-    let is_quiet = matches.get_flag("quiet");
+    let config = read_conf(rt, alloc, folder)?;
+    let readable = readable_file::<UpsmonConf>(rt, alloc, folder)?;
+    tell_warnings(&config, readable, told);
     let _held = hold_closed_streams(rt, alloc)?;
-    let monitor = keep_watch(rt, alloc, config, is_quiet, out, err)?;
-    if let Phase::Halted { flag } = monitor.phase() {
-        halt(rt, alloc, monitor.config(), flag, &mut io::writer(err))?;
-    }
-    Ok(())
+    watch_and_halt(rt, alloc, config, is_quiet, streams, told)
 }
 
-/// Watches the UPSes of a configuration over sockets until the machine is to be halted, and gives the monitor.
-fn keep_watch<R: Wait + Net + Clock + Processes, O: Write, P: Print>(
+/// Watches the UPSes of a configuration until the machine is to be halted, and halts it. What the halt takes is made ready
+/// before.
+fn watch_and_halt<R, O, E>(
     rt: &R,
     alloc: Global,
     config: UpsmonConf,
     is_quiet: bool,
-    out: &mut O,
-    err: &P,
-) -> Result<Monitor, Failure<UpsmonFault>> {
+    streams: Streams<O, E>,
+    told: &mut LossyLines<E>,
+) -> Result<(), Failure<UpsmonFault>>
+where
+    R: Wait + Files + Net + Clock + Processes,
+    O: Write + AsRawFd + Copy,
+    E: Write + AsRawFd + Copy,
+{
+    let heap = halt_heap(alloc)?;
+    let mut halt = Halt::prepare(alloc, &heap, &config)?;
+    halt.clear_flag(rt, told);
+    let phase = keep_watch(rt, alloc, config, is_quiet, streams, told)?;
+    if let Phase::Halted { flag } = phase {
+        halt.carry_out(rt, flag, told)?;
+    }
+    Ok(())
+}
+
+/// Tells what upsmon.conf should set otherwise.
+fn tell_warnings<E: Write>(config: &UpsmonConf, readable: Option<Warning>, err: &mut E) {
+    warn("upsmon", readable, err);
+    warn("upsmon", Warning::of_shutdown_command(config), err);
+    warn("upsmon", Warning::of_dead_time(config), err);
+    warn("upsmon", Warning::of_host_sync(config), err);
+}
+
+/// Watches the UPSes of a configuration over sockets until the machine is to be halted.
+fn keep_watch<R, O, E>(
+    rt: &R,
+    alloc: Global,
+    config: UpsmonConf,
+    is_quiet: bool,
+    streams: Streams<O, E>,
+    told: &mut LossyLines<E>,
+) -> Result<Phase, Failure<UpsmonFault>>
+where
+    R: Wait + Net + Clock + Processes,
+    O: Write + AsRawFd + Copy,
+    E: Write + AsRawFd + Copy,
+{
     let mut monitor = Monitor::new(alloc, config)?;
-    let crier = Crier::new(rt, alloc, monitor.config(), out, err)?;
-    let mut told = io::writer(err);
-    match watch_servers(rt, alloc, &mut monitor, crier, &mut told, is_quiet) {
-        Ok(_) => Ok(monitor),
+    let crier = crier_of(rt, alloc, monitor.config(), streams)?;
+    match watch_servers(rt, alloc, &mut monitor, crier, told, is_quiet) {
+        Ok(phase) => Ok(phase),
         Err(kind) => Err(Failure::from(io::Error::from(kind))),
     }
+}
+
+/// Who prints notices on standard output, and runs NOTIFYCMD.
+fn crier_of<'a, R, O, E>(
+    rt: &'a R,
+    alloc: Global,
+    config: &UpsmonConf,
+    streams: Streams<O, E>,
+) -> io::Result<Crier<'a, R, LossyLines<O>, LossyLines<E>>>
+where
+    R: Net + Processes,
+    O: Write + AsRawFd + Copy,
+    E: Write + AsRawFd + Copy,
+{
+    let out = LossyLines::new(rt, alloc, "upsmon", streams.out)?;
+    let err = LossyLines::new(rt, alloc, "upsmon", streams.err)?;
+    Ok(Crier::new(rt, alloc, config, out, err)?)
 }
 
 /// Watches servers over sockets until the machine is to be halted, and hands each notice to a herald. What an operator wants
@@ -176,22 +276,4 @@ fn tell_start<E: Write>(config: &UpsmonConf, reports: &mut Reports<'_, E>) {
             monitored.power.value,
         ));
     }
-}
-
-/// The command line.
-fn command<'a>(alloc: Global) -> Result<Command<'a>, AllocError> {
-    let folder = Arg::new(alloc, "conf")
-        .long("conf")
-        .value_name("DIR")
-        .required(true)
-        .help("The folder of upsmon.conf");
-    let quiet = Arg::new(alloc, "quiet")
-        .short('q')
-        .action(ArgAction::SetTrue)
-        .help("Tell nothing of UPSes and servers");
-    Command::new(alloc, "upsmon")
-        .version("profile 1.2")
-        .about("A monitor of UPSes that halts its machine in time")
-        .arg(folder)?
-        .arg(quiet)
 }

@@ -1,9 +1,10 @@
 //! NOTIFYCMD: the command that is run with the text of a notice.
 
+use crate::shell::shell_command;
 use nut_conf::UpsmonConf;
 use nut_sockets::text_of;
 use std::alloc::{AllocError, Global};
-use std::process::{Child, Command, OpenProcess, Processes, Stdio};
+use std::process::{Child, Command, OpenProcess, Processes};
 use std::{fmt, io};
 
 /// How many commands may run at a time.
@@ -103,16 +104,17 @@ fn start<R: Processes>(
     script: &str,
     call: Call<'_>,
 ) -> io::Result<Child<R::Started>> {
-    let mut command = Command::new(alloc, "sh")?;
-    command
-        .arg("-c")?
-        .arg(script)?
-        .arg("sh")?
-        .arg(text_of(call.text))?;
+    let mut command = shell_command(alloc, script)?;
+    put_call(&mut command, call)?;
+    command.spawn(processes)
+}
+
+/// Hands a command the text as its first argument, and the rest in its environment.
+fn put_call(command: &mut Command, call: Call<'_>) -> Result<(), AllocError> {
+    command.arg("sh")?.arg(text_of(call.text))?;
     command.env("NOTIFYTYPE", text_of(call.kind))?;
     command.env("UPSNAME", text_of(call.ups))?;
-    command.stdin(Stdio::null());
-    command.spawn(processes)
+    Ok(())
 }
 
 fn is_running<P: OpenProcess>(child: &mut Child<P>) -> bool {

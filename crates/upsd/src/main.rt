@@ -1,14 +1,14 @@
 //! The server of UPSes.
 #![tactic(auto)]
 
+use nut::LossyLines;
+use std::io::Stderr;
 use std::process::ExitCode;
 use std::{env, io};
 
 fn main(rt: HostRuntime) -> ExitCode {
-    let stderr = rt.stderr();
-    let mut err = io::writer(&stderr);
-    let status = match words(&rt) {
-        Ok(words) => nut::run_upsd(
+    let status = match start(&rt) {
+        Ok((words, mut err)) => nut::run_upsd(
             &rt,
             rt.alloc(),
             words.as_slice(),
@@ -16,13 +16,14 @@ fn main(rt: HostRuntime) -> ExitCode {
             &mut io::writer(&rt),
             &mut err,
         ),
-        Err(error) => nut::refuse_arguments("upsd", &error, &mut err),
+        Err(error) => nut::refuse_start("upsd", &error, &mut rt.stderr()),
     };
     ExitCode::from(status)
 }
 
-/// The words of the command line, the program's name first.
-fn words(rt: &HostRuntime) -> io::Result<Vec<String>> {
+/// The words of the command line, the program's name first, and standard error.
+fn start(rt: &HostRuntime) -> io::Result<(Vec<String>, LossyLines<Stderr>)> {
     let words = env::args(rt)?.collect(rt.alloc())?;
-    Ok(words)
+    let err = LossyLines::new(rt, rt.alloc(), "upsd", rt.stderr())?;
+    Ok((words, err))
 }

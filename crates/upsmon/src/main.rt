@@ -5,16 +5,9 @@ use std::process::ExitCode;
 use std::{env, io};
 
 fn main(rt: HostRuntime) -> ExitCode {
-    let err = rt.stderr();
     let status = match words(&rt) {
-        Ok(words) => nut::run_upsmon(
-            &rt,
-            rt.alloc(),
-            words.as_slice(),
-            &mut io::writer(&rt),
-            &err,
-        ),
-        Err(error) => nut::refuse_arguments("upsmon", &error, &mut io::writer(&err)),
+        Ok(words) => nut::run_upsmon(&rt, rt.alloc(), words.as_slice(), rt.stdout(), rt.stderr()),
+        Err(error) => nut::refuse_start("upsmon", &error, &mut rt.stderr()),
     };
     ExitCode::from(status)
 }

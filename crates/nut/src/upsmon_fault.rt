@@ -1,0 +1,43 @@
+//! What upsmon alone meets.
+
+use crate::conf_file::FileFault;
+use crate::failure::Failure;
+use crate::halt::HaltFault;
+use nut_monitor::MonitorFault;
+use std::fmt;
+
+/// What upsmon alone meets.
+#[derive(Drop)]
+pub enum UpsmonFault {
+    /// upsmon.conf gives no configuration.
+    File(FileFault),
+    /// The machine isn't halted.
+    Halt(HaltFault),
+}
+
+impl fmt::Display for UpsmonFault {
+    fn fmt<W: fmt::Write>(&self, f: &mut fmt::Formatter<W>) -> fmt::Result {
+        match self {
+            UpsmonFault::File(fault) => write!(f, "{fault}"),
+            UpsmonFault::Halt(fault) => write!(f, "{fault}"),
+        }
+    }
+}
+
+impl From<FileFault> for Failure<UpsmonFault> {
+    fn from(fault: FileFault) -> Self {
+        Failure::Own(UpsmonFault::File(fault))
+    }
+}
+
+impl From<HaltFault> for Failure<UpsmonFault> {
+    fn from(fault: HaltFault) -> Self {
+        Failure::Own(UpsmonFault::Halt(fault))
+    }
+}
+
+impl From<MonitorFault> for Failure<UpsmonFault> {
+    fn from(_: MonitorFault) -> Self {
+        Failure::Memory
+    }
+}

@@ -1,0 +1,125 @@
+//! Lines on a standard stream, whether anybody reads it or not.
+
+ghost use Rattle.std.specs.Prelude.{IsTrue};
+ghost use Rattle.std.specs.Io.KnownBytes.{Appends};
+
+use arrayvec::ArrayVec;
+use mio::unix::SourceFd;
+use mio::{Events, Interest, Poll, Token};
+use std::alloc::Global;
+use std::io;
+use std::io::{ErrorKind, Write};
+use std::net::Net;
+use std::os::fd::AsRawFd;
+use std::time::Duration;
+
+/// How many bytes of a line are written at most, its line feed counted: one that is longer loses its end.
+const LINE_MAX: usize = 2048;
+
+/// How many bytes are written at a time: a line, and before it the note of those that were let go. Linux takes up to 4,096
+/// bytes for a pipe whole, and without a wait where the pipe is reported as ready.
+const TEXT_MAX: usize = LINE_MAX + 128;
+
+/// A stream of lines which never waits for its reader: a line that the stream doesn't take at once is let go. How many were
+/// is told before the next line that is taken, as `upsd: lines let go: 3`.
+///
+/// What is written is kept until a line is whole. A write never fails.
+///
+/// The stream keeps its mode, since others may share it: whether it takes a line is asked of the system before each. A file
+/// is always written. Where another process fills a shared pipe between the question and the write, the write waits; so may
+/// one to a terminal that has room for a part of the line alone.
+#[derive(Drop)]
+pub struct LossyLines<S> {
+    stream: S,
+    program: &'static str,
+    poll: Poll,
+    events: Events,
+    /// What was written of the line that isn't whole yet.
+    line: ArrayVec<u8, 2048>,
+    /// How many lines were let go since one was taken.
+    lost: u64,
+}
+
+impl<S: Write + AsRawFd + Drop> LossyLines<S> {
+    /// The lines of this program on a stream.
+    ///
+    /// # Errors
+    /// Where there is no descriptor or no memory to ask the system by.
+    pub fn new(
+        net: &impl Net,
+        alloc: Global,
+        program: &'static str,
+        stream: S,
+    ) -> io::Result<LossyLines<S>> {
+        Ok(LossyLines {
+            stream,
+            program,
+            poll: Poll::new(net)?,
+            events: Events::with_capacity(alloc, 1)?,
+            line: ArrayVec::new(),
+            lost: 0,
+        })
+    }
+
+    /// Ends the line: it is written, or let go.
+    fn end_line(&mut self) {
+        if self.line.is_full() {
+            self.line.pop();
+        }
+        self.line.push(b'\n');
+        if self.is_ready() && self.offer() {
+            self.lost = 0;
+        } else {
+            self.lost = self.lost.saturating_add(1);
+        }
+        self.line.clear();
+    }
+
+    /// Whether the stream takes a line at once. A registration reports what is ready now; a file can't be registered, and
+    /// is always ready.
+    fn is_ready(&mut self) -> bool {
+        let number = self.stream.as_raw_fd();
+        let mut source = SourceFd(&number);
+        let registry = self.poll.registry();
+        if let Err(error) = registry.register(&mut source, Token(0), Interest::WRITABLE) {
+            return error.kind() == ErrorKind::PermissionDenied;
+        }
+        let polled = self.poll.poll(&mut self.events, Some(Duration::ZERO));
+        let _ = self.poll.registry().deregister(&mut source);
+        polled.is_ok() && self.events.iter().any(|event| event.is_writable())
+    }
+
+    /// Writes the line, and before it how many were let go, in one write, and says whether all of it was taken.
+    fn offer(&mut self) -> bool {
+        let mut text: ArrayVec<u8, TEXT_MAX> = ArrayVec::new();
+        if self.lost > 0 {
+            let _ = writeln!(&mut text, "{}: lines let go: {}", self.program, self.lost);
+        }
+        let _ = text.write(&self.line);
+        write_whole(&mut self.stream, &text)
+    }
+}
+
+impl<S: Write + AsRawFd + Drop> Write for LossyLines<S> {
+    /// Keeps the bytes up to the end of the line. What a line has beyond its limit is left out.
+    fn write(&mut self, bytes: &[u8]) -> io::Result<usize> {
+        let Some(end) = bytes.iter().position(|byte| *byte == b'\n') else {
+            let _ = self.line.write(bytes);
+            return Ok(bytes.len());
+        };
+        let _ = self.line.write(&bytes[..end]);
+        self.end_line();
+        Ok(end + 1)
+    }
+
+    fn flush(&mut self) -> io::Result<()> {
+        Ok(())
+    }
+}
+
+/// Writes a text by one call, and says whether all of it was taken.
+fn write_whole<S: Write>(stream: &mut S, text: &[u8]) -> bool
+    ensures { IsTrue result → Appends (S.Write.contents stream.old) (S.Write.contents stream.new) text.now }
+{
+    matches!(stream.write(text), Ok(taken) if taken == text.len())
+}
