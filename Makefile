@@ -3,6 +3,7 @@
 # make check-peers   joins the programs in bin/ with NUT's own, where those are installed
 # make bench         measures the programs in bin/ on this machine
 # make install       builds, and installs programs, pages, units and examples under PREFIX; install-built doesn't build
+# make configure     puts a first configuration into CONFDIR; a file that is there stays as it is
 # make uninstall     takes away what install put there
 # make clean         removes what was built
 
@@ -17,7 +18,7 @@ BIN ?= bin
 
 INSTALLER = PREFIX='$(PREFIX)' DESTDIR='$(DESTDIR)' CONFDIR='$(CONFDIR)' BIN='$(BIN)' sh packaging/install.sh
 
-.PHONY: all check check-peers bench install install-built uninstall clean toolchain $(PROGRAMS)
+.PHONY: all check check-peers bench install install-built configure uninstall clean toolchain $(PROGRAMS)
 
 all: $(PROGRAMS)
 
@@ -49,6 +50,9 @@ install: all
 # without the toolchain, which root may not have on its PATH
 install-built:
 	@$(INSTALLER) install $(subst _,-,$(PROGRAMS))
+
+configure:
+	@$(INSTALLER) configure
 
 uninstall:
 	@$(INSTALLER) uninstall $(subst _,-,$(PROGRAMS))

@@ -8,6 +8,7 @@ A program that isn't handed in is stood for by a file. The last line is 'N passe
 import os
 import re
 import shutil
+import signal
 import stat
 import subprocess
 import sys
@@ -64,6 +65,11 @@ def state_of(folder):
     return state
 
 
+def state_of_file(path):
+    at = os.lstat(path)
+    return at.st_mode, at.st_mtime_ns, at.st_ino
+
+
 def needed(name, package):
     if shutil.which(name) is None:
         raise Missing(f"{name} isn't installed (Debian's package {package})")
@@ -101,6 +107,20 @@ class Tests:
         self.install(f"PREFIX={prefix}")
         return prefix
 
+    def configured(self, name, *words):
+        """A folder with a first configuration, and what was said of it."""
+        destination = os.path.join(self.folder, name)
+        status, said, wrong = self.make("configure", f"DESTDIR={destination}", *words)
+        expect((status, wrong), (0, ""), "make configure")
+        return os.path.join(destination, "etc/nut"), said.splitlines()
+
+    def passwords(self, folder):
+        """The passwords of a configuration: those of the server's users, by their names, and the monitor's."""
+        with open(os.path.join(folder, "upsd.users")) as file:
+            users = dict(re.findall(r"^\[(\w+)\]\n *password = (.*)$", file.read(), re.MULTILINE))
+        with open(os.path.join(folder, "upsmon.conf")) as file:
+            return users, re.search(r"^MONITOR \S+ 1 monuser (\S+) primary$", file.read(), re.MULTILINE)[1]
+
     # Each method from here on whose name begins with 'test_' is a test.
 
     def test_tree(self):
@@ -136,6 +156,92 @@ class Tests:
         expect(state_of(destination), before, "what was there before")
         expect(os.path.exists(os.path.join(destination, "usr/share/mulgefa")), False, "a folder of ours")
         expect(self.make("uninstall", *words), (0, "", ""), "make uninstall once more")
+
+    def test_configure(self):
+        folder, said = self.configured("configured")
+        expect(said, [], "what is said of it")
+        found = {path: it[0] for path, it in state_of(folder).items()}
+        wanted = {example: 0o600 if example == "upsmon.conf" else 0o640 for example in EXAMPLES}
+        expect((found, stat.S_IMODE(os.stat(folder).st_mode)), (wanted, 0o750), "files and modes")
+        users, monitor = self.passwords(folder)
+        expect((set(users), users["monuser"]), ({"admin", "monuser", "guest"}, monitor), "the passwords fit")
+        other, _ = self.passwords(self.configured("another")[0])
+        for password in (*users.values(), *other.values()):
+            expect(re.fullmatch("[a-z0-9]{20}", password) is not None, True, "a password")
+        expect(len({*users.values(), *other.values()}), 6, "no two are the same")
+        with open(os.path.join(folder, "upsmon.conf")) as file:
+            text = file.read()
+        expect(re.findall("^SHUTDOWNCMD (.*)$", text, re.MULTILINE), ['"echo upsmon would stop this machine now"'], "nothing is stopped yet")
+        expect(re.findall("^POWERDOWNFLAG (.*)$", text, re.MULTILINE), ["/run/killpower"], "where a boot clears it")
+
+    def test_configure_leaves_files_as_they_are(self):
+        folder = os.path.join(self.folder, "mine/etc/nut")
+        os.makedirs(folder)
+        os.chmod(folder, 0o711)
+        with open(os.path.join(folder, "upsd.users"), "w") as file:
+            file.write("mine\n")
+        os.symlink("none", os.path.join(folder, "ups.conf"))
+        before = os.lstat(os.path.join(folder, "ups.conf")), state_of_file(os.path.join(folder, "upsd.users"))
+        self.configured("mine")
+        after = os.lstat(os.path.join(folder, "ups.conf")), state_of_file(os.path.join(folder, "upsd.users"))
+        expect((after, stat.S_IMODE(os.stat(folder).st_mode)), (before, 0o711), "what was there")
+        os.remove(os.path.join(folder, "ups.conf"))
+        self.configured("mine")
+        first = state_of(folder)
+        _, said = self.configured("mine")
+        expect(state_of(folder), first, "what a second call changes")
+        expect(said, [f"{folder}/{example} is there already and stays as it is" for example in sorted(EXAMPLES)], "what is said")
+
+    def test_configuration_reads(self):
+        if not {"upsd", "upsmon"} <= set(self.built):
+            raise Missing("no built programs were handed in")
+        folder, _ = self.configured("read")
+        _, password = self.passwords(folder)
+        asks = f"USERNAME monuser\nPASSWORD {password}\nLOGIN su700\nLOGOUT\n"
+        words = [os.path.join(self.bin, "upsd"), "--stdio", "--conf", folder]
+        done = subprocess.run(words, input=asks.encode(), capture_output=True, timeout=60)
+        expect((done.returncode, done.stdout, done.stderr), (0, b"OK\nOK\nOK\nOK Goodbye\n", b""), "the server's")
+        words = [os.path.join(self.bin, "upsmon"), "-K", "--conf", folder]
+        done = subprocess.run(words, stdin=subprocess.DEVNULL, capture_output=True, timeout=60)
+        expect((done.returncode, done.stdout, done.stderr), (1, b"", b""), "the monitor's")
+
+    def test_installed_examples_have_no_passwords(self):
+        destination = os.path.join(self.folder, "examples")
+        self.install(f"DESTDIR={destination}", "PREFIX=/usr")
+        folder = os.path.join(destination, "usr/share/mulgefa/examples")
+        with open(os.path.join(folder, "upsd.users")) as file:
+            expect(re.findall("^ *password.*$", file.read(), re.MULTILINE), [], "a password")
+        with open(os.path.join(folder, "upsmon.conf")) as file:
+            expect(re.findall("^MONITOR.*$", file.read(), re.MULTILINE), ["MONITOR su700@localhost 1 monuser PASSWORD primary"], "a password")
+
+    def test_room_to_try(self):
+        """What the README shows works as pasted, on a network of its own."""
+        unshare = needed("unshare", "util-linux")
+        needed("ip", "iproute2")
+        if not {"upsd", "dummy-ups", "upsc", "upsrw", "upscmd"} <= set(self.built):
+            raise Missing("no built programs were handed in")
+        with open(os.path.join(ROOT, "README.md")) as file:
+            shown = re.search(r"A room to try.*?```sh\n(.*?)```", file.read(), re.DOTALL)[1]
+        room = os.path.join(self.folder, "room")
+        os.mkdir(room)
+        os.symlink(self.bin, os.path.join(room, "bin"))
+        shutil.copytree(os.path.join(ROOT, "examples"), os.path.join(room, "examples"))
+        words = [unshare, "-rn", "bash", "-c", f"ip link set lo up || exit 77\n{shown}wait"]
+        process = subprocess.Popen(
+            words, cwd=room, stdin=subprocess.DEVNULL, stdout=subprocess.PIPE, stderr=subprocess.STDOUT, start_new_session=True,
+            env={**os.environ, "TMPDIR": room}
+        )
+        try:
+            said = process.communicate(timeout=60)[0].decode()
+        finally:
+            try:
+                os.killpg(process.pid, signal.SIGKILL)
+            except ProcessLookupError:
+                pass
+        if process.returncode == 77 or "unshare failed" in said:
+            raise Missing("no network of its own can be had")
+        for line in ("OL", "ups.id: rack7", "ups.status: OB"):
+            expect(line in said.splitlines(), True, f"{line!r} is shown: {said}")
 
     def test_install_without_programs(self):
         destination = os.path.join(self.folder, "nothing")
