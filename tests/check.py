@@ -13,8 +13,10 @@ ROOT = os.path.dirname(os.path.dirname(os.path.abspath(__file__)))
 TESTS = (
     ("programs.py", ("upsd",)),
     ("rehearsal.py", ("rehearse",)),
-    ("dummy_rehearsal.py", ("dummy_rehearsal",)),
-    ("monitor_rehearsal.py", ("monitor_rehearsal",)),
+    ("dummy_rehearsal.py", ("rehearse",)),
+    ("monitor_rehearsal.py", ("rehearse",)),
+    ("link_rehearsal.py", ("rehearse",)),
+    ("word_rehearsal.py", ("rehearse",)),
     ("tools.py", ("upsc", "upsrw", "upscmd")),
     ("sockets.py", ("upsd", "dummy_ups")),
     ("monitor.py", ("upsd", "dummy_ups", "upsc", "upsmon")),

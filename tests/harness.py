@@ -70,17 +70,6 @@ def refusals(shim, kind="allocation"):
         yield at, *refusing(shim, kind, at)
 
 
-class Rehearsal:
-    """Tests of a program that plays scenes in memory, and prints what its crate has stored."""
-
-    def __init__(self, crate, program, folder):
-        self.program = program
-        self.folder = folder
-        self.shim = build_shim(folder)
-        with open(os.path.join(os.path.dirname(HERE), "crates", crate, "stdout")) as file:
-            self.wanted = file.read()
-
-
 def run_tests(tests, names=(), install=""):
     """Runs each test_.. method, or those with one of these names in theirs, and prints a line for each, and last
     'N passed, M failed'. It gives the exit status."""
