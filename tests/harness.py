@@ -80,17 +80,6 @@ def refusals(shim, kind="allocation"):
         yield at, *refusing(shim, kind, at)
 
 
-class Rehearsal:
-    """Tests of a program that plays scenes in memory, and prints what its crate has stored."""
-
-    def __init__(self, crate, program, folder):
-        self.program = program
-        self.folder = folder
-        self.shim = build_shim(folder)
-        with open(os.path.join(os.path.dirname(HERE), "crates", crate, "stdout")) as file:
-            self.wanted = file.read()
-
-
 def run_test(tests, name):
     """Runs one test, and gives what became of it, with a line that says so."""
     shown = name[5:].replace("_", " ")

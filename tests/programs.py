@@ -178,8 +178,8 @@ class Tests:
         expect(self.run(["--stdio"], b"LIST UPS\n"), (0, b"BEGIN LIST UPS\nEND LIST UPS\n", b""), "no UPS")
 
     def test_several_ups(self):
-        args = ["--stdio", "--ups", "b=x", "--ups", 'a.b_c-1=a "b" \\ # = c', "--ups", "empty="]
-        rows = b'UPS b "x"\nUPS a.b_c-1 "a \\"b\\" \\\\ \\# = c"\nUPS empty ""\n'
+        args = ["--stdio", "--ups", "b=x", "--ups", 'A.b_c-1=a "b" \\ # = ~c', "--ups", "empty="]
+        rows = b'UPS b "x"\nUPS A.b_c-1 "a \\"b\\" \\\\ \\# = ~c"\nUPS empty ""\n'
         found = self.run(args, b"LIST UPS\n")
         expect(found, (0, b"BEGIN LIST UPS\n" + rows + b"END LIST UPS\n", b""), "in the order given")
 
@@ -197,11 +197,16 @@ class Tests:
             (["--ups", "a=d", "--ups", "a=e"], "Repeated"),
             (["--ups", "a=\t"], "Unreadable"),
             (["--ups", "a=\u00e9"], "Unreadable"),
+            (["--ups", "a=\x7f"], "Unreadable"),
             # two faults: the first in the order of tests is named
             (["--ups", " " * 40], "BadForm"),
             (["--ups", "\u00e9" * 40 + "=\t"], "BadName"),
             (["--ups", "a" * 33 + "=\t"], "PastLimit"),
+            (["--ups", "!" + "a" * 32 + "=d"], "BadName"),
             ([*many, "--ups", "u1=d"], "PastLimit"),
+            ([*many, "--ups", "more=\t"], "PastLimit"),
+            ([*many, "--ups", "more!=d"], "BadName"),
+            ([*many, "--ups", "more"], "BadForm"),
             (["--ups", "a=d", "--ups", "a=\t"], "Repeated"),
             (["--ups", "a=\t", "--ups", "b"], "Unreadable"),
         ]

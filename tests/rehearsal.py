@@ -9,6 +9,7 @@ The schedules are made from fixed seeds, so that each run of this test plays the
 import array
 import contextlib
 import fcntl
+import itertools
 import os
 import random
 import re
@@ -19,22 +20,39 @@ import tempfile
 import termios
 import time
 
-from harness import Failed, build_shim, expect, refusals, run_tests
+from harness import Failed, ensure, expect, refusals, run_tests
 from model import Config
-from player import Player, escaped, line_of, write_conf
+from player import Player, conf_steps, escaped, line_of
 from rows import PROBE, ROWS
 from schedules import UPSES, USERS, ScheduleMaker, shifted
+from stage import Stage
 
 # how much more memory a schedule may take that is played ten times over: far less than a record of it
 GROWTH_MAX_KIB = 256
+# how many steps make a server
+HEAD = 4
+# a row of more steps repeats one request until a queue is full
+LONG_ROW = 200
 ERRORS = """ACCESS-DENIED UNKNOWN-UPS VAR-NOT-SUPPORTED CMD-NOT-SUPPORTED INVALID-ARGUMENT INSTCMD-FAILED SET-FAILED READONLY
     TOO-LONG INVALID-VALUE FEATURE-NOT-CONFIGURED DRIVER-NOT-CONNECTED DATA-STALE ALREADY-LOGGED-IN ALREADY-SET-PASSWORD
     ALREADY-SET-USERNAME USERNAME-REQUIRED PASSWORD-REQUIRED UNKNOWN-COMMAND""".split()
 REFUSALS = "NoSuchConnection NotConnected PieceTooLong Busy TooMuchTaken BadAddress Full".split()
 
 
+def places(piece):
+    """Where a piece can be cut within its lines."""
+    return [at for at in range(1, len(piece)) if piece[at - 1 : at] != b"\n"]
+
+
+def halves(step, place):
+    """A piece in two parts; what a client is answered to the first is taken."""
+    verb, peer, piece = step
+    took = [("take", peer)] if verb == "bytes" else []
+    return [(verb, peer, piece[:place]), *took, (verb, peer, piece[place:])]
+
+
 class Schedule:
-    """A schedule in its file, and what the program is to print of it."""
+    """A schedule in its file, behind the steps that make the server, and what the program is to print of it."""
 
     def __init__(self, path, config, steps):
         self.path = path
@@ -43,11 +61,11 @@ class Schedule:
         self.most_open = 0
         self.ends = [0]
         with open(path, "wb") as file:
-            for step in steps:
+            for step in itertools.chain(conf_steps(config), steps):
                 file.write(line_of(step))
                 self.ends.append(file.tell())
                 self.due.append(self.player.play(step))
-                self.most_open = max(self.most_open, len(self.player.server.connections))
+                self.most_open = max(self.most_open, len(self.player.model.connections))
 
     def line(self, number):
         with open(self.path, "rb") as file:
@@ -64,7 +82,7 @@ class Schedule:
 
 def answered(name, config, steps, out):
     """Compares a run in which the server answered one refusal of memory with a model to which it is told: so nothing
-    differs but what it says of one connection or driver. It gives the answer, if the program couldn't do without."""
+    differs but what it says of one connection or driver. It gives the answer, if there is one."""
     player = Player(config)
     told = None
     found = out.splitlines(keepends=True)
@@ -99,15 +117,15 @@ class Tests:
     def __init__(self, program, folder):
         self.program = program
         self.folder = folder
-        self.shim = build_shim(folder)
+        self.stage = Stage(program, folder)
+        self.shim = self.stage.shim
 
-    def run(self, conf, path, env=None):
+    def run(self, path, env=None):
         """Plays a schedule: the status, what is printed, what is said of a failure, and the greatest memory in KiB."""
         out_path, err_path = (os.path.join(self.folder, it) for it in ("out", "err"))
         with open(path, "rb") as schedule, open(out_path, "wb") as out, open(err_path, "wb") as err:
-            command = [self.program, "--conf", conf]
             streams = {"stdin": subprocess.PIPE, "stdout": out, "stderr": err}
-            process = subprocess.Popen(command, env={**os.environ, **(env or {})}, **streams)
+            process = subprocess.Popen([self.program], env={**os.environ, **(env or {})}, **streams)
             memory = 0
             # it may end before its schedule does
             with contextlib.suppress(BrokenPipeError):
@@ -123,16 +141,15 @@ class Tests:
     def refuse_in_turn(self, name, config, steps):
         """Plays a schedule with the first allocation refused, then with the second, and so on. It gives the refusals
         that were answered, and counts the runs that ended before their schedule."""
-        conf = os.path.join(self.folder, "conf")
-        write_conf(conf, config)
-        path = conf + ".schedule"
+        path = os.path.join(self.folder, "schedule")
+        steps = [*conf_steps(config), *steps]
         with open(path, "wb") as file:
             file.writelines(map(line_of, steps))
         player = Player(config)
         due = b"".join(player.play(step) for step in steps)
         told, ended = [], 0
         for at, env, is_reached in refusals(self.shim):
-            status, out, err, _ = self.run(conf, path, env)
+            status, out, err, _ = self.run(path, env)
             if not is_reached():
                 expect((status, out, err), (0, due, b""), f"{name}, without a refusal")
                 return told, ended
@@ -145,10 +162,8 @@ class Tests:
 
     def rehearse(self, config, steps):
         """Plays a schedule, and compares it with the model. It gives the schedule, and the memory taken."""
-        conf = os.path.join(self.folder, "conf")
-        write_conf(conf, config)
-        schedule = Schedule(conf + ".schedule", config, steps)
-        status, out, err, memory = self.run(conf, schedule.path)
+        schedule = Schedule(os.path.join(self.folder, "schedule"), config, steps)
+        status, out, err, memory = self.run(schedule.path)
         if (status, err) != (0, b""):
             raise Failed(f"status {status}: {err!r}, after {out.count(10)} lines")
         schedule.compare(out)
@@ -157,7 +172,7 @@ class Tests:
     def play_row(self, row):
         """Plays a worked row, and compares what is printed with the model, and both with the row's answers."""
         schedule, _ = self.rehearse(row.config, row.steps)
-        for step, printed, due in zip(row.steps, schedule.due, row.due):
+        for step, printed, due in zip(row.steps, schedule.due[HEAD:], row.due):
             if due is not None:
                 expect(printed, escaped(due) + b"\n", f"{row.name}: {step}")
 
@@ -172,7 +187,7 @@ class Tests:
         for it in [f"ERR {it}%0A" for it in ERRORS] + [f"\n{it} " for it in REFUSALS]:
             if it.encode() not in due:
                 raise Failed(f"{it!r} isn't in the schedule")
-        print(f"   {schedule.player.server.opened} connections, 256 at once, in {memory} KiB; {time.monotonic() - begun:.1f} s")
+        print(f"   {schedule.player.model.opened} connections, 256 at once, in {memory} KiB; {time.monotonic() - begun:.1f} s")
 
     def test_memory_does_not_grow(self):
         config = Config(UPSES, USERS)
@@ -198,21 +213,21 @@ class Tests:
             self.rehearse(config, ScheduleMaker(seed, config, forced=0.02).steps(6_000))
 
     def test_lines_that_are_no_steps(self):
-        conf, path = (os.path.join(self.folder, it) for it in ("conf", "conf.schedule"))
-        write_conf(conf, Config(UPSES, USERS))
-        for line in ("wait 5", "moment", "moment -1", "bytes x VER", "took 1", "took 1 x", "up 18446744073709551616"):
-            with open(path, "w") as file:
-                file.write(f"# a comment\n\nopen a\n{line}\nopen b\n")
-            status, out, err, _ = self.run(conf, path)
-            wanted = (1, b"# a comment\n\nok opened=1\n", b"rehearse: line 4 isn't a step\n")
+        path = os.path.join(self.folder, "schedule")
+        head = b"".join(map(line_of, conf_steps(Config(UPSES, USERS))))
+        for line in ("wait 5", "moment", "moment -1", "bytes x VER", "dummy link", "monitor moment 0", "link took", "watch", "carry 1", "took 1", "took 1 x", "up 18446744073709551616"):
+            with open(path, "wb") as file:
+                file.write(head + f"# a comment\n\nopen a\n{line}\nopen b\n".encode())
+            status, out, err, _ = self.run(path)
+            wanted = (1, b"ok\n" * HEAD + b"# a comment\n\nok opened=1\n", b"rehearse: line 8 isn't a step\n")
             expect((status, out, err), wanted, line)
 
     def test_endless_line(self):
         steps = [("open", b"a"), *[("bytes", 1, b"a" * 500)] * 4000, ("bytes", 1, b"\n"), ("take", 1)]
         schedule, _ = self.rehearse(Config(UPSES, USERS), steps)
         kept = [b"ok waits=0 kept=%d reads=true leaves=false\n" % it for it in [500] + [0] * 3999]
-        expect(schedule.due[1:4001], kept, "pieces of a line of 2,000,000 bytes")
-        expect(schedule.due[4002], b"ERR INVALID-ARGUMENT%0A\n", "the answer to it")
+        expect(schedule.due[HEAD + 1 : HEAD + 4001], kept, "pieces of a line of 2,000,000 bytes")
+        expect(schedule.due[HEAD + 4002], b"ERR INVALID-ARGUMENT%0A\n", "the answer to it")
 
     def test_bytes_without_sense(self):
         chance = random.Random(10)
@@ -229,6 +244,41 @@ class Tests:
     def test_worked_rows(self):
         for row in ROWS:
             self.play_row(row)
+
+    def test_worked_rows_cut_at_each_place(self):
+        """Wherever a line is cut, what comes of it and of all that follows is the same. What the first part is answered is
+        taken before the second comes. Rows that fill a queue have no lines of their own."""
+        cuts = 0
+        for row in ROWS:
+            if len(row.steps) > LONG_ROW:
+                continue
+            schedule, _ = self.rehearse(row.config, row.steps)
+            head, due = conf_steps(row.config), schedule.due[HEAD:]
+            script, wanted, seen = [], [], set()
+            for at, step in enumerate(row.steps):
+                if step in seen or step[0] not in ("bytes", "driver") or not due[at].startswith(b"ok"):
+                    continue
+                seen.add(step)
+                for place in places(step[2]):
+                    script += [*head, *row.steps[:at], *halves(step, place), *row.steps[at + 1 :]]
+                    wanted.append((at, step[0] == "bytes"))
+            lines = iter(self.stage.play(script))
+            for at, is_client in wanted:
+                self.compare_cut(row, due, at, [next(lines) for _ in range(HEAD + len(due) + 1 + is_client)][HEAD:], is_client)
+            cuts += len(wanted)
+        print(f"   {cuts} cuts")
+
+    def compare_cut(self, row, due, at, found, is_client):
+        """Compares a row whose step at this place came in two parts with the row as it is."""
+        what = f"{row.name}: {row.steps[at]}, cut"
+        expect(found[0 : at], [line.rstrip(b"\n") for line in due[:at]], what)
+        ensure(found[at].startswith(b"ok "), f"{what}: {found[at]!r}")
+        taken, behind = (found[at + 1], found[at + 2 :]) if is_client else (b"", found[at + 1 :])
+        later = [line.rstrip(b"\n") for line in due[at + 1 :]]
+        if taken and later and row.steps[at + 1][0] == "take":
+            expect(taken + behind[1], later[0], what)
+            behind[1], taken = later[0], b""
+        expect((taken, behind[1:]), (b"", later), what)
 
     def test_worked_rows_with_each_allocation_refused(self):
         answers = ends = 0

@@ -235,6 +235,76 @@ ROWS = [
         + [(("take", 1), err("DRIVER-NOT-CONNECTED") + b"\n")]
         + ask(1, b"GET UPSDESC su700", b'UPSDESC su700 "Server room"', b"LIST UPS", ROOMS),
     ),
+    Row(
+        "one who may do little",
+        live()
+        + OPEN
+        + ADMIN
+        + ask(
+            1,
+            *(b"USERNAME mon", err("ALREADY-SET-USERNAME"), b"PASSWORD m1", err("ALREADY-SET-PASSWORD")),
+            *(b"FSD su700", err("ACCESS-DENIED"), b"LOGIN su700", err("ACCESS-DENIED"), b"PRIMARY su700", err("ACCESS-DENIED")),
+        )
+        + GUEST
+        + ask(2, b"USERNAME mon", b"OK", b"PASSWORD m1", b"OK", b"PRIMARY su700", b"OK", SET_CHARGE, err("ACCESS-DENIED")),
+    ),
+    Row(
+        "a forced shutdown in lists",
+        live(b"SETFLAGS ups.status RW")
+        + OPEN
+        + MONITOR
+        + ask(1, b"FSD su700", b"OK FSD-SET", b"LIST VAR su700", listed(b"VAR su700", FORCED))
+        + ask(1, b"LIST RW su700", listed(b"RW su700", b'RW su700 ups.status "FSD OL"')),
+    ),
+    Row(
+        "commands",
+        live(b"ADDCMD load.off")
+        + OPEN
+        + ADMIN
+        + [(("driver-take", 0), b"DUMPALL\n")]
+        + ask(1, b"INSTCMD su700 load.off", b"OK", b"INSTCMD su700 load.on", err("CMD-NOT-SUPPORTED"))
+        + [(("driver-take", 0), b"INSTCMD load.off\n")]
+        + ask(1, b"LIST CMD su700", listed(b"CMD su700", b"CMD su700 load.off"))
+        + ask(1, b"GET CMDDESC su700 load.off", b'CMDDESC su700 load.off "Turn off the load"'),
+    ),
+    Row(
+        "a driver that answers a PING, and one whose data is stale",
+        live()
+        + OPEN
+        + [("moment", 15), *told(b"PONG"), ("moment", 30)]
+        + ask(1, STATUS, ONLINE)
+        + [("moment", 31), ("moment", 0)]
+        + ask(1, STATUS, err("DATA-STALE"))
+        + told(b"DATAOK")
+        + ask(1, STATUS, ONLINE)
+        + told(b"DATASTALE")
+        + ask(1, STATUS, err("DATA-STALE"))
+        + [("down", 0), (("driver", 0, b"DATAOK\n"), b"NotConnected waits=0 connected=false")]
+        + ask(1, STATUS, err("DRIVER-NOT-CONNECTED")),
+    ),
+    Row(
+        "addresses, and numbers that nobody has",
+        [(("open", b"a b"), b"BadAddress opened=0"), (("open", b""), b"BadAddress opened=0")]
+        + [(("open", b"a"), b"ok opened=1"), (("open", b"b"), b"ok opened=2"), (("open", b"c"), b"Full opened=2")]
+        + [(("close", 1), b"ok waits=0 kept=0 reads=false leaves=false")]
+        + [(("close", 1), b"NoSuchConnection waits=0 kept=0 reads=false leaves=false")]
+        + [(("bytes", 1, b"VER\n"), b"NoSuchConnection waits=0 kept=0 reads=false leaves=false")]
+        + [(("up", 1), b"NotConnected waits=0 connected=false"), (("open", b"c"), b"ok opened=3")],
+        config=Config(UPS, USERS, max_conn=2),
+    ),
+    # 8 bytes of DUMPALL, 239 times 17, and 10: to a setting of 16 bytes one is lacking, and one of 15 fits
+    Row(
+        "4,096 bytes to the byte",
+        live(*ID, b"ADDCMD k")
+        + OPEN
+        + ADMIN
+        + ask(1, SET_ID, b"OK") * 239
+        + ask(1, b"INSTCMD su700 k", b"OK")
+        + ask(1, b'SET VAR su700 ups.id "ab"', err("SET-FAILED"), b'SET VAR su700 ups.id "a"', b"OK")
+        + ask(1, b'SET VAR su700 ups.id "a"', err("SET-FAILED"), b"INSTCMD su700 k", err("INSTCMD-FAILED"))
+        + [(("driver-took", 0, 4097), b"TooMuchTaken waits=4096 connected=true")]
+        + [(("driver-took", 0, 4096), b"ok waits=0 connected=true")],
+    ),
     Row("no UPS", OPEN + ask(1, b"LIST UPS", listed(b"UPS")), config=Config([], {})),
     Row(
         "an answer that isn't taken",

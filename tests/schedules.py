@@ -38,7 +38,7 @@ class ScheduleMaker:
         self.random = random.Random(seed)
         self.config = config
         self.player = Player(config)
-        self.server = self.player.server
+        self.server = self.player.model
         self.forced = forced
         # what connections and drivers are still to send
         self.said = {}

@@ -35,6 +35,3 @@ pub use nut_serve::{
 pub use nut_sockets::{Driver, LossyLines, MioWorld, Report, Reports};
 pub use stdio::run_stdio;
 pub use ups_option::{add_ups_option, read_ups_options};
-
-#[cfg(test)]
-mod tests;

@@ -55,6 +55,3 @@ pub use upsc::{run_upsc, upsc_target};
 pub use upscmd::{run_upscmd, upscmd_target};
 pub use upsrw::{run_upsrw, upsrw_target};
 pub use wanted::{Deed, Wanted};
-
-#[cfg(test)]
-mod tests;

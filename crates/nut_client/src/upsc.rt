@@ -101,36 +101,32 @@ fn wanted_by<'a>(
 fn command<'a>(alloc: Global) -> Result<Command<'a>, AllocError>
     ensures { IfOk result (λ c. app_of c ≡ upsc_tool) }
 {
-    let names = flag(
-        alloc,
-        "names",
-        'l',
-        "List the names of the server's UPSes; NAME is then HOST[:PORT], and may be left out",
-    );
-    let descriptions = flag(
-        alloc,
-        "descriptions",
-        'L',
-        "List the server's UPSes with their descriptions; NAME is then HOST[:PORT], and may be left out",
-    );
-    let clients = flag(
-        alloc,
-        "clients",
-        'c',
-        "List the addresses of the clients that are logged in to the UPS",
-    );
-    let variable = argument(
-        alloc,
-        "variable",
-        "VAR",
-        "The variable whose value is shown; without it all variables are",
-    );
     Command::new(alloc, "upsc")
         .version("profile 1.2")
         .about("Shows the variables of a UPS, or the UPSes of a server")
-        .arg(names)?
-        .arg(descriptions)?
-        .arg(clients)?
+        .arg(flag(
+            alloc,
+            "names",
+            'l',
+            "List the names of the server's UPSes; NAME is then HOST[:PORT], and may be left out",
+        ))?
+        .arg(flag(
+            alloc,
+            "descriptions",
+            'L',
+            "List the server's UPSes with their descriptions; NAME is then HOST[:PORT], and may be left out",
+        ))?
+        .arg(flag(
+            alloc,
+            "clients",
+            'c',
+            "List the addresses of the clients that are logged in to the UPS",
+        ))?
         .arg(name_argument(alloc))?
-        .arg(variable)
+        .arg(argument(
+            alloc,
+            "variable",
+            "VAR",
+            "The variable whose value is shown; without it all variables are",
+        ))
 }

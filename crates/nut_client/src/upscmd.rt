@@ -95,24 +95,22 @@ fn wanted_by<'a>(
 fn command<'a>(alloc: Global) -> Result<Command<'a>, AllocError>
     ensures { IfOk result (λ c. app_of c ≡ upscmd_tool) }
 {
-    let list = flag(
-        alloc,
-        "list",
-        'l',
-        "List the commands of the UPS with their descriptions",
-    );
-    let command = argument(
-        alloc,
-        "command",
-        "CMD",
-        "The command that the UPS is to do; needs -u and -p",
-    );
     Command::new(alloc, "upscmd")
         .version("profile 1.2")
         .about("Lists the commands of a UPS, or has it do one")
-        .arg(list)?
+        .arg(flag(
+            alloc,
+            "list",
+            'l',
+            "List the commands of the UPS with their descriptions",
+        ))?
         .arg(user_argument(alloc))?
         .arg(password_argument(alloc))?
         .arg(name_argument(alloc))?
-        .arg(command)
+        .arg(argument(
+            alloc,
+            "command",
+            "CMD",
+            "The command that the UPS is to do; needs -u and -p",
+        ))
 }

@@ -94,17 +94,16 @@ fn wanted_by<'a>(
 fn command<'a>(alloc: Global) -> Result<Command<'a>, AllocError>
     ensures { IfOk result (λ c. app_of c ≡ upsrw_tool) }
 {
-    let setting = valued(
-        alloc,
-        "setting",
-        's',
-        "VAR=VALUE",
-        "Set the variable VAR to VALUE, parted at the first '='; needs -u and -p",
-    );
     Command::new(alloc, "upsrw")
         .version("profile 1.2")
         .about("Shows the variables of a UPS that may be set, or sets one")
-        .arg(setting)?
+        .arg(valued(
+            alloc,
+            "setting",
+            's',
+            "VAR=VALUE",
+            "Set the variable VAR to VALUE, parted at the first '='; needs -u and -p",
+        ))?
         .arg(user_argument(alloc))?
         .arg(password_argument(alloc))?
         .arg(name_argument(alloc))

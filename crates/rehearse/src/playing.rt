@@ -2,16 +2,13 @@
 
 ghost use Rattle.std.specs.Prelude.{◌≤◌, IfOk};
 
-use crate::step::{Peer, Step};
+use crate::server::{Peer, Step};
+use crate::text::put;
 use nut_server::{Arrival, Server};
-use percent_encoding::{AsciiSet, CONTROLS, ascii_set, percent_encode};
 use std::io;
 use std::io::Write;
 
-/// What stands as `%XX` where it is printed, beside the bytes past ASCII.
-const ESCAPED: AsciiSet = ascii_set!(CONTROLS.add(b'%'));
-
-/// Plays a step, and writes a line on how it was answered.
+/// Plays a step, and writes how it was answered.
 pub fn play<W: Write>(step: Step<'_>, server: &mut Server, out: &mut W) -> io::Result<()> {
     match step {
         Step::Tell(arrival) => tell(arrival, server, out)?,
@@ -25,7 +22,7 @@ pub fn play<W: Write>(step: Step<'_>, server: &mut Server, out: &mut W) -> io::R
             None => write!(out, "none")?,
         },
     }
-    writeln!(out)
+    Ok(())
 }
 
 /// Tells the server an arrival, and writes its answer and what then waits where the arrival came from.
@@ -94,7 +91,7 @@ fn take_front<W: Write>(
     if taken == 0 {
         return Ok(0);
     }
-    write!(out, "{}", percent_encode(&front[..taken], ESCAPED))?;
+    put(&front[..taken], out)?;
     let arrival = match peer {
         Peer::Connection(c) => Arrival::Took(c, taken),
         Peer::Driver(u) => Arrival::DriverTook(u, taken),

@@ -1,9 +1,7 @@
-//! Tests of the server, and of the loop that serves it over a world.
+//! Tests of the loop that serves a server over a world.
 //!
 //! They stand in a crate of their own, since a crate that has tests is proved twice, with them and without.
 #![tactic(auto)]
 
 #[cfg(test)]
 mod serve;
-#[cfg(test)]
-mod server;

@@ -4,12 +4,12 @@ ghost use Rattle.std.specs.Prelude.{◌≡◌, ◌&&◌, nat_eq, None, [], IfOk}
 ghost use Rattle.nut_history.specs.Content.{content};
 
 use super::{ROWS, ROWS_ANSWERED};
-use nut_conf::{UpsConf, UsersConf, read_upsd};
+use nut_conf::{UpsConf, UsersConf, read_ups, read_upsd};
 use nut_serve::{
     Address, Fault, Given, MemoryWorld, Next, Note, Piece, World, Written, serve, serve_memory,
 };
 use nut_server::{Config, Server};
-use std::alloc::Global;
+use std::alloc::{AllocError, Global};
 use std::sync::Wait;
 use std::test::Fail;
 
@@ -17,13 +17,29 @@ use std::test::Fail;
 fn fresh_server(alloc: Global) -> Result<Server, Fail>
     ensures { IfOk result (λ s. s ≡ content s.configuration []) }
 {
-    let mut ups = UpsConf::new(alloc);
-    ups.add(b"su700", b"Server room")?;
-    let upsd = read_upsd(alloc, b"MAXCONN 2")?;
-    let config = Config::new(ups, UsersConf::new(alloc), upsd);
+    let config = fresh_config(alloc)?;
     let server = Server::new(alloc, config)?;
     Ok(server)
 }
+
+fn fresh_config(alloc: Global) -> Result<Config, Fail> {
+    let ups = read_ups(alloc, b"[su700]\ndesc = \"Server room\"\n")?;
+    match read_upsd(alloc, b"MAXCONN 2") {
+        Ok(upsd) => Ok(Config::new(ups, UsersConf::new(alloc), upsd)),
+        Err(fault) => {
+            let_conf_go(ups);
+            Err(fault.into())
+        }
+    }
+}
+
+// What is large is let go in functions of their own, which costs the check much less than where much else is done.
+
+fn let_conf_go(_ups: UpsConf) {}
+
+fn let_server_go(_server: Server) {}
+
+fn let_go(_server: Server, _world: MemoryWorld) {}
 
 fn address(text: &[u8]) -> Address {
     let mut address = Address::new();
@@ -70,24 +86,44 @@ struct Deeds {
     closes: usize,
 }
 
-fn deeds_of(alloc: Global, notes: &[Note], c: u64, u: usize) -> Result<Deeds, Fail> {
+fn deeds_of(
+    alloc: Global,
+    is_served: bool,
+    notes: &[Note],
+    c: u64,
+    u: usize,
+) -> Result<Deeds, Fail> {
+    if !is_served {
+        return Err(AllocError.into());
+    }
     let mut deeds = Deeds {
         replies: Vec::new(alloc),
         requests: Vec::new(alloc),
         closes: 0,
     };
     for note in notes {
-        match note {
-            Note::Took(d, part) if *d == c => deeds.replies.extend_from_slice(part.as_slice())?,
-            Note::TookRequests(v, part) if *v == u => {
-                deeds.requests.extend_from_slice(part.as_slice())?
-            }
-            Note::Gave(Given::DriverUp(v)) if *v == u => deeds.requests.clear(),
-            Note::Closed(_) | Note::ClosedDriver(_) => deeds.closes = deeds.closes.wrapping_add(1),
-            Note::Gave(_) | Note::Took(_, _) | Note::TookRequests(_, _) => {}
-        }
+        add_note(&mut deeds, note, c, u)?;
     }
     Ok(deeds)
+}
+
+/// Counts one thing that the world did.
+fn add_note(deeds: &mut Deeds, note: &Note, c: u64, u: usize) -> Result<(), AllocError> {
+    match note {
+        Note::Took(d, part) if *d == c => deeds.replies.extend_from_slice(part.as_slice()),
+        Note::TookRequests(v, part) if *v == u => {
+            deeds.requests.extend_from_slice(part.as_slice())
+        }
+        Note::Gave(Given::DriverUp(v)) if *v == u => {
+            deeds.requests.clear();
+            Ok(())
+        }
+        Note::Closed(_) | Note::ClosedDriver(_) => {
+            deeds.closes = deeds.closes.wrapping_add(1);
+            Ok(())
+        }
+        Note::Gave(_) | Note::Took(_, _) | Note::TookRequests(_, _) => Ok(()),
+    }
 }
 
 /// What is done where these arrivals are served, of the connection c and the driver u.
@@ -98,14 +134,41 @@ fn serve_rows(
     c: u64,
     u: usize,
 ) -> Result<Deeds, Fail> {
+    let server = fresh_server(alloc)?;
+    match arrivals_of(alloc, rows) {
+        Ok(arrivals) => serve_all(rt, alloc, server, arrivals, c, u),
+        Err(fail) => {
+            let_server_go(server);
+            Err(fail)
+        }
+    }
+}
+
+fn arrivals_of(alloc: Global, rows: &[Row<'_>]) -> Result<Vec<Given>, Fail> {
     let mut arrivals = Vec::new(alloc);
     for row in rows {
         arrivals.push(given(*row))?;
     }
-    let mut server = fresh_server(alloc)?;
+    Ok(arrivals)
+}
+
+/// Serves these arrivals, and gives what is done.
+fn serve_all(
+    rt: &impl Wait,
+    alloc: Global,
+    server: Server,
+    arrivals: Vec<Given>,
+    c: u64,
+    u: usize,
+) -> Result<Deeds, Fail>
+    requires { server ≡ content server.configuration [] }
+{
+    let mut server = server;
     let mut world = MemoryWorld::new(alloc, arrivals);
-    serve_memory(rt, &mut server, &mut world)?;
-    deeds_of(alloc, world.notes(), c, u)
+    let is_served = serve_memory(rt, &mut server, &mut world).is_ok();
+    let deeds = deeds_of(alloc, is_served, world.notes(), c, u);
+    let_go(server, world);
+    deeds
 }
 
 /// Whether the first connection is answered so, and this is asked of the driver of the first UPS, and so much is closed.
@@ -398,74 +461,87 @@ impl World for Odd {
 }
 
 /// What a fresh server and an odd world have come to.
-#[derive(Drop)]
-struct Odds {
+#[derive(Clone, Copy, PartialEq, Eq)]
+struct Outcome {
     is_ok: bool,
-    server: Server,
-    world: Odd,
+    /// How many bytes were taken of the first client, the second, and the driver.
+    took: (usize, usize, usize),
+    /// Whether these are the first of those that were due.
+    is_front: bool,
+    /// How many bytes still wait for the first client, and the driver.
+    waits: (usize, usize),
+    /// How many connections and links were closed.
+    closed: (usize, usize),
+    faults: u64,
 }
 
-fn serve_odd(rt: &impl Wait, alloc: Global, mode: Mode) -> Result<Odds, Fail> {
+fn serve_odd(rt: &impl Wait, alloc: Global, mode: Mode) -> Result<Outcome, Fail> {
     let mut server = fresh_server(alloc)?;
     let mut world = make_odd(mode);
     let is_ok = serve(rt, &mut server, &mut world).is_ok();
-    Ok(Odds {
-        is_ok,
-        server,
-        world,
-    })
+    let waits = (server.waits(1), server.waits_for_driver(0));
+    let_server_go(server);
+    Ok(outcome_of(is_ok, waits, &world))
 }
 
-impl Odds {
-    /// Whether so many bytes were taken of the first client, the second and the driver, and they are the first of
-    /// those that were due.
-    fn took(&self, first: usize, second: usize, requests: usize) -> bool {
-        let took = &self.world.took;
-        took[0].len() == first
-            && FIRST_ANSWERED.starts_with(took[0].as_slice())
-            && took[1].len() == second
-            && SECOND_ANSWERED.starts_with(took[1].as_slice())
-            && self.world.requests.len() == requests
-            && ASKED.starts_with(self.world.requests.as_slice())
+fn outcome_of(is_ok: bool, waits: (usize, usize), world: &Odd) -> Outcome {
+    let took = &world.took;
+    let is_front = FIRST_ANSWERED.starts_with(took[0].as_slice())
+        && SECOND_ANSWERED.starts_with(took[1].as_slice())
+        && ASKED.starts_with(world.requests.as_slice());
+    Outcome {
+        is_ok,
+        took: (took[0].len(), took[1].len(), world.requests.len()),
+        is_front,
+        waits,
+        closed: (world.closed, world.closed_drivers),
+        faults: world.faults,
     }
+}
 
-    /// Whether so many connections and links were closed.
-    fn closed(&self, connections: usize, drivers: usize) -> bool {
-        self.world.closed == connections && self.world.closed_drivers == drivers
+/// The outcome where so many bytes are taken and wait, so much is closed, and nothing is a fault.
+fn served(took: (usize, usize, usize), waits: (usize, usize), closed: (usize, usize)) -> Outcome {
+    Outcome {
+        is_ok: true,
+        took,
+        is_front: true,
+        waits,
+        closed,
+        faults: 0,
     }
 }
 
 #[test]
 fn one_byte_at_a_time(rt: HostRuntime) -> Result<(), Fail> {
     for mode in [Mode::Whole, Mode::OneByte] {
-        let odds = serve_odd(&rt, rt.alloc(), mode)?;
-        assert!(rt; odds.is_ok && odds.took(55, 46, 8) && odds.closed(1, 0));
+        let outcome = serve_odd(&rt, rt.alloc(), mode)?;
+        assert!(rt; outcome == served((55, 46, 8), (0, 0), (1, 0)));
     }
     Ok(())
 }
 
 #[test]
 fn late_for_good(rt: HostRuntime) -> Result<(), Fail> {
-    let odds = serve_odd(&rt, rt.alloc(), Mode::LaterForever)?;
-    assert!(rt; odds.is_ok && odds.took(0, 46, 8) && odds.closed(1, 0));
-    assert_eq!(rt; odds.server.waits(1), FIRST_ANSWERED.len());
-    let odds = serve_odd(&rt, rt.alloc(), Mode::DriverLaterForever)?;
-    assert!(rt; odds.is_ok && odds.took(55, 46, 0) && odds.closed(1, 0));
-    assert_eq!(rt; odds.server.waits_for_driver(0), ASKED.len());
+    let late = serve_odd(&rt, rt.alloc(), Mode::LaterForever)?;
+    assert!(rt; late == served((0, 46, 8), (FIRST_ANSWERED.len(), 0), (1, 0)));
+    let driver = serve_odd(&rt, rt.alloc(), Mode::DriverLaterForever)?;
+    assert!(rt; driver == served((55, 46, 0), (0, ASKED.len()), (1, 0)));
     Ok(())
 }
 
 #[test]
 fn a_write_fails(rt: HostRuntime) -> Result<(), Fail> {
     for at in 1..60 {
-        let odds = serve_odd(&rt, rt.alloc(), Mode::FailsAt(at))?;
+        let outcome = serve_odd(&rt, rt.alloc(), Mode::FailsAt(at))?;
         let (taken, closes) = if at <= 55 {
             (at as usize - 1, 2)
         } else {
             (55, 1)
         };
-        assert!(rt; odds.is_ok && odds.took(taken, 46, 8) && odds.closed(closes, 0));
-        assert_eq!(rt; odds.server.waits(1), 0);
+        assert!(rt;
+            outcome == served((taken, 46, 8), (0, 0), (closes, 0)),
+            "write {at}"
+        );
     }
     Ok(())
 }
@@ -473,40 +549,48 @@ fn a_write_fails(rt: HostRuntime) -> Result<(), Fail> {
 #[test]
 fn a_write_to_a_driver_fails(rt: HostRuntime) -> Result<(), Fail> {
     for at in 1..12 {
-        let odds = serve_odd(&rt, rt.alloc(), Mode::DriverFailsAt(at))?;
+        let outcome = serve_odd(&rt, rt.alloc(), Mode::DriverFailsAt(at))?;
         let (taken, closes) = if at <= 8 {
             (at as usize - 1, 1)
         } else {
             (8, 0)
         };
-        assert!(rt; odds.is_ok && odds.took(55, 46, taken) && odds.closed(1, closes));
-        assert_eq!(rt; odds.server.waits_for_driver(0), 0);
+        assert!(rt;
+            outcome == served((55, 46, taken), (0, 0), (1, closes)),
+            "byte {at}"
+        );
     }
     Ok(())
+}
+
+/// Whether one fault ended the loop, with so many bytes taken.
+fn broke(outcome: Outcome, took: (usize, usize, usize)) -> bool {
+    !outcome.is_ok && outcome.faults == 1 && outcome.is_front && outcome.took == took
 }
 
 #[test]
 fn a_write_is_a_fault(rt: HostRuntime) -> Result<(), Fail> {
     for at in 1..56 {
-        let odds = serve_odd(&rt, rt.alloc(), Mode::FaultAtWrite(at))?;
-        assert!(rt; !odds.is_ok && odds.took(at as usize - 1, 0, 8) && odds.closed(0, 0));
-        assert_eq!(rt; odds.world.faults(), 1);
+        let outcome = serve_odd(&rt, rt.alloc(), Mode::FaultAtWrite(at))?;
+        assert!(rt;
+            broke(outcome, (at as usize - 1, 0, 8)) && outcome.closed == (0, 0),
+            "write {at}"
+        );
     }
     Ok(())
 }
 
 #[test]
 fn a_read_is_a_fault(rt: HostRuntime) -> Result<(), Fail> {
-    for (at, first, second, requests) in [
-        (1, 0, 0, 0),
-        (3, 0, 0, 0),
-        (4, 0, 0, 8),
-        (5, 55, 0, 8),
-        (6, 55, 46, 8),
+    for (at, took) in [
+        (1, (0, 0, 0)),
+        (3, (0, 0, 0)),
+        (4, (0, 0, 8)),
+        (5, (55, 0, 8)),
+        (6, (55, 46, 8)),
     ] {
-        let odds = serve_odd(&rt, rt.alloc(), Mode::FaultAtNext(at))?;
-        assert!(rt; !odds.is_ok && odds.took(first, second, requests));
-        assert_eq!(rt; odds.world.faults(), 1);
+        let outcome = serve_odd(&rt, rt.alloc(), Mode::FaultAtNext(at))?;
+        assert!(rt; broke(outcome, took), "call {at}");
     }
     Ok(())
 }

@@ -1,0 +1,85 @@
+//! Bytes between a server and the driver of its first UPS.
+
+use nut_dummy::{Dummy, DummyFault};
+use nut_server::{Arrival, Refused, Server};
+use std::io;
+use std::io::Write;
+
+/// How many pieces go at most.
+const MOST_PIECES: usize = 100_000;
+
+/// What became of a piece.
+#[derive(Clone, Copy)]
+enum Carried {
+    /// It was taken.
+    Piece,
+    /// None waited.
+    Nothing,
+    /// The server refused it.
+    RefusedBy(Refused),
+    /// The driver refused it.
+    RefusedByDriver(DummyFault),
+}
+
+/// The first bytes of these, at most so many.
+fn front(bytes: &[u8], most: usize) -> &[u8] {
+    &bytes[..bytes.len().min(most)]
+}
+
+/// Moves a piece of what the driver tells.
+fn carry_told(server: &mut Server, dummy: &mut Dummy, size: usize) -> Carried {
+    let told = front(dummy.waiting(), size);
+    if told.is_empty() {
+        return Carried::Nothing;
+    }
+    let taken = told.len();
+    if let Err(refused) = server.arrive(Arrival::DriverBytes(0, told)) {
+        return Carried::RefusedBy(refused);
+    }
+    match dummy.took(taken) {
+        Ok(()) => Carried::Piece,
+        Err(fault) => Carried::RefusedByDriver(fault),
+    }
+}
+
+/// Moves a piece of what the driver is asked.
+fn carry_asked(server: &mut Server, dummy: &mut Dummy, size: usize) -> Carried {
+    let asked = front(server.waiting_for_driver(0), size);
+    if asked.is_empty() {
+        return Carried::Nothing;
+    }
+    let taken = asked.len();
+    if let Err(fault) = dummy.server_bytes(asked) {
+        return Carried::RefusedByDriver(fault);
+    }
+    match server.arrive(Arrival::DriverTook(0, taken)) {
+        Ok(()) => Carried::Piece,
+        Err(refused) => Carried::RefusedBy(refused),
+    }
+}
+
+/// Moves a piece, the driver's first.
+fn carry_piece(server: &mut Server, dummy: &mut Dummy, size: usize) -> Carried {
+    match carry_told(server, dummy, size) {
+        Carried::Nothing => carry_asked(server, dummy, size),
+        carried => carried,
+    }
+}
+
+/// Moves pieces until none waits or one is refused, and writes which.
+pub fn carry<W: Write>(
+    server: &mut Server,
+    dummy: &mut Dummy,
+    size: usize,
+    out: &mut W,
+) -> io::Result<()> {
+    for _ in 0..MOST_PIECES {
+        match carry_piece(server, dummy, size) {
+            Carried::Piece => {}
+            Carried::Nothing => return write!(out, "ok"),
+            Carried::RefusedBy(refused) => return write!(out, "server {refused:?}"),
+            Carried::RefusedByDriver(fault) => return write!(out, "driver {fault:?}"),
+        }
+    }
+    write!(out, "pieces without end")
+}

@@ -1,0 +1,163 @@
+//! Steps of a dummy driver.
+//!
+//! ```text
+//! dummy dev TEXT       a new driver that tells this script once, from moment 0 on
+//! dummy seq TEXT       one that goes round in it
+//! dummy link           a new link
+//! dummy moment T       it is T seconds since the start
+//! dummy bytes TEXT     a piece of the bytes that the server sends
+//! dummy took N         the server took N of the bytes that wait for it
+//! dummy take           the server takes all that waits for it, which is printed
+//! dummy table          which variables have a value?
+//! ```
+//!
+//! A call is answered by `ok` or its fault, and how many bytes wait then.
+
+use crate::failure::Failure;
+use crate::played::Played;
+use crate::text::{decode, parted, put};
+use nut_dummy::{Dummy, DummyFault, Script, ScriptFaultKind, ScriptKind};
+use std::alloc::Global;
+use std::io;
+use std::io::Write;
+
+/// Plays a step on a driver, and writes how it was answered.
+pub fn play<W: Write>(
+    alloc: Global,
+    dummy: &mut Option<Dummy>,
+    text: &str,
+    piece: &mut Vec<u8>,
+    out: &mut W,
+) -> Result<Played, Failure> {
+    let (verb, rest) = parted(text);
+    decode(rest, piece)?;
+    let played = match verb {
+        "dev" => begin(alloc, ScriptKind::Dev, piece, dummy, out)?,
+        "seq" => begin(alloc, ScriptKind::Seq, piece, dummy, out)?,
+        _ => match dummy.as_mut() {
+            Some(dummy) => play_on(dummy, verb, rest, piece, out)?,
+            None => Played::Nothing,
+        },
+    };
+    Ok(played)
+}
+
+/// Makes a driver, which takes the place of the driver, and writes why none was made.
+fn begin<W: Write>(
+    alloc: Global,
+    kind: ScriptKind,
+    script: &[u8],
+    dummy: &mut Option<Dummy>,
+    out: &mut W,
+) -> io::Result<Played> {
+    match Script::read(alloc, kind, script) {
+        Ok(script) => put_driver(Dummy::new(alloc, script, 0), dummy, out),
+        Err(fault) => {
+            write!(out, "{fault}")?;
+            Ok(Played::with_lack(fault.kind == ScriptFaultKind::Memory))
+        }
+    }
+}
+
+/// Puts a new driver in the place of the driver, or writes why there is none.
+fn put_driver<W: Write>(
+    made: Result<Dummy, DummyFault>,
+    dummy: &mut Option<Dummy>,
+    out: &mut W,
+) -> io::Result<Played> {
+    match made {
+        Ok(made) => {
+            put_in(made, dummy);
+            write!(out, "ok")?;
+            Ok(Played::Step)
+        }
+        Err(fault) => {
+            write!(out, "{fault:?}")?;
+            Ok(Played::with_lack(matches!(fault, DummyFault::Memory(_))))
+        }
+    }
+}
+
+fn put_in(made: Dummy, dummy: &mut Option<Dummy>) {
+    *dummy = Some(made);
+}
+
+/// Plays a step on a driver that is there.
+fn play_on<W: Write>(
+    dummy: &mut Dummy,
+    verb: &str,
+    rest: &str,
+    piece: &[u8],
+    out: &mut W,
+) -> io::Result<Played> {
+    match verb {
+        "take" => take(dummy, out)?,
+        "table" => show_table(dummy, out)?,
+        _ => {
+            return match call(dummy, verb, rest, piece) {
+                Some(answer) => show_answer(answer, dummy.waits(), out),
+                None => Ok(Played::Nothing),
+            };
+        }
+    }
+    Ok(Played::Step)
+}
+
+/// Makes the call that a verb names, if it names one.
+fn call(
+    dummy: &mut Dummy,
+    verb: &str,
+    number: &str,
+    piece: &[u8],
+) -> Option<Result<(), DummyFault>> {
+    match verb {
+        "link" => {
+            dummy.linked();
+            Some(Ok(()))
+        }
+        "moment" => Some(dummy.moment(number.parse().ok()?)),
+        "bytes" => Some(dummy.server_bytes(piece)),
+        "took" => Some(dummy.took(number.parse().ok()?)),
+        _ => None,
+    }
+}
+
+fn show_answer<W: Write>(
+    answer: Result<(), DummyFault>,
+    waits: usize,
+    out: &mut W,
+) -> io::Result<Played> {
+    match answer {
+        Ok(()) => write!(out, "ok waits={waits}")?,
+        Err(fault) => write!(out, "{fault:?} waits={waits}")?,
+    }
+    Ok(Played::with_lack(matches!(answer, Err(DummyFault::Memory(_)))))
+}
+
+/// Writes all that waits, which is then taken.
+fn take<W: Write>(dummy: &mut Dummy, out: &mut W) -> io::Result<()> {
+    for _ in 0..dummy.waits() {
+        let told = dummy.waiting();
+        put(told, out)?;
+        let taken = told.len();
+        if dummy.took(taken).is_err() {
+            break;
+        }
+    }
+    Ok(())
+}
+
+/// Writes each variable that has a value, with its value.
+fn show_table<W: Write>(dummy: &Dummy, out: &mut W) -> io::Result<()> {
+    write!(out, "=")?;
+    for variable in dummy.table() {
+        if let Some(value) = variable.value() {
+            write!(out, " ")?;
+            put(variable.name(), out)?;
+            write!(out, " \"")?;
+            put(value, out)?;
+            write!(out, "\"")?;
+        }
+    }
+    Ok(())
+}

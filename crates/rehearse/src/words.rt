@@ -1,0 +1,80 @@
+//! Steps of lines and words.
+//!
+//! ```text
+//! words split TEXT     which words does this line spell?
+//! words feed TEXT      a piece of a stream: which lines does it complete, and how much is kept of the unfinished one?
+//! words new            a new stream
+//! ```
+//!
+//! Each word has a `|` behind it, each line stands in brackets, and one that is too long is `[!]`.
+
+use crate::failure::Failure;
+use crate::played::Played;
+use crate::text::{decode, parted, put};
+use nut_words::{Line, LineCutter, WordFault, Words, split};
+use std::alloc::Global;
+use std::io;
+use std::io::Write;
+
+/// Plays a step on a stream or a line, and writes how it was answered.
+pub fn play<W: Write>(
+    alloc: Global,
+    cutter: &mut LineCutter,
+    text: &str,
+    piece: &mut Vec<u8>,
+    out: &mut W,
+) -> Result<Played, Failure> {
+    let (verb, rest) = parted(text);
+    decode(rest, piece)?;
+    match verb {
+        "split" => return Ok(show_split(alloc, piece, out)?),
+        "feed" => feed(cutter, piece, out)?,
+        "new" => {
+            *cutter = LineCutter::new();
+            write!(out, "ok")?;
+        }
+        _ => return Ok(Played::Nothing),
+    }
+    Ok(Played::Step)
+}
+
+/// Splits a line, and writes its words or its fault.
+fn show_split<W: Write>(alloc: Global, line: &[u8], out: &mut W) -> io::Result<Played> {
+    match split(alloc, line) {
+        Ok(words) => show_words(&words, out),
+        Err(fault) => {
+            write!(out, "{fault:?}")?;
+            Ok(Played::with_lack(fault == WordFault::Memory))
+        }
+    }
+}
+
+fn show_words<W: Write>(words: &Words<'_>, out: &mut W) -> io::Result<Played> {
+    for index in 0..words.len() {
+        put(words.get(index), out)?;
+        write!(out, "|")?;
+    }
+    Ok(Played::Step)
+}
+
+/// Feeds a piece to its end, and writes its lines.
+fn feed<W: Write>(cutter: &mut LineCutter, piece: &[u8], out: &mut W) -> io::Result<()> {
+    let mut left = piece;
+    for _ in 0..piece.len() {
+        let (line, used) = cutter.feed(left);
+        match line {
+            Some(Line::Text(text)) => show_line(text, out)?,
+            Some(Line::TooLong) => write!(out, "[!]")?,
+            None => break,
+        }
+        left = &left[used..];
+    }
+    let kept = cutter.kept();
+    write!(out, " kept={kept}")
+}
+
+fn show_line<W: Write>(line: &[u8], out: &mut W) -> io::Result<()> {
+    write!(out, "[")?;
+    put(line, out)?;
+    write!(out, "]")
+}

@@ -1,0 +1,281 @@
+"""Worked scenes of a dummy driver: a script, what the driver is told, what it tells then, and which values change."""
+
+# what is told of a writable variable behind its value
+LIMITS = {
+    "battery.charge.low": ["SETFLAGS battery.charge.low RW NUMBER", "ADDRANGE battery.charge.low 0 100"],
+    "input.sensitivity": ["SETFLAGS input.sensitivity RW STRING", "SETAUX input.sensitivity 8"]
+    + [f'ADDENUM input.sensitivity "{it}"' for it in ("low", "medium", "high")],
+    "ups.delay.shutdown": ["SETFLAGS ups.delay.shutdown RW NUMBER", "ADDRANGE ups.delay.shutdown 0 600"],
+    "ups.id": ["SETFLAGS ups.id RW STRING", "SETAUX ups.id 16"],
+}
+COMMANDS = """beeper.disable beeper.enable load.off load.on test.battery.start test.battery.stop test.failure.start
+    test.failure.stop""".split()
+
+
+def told(**values):
+    """The lines that tell these values, names ascending; '_' stands for '.'."""
+    return "".join(f'SETINFO {name.replace("_", ".")} "{value}"\n' for name, value in sorted(values.items()))
+
+
+def told_whole(table):
+    """The lines of variables with all that there is to tell of them."""
+    lines = []
+    for name, value in sorted(table.items()):
+        lines += [f'SETINFO {name} "{value}"', *LIMITS.get(name, [])]
+    return "".join(line + "\n" for line in lines)
+
+
+def dump(table):
+    return told_whole(table) + "".join(f"ADDCMD {it}\n" for it in COMMANDS) + "DATAOK\nDUMPDONE\n"
+
+
+class Step:
+    """A call, what is told at it, and the values that it changes."""
+
+    def __init__(self, verb, word=None, tells="", **changes):
+        self.verb = verb
+        self.word = word
+        self.tells = tells
+        self.changes = {name.replace("_", "."): value for name, value in changes.items()}
+
+
+def link():
+    return Step("link")
+
+
+def moment(at, tells="", **changes):
+    return Step("moment", at, tells, **changes)
+
+
+def says(piece, tells="", **changes):
+    return Step("bytes", piece, tells, **changes)
+
+
+class Scene:
+    """A script, by its kind, the table that it begins with, and the steps. Where a line comes in two pieces, a piece that
+    was refused can't be said once more."""
+
+    def __init__(self, title, kind, script, table, steps, has_whole_lines=True):
+        self.title = title
+        self.kind = kind
+        self.script = script
+        self.table = table
+        self.steps = steps
+        self.has_whole_lines = has_whole_lines
+
+
+LONG = "0123456789" * 12
+LATE = (
+    b"ups.status: OL\nups.id: x\nups.delay.shutdown: 60\nTIMER 10\nups.status: OB\nbattery.charge.low: 20\n"
+    b"input.sensitivity: low\nnote.a: %b\nnote.b: %b\nTIMER 5\n" % (LONG.encode(), LONG.encode())
+)
+AT_FIRST = {"ups.delay.shutdown": "60", "ups.id": "x", "ups.status": "OL"}
+CAME_LATE = {"battery.charge.low": "20", "input.sensitivity": "low", "note.a": LONG, "note.b": LONG}
+
+SCENES = [
+    Scene(
+        "a script that is told once",
+        "dev",
+        b"ups.status: OL\nups.id: x\n",
+        {"ups.id": "x", "ups.status": "OL"},
+        [
+            link(),
+            says(b"DUMPALL\n", dump({"ups.id": "x", "ups.status": "OL"})),
+            says(b'SET ups.id "y"\n', told(ups_id="y"), ups_id="y"),
+            says(b'SET ups.status "x"\n'),
+            says(b"INSTCMD load.off\n", told(ups_status="OFF"), ups_status="OFF"),
+        ],
+    ),
+    Scene(
+        "a script that goes round",
+        "seq",
+        b"ups.status: OL\nTIMER 10\nups.status: OB\nTIMER 5\n",
+        {"ups.status": "OL"},
+        [
+            moment(0),
+            moment(9),
+            moment(10, ups_status="OB"),
+            moment(14),
+            moment(15, ups_status="OL"),
+            moment(1000, ups_status="OB"),
+            link(),
+            says(b"DUMPALL\n", dump({"ups.status": "OB"})),
+        ],
+    ),
+    # before and after DUMPALL; values that come late and need more memory than the dump; words that are copied
+    Scene(
+        "values that come late",
+        "seq",
+        LATE,
+        AT_FIRST,
+        [
+            link(),
+            says(b"PING\n", "PONG\n"),
+            says(b"SET ups.id w\n", ups_id="w"),
+            says(b"DUMPALL\n", dump({**AT_FIRST, "ups.id": "w"})),
+            moment(9),
+            moment(
+                10,
+                told_whole(CAME_LATE) + told(ups_status="OB"),
+                ups_status="OB",
+                **{name.replace(".", "_"): value for name, value in CAME_LATE.items()},
+            ),
+            says(
+                b'SET ups.delay.shutdown 5\nSET ups.id "No\\. 7"\n',
+                told(ups_delay_shutdown="5", ups_id="No. 7"),
+                ups_delay_shutdown="5",
+                ups_id="No. 7",
+            ),
+            says(b"INSTCMD load\\.off\n", told(ups_status="OFF"), ups_status="OFF"),
+            says(b"SET input.sensitivity medium\n", told(input_sensitivity="medium"), input_sensitivity="medium"),
+            says(b"SET input.sensitivity mid\n"),
+            moment(
+                1_000_000_000,
+                told(input_sensitivity="low", ups_delay_shutdown="60", ups_id="x", ups_status="OB"),
+                input_sensitivity="low",
+                ups_delay_shutdown="60",
+                ups_id="x",
+                ups_status="OB",
+            ),
+            link(),
+            says(b"SET ups.delay.shutdown 7\n", ups_delay_shutdown="7"),
+            moment(1_000_000_015, ups_delay_shutdown="60"),
+            says(b"DUMPALL\n", dump({**CAME_LATE, **AT_FIRST, "ups.status": "OB"})),
+        ],
+    ),
+    Scene(
+        "pieces of a line, and lines of which one says nothing",
+        "dev",
+        b"ups.status: OL\nups.id: x\n",
+        {"ups.id": "x", "ups.status": "OL"},
+        [
+            link(),
+            says(b"SET ups.id w\nPI", ups_id="w"),
+            says(b"NG\n", "PONG\n"),
+            says(b"DUMPALL\n", dump({"ups.id": "w", "ups.status": "OL"})),
+            says(b'SET ups.status "x"\nSET ups.id "seventeen bytes.."\nFOO\n'),
+            says(b"INSTCMD load.off\n", told(ups_status="OFF"), ups_status="OFF"),
+            says(b"INSTCMD load.off\nINSTCMD x\n", ""),
+        ],
+        has_whole_lines=False,
+    ),
+    Scene(
+        "a moment far ahead",
+        "seq",
+        b"a: 1\nTIMER 1\na: 2\nTIMER 1\na: 3\n",
+        {"a": "1"},
+        [
+            link(),
+            moment(1_000_000_000),
+            says(b"DUMPALL\n", dump({"a": "1"})),
+            moment(1_000_000_001, told(a="2"), a="2"),
+        ],
+    ),
+]
+
+# scripts, and what is said of each
+SCRIPTS = [
+    ("dev", b"", "ok"),
+    ("dev", b" \t\r\n# \xff\nups.status: OL\n", "ok"),
+    ("dev", b"a: b\nc: \xff", "2: BadLine"),
+    ("dev", b"ups.status OL", "1: BadLine"),
+    ("dev", b"TIMER", "1: BadLine"),
+    ("dev", b"TIMER: 5", "ok"),
+    ("dev", b": x", "1: BadName"),
+    ("dev", b"a b: x", "1: BadName"),
+    ("dev", b"a: x\ty", "1: BadLine"),
+    ("dev", b"TIMER 5", "1: TimerInDev"),
+    ("dev", b"TIMER 0", "1: BadTimer"),
+    ("seq", b"a: b", "0: NoTimer"),
+    ("seq", b"TIMER 0", "1: BadTimer"),
+    ("seq", b"TIMER 1\na: b", "ok"),
+    ("seq", b" TIMER\t86400 # a day", "ok"),
+    ("seq", b"TIMER 86401", "1: BadTimer"),
+    ("seq", b"TIMER x", "1: BadTimer"),
+    ("seq", b"timer 5", "1: BadLine"),
+    ("seq", b"TIMER 5 5", "1: BadLine"),
+]
+
+# a driver beside a server: what a client asks and is answered, and the moments that come
+ROOM_UPS = b'[su700]\ndriver = dummy-ups\nport = su700.seq\ndesc = "Server room"\n'
+ROOM_USERS = b"[admin]\npassword = pw\nactions = SET\ninstcmds = ALL\n"
+ROOM_SCRIPT = (
+    b'battery.charge.low: 20\ninput.sensitivity: low\nups.id: x\nups.mfr: a "b" \\ #c\nups.status: OL\nTIMER 10\n'
+    b"ups.status: OB\nTIMER 5\n"
+)
+ROOM = [
+    (
+        b"LIST VAR su700",
+        b"BEGIN LIST VAR su700\n"
+        b'VAR su700 battery.charge.low "20"\n'
+        b'VAR su700 input.sensitivity "low"\n'
+        b'VAR su700 ups.id "x"\n'
+        b'VAR su700 ups.mfr "a \\"b\\" \\\\ \\#c"\n'
+        b'VAR su700 ups.status "OL"\n'
+        b"END LIST VAR su700\n",
+    ),
+    (
+        b"LIST RW su700",
+        b"BEGIN LIST RW su700\n"
+        b'RW su700 battery.charge.low "20"\n'
+        b'RW su700 input.sensitivity "low"\n'
+        b'RW su700 ups.id "x"\n'
+        b"END LIST RW su700\n",
+    ),
+    (b"GET TYPE su700 battery.charge.low", b"TYPE su700 battery.charge.low RW RANGE\n"),
+    (
+        b"LIST RANGE su700 battery.charge.low",
+        b"BEGIN LIST RANGE su700 battery.charge.low\n"
+        b'RANGE su700 battery.charge.low "0" "100"\n'
+        b"END LIST RANGE su700 battery.charge.low\n",
+    ),
+    (b"GET TYPE su700 input.sensitivity", b"TYPE su700 input.sensitivity RW ENUM\n"),
+    (
+        b"LIST ENUM su700 input.sensitivity",
+        b"BEGIN LIST ENUM su700 input.sensitivity\n"
+        b'ENUM su700 input.sensitivity "low"\n'
+        b'ENUM su700 input.sensitivity "medium"\n'
+        b'ENUM su700 input.sensitivity "high"\n'
+        b"END LIST ENUM su700 input.sensitivity\n",
+    ),
+    (b"GET TYPE su700 ups.id", b"TYPE su700 ups.id RW STRING:16\n"),
+    (b"GET TYPE su700 ups.status", b"TYPE su700 ups.status NUMBER\n"),
+    (
+        b"LIST CMD su700",
+        b"BEGIN LIST CMD su700\n"
+        b"CMD su700 beeper.disable\n"
+        b"CMD su700 beeper.enable\n"
+        b"CMD su700 load.off\n"
+        b"CMD su700 load.on\n"
+        b"CMD su700 test.battery.start\n"
+        b"CMD su700 test.battery.stop\n"
+        b"CMD su700 test.failure.start\n"
+        b"CMD su700 test.failure.stop\n"
+        b"END LIST CMD su700\n",
+    ),
+    (b"USERNAME admin", b"OK\n"),
+    (b"PASSWORD pw", b"OK\n"),
+    (b'SET VAR su700 ups.id "b c"', b"OK\n"),
+    (b"GET VAR su700 ups.id", b'VAR su700 ups.id "b c"\n'),
+    (b"SET VAR su700 battery.charge.low 101", b"ERR INVALID-VALUE\n"),
+    (b"SET VAR su700 ups.status OL", b"ERR READONLY\n"),
+    (b"INSTCMD su700 load.off", b"OK\n"),
+    (b"GET VAR su700 ups.status", b'VAR su700 ups.status "OFF"\n'),
+    (b"INSTCMD su700 test.battery.start", b"OK\n"),
+    (b"GET VAR su700 ups.test.result", b'VAR su700 ups.test.result "In progress"\n'),
+    ("moment", 6),
+    ("moment", 10),
+    (b"GET VAR su700 ups.status", b'VAR su700 ups.status "OB"\n'),
+    ("moment", 15),
+    (
+        b"LIST VAR su700",
+        b"BEGIN LIST VAR su700\n"
+        b'VAR su700 battery.charge.low "20"\n'
+        b'VAR su700 input.sensitivity "low"\n'
+        b'VAR su700 ups.id "x"\n'
+        b'VAR su700 ups.mfr "a \\"b\\" \\\\ \\#c"\n'
+        b'VAR su700 ups.status "OL"\n'
+        b'VAR su700 ups.test.result "In progress"\n'
+        b"END LIST VAR su700\n",
+    ),
+]
