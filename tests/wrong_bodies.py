@@ -331,7 +331,8 @@ def main(words):
         if "--one-by-one" in words:
             alone = side_by_side(found, lambda crate, _, edits, printing: one_by_one(crate, edits, printing))
             differ = sorted(it for it in said if said[it] != alone[it])
-            print(*[f"{os.path.relpath(it, ROOT)}: the rounds and the toolchain's gate disagree" for it in differ], sep="\n")
+            for it in differ:
+                print(f"{os.path.relpath(it, ROOT)}: the rounds and the toolchain's gate disagree")
             failed += len(differ)
     print(f"{passed} passed, {failed} failed")
     return 1 if failed else 0
