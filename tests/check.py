@@ -21,6 +21,7 @@ TESTS = (
     ("monitor_rehearsal.py", ("rehearse",)),
     ("link_rehearsal.py", ("rehearse",)),
     ("word_rehearsal.py", ("rehearse",)),
+    ("borrows.py", ()),
     ("tools.py", ("upsc", "upsrw", "upscmd")),
     ("sockets.py", ("upsd", "dummy_ups")),
     ("hostile_clients.py", ("upsd", "dummy_ups")),

@@ -6,6 +6,7 @@
 The last line is 'N passed, M failed'."""
 
 import os
+import resource
 import socket
 import subprocess
 import sys
@@ -177,7 +178,7 @@ class Tests:
 
     def run(self, tool, arguments, env=None, **streams):
         """Runs a tool, and gives its status, its output, its error text, and the queries that the server heard."""
-        words = [word.replace("AT", self.server.at) if "AT" in word else word for word in arguments]
+        words = [word.replace("AT", self.server.at) if isinstance(word, str) else word for word in arguments]
         streams = {"stdout": subprocess.PIPE, "stderr": subprocess.PIPE, **streams}
         self.server.queries = []
         self.server.left.clear()
@@ -236,6 +237,19 @@ class Tests:
         with open("/dev/full", "wb") as full:
             expect(self.run("upsc", ["su700@AT"], stdout=full), (1, None, b""), "output to /dev/full")
             expect(self.run("upsc", ["stale@AT"], stderr=full), (1, b"", None), "errors to /dev/full")
+
+    def test_output_that_takes_10_bytes(self):
+        self.server.whole()
+        path = os.path.join(self.folder, "output")
+        limits = {"preexec_fn": lambda: resource.setrlimit(resource.RLIMIT_FSIZE, (10, 10)), "restore_signals": False}
+        with open(path, "wb") as output:
+            expect(self.run("upsc", ["su700@AT"], stdout=output, **limits), (1, None, b""), "an output with room for 10 bytes")
+        with open(path, "rb") as output:
+            expect(output.read(), VARIABLES[:10], "what it took")
+
+    def test_words_that_are_no_text(self):
+        for tool in ("upsc", "upsrw", "upscmd"):
+            expect(self.run(tool, [b"su700\xff"]), (2, b"", b"Error: bad arguments\n"), f"{tool} with a word that is no text")
 
     def test_options_that_are_not_there(self):
         for tool, option in (("upsc", "-j"), ("upsc", "-W"), ("upsrw", "-w"), ("upscmd", "-w")):

@@ -3,7 +3,6 @@
 ghost use Rattle.std.specs.Prelude.{◌≡◌, IfOk, []};
 ghost use Rattle.nut_decision.specs.Content.{content};
 
-mod rows;
 mod worlds;
 
 use nut_conf::read_upsmon;

@@ -188,58 +188,84 @@ impl MonWorld for Odd {
 }
 
 /// What a monitor and an odd world have come to.
-#[derive(Drop)]
-struct Odds {
+#[derive(Clone, Copy, PartialEq, Eq)]
+struct Outcome {
     is_ok: bool,
-    monitor: Monitor,
-    world: Odd,
+    /// How many bytes were taken of the links.
+    took: (usize, usize),
+    /// Whether these are the first of those that were due.
+    is_front: bool,
+    /// Which links are there.
+    linked: (bool, bool),
+    /// How often the links were closed.
+    closed: [usize; 2],
+    /// How many events were given, and how many notices told.
+    given: usize,
+    told: usize,
+    faults: u64,
+    /// The notice that still waits.
+    waits: Option<Notice>,
 }
 
-fn watch_odd(rt: &impl Wait, alloc: Global, mode: Mode) -> Result<Odds, Fail> {
+fn watch_odd(rt: &impl Wait, alloc: Global, mode: Mode) -> Result<Outcome, Fail> {
     let mut monitor = fresh_monitor(alloc, FILE)?;
     let mut world = make_odd(mode);
     let is_ok = watch(rt, &mut monitor, &mut world) == Ok(Phase::Watching);
-    Ok(Odds {
-        is_ok,
-        monitor,
-        world,
-    })
+    let linked = (monitor.linked(0), monitor.linked(1));
+    let waits = monitor.first_notice();
+    let_go(monitor);
+    Ok(outcome_of(is_ok, linked, waits, &world))
 }
 
-impl Odds {
-    /// Whether so many bytes were taken of the links, and they are the first of those that were due.
-    fn took(&self, first: usize, second: usize) -> bool {
-        let took = &self.world.took;
-        took[0].len() == first
-            && FIRST_ASKED.starts_with(took[0].as_slice())
-            && took[1].len() == second
-            && SECOND_ASKED.starts_with(took[1].as_slice())
-    }
+/// A monitor is let go in a function of its own, which costs the check much less than where much else is done.
+fn let_go(_monitor: Monitor) {}
 
-    /// Whether all went well, the first link was closed so often and the second never, and so much was told.
-    fn ended(&self, closed: usize, told: usize) -> bool {
+fn outcome_of(is_ok: bool, linked: (bool, bool), waits: Option<Notice>, world: &Odd) -> Outcome {
+    let took = &world.took;
+    Outcome {
+        is_ok,
+        took: (took[0].len(), took[1].len()),
+        is_front: FIRST_ASKED.starts_with(took[0].as_slice())
+            && SECOND_ASKED.starts_with(took[1].as_slice()),
+        linked,
+        closed: world.closed,
+        given: world.given,
+        told: world.told,
+        faults: world.faults,
+        waits,
+    }
+}
+
+impl Outcome {
+    /// Whether all went well, so many bytes were taken, the first link was closed so often and the second never, and so
+    /// much was told.
+    fn ended(&self, took: (usize, usize), closed: usize, told: usize) -> bool {
         self.is_ok
-            && self.world.given == ROWS.len()
-            && self.world.faults == 0
-            && self.world.closed == [closed, 0]
-            && self.world.told == told
+            && self.is_front
+            && self.took == took
+            && self.given == ROWS.len()
+            && self.faults == 0
+            && self.closed == [closed, 0]
+            && self.told == told
     }
 
-    /// Whether one fault ended the loop, and this notice still waits.
-    fn broke(&self, waits: Option<Notice>) -> bool {
+    /// Whether one fault ended the loop with so many bytes taken, and this notice still waits.
+    fn broke(&self, took: (usize, usize), waits: Option<Notice>) -> bool {
         !self.is_ok
-            && self.world.faults == 1
-            && self.world.closed == [0, 0]
-            && self.world.told == 0
-            && self.monitor.first_notice() == waits
+            && self.is_front
+            && self.took == took
+            && self.faults == 1
+            && self.closed == [0, 0]
+            && self.told == 0
+            && self.waits == waits
     }
 }
 
 #[test]
 fn bytes_put_off_are_offered_again(rt: HostRuntime) -> Result<(), Fail> {
     for mode in [Mode::OneByte, Mode::Reluctant] {
-        let odds = watch_odd(&rt, rt.alloc(), mode)?;
-        assert!(rt; odds.took(54, 54) && odds.ended(0, 1));
+        let outcome = watch_odd(&rt, rt.alloc(), mode)?;
+        assert!(rt; outcome.ended((54, 54), 0, 1));
     }
     Ok(())
 }
@@ -247,78 +273,70 @@ fn bytes_put_off_are_offered_again(rt: HostRuntime) -> Result<(), Fail> {
 /// An answer to what was never taken is the loss of the link.
 #[test]
 fn late_for_good(rt: HostRuntime) -> Result<(), Fail> {
-    let odds = watch_odd(&rt, rt.alloc(), Mode::LaterForever)?;
-    assert!(rt; odds.took(0, 54) && odds.ended(1, 2));
+    let outcome = watch_odd(&rt, rt.alloc(), Mode::LaterForever)?;
+    assert!(rt; outcome.ended((0, 54), 1, 2));
     Ok(())
 }
 
 #[test]
 fn a_write_fails(rt: HostRuntime) -> Result<(), Fail> {
     for at in 1..55 {
-        let odds = watch_odd(&rt, rt.alloc(), Mode::FailsAt(at))?;
-        assert!(rt;
-            odds.took(at as usize - 1, 54) && odds.ended(1, 2),
-            "write {at}"
-        );
-        assert!(rt;
-            !odds.monitor.linked(0) && odds.monitor.linked(1),
-            "write {at}"
-        );
+        let outcome = watch_odd(&rt, rt.alloc(), Mode::FailsAt(at))?;
+        assert!(rt; outcome.ended((at as usize - 1, 54), 1, 2), "write {at}");
+        assert!(rt; outcome.linked == (false, true), "write {at}");
     }
     Ok(())
 }
 
 #[test]
 fn a_write_is_a_fault(rt: HostRuntime) -> Result<(), Fail> {
-    for (at, first, second) in [
-        (1, 0, 0),
-        (13, 12, 0),
-        (14, 13, 13),
-        (26, 25, 25),
-        (54, 53, 33),
+    for (at, took) in [
+        (1, (0, 0)),
+        (13, (12, 0)),
+        (14, (13, 13)),
+        (26, (25, 25)),
+        (54, (53, 33)),
     ] {
-        let odds = watch_odd(&rt, rt.alloc(), Mode::FaultAtWrite(at))?;
-        assert!(rt; odds.took(first, second) && odds.broke(None), "write {at}");
-        assert!(rt; odds.monitor.linked(0), "write {at}");
+        let outcome = watch_odd(&rt, rt.alloc(), Mode::FaultAtWrite(at))?;
+        assert!(rt; outcome.broke(took, None) && outcome.linked.0, "write {at}");
     }
     Ok(())
 }
 
 #[test]
 fn a_read_is_a_fault(rt: HostRuntime) -> Result<(), Fail> {
-    for (at, first, second) in [
-        (1, 0, 0),
-        (3, 13, 0),
-        (4, 13, 13),
-        (5, 25, 13),
-        (11, 54, 54),
+    for (at, took) in [
+        (1, (0, 0)),
+        (3, (13, 0)),
+        (4, (13, 13)),
+        (5, (25, 13)),
+        (11, (54, 54)),
     ] {
-        let odds = watch_odd(&rt, rt.alloc(), Mode::FaultAtNext(at))?;
-        assert!(rt; odds.took(first, second) && odds.broke(None), "call {at}");
-        assert_eq!(rt; odds.world.given as u64, at - 1);
+        let outcome = watch_odd(&rt, rt.alloc(), Mode::FaultAtNext(at))?;
+        assert!(rt; outcome.broke(took, None), "call {at}");
+        assert_eq!(rt; outcome.given as u64, at - 1);
     }
     Ok(())
 }
 
 #[test]
 fn a_close_is_a_fault(rt: HostRuntime) -> Result<(), Fail> {
-    let odds = watch_odd(&rt, rt.alloc(), Mode::FaultAtClose)?;
+    let outcome = watch_odd(&rt, rt.alloc(), Mode::FaultAtClose)?;
     let waits = Notice {
         kind: Kind::Commbad,
         line: Some(0),
     };
-    assert!(rt; odds.took(0, 0) && odds.broke(Some(waits)));
-    assert!(rt; !odds.monitor.linked(0));
+    assert!(rt; outcome.broke((0, 0), Some(waits)) && !outcome.linked.0);
     Ok(())
 }
 
 #[test]
 fn a_notice_is_a_fault(rt: HostRuntime) -> Result<(), Fail> {
-    let odds = watch_odd(&rt, rt.alloc(), Mode::FaultAtNotice)?;
+    let outcome = watch_odd(&rt, rt.alloc(), Mode::FaultAtNotice)?;
     let waits = Notice {
         kind: Kind::Onbatt,
         line: Some(1),
     };
-    assert!(rt; odds.took(54, 54) && odds.broke(Some(waits)));
+    assert!(rt; outcome.broke((54, 54), Some(waits)));
     Ok(())
 }
