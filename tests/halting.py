@@ -15,7 +15,7 @@ import sys
 import tempfile
 
 from harness import build_shim, expect, run_tests
-from monitor import FLAG, ON_BATTERY, QUICK, SHUTDOWN, Upstream, Watch
+from monitored import FLAG, ON_BATTERY, QUICK, SHUTDOWN, Upstream, Watch
 from sockets import ONLINE, STATUS, Room, until
 
 WORD = FLAG.strip()

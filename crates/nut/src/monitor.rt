@@ -18,7 +18,7 @@ use nut_conf::{Role, UpsmonConf};
 use nut_monitor::{Monitor, Phase};
 use nut_sockets::{Herald, LossyLines, MioMonWorld, Report, Reports, text_of};
 use nut_watch::{MonWorld, watch};
-use std::alloc::{Alloc, Global};
+use std::alloc::{Alloc, AllocError, Global};
 use std::convert::AsStr;
 use std::env::{Env, VarError};
 use std::io::{ErrorKind, Write};
@@ -150,8 +150,7 @@ where
     E: Write + AsRawFd + Copy,
 {
     let config = read_conf(rt, alloc, folder)?;
-    let readable = readable_file::<UpsmonConf>(rt, alloc, folder)?;
-    tell_warnings(&config, readable, told);
+    tell_warnings(rt, alloc, folder, &config, told)?;
     let _held = hold_closed_streams(rt, alloc)?;
     watch_and_halt(rt, alloc, config, is_quiet, streams, told)
 }
@@ -181,12 +180,23 @@ where
     Ok(())
 }
 
-/// Tells what upsmon.conf should set otherwise.
-fn tell_warnings<E: Write>(config: &UpsmonConf, readable: Option<Warning>, err: &mut E) {
-    warn("upsmon", readable, err);
+/// Tells what upsmon.conf in this folder should set otherwise, and whether everybody can read it.
+fn tell_warnings<E: Write>(
+    files: &impl Files,
+    alloc: Global,
+    folder: &str,
+    config: &UpsmonConf,
+    err: &mut E,
+) -> Result<(), AllocError> {
+    warn(
+        "upsmon",
+        readable_file::<UpsmonConf>(files, alloc, folder)?,
+        err,
+    );
     warn("upsmon", Warning::of_shutdown_command(config), err);
     warn("upsmon", Warning::of_dead_time(config), err);
     warn("upsmon", Warning::of_host_sync(config), err);
+    Ok(())
 }
 
 /// Watches the UPSes of a configuration over sockets until the machine is to be halted.
