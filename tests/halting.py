@@ -265,14 +265,18 @@ class Tests:
                 expect(file.read(), "30\n", "how often it waits for a second")
 
     def test_halt_without_memory(self):
-        """Once the shutdown is told no allocation succeeds any more."""
+        """Once the shutdown is told no allocation succeeds any more, not even the C library's. The flag is set all the same,
+        and the machine is halted as soon as there is memory again."""
         gone = os.path.join(self.folder, "gone")
         env = {**os.environ, "LD_PRELOAD": self.shim, "REFUSE": "memory", "REFUSE_ONCE": gone}
         with self.halting(f"POWERDOWNFLAG FOLDER/flag\n{HALTED}", "-q", delay=2, env=env) as (_, watch):
             watch.until_printed(SHUTDOWN)
             self.file_of(b"")(gone)
+            until(lambda: any("it is tried for 30 seconds" in line for line in watch.lines("err")), "the start is tried again", 20)
+            expect((watch.read("flag"), watch.read("halted")), (FLAG, None), "what is done without memory")
+            os.remove(gone)
             expect(watch.status(), 0, f"status: {watch.lines('err')}")
-            expect((watch.read("flag"), watch.read("halted")), (FLAG, b""), "the halt")
+            expect(watch.read("halted"), b"", "the halt")
 
     def test_terminated(self):
         with self.room() as room, Upstream() as server:

@@ -54,7 +54,8 @@ pub fn halt_heap(alloc: Global) -> Result<LocalHeap, AllocError> {
     LocalHeap::new(alloc, HEAP)
 }
 
-/// What is done to halt the machine, made ready at the start: carried out, it takes no memory but the heap's.
+/// What is done to halt the machine, made ready at the start. Carried out, it takes no memory but the heap's; the C library
+/// takes some small blocks of its own to start a process.
 #[derive(Drop)]
 pub struct Halt<'h> {
     flag: Option<PowerDownFlag>,
