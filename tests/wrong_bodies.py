@@ -25,8 +25,6 @@ ROOT = os.path.dirname(os.path.dirname(os.path.abspath(__file__)))
 FOLDERS = ("wrong-bodies", "must-fail")
 # A goal of a function that is open, on a line above the function's own.
 GOAL = re.compile(r"note: (src/\S+: .*\(`\S+`\).*)")
-# What is said of an edit whose function doesn't pass the control round.
-NOT_TRIED = "NOT TRIED in a round"
 # What antt says of a proof file that names what an edit took away.
 NAMES = re.compile(r"has no field|is not in scope|has no `|was not admitted")
 
@@ -199,7 +197,7 @@ class Rounds:
             fallen = [it for it in sorted(edit.wanted) if not report.ended or not report.passes(it)]
             if fallen:
                 said = report.status.get(fallen[0], report.lines[-1])
-                self.say(edit, False, f"{NOT_TRIED}: without any edit the prover says of {fallen[0]}: {said[:300]}")
+                self.say(edit, False, f"NOT TRIED: without any edit the prover says of {fallen[0]}: {said[:300]}")
         self.edits = [it for it in self.edits if it not in self.said]
         return bool(self.edits)
 
@@ -292,8 +290,8 @@ def in_rounds(crate, functions, edits, printing):
     with tempfile.TemporaryDirectory(prefix="wrong-bodies-") as folder:
         rounds = Rounds(crate, edits, functions, folder)
         said = rounds.run()
-    # where a crate can't be checked in rounds, its edits are tried as the toolchain's gate does
-    left = [edit for edit, (_, why) in said.items() if NOT_TRIED in why]
+    # what no round refuses is tried as the toolchain's gate does, in a check of the whole crate
+    left = [edit for edit, (refused, why) in said.items() if not refused and "BAD EDIT" not in why]
     for edit, answer in zip(left, toolchain().must_fail_all(crate, [it.path for it in left], ["--jobs", "1"])):
         said[edit] = answer[0], f"{said[edit][1]}\n{answer[1]}"
     with printing:
