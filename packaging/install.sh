@@ -60,13 +60,18 @@ for page in man/*.5; do
     put 644 "$page" "share/man/man5/${page##*/}"
 done
 for example in examples/*; do
-    put 644 "$example" "share/mulgefa/${example}"
+    if [ -f "$example" ]; then
+        put 644 "$example" "share/mulgefa/${example}"
+    fi
+done
+for schedule in examples/schedules/*; do
+    put 644 "$schedule" "share/mulgefa/schedules/${schedule##*/}"
 done
 put 644 packaging/mulgefa.sysusers lib/sysusers.d/mulgefa.conf
 
 # Folders that nothing else uses go too, once they are empty.
 if [ "$what" = uninstall ]; then
-    for folder in share/mulgefa/examples share/mulgefa lib/nut; do
+    for folder in share/mulgefa/examples share/mulgefa/schedules share/mulgefa lib/nut; do
         rmdir "$root/$folder" 2> /dev/null || true
     done
 fi

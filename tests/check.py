@@ -19,7 +19,8 @@ TESTS = (
     ("tools.py", ("upsc", "upsrw", "upscmd")),
     ("sockets.py", ("upsd", "dummy_ups")),
     ("monitor.py", ("upsd", "dummy_ups", "upsc", "upsmon")),
-    ("install.py", ("upsd", "dummy_ups", "upsc", "upsrw", "upscmd", "upsmon")),
+    ("fleet.py", ("nutsim",)),
+    ("install.py", ("upsd", "dummy_ups", "upsc", "upsrw", "upscmd", "upsmon", "nutsim")),
 )
 
 
