@@ -28,7 +28,8 @@ TESTS = (
     ("monitor.py", ("upsd", "dummy_ups", "upsc", "upsmon")),
     ("links.py", ("upsd", "dummy_ups", "upsc", "upsmon")),
     ("halting.py", ("upsd", "dummy_ups", "upsc", "upsmon")),
-    ("install.py", ("upsd", "dummy_ups", "upsc", "upsrw", "upscmd", "upsmon")),
+    ("fleet.py", ("nutsim",)),
+    ("install.py", ("upsd", "dummy_ups", "upsc", "upsrw", "upscmd", "upsmon", "nutsim")),
 )
 
 

@@ -1,0 +1,15 @@
+//! What `nutsim` runs: a schedule is read from its file, played on a real server and real monitors, and what its steps tell
+//! is printed.
+#![tactic(auto)]
+
+mod command;
+mod fault;
+mod news;
+mod playing;
+mod progress;
+mod room;
+mod run;
+mod step;
+
+pub use run::run_nutsim;
+pub use step::{StepFault, read_step};
