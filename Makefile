@@ -9,7 +9,7 @@
 # make uninstall     takes away what install put there
 # make clean         removes what was built
 
-PROGRAMS := upsd dummy_ups upsmon upsc upsrw upscmd nutsim
+PROGRAMS := upsd dummy_ups upsmon upsc upsrw upscmd
 
 # where things are installed, a folder that stands for the root (for packages), the folder of the configuration files, and
 # that of the built programs

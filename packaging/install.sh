@@ -49,7 +49,6 @@ configure() {
     trap 'rm -f "$script"' EXIT
     passwords > "$script"
     for example in examples/*; do
-        [ -f "$example" ] || continue
         file=$to/${example##*/}
         if [ -e "$file" ] || [ -L "$file" ]; then
             echo "$file is there already and stays as it is"
@@ -124,19 +123,14 @@ for page in man/*.5; do
 done
 # Everybody may read the examples, so they are installed without passwords: a user who has none has no access.
 for example in examples/*; do
-    if [ -f "$example" ]; then
-        sed -e "s/^\( *\)password = .*/\1# password = ../" -e "s/^\(MONITOR .* monuser \)m1 /\1PASSWORD /" "$example" > "$filled"
-        put 644 "$filled" "share/mulgefa/${example}"
-    fi
-done
-for schedule in examples/schedules/*; do
-    put 644 "$schedule" "share/mulgefa/schedules/${schedule##*/}"
+    sed -e "s/^\( *\)password = .*/\1# password = ../" -e "s/^\(MONITOR .* monuser \)m1 /\1PASSWORD /" "$example" > "$filled"
+    put 644 "$filled" "share/mulgefa/${example}"
 done
 put 644 packaging/mulgefa.sysusers lib/sysusers.d/mulgefa.conf
 
 # Folders that nothing else uses go too, once they are empty.
 if [ "$what" = uninstall ]; then
-    for folder in share/mulgefa/examples share/mulgefa/schedules share/mulgefa lib/nut; do
+    for folder in share/mulgefa/examples share/mulgefa lib/nut; do
         rmdir "$root/$folder" 2> /dev/null || true
     done
 fi

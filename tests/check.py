@@ -28,8 +28,7 @@ TESTS = (
     ("monitor.py", ("upsd", "dummy_ups", "upsc", "upsmon")),
     ("links.py", ("upsd", "dummy_ups", "upsc", "upsmon")),
     ("halting.py", ("upsd", "dummy_ups", "upsc", "upsmon")),
-    ("fleet.py", ("nutsim",)),
-    ("install.py", ("upsd", "dummy_ups", "upsc", "upsrw", "upscmd", "upsmon", "nutsim")),
+    ("install.py", ("upsd", "dummy_ups", "upsc", "upsrw", "upscmd", "upsmon")),
 )
 
 

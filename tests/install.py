@@ -21,8 +21,6 @@ SERVERS = ("upsd", "upsmon")
 DRIVERS = ("dummy-ups",)
 PAGES = ("ups.conf.5", "upsd.conf.5", "upsd.users.5", "upsmon.conf.5")
 EXAMPLES = ("ups.conf", "upsd.conf", "upsd.users", "upsmon.conf", "su700.dev")
-ROOMS = ("primary-alone", "primary-waits", "power-failure", "cut-network", "server-restarts")
-SCHEDULES = ("README.md", "primary.conf", "secondary.conf", *(f"{room}.sched" for room in ROOMS))
 UNITS = {"upsd": "mulgefa-upsd.service", "upsmon": "mulgefa-upsmon.service", "dummy-ups": "mulgefa-dummy-ups@.service"}
 
 
@@ -47,7 +45,6 @@ def wanted_files():
             files[f"lib/systemd/system/{UNITS[program]}"] = 0o644
     files.update({f"share/man/man5/{page}": 0o644 for page in PAGES})
     files.update({f"share/mulgefa/examples/{example}": 0o644 for example in EXAMPLES})
-    files.update({f"share/mulgefa/schedules/{schedule}": 0o644 for schedule in SCHEDULES})
     return files
 
 

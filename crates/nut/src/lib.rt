@@ -27,7 +27,6 @@ pub use arguments::refuse_start;
 pub use conf_file::{ConfFile, FileFault, read_conf};
 pub use daemon::run_upsd;
 pub use dummy::run_dummy_ups;
-pub use failure::Failure;
 pub use monitor::run_upsmon;
 pub use nut_serve::{
     Address, Fault, Given, MemoryWorld, Next, Note, Piece, ServeFault, StreamWorld, World, Written,
