@@ -84,9 +84,9 @@ def said_of_edits(root):
     os.chdir(root)
     found, faults = wrong_bodies.look(functions.toolchain().rtlib.crates_below(root))
     said = list(faults)
-    for crate, (functions, edits) in found.items():
+    for crate, (bodies, edits) in found.items():
         with tempfile.TemporaryDirectory(prefix="wrong-bodies-") as folder:
-            rounds = wrong_bodies.Rounds(crate, [it for it in edits if not it.fault], functions, folder)
+            rounds = wrong_bodies.Rounds(crate, [it for it in edits if not it.fault], bodies, folder)
             said += [why for _, why in rounds.run().values()]
         print(f"{rounds.count} rounds and the control round: {rounds.room.seconds:.0f} processor seconds")
     return dict(line.partition(".edit: ")[::2] for line in said)
