@@ -5,11 +5,12 @@
 # make check-peers   joins the programs in bin/ with NUT's own, where those are installed
 # make bench         measures the programs in bin/ on this machine
 # make install       builds, and installs programs, pages, units and examples under PREFIX; install-built doesn't build
+# make deb           makes Debian packages out of the programs in bin/, in dist/; make tar makes an archive
 # make configure     puts a first configuration into CONFDIR; a file that is there stays as it is
 # make uninstall     takes away what install put there
 # make clean         removes what was built
 
-PROGRAMS := upsd dummy_ups upsmon upsc upsrw upscmd
+PROGRAMS := upsd dummy_ups upsmon upsc upsrw upscmd nutsim
 
 # where things are installed, a folder that stands for the root (for packages), the folder of the configuration files, and
 # that of the built programs
@@ -18,9 +19,12 @@ DESTDIR ?=
 CONFDIR ?= /etc/nut
 BIN ?= bin
 
+# where packages go
+TO ?= dist
+
 INSTALLER = PREFIX='$(PREFIX)' DESTDIR='$(DESTDIR)' CONFDIR='$(CONFDIR)' BIN='$(BIN)' sh packaging/install.sh
 
-.PHONY: all check check-edits check-times check-peers bench install install-built configure uninstall clean toolchain $(PROGRAMS)
+.PHONY: all check check-edits check-times check-peers bench install install-built configure uninstall deb tar clean toolchain $(PROGRAMS)
 
 all: $(PROGRAMS)
 
@@ -34,19 +38,20 @@ $(PROGRAMS): toolchain
 	@echo "bin/$(subst _,-,$@) is proved and built"
 
 check: toolchain
-	@python3 tests/check.py
+	@python3 -m tests.check
 
 check-edits: toolchain
-	@python3 tests/wrong_bodies.py --one-by-one $(CRATES)
+	@python3 -m tests.gate.wrong_bodies --one-by-one $(CRATES)
 
 check-times:
-	@python3 tests/gate_times.py --keep
+	@python3 -m tests.gate.times --keep
 
 check-peers: all
-	@python3 tests/peers_server.py bin/upsd bin/dummy-ups
-	@python3 tests/peers_clients.py bin/upsd bin/dummy-ups
-	@python3 tests/peers_tools.py bin/upsc bin/upsrw bin/upscmd
-	@python3 tests/peers_monitor.py bin/upsmon
+	@python3 -m tests.peers.server bin/upsd bin/dummy-ups
+	@python3 -m tests.peers.clients bin/upsd bin/dummy-ups
+	@python3 -m tests.peers.tools bin/upsc bin/upsrw bin/upscmd
+	@python3 -m tests.peers.monitor bin/upsmon
+	@python3 -m tests.peers.packages $(foreach it,$(subst _,-,$(PROGRAMS)),bin/$(it))
 
 bench: all
 	@python3 bench/stdio.py bin/upsd
@@ -65,8 +70,12 @@ configure:
 uninstall:
 	@$(INSTALLER) uninstall $(subst _,-,$(PROGRAMS))
 
+# without the toolchain, as install-built
+deb tar:
+	@BIN='$(BIN)' TO='$(TO)' sh packaging/packages.sh $@
+
 clean:
-	rm -rf bin crates/*/out
+	rm -rf bin dist crates/*/out
 
 toolchain:
 	@command -v rt > /dev/null || { \

@@ -4,16 +4,20 @@
 usage: builds.py PROCESSORS..
 
 For each number it clones the repository into a folder of its own, and there runs `make upsd`, then `make` (both times from
-nothing, so the second has the first's in it), and then `make check`. It prints minutes of the clock and of processors."""
+nothing, so the second has the first's in it), and then `make check`. It prints minutes of the clock and of processors, and
+leaves what each crate took where `make check-times` looks for it."""
 
 import os
 import resource
+import shutil
 import subprocess
 import sys
 import tempfile
 import time
 
 ROOT = os.path.dirname(os.path.dirname(os.path.abspath(__file__)))
+# The times of the crates in the last `make check`.
+TIMES = os.path.join("bin", "gate-times.txt")
 
 
 def processor_time():
@@ -33,6 +37,9 @@ def measure(processors, folder):
         print(f"{processors} processors, {' '.join(['make', *words])}: {clock:.0f} minutes, {processor:.0f} of processor", flush=True)
         if ran.returncode or words == ["check"]:
             print(ran.stdout[-6000:])
+    if os.path.isfile(os.path.join(folder, TIMES)):
+        os.makedirs(os.path.dirname(os.path.join(ROOT, TIMES)), exist_ok=True)
+        shutil.copyfile(os.path.join(folder, TIMES), os.path.join(ROOT, TIMES))
 
 
 def main(words):

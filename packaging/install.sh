@@ -1,81 +1,75 @@
 #!/bin/sh
-# Installs the programs, their pages, units and examples, or takes away what that put there:
+# Installs the programs, their pages, units, completions and examples, or takes away what that put there:
 #
-#     packaging/install.sh install|uninstall PROGRAM..
+#     packaging/install.sh install|uninstall [PROGRAM..]
 #
 # or puts a first configuration into the folder of the configuration files. A file that is there already stays as it is:
 #
 #     packaging/install.sh configure
 #
-# The environment gives PREFIX, DESTDIR (a folder that stands for the root), CONFDIR (the folder of the configuration
-# files, which is named in units, and written to by 'configure' alone) and BIN (the folder of the built programs).
+# The environment gives PREFIX (/usr/local), DESTDIR (a folder that stands for the root), CONFDIR (/etc/nut, the folder of
+# the configuration files, which is named in units, and written to by 'configure' alone), BIN (bin, the folder of the built
+# programs) and PART (server or client, where only what belongs to that package is meant). Without a PROGRAM all those of
+# BIN are meant.
 set -eu
 cd "$(dirname "$0")/.."
+. packaging/configure.sh
 
-what=$1
-shift
+PREFIX=${PREFIX-/usr/local}
+DESTDIR=${DESTDIR-}
+CONFDIR=${CONFDIR-/etc/nut}
+BIN=${BIN-bin}
+PART=${PART-}
+
+what=${1-}
 root=$DESTDIR$PREFIX
 
-# A password that nobody can guess.
-password() {
-    LC_ALL=C tr -dc a-z0-9 < /dev/urandom | head -c 20
+# The names of the files in a folder, without those of folders.
+files_of() {
+    find "$1" -maxdepth 1 -type f -printf '%f\n' | sort
 }
 
-# What gives each user of the examples such a password, for sed. It goes through a file, since others see command lines.
-passwords() {
-    admin=$(password)
-    monuser=$(password)
-    guest=$(password)
-    cat << END
-s/^\( *password = \)pw\$/\1$admin/
-s/^\( *password = \)m1\$/\1$monuser/
-s/^\( *password = \)"m 2"\$/\1$guest/
-s/^\(MONITOR .* monuser \)m1 /\1$monuser /
-END
-}
-
-# configure: the examples, each where no such file is. The server's user may read them, but for upsmon.conf: that is root's.
-configure() {
-    to=$DESTDIR$CONFDIR
-    if [ -z "$DESTDIR" ]; then
-        systemd-sysusers packaging/mulgefa.sysusers
-    fi
-    if [ ! -d "$to" ]; then
-        install -d -m 750 "$to"
-        open_to_server "$to" 750
-    fi
-    umask 077
-    script=$(mktemp)
-    trap 'rm -f "$script"' EXIT
-    passwords > "$script"
-    for example in examples/*; do
-        file=$to/${example##*/}
-        if [ -e "$file" ] || [ -L "$file" ]; then
-            echo "$file is there already and stays as it is"
-            continue
+case $what in
+    install | uninstall) shift ;;
+    configure)
+        GROUP=
+        if [ -z "$DESTDIR" ]; then
+            systemd-sysusers packaging/mulgefa.sysusers
+            GROUP=nut
         fi
-        (set -C && sed -f "$script" "$example" > "$file")
-        if [ "${file##*/}" != upsmon.conf ]; then
-            open_to_server "$file" 640
-        fi
-    done
-}
+        first_configuration examples "$DESTDIR$CONFDIR" $(files_of examples)
+        exit
+        ;;
+    *)
+        echo "usage: $0 install|uninstall [PROGRAM..] | configure" >&2
+        exit 2
+        ;;
+esac
 
-# open_to_server FILE MODE: the group nut is the server's.
-open_to_server() {
-    if [ -z "$DESTDIR" ]; then
-        chgrp nut "$1"
-    fi
-    chmod "$2" "$1"
-}
-
-if [ "$what" = configure ]; then
-    configure
-    exit
+if [ $# -eq 0 ]; then
+    set -- $(ls "$BIN")
 fi
+
+# part_of TARGET: the package that a file belongs to, by its name. What both packages need is the client's, since the server's
+# wants it.
+part_of() {
+    case $1 in
+        share/mulgefa/rooms/*)
+            echo client
+            return
+            ;;
+    esac
+    case ${1##*/} in
+        upsd | upsd.* | *-upsd.service | dummy-ups | dummy-ups.* | *-dummy-ups@.service | ups.conf* | su700.dev | *nut-drivers*) echo server ;;
+        *) echo client ;;
+    esac
+}
 
 # put MODE FILE TARGET: the one list of what is installed is that of its calls.
 put() {
+    if [ -n "$PART" ] && [ "$PART" != "$(part_of "$3")" ]; then
+        return
+    fi
     case $what in
         install) install -C -D -m "$1" "$2" "$root/$3" ;;
         uninstall) rm -f "$root/$3" ;;
@@ -88,11 +82,12 @@ put_filled() {
     put 644 "$filled" "$2"
 }
 
-# Where a program goes, as NUT has it: a driver isn't for people, and a server not for everyone.
+# Where a program goes, as NUT has it: a driver isn't for people, and a server not for everyone. The folder of NUT's drivers
+# is left to NUT, whose dummy-ups may stand beside this one.
 folder_of() {
     case $1 in
         upsd | upsmon) echo sbin ;;
-        dummy-ups) echo lib/nut ;;
+        dummy-ups) echo lib/mulgefa ;;
         *) echo bin ;;
     esac
 }
@@ -111,26 +106,57 @@ trap 'rm -f "$filled"' EXIT
 
 for program in "$@"; do
     put 755 "$BIN/$program" "$(folder_of "$program")/$program"
-    put 644 "man/$program.8" "share/man/man8/$program.8"
     for unit in "packaging/mulgefa-$program.service" "packaging/mulgefa-$program@.service"; do
         if [ -e "$unit" ]; then
             put_filled "$unit" "lib/systemd/system/${unit##*/}"
         fi
     done
+    if [ -e "man/$program.8" ]; then
+        put 644 "man/$program.8" "share/man/man8/$program.8"
+    fi
+    if grep -q "^complete .* $program\$" packaging/completions.bash; then
+        put 644 packaging/completions.bash "share/bash-completion/completions/$program"
+    fi
 done
+put 755 tools/nutroom bin/nutroom
+put 644 man/nutroom.8 share/man/man8/nutroom.8
+put 644 packaging/completions.bash share/bash-completion/completions/nutroom
+put 755 packaging/mulgefa-check sbin/mulgefa-check
+put 644 man/mulgefa-check.8 share/man/man8/mulgefa-check.8
 for page in man/*.5; do
     put 644 "$page" "share/man/man5/${page##*/}"
 done
-# Everybody may read the examples, so they are installed without passwords: a user who has none has no access.
-for example in examples/*; do
-    sed -e "s/^\( *\)password = .*/\1# password = ../" -e "s/^\(MONITOR .* monuser \)m1 /\1PASSWORD /" "$example" > "$filled"
-    put 644 "$filled" "share/mulgefa/${example}"
+put 644 man/from-nut.7 share/man/man7/from-nut.7
+put 644 docs/from-nut.md share/mulgefa/from-nut.md
+put 644 docs/room.md share/mulgefa/room.md
+put 644 docs/room.svg share/mulgefa/room.svg
+# Everybody may read the examples, so they are installed without passwords.
+for example in $(files_of examples); do
+    without_passwords "examples/$example" > "$filled"
+    put 644 "$filled" "share/mulgefa/examples/$example"
+done
+for schedule in $(files_of examples/schedules); do
+    put 644 "examples/schedules/$schedule" "share/mulgefa/schedules/$schedule"
+done
+# The passwords of a room that is played let nobody in anywhere.
+rooms=
+for room in examples/rooms/*; do
+    rooms="$rooms share/mulgefa/rooms/${room##*/}"
+    for file in $(files_of "$room"); do
+        put 644 "$room/$file" "share/mulgefa/rooms/${room##*/}/$file"
+    done
 done
 put 644 packaging/mulgefa.sysusers lib/sysusers.d/mulgefa.conf
+# What packages alone need: their first configuration, and NUT's drivers as a package beside them.
+if [ -n "$PART" ]; then
+    put 644 packaging/configure.sh share/mulgefa/configure.sh
+    put 755 packaging/mulgefa-nut-drivers sbin/mulgefa-nut-drivers
+    put 644 man/mulgefa-nut-drivers.8 share/man/man8/mulgefa-nut-drivers.8
+fi
 
 # Folders that nothing else uses go too, once they are empty.
 if [ "$what" = uninstall ]; then
-    for folder in share/mulgefa/examples share/mulgefa lib/nut; do
+    for folder in share/mulgefa/examples share/mulgefa/schedules $rooms share/mulgefa/rooms share/mulgefa lib/mulgefa; do
         rmdir "$root/$folder" 2> /dev/null || true
     done
 fi

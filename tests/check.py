@@ -1,42 +1,54 @@
 #!/usr/bin/env python3
 """Passes all tests: the toolchain's gate (every proof from nothing, an edit of some crates that must fail, the tests and the
 stored runs), then all wrong bodies in rounds, and the tests that run the programs which the gate has built. It shows what
-each crate took of the processor beside the last landing. The last line is 'N passed, M failed'."""
+each crate took of the processor beside the last landing, and once more which lines told of a failure. The last line is
+'N passed, M failed'."""
 
 import os
 import re
+import resource
 import subprocess
 import sys
+import time
 
-import gate_times
-
-ROOT = os.path.dirname(os.path.dirname(os.path.abspath(__file__)))
+from tests.gate import times as gate_times
+from tests.support.harness import ROOT
 
 # The tests of built programs, and the programs that each is given.
 TESTS = (
-    ("believe.py", ()),
-    ("programs.py", ("upsd",)),
-    ("rehearsal.py", ("rehearse",)),
-    ("dummy_rehearsal.py", ("rehearse",)),
-    ("monitor_rehearsal.py", ("rehearse",)),
-    ("link_rehearsal.py", ("rehearse",)),
-    ("word_rehearsal.py", ("rehearse",)),
-    ("borrows.py", ()),
-    ("tools.py", ("upsc", "upsrw", "upscmd")),
-    ("sockets.py", ("upsd", "dummy_ups")),
-    ("hostile_clients.py", ("upsd", "dummy_ups")),
-    ("monitor.py", ("upsd", "dummy_ups", "upsc", "upsmon")),
-    ("links.py", ("upsd", "dummy_ups", "upsc", "upsmon")),
-    ("halting.py", ("upsd", "dummy_ups", "upsc", "upsmon")),
-    ("install.py", ("upsd", "dummy_ups", "upsc", "upsrw", "upscmd", "upsmon")),
+    ("gate.believe", ()),
+    ("programs.upsd_stdio", ("upsd",)),
+    ("rehearsals.server", ("rehearse",)),
+    ("rehearsals.dummy", ("rehearse",)),
+    ("rehearsals.monitor", ("rehearse",)),
+    ("rehearsals.links", ("rehearse",)),
+    ("rehearsals.words", ("rehearse",)),
+    ("gate.borrows", ()),
+    ("programs.tools", ("upsc", "upsrw", "upscmd")),
+    ("programs.upsd_sockets", ("upsd", "dummy_ups")),
+    ("programs.hostile_clients", ("upsd", "dummy_ups")),
+    ("programs.upsmon", ("upsd", "dummy_ups", "upsc", "upsmon")),
+    ("programs.upsmon_links", ("upsd", "dummy_ups", "upsc", "upsmon")),
+    ("programs.upsmon_halting", ("upsd", "dummy_ups", "upsc", "upsmon")),
+    ("programs.nutsim", ("nutsim", "rehearse")),
+    ("programs.nutroom", ("nutsim",)),
+    ("programs.install", ("upsd", "dummy_ups", "upsc", "upsrw", "upscmd", "upsmon", "nutsim")),
+    ("programs.from_nut", ("upsd", "dummy_ups", "upsc", "upsrw", "upscmd", "upsmon")),
+    ("programs.packages", ("upsd", "dummy_ups", "upsc", "upsrw", "upscmd", "upsmon", "nutsim")),
 )
+
+# How a line of the toolchain or of a test begins or ends that tells of a failure, and how many are shown again.
+FAILURE = re.compile(
+    r"FAILED|.*\b(NOT PROVED|not refused|BAD EDIT|FAILED)\b|rt: .*: the program (ended|was stopped|had not)|rt: .*is not what its file|rt: .*was not run"
+)
+FAILURES_SHOWN = 60
 
 
 class Count:
-    """How many tests passed and failed."""
+    """How many tests passed and failed, and the lines that told of a failure."""
 
     def __init__(self):
-        self.passed, self.failed = 0, 0
+        self.passed, self.failed, self.failures = 0, 0, []
 
     def run(self, command):
         """Runs a command, shows what it prints, and adds the counts of its last line."""
@@ -44,39 +56,47 @@ class Count:
         last = ""
         for line in run.stdout:
             print(line, end="", flush=True)
+            if FAILURE.match(line):
+                self.failures.append(line.rstrip("\n"))
             last = line
         status = run.wait()
         counts = re.fullmatch(r"(\d+) passed, (\d+) failed\s*", last)
         if counts is None:
-            print(f"FAILED: {' '.join(command)} ended with status {status} and no counts")
+            self.failures.append(f"FAILED: {' '.join(command)} ended with status {status} and no counts")
+            print(self.failures[-1])
             self.failed += 1
         else:
             self.passed += int(counts[1])
             self.failed += int(counts[2]) or int(status != 0)
 
     def run_test(self, name, *words):
-        self.run([sys.executable, os.path.join("tests", name), *words])
+        self.run([sys.executable, "-m", f"tests.{name}", *words])
 
 
 def pass_all(count):
     # an edit that cannot be applied is told before an hour of proofs
-    count.run_test("wrong_bodies.py", "--look")
+    count.run_test("gate.wrong_bodies", "--look")
     if count.failed == 0:
         count.run(["rt", "ci"])
     if count.failed == 0:
-        count.run_test("wrong_bodies_test.py")
-        count.run_test("wrong_bodies.py")
+        count.run_test("gate.wrong_bodies_test")
+        count.run_test("gate.wrong_bodies")
         for test, programs in TESTS:
             count.run_test(test, *[os.path.join("crates", program, "out", program) for program in programs])
 
 
 def main():
-    count = Count()
+    count, started = Count(), time.monotonic()
     with gate_times.Stopwatch() as stopwatch:
         pass_all(count)
     if stopwatch.seconds():
         gate_times.write(stopwatch.seconds(), gate_times.LAST)
         gate_times.main([])
+    used = resource.getrusage(resource.RUSAGE_CHILDREN)
+    clock, processor = (time.monotonic() - started) / 60, (used.ru_utime + used.ru_stime) / 60
+    print(f"{clock:.0f} minutes, {processor:.0f} of processor with the tests of programs")
+    if count.failed:
+        print("What failed:", *count.failures[-FAILURES_SHOWN:], sep="\n")
     print(f"{count.passed} passed, {count.failed} failed")
     return 1 if count.failed else 0
 

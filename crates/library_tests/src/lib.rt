@@ -1,12 +1,10 @@
-//! Tests of the libraries of texts: lines and words, tables, messages, configuration files and scripts.
+//! Tests of the libraries of texts: words, tables, messages and configuration files.
 //!
 //! They stand in a crate of their own, since a crate that has tests is proved twice, with them and without.
 #![tactic(auto)]
 
 #[cfg(test)]
 mod conf;
-#[cfg(test)]
-mod dummy;
 #[cfg(test)]
 mod proto;
 #[cfg(test)]

@@ -1,8 +1,9 @@
-//! What no contract says: the texts of the protocol, from its own documents.
+//! What no contract says: the texts of the protocol, from its own documents. Those of replies are in
+//! `tests/support/server_rows.py`.
 mod answers;
 mod asks;
+mod descriptions;
 mod forms;
-mod replies;
 
 use nut_proto::Word;
 

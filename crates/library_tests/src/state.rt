@@ -1,91 +1,6 @@
-//! Worked lines, each with what the table holds after them.
-use nut_state::{Flags, Heard, Range, UpsState, Variable};
-use std::alloc::{AllocError, Global};
-
-mod limits;
-
-/// Writes a line of words, as they are.
-fn put(out: &mut Vec<u8>, words: &[&[u8]]) -> Result<(), AllocError> {
-    for (index, word) in words.iter().enumerate() {
-        if index > 0 {
-            out.push(b' ')?;
-        }
-        out.extend_from_slice(word)?;
-    }
-    out.push(b'\n')?;
-    Ok(())
-}
-
-fn put_flags(out: &mut Vec<u8>, name: &[u8], flags: Flags) -> Result<(), AllocError> {
-    if flags.writable {
-        put(out, &[b"SETFLAGS", name, b"RW"])?;
-    }
-    if flags.string {
-        put(out, &[b"SETFLAGS", name, b"STRING"])?;
-    }
-    if flags.number {
-        put(out, &[b"SETFLAGS", name, b"NUMBER"])?;
-    }
-    Ok(())
-}
-
-fn put_aux(alloc: Global, out: &mut Vec<u8>, name: &[u8], aux: u16) -> Result<(), AllocError> {
-    if aux > 0 {
-        let number = format!(in alloc; "{aux}")?;
-        put(out, &[b"SETAUX", name, number.as_bytes()])?;
-    }
-    Ok(())
-}
-
-fn put_range(
-    alloc: Global,
-    out: &mut Vec<u8>,
-    name: &[u8],
-    range: Range,
-) -> Result<(), AllocError> {
-    let Range { minimum, maximum } = range;
-    let bounds = format!(in alloc; "{minimum} {maximum}")?;
-    put(out, &[b"ADDRANGE", name, bounds.as_bytes()])
-}
-
-/// Writes what is asked of the table by the variable's name.
-fn put_variable(
-    alloc: Global,
-    out: &mut Vec<u8>,
-    state: &UpsState,
-    name: &[u8],
-) -> Result<(), AllocError> {
-    if let Some(value) = state.value(name) {
-        put(out, &[b"SETINFO", name, value])?;
-    }
-    put_flags(out, name, state.flags(name))?;
-    put_aux(alloc, out, name, state.aux(name))?;
-    for text in state.enums(name) {
-        put(out, &[b"ADDENUM", name, text.as_bytes()])?;
-    }
-    for range in state.ranges(name) {
-        put_range(alloc, out, name, *range)?;
-    }
-    Ok(())
-}
-
-/// What the table holds, as lines that would tell it so, with values as they are.
-fn shown(alloc: Global, state: &UpsState) -> Result<Vec<u8>, AllocError> {
-    let mut out = Vec::new(alloc);
-    for variable in state.variables() {
-        put_variable(alloc, &mut out, state, variable.name())?;
-    }
-    for command in state.commands() {
-        put(&mut out, &[b"ADDCMD", command.as_bytes()])?;
-    }
-    if state.dump_done() {
-        put(&mut out, &[b"DUMPDONE"])?;
-    }
-    if state.data_ok() {
-        put(&mut out, &[b"DATAOK"])?;
-    }
-    Ok(out)
-}
+//! What one look-up shows of a variable, lines that change nothing, and numbers. Tables are in `tests/support/table_rows.py`.
+use nut_state::{Heard, UpsState, Variable, natural, whole_number};
+use std::alloc::Global;
 
 /// Whether the table hears each of these lines.
 fn hears(state: &mut UpsState, lines: &str) -> bool {
@@ -95,110 +10,6 @@ fn hears(state: &mut UpsState, lines: &str) -> bool {
         }
     }
     true
-}
-
-fn is_shown(alloc: Global, lines: &str, wanted: &[u8]) -> bool {
-    let mut state = UpsState::new(alloc);
-    if !hears(&mut state, lines) {
-        return false;
-    }
-    match shown(alloc, &state) {
-        Ok(found) => found.as_slice() == wanted,
-        Err(_) => false,
-    }
-}
-
-/// The first row whose lines don't give what stands behind them.
-fn first_wrong(alloc: Global, rows: &[(&str, &[u8])]) -> Option<usize> {
-    for (index, (lines, wanted)) in rows.iter().enumerate() {
-        if !is_shown(alloc, lines, wanted) {
-            return Some(index);
-        }
-    }
-    None
-}
-
-const TABLES: [(&str, &[u8]); 18] = [
-    // status, then the end of the dump, then stale data
-    (
-        "SETINFO ups.status \"OL\"\nDATAOK",
-        b"SETINFO ups.status OL\nDATAOK\n",
-    ),
-    (
-        "SETINFO ups.status \"OL\"\nDATAOK\ndumpdone",
-        b"SETINFO ups.status OL\nDUMPDONE\nDATAOK\n",
-    ),
-    (
-        "SETINFO ups.status \"OL\"\nDATAOK\ndumpdone\nDATASTALE",
-        b"SETINFO ups.status OL\nDUMPDONE\n",
-    ),
-    // values with quotes and backslashes
-    (
-        "SETINFO ups.mfr \"a \\\"b\\\" \\\\c\"\nSETINFO ups.id a\\ b\nSETINFO \"ups.serial\" \"\" # none\nSETINFO ups.model x\nSETINFO ups.model \"a\\#b=c\"\nADDENUM ups.id \"a b\"\nADDENUM ups.id \"\\\"\"\nDELENUM ups.id a\\ b",
-        b"SETINFO ups.id a b\nADDENUM ups.id \"\nSETINFO ups.mfr a \"b\" \\c\nSETINFO ups.model a#b=c\nSETINFO ups.serial \n",
-    ),
-    // flags and aux
-    (
-        "SETINFO ups.id x\nSETFLAGS ups.id rw STRING other\nSETAUX ups.id 3",
-        b"SETINFO ups.id x\nSETFLAGS ups.id RW\nSETFLAGS ups.id STRING\nSETAUX ups.id 3\n",
-    ),
-    // enum values, one of them twice
-    (
-        "SETINFO input.sensitivity low\nADDENUM input.sensitivity low\nADDENUM input.sensitivity high\nADDENUM input.sensitivity low\nDELENUM input.sensitivity medium",
-        b"SETINFO input.sensitivity low\nADDENUM input.sensitivity low\nADDENUM input.sensitivity high\n",
-    ),
-    // ranges: before the variable, turned about, twice, and removed
-    (
-        "ADDRANGE battery.charge 0 1\nSETINFO battery.charge 50\nADDRANGE battery.charge -5 100\nADDRANGE battery.charge 7 6\nADDRANGE battery.charge 200 300\nADDRANGE battery.charge 0200 0300\nDELRANGE battery.charge 200 301\nDELRANGE battery.charge -05 100",
-        b"SETINFO battery.charge 50\nADDRANGE battery.charge 200 300\n",
-    ),
-    // flags are those of the last line
-    (
-        "setinfo ups.delay.shutdown 20\nSetFlags ups.delay.shutdown Rw nUMBER",
-        b"SETINFO ups.delay.shutdown 20\nSETFLAGS ups.delay.shutdown RW\nSETFLAGS ups.delay.shutdown NUMBER\n",
-    ),
-    (
-        "setinfo a 20\nSetFlags a Rw nUMBER\nsetflags a STRING",
-        b"SETINFO a 20\nSETFLAGS a STRING\n",
-    ),
-    (
-        "setinfo a 20\nSetFlags a Rw nUMBER\nsetflags a STRING\nSETFLAGS a",
-        b"SETINFO a 20\n",
-    ),
-    // a deleted variable forgets all that was said of it
-    (
-        "SETINFO a low\nSETFLAGS a RW STRING\nSETAUX a 8\nADDENUM a low\nADDRANGE a 0 9\nDELINFO a",
-        b"",
-    ),
-    (
-        "SETINFO a low\nSETFLAGS a RW STRING\nSETAUX a 8\nADDENUM a low\nADDRANGE a 0 9\nDELINFO a\nADDENUM a high\nSETFLAGS a RW\nSETINFO a low",
-        b"SETINFO a low\n",
-    ),
-    // names ascend
-    (
-        "SETINFO b 1\nSETINFO a.b 2\nSETINFO a 3\nSETINFO b! 4\nSETINFO A 5\nSETINFO a 6\nADDCMD load.on\nADDCMD load.off\nADDCMD load.on\nADDCMD load/on\nDELCMD none",
-        b"SETINFO A 5\nSETINFO a 6\nSETINFO a.b 2\nSETINFO b 1\nADDCMD load.off\nADDCMD load.on\n",
-    ),
-    (
-        "ADDCMD load.on\nADDCMD load.off\nDELCMD load.on",
-        b"ADDCMD load.off\n",
-    ),
-    // aux: before the variable, at its limit, past it, and back to 0
-    ("SETAUX a 5\nSETINFO a x", b"SETINFO a x\n"),
-    (
-        "SETINFO a x\nSETAUX a 000000128",
-        b"SETINFO a x\nSETAUX a 128\n",
-    ),
-    (
-        "SETINFO a x\nSETAUX a 000000128\nSETAUX a 129\nSETAUX a 0000000001\nSETAUX a -1\nSETAUX a \"\"\nSETAUX a 1x",
-        b"SETINFO a x\nSETAUX a 128\n",
-    ),
-    ("SETINFO a x\nSETAUX a 128\nSETAUX a 0", b"SETINFO a x\n"),
-];
-
-#[test]
-fn tables(rt: HostRuntime) {
-    assert_eq!(rt; first_wrong(rt.alloc(), &TABLES), None);
 }
 
 fn is_empty(state: &UpsState) -> bool {
@@ -238,6 +49,15 @@ fn is_charge(variable: &Variable) -> bool {
         && variable.ranges().len() == 1
 }
 
+/// Whether what is asked by name is what the variable shows.
+fn is_charge_by_name(state: &UpsState, name: &[u8]) -> bool {
+    state.value(name) == Some(b"20".as_slice())
+        && state.flags(name).writable
+        && state.aux(name) == 0
+        && state.enums(name).is_empty()
+        && state.ranges(name).len() == 1
+}
+
 fn shows_charge(alloc: Global) -> bool {
     let mut state = UpsState::new(alloc);
     let lines =
@@ -246,7 +66,7 @@ fn shows_charge(alloc: Global) -> bool {
         return false;
     }
     match state.variable(b"battery.charge.low") {
-        Some(variable) => is_charge(variable),
+        Some(variable) => is_charge(variable) && is_charge_by_name(&state, b"battery.charge.low"),
         None => false,
     }
 }
@@ -302,4 +122,33 @@ fn first_other(alloc: Global, rows: &[(&str, Heard)]) -> Option<usize> {
 #[test]
 fn lines_that_change_nothing(rt: HostRuntime) {
     assert_eq!(rt; first_other(rt.alloc(), &OTHERS), None);
+}
+
+const NUMBERS: [(&[u8], Option<u32>, Option<i32>); 12] = [
+    (b"0", Some(0), Some(0)),
+    (b"007", Some(7), Some(7)),
+    (b"12", Some(12), Some(12)),
+    (b"999999999", Some(999_999_999), Some(999_999_999)),
+    (b"1000000000", None, None),
+    (b"", None, None),
+    (b"+1", None, None),
+    (b"-0", None, Some(0)),
+    (b"-999999999", None, Some(-999_999_999)),
+    (b"-", None, None),
+    (b"--1", None, None),
+    (b"1.5", None, None),
+];
+
+fn first_other_number(rows: &[(&[u8], Option<u32>, Option<i32>)]) -> Option<usize> {
+    for (index, (text, number, whole)) in rows.iter().enumerate() {
+        if natural(text) != *number || whole_number(text) != *whole {
+            return Some(index);
+        }
+    }
+    None
+}
+
+#[test]
+fn numbers(rt: HostRuntime) {
+    assert_eq!(rt; first_other_number(&NUMBERS), None);
 }

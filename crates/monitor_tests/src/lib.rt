@@ -1,7 +1,9 @@
-//! Tests of the loop that watches with a monitor over a world.
+//! Tests of a monitor, and of the loop that watches with one over a world.
 //!
 //! They stand in a crate of their own, since a crate that has tests is proved twice, with them and without.
 #![tactic(auto)]
 
+#[cfg(test)]
+mod getters;
 #[cfg(test)]
 mod watch;

@@ -1,1 +1,4 @@
+pub mod Folder
+pub mod Stopping
+pub mod Unknown
 pub mod UpsOption

@@ -11,23 +11,28 @@ pub fn stdio_command<'a>(alloc: Global) -> Result<Command<'a>, AllocError> {
         .arg(ups(alloc))
 }
 
-/// The command line of upsd: of `upsd --stdio`, or of `upsd --conf DIR -s SOCKDIR`.
+/// The command line of upsd: of `upsd --stdio`, of `upsd --conf DIR -s SOCKDIR`, or of `upsd --check`.
 pub fn upsd_command<'a>(alloc: Global) -> Result<Command<'a>, AllocError> {
     bare_command(alloc)
         .arg(conf(alloc)?)?
         .arg(sockets(alloc)?)?
-        .arg(quiet(alloc, "Tell nothing of listeners, UPSes and drivers"))?
+        .arg(quiet_upsd(alloc)?)?
+        .arg(check_upsd(alloc)?)?
         .arg(stdio(alloc))?
         .arg(ups_of_stdio(alloc)?)
 }
 
-/// The command line of upsmon: of the watch, or of the look for POWERDOWNFLAG.
+/// The command line of upsmon: of the watch, of the look at its file, or of the look for POWERDOWNFLAG.
 pub fn upsmon_command<'a>(alloc: Global) -> Result<Command<'a>, AllocError> {
     Command::new(alloc, "upsmon")
         .version("profile 1.2")
-        .about("A monitor of UPSes that halts its machine in time")
-        .arg(conf_of_upsmon(alloc)?)?
+        .about("A monitor of UPSes that halts its machine when too few of them are left")
+        .arg(conf_of_upsmon(alloc))?
         .arg(quiet(alloc, "Tell nothing of UPSes and servers"))?
+        .arg(check(
+            alloc,
+            "Watch nothing: say the first fault of upsmon.conf, or how soon this machine stops",
+        ))?
         .arg(kill_power(alloc)?)
 }
 
@@ -70,8 +75,26 @@ fn sockets<'a>(alloc: Global) -> Result<Arg<'a>, AllocError> {
         .value_name("SOCKDIR")
         .help("The folder of the drivers' sockets, DRIVER-NAME for each UPS")
         .required_unless_present("stdio")?
+        .required_unless_present("check")?
         .conflicts_with("stdio")?
         .requires_arg("conf")
+}
+
+fn quiet_upsd<'a>(alloc: Global) -> Result<Arg<'a>, AllocError> {
+    quiet(alloc, "Tell nothing of listeners, UPSes and drivers").conflicts_with("stdio")
+}
+
+fn check_upsd<'a>(alloc: Global) -> Result<Arg<'a>, AllocError> {
+    let help =
+        "Serve nothing: say the first fault of the files; without --conf of those in NUT_CONFPATH or /etc/nut";
+    check(alloc, help).conflicts_with("stdio")
+}
+
+fn check<'a>(alloc: Global, help: &'static str) -> Arg<'a> {
+    Arg::new(alloc, "check")
+        .long("check")
+        .action(ArgAction::SetTrue)
+        .help(help)
 }
 
 fn quiet<'a>(alloc: Global, help: &'static str) -> Arg<'a> {
@@ -81,12 +104,10 @@ fn quiet<'a>(alloc: Global, help: &'static str) -> Arg<'a> {
         .help(help)
 }
 
-fn conf_of_upsmon<'a>(alloc: Global) -> Result<Arg<'a>, AllocError> {
-    Arg::new(alloc, "conf")
-        .long("conf")
-        .value_name("DIR")
-        .help("The folder of upsmon.conf; with -K, unless given, that of NUT_CONFPATH or /etc/nut")
-        .required_unless_present("killpower")
+fn conf_of_upsmon<'a>(alloc: Global) -> Arg<'a> {
+    Arg::new(alloc, "conf").long("conf").value_name("DIR").help(
+        "The folder of upsmon.conf; unless given, that of NUT_CONFPATH or /etc/nut",
+    )
 }
 
 fn kill_power<'a>(alloc: Global) -> Result<Arg<'a>, AllocError> {
@@ -94,5 +115,6 @@ fn kill_power<'a>(alloc: Global) -> Result<Arg<'a>, AllocError> {
         .short('K')
         .action(ArgAction::SetTrue)
         .help("Watch nothing: the status is 0 if POWERDOWNFLAG is set, else 1")
-        .conflicts_with("quiet")
+        .conflicts_with("quiet")?
+        .conflicts_with("check")
 }

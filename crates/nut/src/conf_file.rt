@@ -1,16 +1,16 @@
 //! Configuration files in their folder.
 
+use crate::unknown::unknown_word;
 use nut_conf::{
     ConfFault, FILE_MAX, FaultKind, UpsConf, UpsdConf, UpsmonConf, UsersConf, read_ups, read_upsd,
     read_upsmon, read_users,
 };
 use std::alloc::Global;
 use std::fs::File;
-use std::io;
 use std::io::{ErrorKind, Read};
 use std::path::{AsPath, Path};
 use std::rt::Files;
-use thiserror::Error;
+use std::{fmt, io};
 
 /// A configuration that a file sets.
 pub trait ConfFile: Drop + Sized {
@@ -62,17 +62,35 @@ impl ConfFile for UpsmonConf {
 }
 
 /// Why a file gives no configuration. It is shown as `ups.conf: cannot read` or `ups.conf:2: Repeated`.
-#[derive(Clone, Copy, Debug, PartialEq, Eq, Error)]
-pub enum FileFault {
+#[derive(Debug, Drop)]
+pub enum FileFault<'a> {
     /// The file isn't there, is a folder, may not be read, or a read failed.
-    #[error("{0}: cannot read")]
-    CannotRead(&'static str),
-    /// The file has this fault.
-    #[error("{0}:{1}")]
-    Conf(&'static str, ConfFault),
+    CannotRead(&'a str),
+    /// The file has this fault, at a directive of this word where no line of the file may have that.
+    Conf(&'a str, ConfFault, Option<String>),
     /// Memory ran out.
-    #[error("out of memory")]
     Memory,
+}
+
+impl<'a> fmt::Display for FileFault<'a> {
+    fn fmt<W: fmt::Write>(&self, f: &mut fmt::Formatter<W>) -> fmt::Result {
+        match self {
+            FileFault::CannotRead(file) => write!(f, "{file}: cannot read"),
+            FileFault::Conf(file, fault, _) => write!(f, "{file}:{fault}"),
+            FileFault::Memory => write!(f, "out of memory"),
+        }
+    }
+}
+
+impl<'a> FileFault<'a> {
+    /// The word of the directive that no line of the file may have, if that is the fault.
+    pub fn unknown_word(&self) -> Option<&str> {
+        match self {
+            FileFault::Conf(_, _, Some(word)) => Some(word.as_str()),
+            FileFault::Conf(_, _, None) => None,
+            FileFault::CannotRead(_) | FileFault::Memory => None,
+        }
+    }
 }
 
 /// Reads a configuration from its file in a folder.
@@ -80,9 +98,23 @@ pub fn read_conf<C: ConfFile>(
     files: &impl Files,
     alloc: Global,
     folder: &str,
-) -> Result<C, FileFault> {
+) -> Result<C, FileFault<'static>> {
     let name = C::file_name();
-    let bytes = match contents(files, alloc, folder, name) {
+    match Path::new(folder).join(alloc, name) {
+        Ok(path) => read_conf_at(files, alloc, path, name),
+        Err(_) => Err(FileFault::Memory),
+    }
+}
+
+/// Reads a configuration from a file, which a fault calls by this name.
+pub fn read_conf_at<'a, C: ConfFile, P: AsPath>(
+    files: &impl Files,
+    alloc: Global,
+    path: P,
+    name: &'a str,
+) -> Result<C, FileFault<'a>> {
+    // of a file that is too long no more than show that
+    let bytes = match read_file(files, alloc, path, FILE_MAX as u64 + 1) {
         Ok(bytes) => bytes,
         Err(error) if error.kind() == ErrorKind::OutOfMemory => return Err(FileFault::Memory),
         Err(_) => return Err(FileFault::CannotRead(name)),
@@ -90,14 +122,11 @@ pub fn read_conf<C: ConfFile>(
     match C::read(alloc, bytes.as_slice()) {
         Ok(conf) => Ok(conf),
         Err(fault) if fault.kind == FaultKind::Memory => Err(FileFault::Memory),
-        Err(fault) => Err(FileFault::Conf(name, fault)),
+        Err(fault) => {
+            let word = unknown_word::<C>(alloc, bytes.as_slice(), fault);
+            Err(FileFault::Conf(name, fault, word))
+        }
     }
-}
-
-/// The bytes of a configuration file in its folder. Of one that is too long it takes no more than show that.
-fn contents(files: &impl Files, alloc: Global, folder: &str, name: &str) -> io::Result<Vec<u8>> {
-    let path = Path::new(folder).join(alloc, name)?;
-    read_file(files, alloc, path, FILE_MAX as u64 + 1)
 }
 
 /// The first so many bytes of a file.

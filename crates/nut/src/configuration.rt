@@ -43,7 +43,11 @@ pub fn read_options(
 }
 
 /// What the files of a folder set.
-fn read_settings(files: &impl Files, alloc: Global, folder: &str) -> Result<Settings, FileFault> {
+pub fn read_settings(
+    files: &impl Files,
+    alloc: Global,
+    folder: &str,
+) -> Result<Settings, FileFault<'static>> {
     Ok(Settings {
         ups: read_conf(files, alloc, folder)?,
         users: read_conf(files, alloc, folder)?,

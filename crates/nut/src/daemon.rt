@@ -4,20 +4,23 @@ ghost use Rattle.std.specs.Prelude.{◌≡◌, ◌<◌, ◌-◌, ◌^◌, [], If
 ghost use Rattle.nut_history.specs.Content.{content};
 
 use crate::command_line::upsd_command;
-use crate::configuration::{Settings, read_options};
+use crate::configuration::{Settings, read_options, read_settings};
 use crate::failure::Failure;
+use crate::folder::conf_folder;
 use crate::listeners::listen;
 use crate::stdio::serve_client;
 use crate::streams::hold_closed_streams;
 use crate::upsd_fault::UpsdFault;
 use crate::warning::{readable_file, warn};
+use clap::ArgMatches;
 use mio::net::TcpListener;
 use nut_conf::UsersConf;
 use nut_serve::{ServeFault, World, serve};
 use nut_server::{Config, Server};
 use nut_sockets::{Driver, MioWorld, Report, Reports};
-use std::alloc::{AllocError, Global};
+use std::alloc::{Alloc, AllocError, Global};
 use std::convert::AsStr;
+use std::env::Env;
 use std::io::{Read, Write};
 use std::net::Net;
 use std::rt::Files;
@@ -32,13 +35,16 @@ use std::time::Clock;
 /// until it is there; it ends where a wait for the sockets or the clock fails, which is told as `upsd: I/O failed`, with
 /// status 1.
 ///
+/// `upsd --check` serves nothing: it reads the files of `--conf`, or else those of the variable NUT_CONFPATH or of `/etc/nut`,
+/// as a start does, and says of them what a start does. The status is 0 where they have no fault.
+///
 /// What is listened on, which UPSes are served and which drivers come and go is told on `err`, a line each; with `-q` it
 /// isn't. That everybody can read the passwords of upsd.users is told all the same. Where nobody can listen at an address,
 /// `upsd: cannot listen on ADDRESS:PORT` is told, and the status is 1.
 ///
 /// [`run_stdio`]: crate::run_stdio
 pub fn run_upsd<S: AsStr, I: Read, O: Write, E: Write>(
-    rt: &(impl Wait + Files + Net + Clock),
+    rt: &(impl Wait + Files + Net + Clock + Env + Alloc),
     alloc: Global,
     words: &[S],
     input: &mut I,
@@ -52,7 +58,7 @@ pub fn run_upsd<S: AsStr, I: Read, O: Write, E: Write>(
 }
 
 fn run<S: AsStr, I: Read, O: Write, E: Write>(
-    rt: &(impl Wait + Files + Net + Clock),
+    rt: &(impl Wait + Files + Net + Clock + Env + Alloc),
     alloc: Global,
     words: &[S],
     input: &mut I,
@@ -60,6 +66,9 @@ fn run<S: AsStr, I: Read, O: Write, E: Write>(
     err: &mut E,
 ) -> Result<(), Failure<UpsdFault>> {
     let matches = upsd_command(alloc)?.try_get_matches_from(words)?;
+    if matches.get_flag("check") {
+        return check_files(rt, alloc, &matches, err);
+    }
     let settings = read_options(rt, alloc, &matches)?;
     match matches.get_str("sockets") {
         Some(folder) => {
@@ -70,6 +79,20 @@ fn run<S: AsStr, I: Read, O: Write, E: Write>(
         }
         None => serve_client(rt, alloc, settings.into_config(), input, out),
     }
+}
+
+/// Reads the files of the folder that the command line or the environment names, and says of them what a start does.
+fn check_files<R: Files + Env + Alloc, E: Write>(
+    rt: &R,
+    alloc: Global,
+    matches: &ArgMatches<'_>,
+    err: &mut E,
+) -> Result<(), Failure<UpsdFault>> {
+    let folder = conf_folder(rt, alloc, matches)?;
+    let folder = folder.as_str();
+    read_settings(rt, alloc, folder)?;
+    warn("upsd", readable_file::<UsersConf>(rt, alloc, folder)?, err);
+    Ok(())
 }
 
 /// Serves clients over sockets, and tells the operator of it on `err` but where that is to be quiet. It ends where the

@@ -2,7 +2,7 @@
 
 use crate::conf_file::read_file;
 use crate::driver_socket::{has_listener, listen_at};
-use crate::failure::Failure;
+use crate::failure::{Failure, OwnFault};
 use crate::streams::hold_closed_streams;
 use clap::{Arg, Command};
 use mio::net::UnixListener;
@@ -47,6 +47,12 @@ impl<'a> fmt::Display for DummyUpsFault<'a> {
             DummyUpsFault::InUse(socket) => write!(f, "{socket}: another driver listens there"),
             DummyUpsFault::Listen(socket) => write!(f, "cannot listen on {socket}"),
         }
+    }
+}
+
+impl<'a> OwnFault for DummyUpsFault<'a> {
+    fn unknown_word(&self) -> Option<&str> {
+        None
     }
 }
 

@@ -57,14 +57,30 @@ impl<F> From<ServeFault> for Failure<F> {
     }
 }
 
-impl<F: Display> Failure<F> {
+/// What only one program meets. It is shown as what stands behind the program's name.
+pub trait OwnFault: Display {
+    /// The word of a directive that no line of a configuration file may have, if that is what it meets.
+    fn unknown_word(&self) -> Option<&str>;
+}
+
+/// Says what only this program meets. Where that is a word that no line of a file may have, a second line says where to read
+/// of it.
+fn tell_own<F: OwnFault, E: Write>(program: &str, fault: &F, err: &mut E) -> io::Result<()> {
+    writeln!(err, "{program}: {fault}")?;
+    match fault.unknown_word() {
+        Some(word) => writeln!(err, "{program}: {word} isn't taken here: see from-nut(7)"),
+        None => Ok(()),
+    }
+}
+
+impl<F: OwnFault> Failure<F> {
     /// Says why on the stream where it belongs, as `PROGRAM: WHY` but for clap's texts, and gives the exit status: 2 for a
     /// command line that doesn't read, 0 for the help or the version where it could be written, else 1.
     pub fn tell<O: Write, E: Write>(&self, program: &str, out: &mut O, err: &mut E) -> u8 {
         let told = match self {
             Failure::CommandLine(error) if error.use_stderr() => write!(err, "{error}"),
             Failure::CommandLine(error) => write!(out, "{error}"),
-            Failure::Own(fault) => writeln!(err, "{program}: {fault}"),
+            Failure::Own(fault) => tell_own(program, fault, err),
             Failure::Memory => writeln!(err, "{program}: out of memory"),
             Failure::Io => writeln!(err, "{program}: I/O failed"),
         };

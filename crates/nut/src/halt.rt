@@ -1,19 +1,19 @@
 //! How the machine is halted.
 
 use crate::power_down_flag::{FlagFault, FlagState, PowerDownFlag};
-use crate::shell::shell_command;
+use crate::shutdown_command::ShutdownCommand;
 use linked_list_allocator::LocalHeap;
 use nut_conf::UpsmonConf;
 use nut_sockets::text_of;
 use std::alloc::{AllocError, Global};
 use std::io::Write;
-use std::process::{Child, Command, ExitStatus, Processes};
+use std::process::{Child, ExitStatus, Processes};
 use std::rt::Files;
 use std::time::{Clock, Duration};
 use std::{fmt, io, thread};
 
-/// How many bytes are set apart for the start of SHUTDOWNCMD: for its words, and for a copy of an environment of up to 300
-/// KiB, which takes up to three times that while it grows.
+/// How many bytes are set apart for the start of SHUTDOWNCMD's shell: for its words, and for a copy of an environment of up to
+/// 300 KiB, which takes up to three times that while it grows.
 const HEAP: usize = 1 << 20;
 
 /// How often a start of SHUTDOWNCMD that failed is tried again.
@@ -46,7 +46,7 @@ impl fmt::Display for HaltFault {
     }
 }
 
-/// The memory that a [`Halt`] takes when it is carried out.
+/// The memory that a [`Halt`] takes when it is made ready, or carried out.
 ///
 /// # Errors
 /// Where there isn't so much.
@@ -54,39 +54,51 @@ pub fn halt_heap(alloc: Global) -> Result<LocalHeap, AllocError> {
     LocalHeap::new(alloc, HEAP)
 }
 
-/// What is done to halt the machine, made ready at the start. Carried out, it takes no memory but the heap's; the C library
-/// takes some small blocks of its own to start a process.
+/// What is done to halt the machine, made ready at the start: carried out, it takes no memory. Where SHUTDOWNCMD's shell was
+/// ended meanwhile, another one takes the heap's, and some small blocks that the C library needs to start a process.
 #[derive(Drop)]
-pub struct Halt<'h> {
+pub struct Halt<'r, 'h, R: Processes> {
+    rt: &'r R,
     flag: Option<PowerDownFlag>,
-    command: Option<Command<&'h LocalHeap>>,
+    command: Option<ShutdownCommand<'r, 'h, R>>,
 }
 
-impl<'h> Halt<'h> {
+impl<'r, 'h, R: Files + Processes + Clock> Halt<'r, 'h, R> {
     /// What upsmon.conf sets. What isn't set is left out.
     pub fn prepare(
+        rt: &'r R,
         alloc: Global,
         heap: &'h LocalHeap,
         config: &UpsmonConf,
-    ) -> Result<Halt<'h>, AllocError> {
-        let command = match &config.shutdown_cmd {
-            Some(command) => Some(shell_command(heap, text_of(command.as_bytes()))?),
-            None => None,
-        };
+    ) -> Result<Halt<'r, 'h, R>, AllocError> {
         Ok(Halt {
+            rt,
             flag: PowerDownFlag::of(alloc, config)?,
-            command,
+            command: shutdown_command(rt, heap, config)?,
         })
+    }
+
+    /// Starts the shell that is to run SHUTDOWNCMD. That it can't be started is told on `err`, and it is tried again at the
+    /// halt.
+    pub fn make_ready<E: Write>(&mut self, err: &mut E) {
+        if let Some(command) = &mut self.command {
+            if let Err(error) = command.make_ready() {
+                let _ = writeln!(
+                    err,
+                    "upsmon: warning: the shell that is to run SHUTDOWNCMD cannot be started yet: {error}"
+                );
+            }
+        }
     }
 
     /// Removes POWERDOWNFLAG where an earlier shutdown left it set: else the scripts of the next ordinary shutdown would have
     /// the UPS cut its power. That it was removed is told on `err`, and so is what else lies there, which is left as it is.
-    pub fn clear_flag<E: Write>(&self, files: &impl Files, err: &mut E) {
+    pub fn clear_flag<E: Write>(&self, err: &mut E) {
         let Some(flag) = &self.flag else {
             return;
         };
         let path = flag.path();
-        let _ = match flag.clear(files) {
+        let _ = match flag.clear(self.rt) {
             Ok(FlagState::Absent) => Ok(()),
             Ok(FlagState::Set) => writeln!(
                 err,
@@ -110,38 +122,48 @@ impl<'h> Halt<'h> {
     ///
     /// # Errors
     /// Where SHUTDOWNCMD can't be started, or ends with another status than 0.
-    pub fn carry_out<E: Write>(
-        &mut self,
-        rt: &(impl Files + Processes + Clock),
-        is_flagged: bool,
-        err: &mut E,
-    ) -> Result<(), HaltFault> {
+    pub fn carry_out<E: Write>(&mut self, is_flagged: bool, err: &mut E) -> Result<(), HaltFault> {
         if is_flagged {
-            self.set_flag(rt, err);
+            self.set_flag(err);
         }
         match &mut self.command {
-            Some(command) => run(rt, command, err),
+            Some(command) => run(self.rt, command, err),
             None => Ok(()),
         }
     }
 
     /// Sets POWERDOWNFLAG, or tells why it isn't.
-    fn set_flag<E: Write>(&self, files: &impl Files, err: &mut E) {
+    fn set_flag<E: Write>(&self, err: &mut E) {
         if let Some(flag) = &self.flag {
-            if let Err(fault) = flag.set(files) {
+            if let Err(fault) = flag.set(self.rt) {
                 let _ = writeln!(err, "upsmon: POWERDOWNFLAG {} {fault}", flag.path());
             }
         }
     }
 }
 
+/// SHUTDOWNCMD, where upsmon.conf sets it.
+fn shutdown_command<'r, 'h, R: Processes>(
+    processes: &'r R,
+    heap: &'h LocalHeap,
+    config: &UpsmonConf,
+) -> Result<Option<ShutdownCommand<'r, 'h, R>>, AllocError> {
+    match &config.shutdown_cmd {
+        Some(command) => {
+            let text = text_of(command.as_bytes());
+            Ok(Some(ShutdownCommand::new(processes, heap, text)?))
+        }
+        None => Ok(None),
+    }
+}
+
 /// Runs a command to its end.
-fn run<E: Write>(
-    rt: &(impl Processes + Clock),
-    command: &mut Command<&LocalHeap>,
+fn run<R: Processes, E: Write>(
+    clock: &impl Clock,
+    command: &mut ShutdownCommand<'_, '_, R>,
     err: &mut E,
 ) -> Result<(), HaltFault> {
-    let status = match start(rt, command, err)?.wait() {
+    let status = match start(clock, command, err)?.wait() {
         Ok(status) => status,
         Err(error) => return Err(HaltFault::NotWaited(error)),
     };
@@ -153,14 +175,14 @@ fn run<E: Write>(
 }
 
 /// Starts a command, if need be again and again. Each reason why it can't be started is told once.
-fn start<R: Processes + Clock, E: Write>(
-    rt: &R,
-    command: &mut Command<&LocalHeap>,
+fn start<R: Processes, E: Write>(
+    clock: &impl Clock,
+    command: &mut ShutdownCommand<'_, '_, R>,
     err: &mut E,
 ) -> Result<Child<R::Started>, HaltFault> {
     let mut told = None;
     for _ in 0..TRIES {
-        match command.spawn(rt) {
+        match command.start() {
             Ok(child) => return Ok(child),
             Err(error) => {
                 if told != Some(error.kind()) {
@@ -169,9 +191,9 @@ fn start<R: Processes + Clock, E: Write>(
                 }
             }
         }
-        thread::sleep(rt, Duration::from_secs(PAUSE));
+        thread::sleep(clock, Duration::from_secs(PAUSE));
     }
-    command.spawn(rt).map_err(HaltFault::NotStarted)
+    command.start().map_err(HaltFault::NotStarted)
 }
 
 fn tell_failed_start<E: Write>(error: &io::Error, err: &mut E) {

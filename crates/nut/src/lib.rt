@@ -10,28 +10,35 @@ mod daemon;
 mod driver_socket;
 mod dummy;
 mod failure;
+mod folder;
 mod halt;
 mod listeners;
 mod monitor;
 mod notify_command;
 mod power_down_flag;
 mod shell;
+mod shutdown_command;
 mod stdio;
+mod stopping;
 mod streams;
+mod unknown;
 mod ups_option;
 mod upsd_fault;
 mod upsmon_fault;
 mod warning;
 
 pub use arguments::refuse_start;
-pub use conf_file::{ConfFile, FileFault, read_conf};
+pub use conf_file::{ConfFile, FileFault, read_conf, read_conf_at};
 pub use daemon::run_upsd;
 pub use dummy::run_dummy_ups;
+pub use failure::{Failure, OwnFault};
 pub use monitor::run_upsmon;
 pub use nut_serve::{
     Address, Fault, Given, MemoryWorld, Next, Note, Piece, ServeFault, StreamWorld, World, Written,
     serve, serve_memory,
 };
 pub use nut_sockets::{Driver, LossyLines, MioWorld, Report, Reports};
+pub use nut_watch::{MemoryMonWorld, MonWorld, watch, watch_memory};
 pub use stdio::run_stdio;
+pub use stopping::{Stopping, stops_within};
 pub use ups_option::{add_ups_option, read_ups_options};

@@ -1,4 +1,4 @@
-//! upsmon: a monitor that halts its machine in time.
+//! upsmon: a monitor that decides when to halt its machine.
 
 ghost use Rattle.std.specs.Prelude.{◌≡◌, ◌<◌, ◌-◌, ◌^◌, [], IfSome};
 ghost use Rattle.nut_decision.specs.Content.{content};
@@ -8,8 +8,10 @@ use crate::command_line::upsmon_command;
 use crate::conf_file::read_conf;
 use crate::crier::Crier;
 use crate::failure::Failure;
+use crate::folder::conf_folder;
 use crate::halt::{Halt, halt_heap};
 use crate::power_down_flag::{FlagState, PowerDownFlag};
+use crate::stopping::Stopping;
 use crate::streams::hold_closed_streams;
 use crate::upsmon_fault::UpsmonFault;
 use crate::warning::{Warning, readable_file, warn};
@@ -20,7 +22,8 @@ use nut_sockets::{Herald, LossyLines, MioMonWorld, Report, Reports, text_of};
 use nut_watch::{MonWorld, watch};
 use std::alloc::{Alloc, AllocError, Global};
 use std::convert::AsStr;
-use std::env::{Env, VarError};
+use std::env::Env;
+use std::io;
 use std::io::{ErrorKind, Write};
 use std::net::Net;
 use std::os::fd::AsRawFd;
@@ -28,10 +31,6 @@ use std::process::Processes;
 use std::rt::Files;
 use std::sync::Wait;
 use std::time::Clock;
-use std::{env, io};
-
-/// The folder in which `upsmon -K` looks for upsmon.conf, where neither the command line nor the environment names one.
-const FOLDER: &str = "/etc/nut";
 
 /// Who is told: what upsmon tells is written to standard output and error line by line, and a line that isn't taken at once
 /// is let go.
@@ -43,19 +42,21 @@ struct Streams<O, E> {
 
 /// Runs upsmon, and gives its exit status.
 ///
-/// The words are those of the command line `upsmon --conf DIR [-q]`, with the program's name first. The UPSes of upsmon.conf
-/// in the folder DIR are watched until the machine is to be halted; each server that isn't linked is dialled again each
-/// second. A notice is printed on `out` as one line where its flags have SYSLOG or WALL, and NOTIFYCMD is run with it where
-/// they have EXEC; IGNORE asks for neither. At the halt POWERDOWNFLAG is set where a MONITOR line is primary, and then
-/// SHUTDOWNCMD is run, for which all is made ready before anything is watched. The status is 0 where that ended with 0 or
-/// there is none, else 1. A POWERDOWNFLAG that an earlier shutdown left is removed at the start.
+/// The words are those of the command line `upsmon [--conf DIR] [-q]`, with the program's name first. The UPSes of upsmon.conf
+/// are watched until the machine is to be halted: of the file in the folder DIR, or else in that of the variable NUT_CONFPATH,
+/// or in `/etc/nut`. Each server that isn't linked is dialled again each second. A notice is printed on `out` as one line where
+/// its flags have SYSLOG or WALL, and NOTIFYCMD is run with it where they have EXEC; IGNORE asks for neither. At the halt
+/// POWERDOWNFLAG is set where a MONITOR line is primary, and then SHUTDOWNCMD is run, for which all is made ready before
+/// anything is watched. The status is 0 where that ended with 0 or there is none, else 1. A POWERDOWNFLAG that an earlier
+/// shutdown left is removed at the start.
 ///
-/// With `-K` nothing is watched: the status is 0 where POWERDOWNFLAG is set, else 1. Without `--conf` the folder is then
-/// that of the variable NUT_CONFPATH, or `/etc/nut`.
+/// With `-K` nothing is watched: the status is 0 where POWERDOWNFLAG is set, else 1. With `--check` nothing is watched either:
+/// upsmon.conf is read as a start does, what a start says of it is said, and how soon this machine stops goes to `out`. The
+/// status is 0 where the file has no fault.
 ///
-/// What upsmon.conf should set otherwise is told on `err`, and so are the UPSes that are watched, a line each; with `-q`
-/// the UPSes aren't. A line that `out` or `err` doesn't take at once is let go ([`LossyLines`]): nobody who reads them
-/// holds up a halt.
+/// What upsmon.conf should set otherwise is told on `err`, and so are how soon this machine stops and the UPSes that are
+/// watched, a line each; with `-q` only what should be set otherwise is. A line that `out` or `err` doesn't take at once is
+/// let go ([`LossyLines`]): nobody who reads them holds up a halt.
 ///
 /// Where the words don't read, clap's text says so on `err`, and the status is 2; the help and the version go to `out`,
 /// with status 0. Before anything is watched, the first of these is told on `err`, with status 1:
@@ -100,8 +101,18 @@ where
     if matches.get_flag("killpower") {
         return look_for_flag(rt, alloc, &matches);
     }
-    let folder = matches.get_str("conf").unwrap_or("");
-    guard(rt, alloc, folder, matches.get_flag("quiet"), streams, told)?;
+    if matches.get_flag("check") {
+        return check_file(rt, alloc, &matches, streams.out, told);
+    }
+    let folder = conf_folder(rt, alloc, &matches)?;
+    guard(
+        rt,
+        alloc,
+        folder.as_str(),
+        matches.get_flag("quiet"),
+        streams,
+        told,
+    )?;
     Ok(0)
 }
 
@@ -111,15 +122,29 @@ fn look_for_flag<R: Files + Env + Alloc>(
     alloc: Global,
     matches: &ArgMatches<'_>,
 ) -> Result<u8, Failure<UpsmonFault>> {
-    if let Some(folder) = matches.get_str("conf") {
-        return Ok(u8::from(!is_flag_set(rt, alloc, folder)?));
-    }
-    let is_set = match env::var(rt, "NUT_CONFPATH") {
-        Ok(folder) => is_flag_set(rt, alloc, folder.as_str())?,
-        Err(VarError::OutOfMemory) => return Err(Failure::Memory),
-        Err(_) => is_flag_set(rt, alloc, FOLDER)?,
-    };
-    Ok(u8::from(!is_set))
+    let folder = conf_folder(rt, alloc, matches)?;
+    Ok(u8::from(!is_flag_set(rt, alloc, folder.as_str())?))
+}
+
+/// Reads upsmon.conf, says of it what a start does, writes how soon this machine stops, and gives the exit status.
+fn check_file<R, O, E>(
+    rt: &R,
+    alloc: Global,
+    matches: &ArgMatches<'_>,
+    mut out: O,
+    told: &mut LossyLines<E>,
+) -> Result<u8, Failure<UpsmonFault>>
+where
+    R: Files + Env + Alloc,
+    O: Write + AsRawFd + Copy,
+    E: Write + AsRawFd + Copy,
+{
+    let folder = conf_folder(rt, alloc, matches)?;
+    let folder = folder.as_str();
+    let config = read_conf(rt, alloc, folder)?;
+    tell_warnings(rt, alloc, folder, &config, told)?;
+    Stopping::of(&config).tell(&mut out)?;
+    Ok(0)
 }
 
 /// Whether the flag that upsmon.conf of this folder names is set.
@@ -155,8 +180,8 @@ where
     watch_and_halt(rt, alloc, config, is_quiet, streams, told)
 }
 
-/// Watches the UPSes of a configuration until the machine is to be halted, and halts it. What the halt takes is made ready
-/// before.
+/// Watches the UPSes of a configuration until the machine is to be halted, and halts it. The memory that the halt takes is
+/// set apart before.
 fn watch_and_halt<R, O, E>(
     rt: &R,
     alloc: Global,
@@ -171,11 +196,30 @@ where
     E: Write + AsRawFd + Copy,
 {
     let heap = halt_heap(alloc)?;
-    let mut halt = Halt::prepare(alloc, &heap, &config)?;
-    halt.clear_flag(rt, told);
+    let mut halt = Halt::prepare(rt, alloc, &heap, &config)?;
+    watch_until_halt(rt, alloc, config, &mut halt, is_quiet, streams, told)
+}
+
+/// Makes the halt ready, watches the UPSes of a configuration until the machine is to be halted, and halts it.
+fn watch_until_halt<R, O, E>(
+    rt: &R,
+    alloc: Global,
+    config: UpsmonConf,
+    halt: &mut Halt<'_, '_, R>,
+    is_quiet: bool,
+    streams: Streams<O, E>,
+    told: &mut LossyLines<E>,
+) -> Result<(), Failure<UpsmonFault>>
+where
+    R: Wait + Files + Net + Clock + Processes,
+    O: Write + AsRawFd + Copy,
+    E: Write + AsRawFd + Copy,
+{
+    halt.clear_flag(told);
+    halt.make_ready(told);
     let phase = keep_watch(rt, alloc, config, is_quiet, streams, told)?;
     if let Phase::Halted { flag } = phase {
-        halt.carry_out(rt, flag, told)?;
+        halt.carry_out(flag, told)?;
     }
     Ok(())
 }
@@ -253,8 +297,10 @@ fn watch_servers<R: Wait + Net + Clock + Processes, H: Herald, E: Write>(
 ) -> Result<Phase, ErrorKind>
     requires { monitor.old.content ≡ content monitor.old.content.configuration [] }
 {
-    let mut reports = Reports::new("upsmon", err, !is_quiet);
-    tell_start(monitor.config(), &mut reports);
+    if !is_quiet {
+        tell_start(monitor.config(), err);
+    }
+    let reports = Reports::new("upsmon", err, !is_quiet);
     match MioMonWorld::new(rt, alloc, monitor.config(), herald, reports) {
         Ok(world) => watch_world(rt, monitor, world),
         Err(error) => Err(error.kind()),
@@ -277,8 +323,14 @@ fn watch_world<W: MonWorld + Drop>(
     }
 }
 
+/// Tells which UPSes are watched, and how soon this machine stops.
+fn tell_start<E: Write>(config: &UpsmonConf, err: &mut E) {
+    tell_watched(config, &mut Reports::new("upsmon", err, true));
+    let _ = Stopping::of(config).tell(err);
+}
+
 /// Tells which UPSes are watched.
-fn tell_start<E: Write>(config: &UpsmonConf, reports: &mut Reports<'_, E>) {
+fn tell_watched<E: Write>(config: &UpsmonConf, reports: &mut Reports<'_, E>) {
     for monitored in &config.monitors.lines {
         reports.tell(Report::Watching(
             text_of(&monitored.written),

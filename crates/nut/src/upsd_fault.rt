@@ -1,7 +1,7 @@
 //! What upsd alone meets.
 
 use crate::conf_file::FileFault;
-use crate::failure::Failure;
+use crate::failure::{Failure, OwnFault};
 use nut_conf::FaultKind;
 use nut_serve::Stream;
 use nut_server::ServerFault;
@@ -13,7 +13,7 @@ pub enum UpsdFault {
     /// A value of `--ups` doesn't read.
     Ups(FaultKind),
     /// A file gives no configuration.
-    File(FileFault),
+    File(FileFault<'static>),
     /// No listener can be made at this address and port.
     Listen(String, u16),
     /// A read of standard input failed.
@@ -34,6 +34,16 @@ impl fmt::Display for UpsdFault {
     }
 }
 
+impl OwnFault for UpsdFault {
+    fn unknown_word(&self) -> Option<&str> {
+        match self {
+            UpsdFault::File(fault) => fault.unknown_word(),
+            UpsdFault::Ups(_) | UpsdFault::Listen(..) | UpsdFault::Input | UpsdFault::Output =>
+                None,
+        }
+    }
+}
+
 impl From<FaultKind> for Failure<UpsdFault> {
     fn from(fault: FaultKind) -> Self {
         match fault {
@@ -43,8 +53,8 @@ impl From<FaultKind> for Failure<UpsdFault> {
     }
 }
 
-impl From<FileFault> for Failure<UpsdFault> {
-    fn from(fault: FileFault) -> Self {
+impl From<FileFault<'static>> for Failure<UpsdFault> {
+    fn from(fault: FileFault<'static>) -> Self {
         Failure::Own(UpsdFault::File(fault))
     }
 }

@@ -1,7 +1,7 @@
 //! What upsmon alone meets.
 
 use crate::conf_file::FileFault;
-use crate::failure::Failure;
+use crate::failure::{Failure, OwnFault};
 use crate::halt::HaltFault;
 use nut_monitor::MonitorFault;
 use std::fmt;
@@ -10,7 +10,7 @@ use std::fmt;
 #[derive(Drop)]
 pub enum UpsmonFault {
     /// upsmon.conf gives no configuration.
-    File(FileFault),
+    File(FileFault<'static>),
     /// The machine isn't halted.
     Halt(HaltFault),
 }
@@ -24,8 +24,17 @@ impl fmt::Display for UpsmonFault {
     }
 }
 
-impl From<FileFault> for Failure<UpsmonFault> {
-    fn from(fault: FileFault) -> Self {
+impl OwnFault for UpsmonFault {
+    fn unknown_word(&self) -> Option<&str> {
+        match self {
+            UpsmonFault::File(fault) => fault.unknown_word(),
+            UpsmonFault::Halt(_) => None,
+        }
+    }
+}
+
+impl From<FileFault<'static>> for Failure<UpsmonFault> {
+    fn from(fault: FileFault<'static>) -> Self {
         Failure::Own(UpsmonFault::File(fault))
     }
 }

@@ -24,6 +24,7 @@ drop_at xs ys n x same within is =
 
 pub says_first : (ups : List ℕ) (wanted : Wanted) → Says (script ups wanted) (nexts.Asks (first_query ups wanted))
 says_first ups wanteds.Variables = (λ o. answered o (script ups wanteds.Variables), refl)
+says_first ups wanteds.Object = (λ o. answered o (script ups wanteds.Object), refl)
 says_first ups (wanteds.Value variable) = (λ o. answered o (script ups (wanteds.Value variable)), refl)
 says_first ups wanteds.Names = (λ o. answered o (script ups wanteds.Names), refl)
 says_first ups wanteds.Descriptions = (λ o. answered o (script ups wanteds.Descriptions), refl)

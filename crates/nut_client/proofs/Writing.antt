@@ -1,9 +1,9 @@
 -- How a writer grows.
-use Rattle.std.proofs.Common.{◌≡◌, ℕ, Bool, true, false, IsTrue, inl, inr, if◌then◌else◌, ◌++◌, List, take, drop, ◌+◌, subst, Option, Some, None, Result, Ok, Err, refl, sym, ap, ◌∙◌}
+use Rattle.std.proofs.Common.{◌≡◌, ℕ, Bool, true, false, inl, inr, ◌++◌, List, [], take, drop, ◌+◌, subst, Option, Some, None, sym, ap, ◌∙◌}
 use Rattle.std.proofs.Math.Seq.{take-add}
-use Rattle.std.proofs.lemmas.List.{append_assoc, take-append-drop}
-use Rattle.std.specs.Io.KnownBytes.{Appends, Keeps, WriteAppends}
-use Rattle.nut_client.specs.Tool.{AppendsFront, Tells}
+use Rattle.std.proofs.lemmas.List.{append_assoc, append-nil, take-append-drop}
+use Rattle.std.specs.Io.KnownBytes.{Appends, Keeps}
+use Rattle.nut_client.specs.Output.{HasAll, HasText, IsCutShort, Puts, Written}
 
 pub appends_on : (a b c : Option (List ℕ)) (x y : List ℕ) → Appends a b x → Appends b c y → Appends a c (x ++ y)
 appends_on None b c x y f g = tt
@@ -22,26 +22,38 @@ pub wrote_more : (a b c : Option (List ℕ)) (at n : ℕ) (bytes rest : List ℕ
 wrote_more a b c at n bytes rest is first more =
     subst (λ x. Appends a c x) (ap (λ l. take at bytes ++ take n l) is ∙ sym (take-add at n bytes)) (appends_on a b c (take at bytes) (take n rest) first more)
 
--- what was written begins the bytes
-pub wrote_front : (a b : Option (List ℕ)) (at : ℕ) (bytes : List ℕ) → Appends a b (take at bytes) → AppendsFront a b bytes
-wrote_front a b at bytes first = (take at bytes, drop at bytes, sym (take-append-drop at bytes), first)
+abbrev pub taken : Option (List ℕ) → Option (List ℕ) → Type 0 → Written
+taken a b failed = record { before = a; after = b; has_failed = failed }
 
--- however the write ended
-pub front_written : {E : Type 0} (a b c : Option (List ℕ)) (r : Result ℕ E) (at : ℕ) (bytes rest : List ℕ) → rest ≡ drop at bytes → Appends a b (take at bytes) → WriteAppends b c r rest → AppendsFront a c bytes
-front_written a b c (Ok n) at bytes rest is first more = wrote_front a c (at + n) bytes (wrote_more a b c at n bytes rest is first more)
-front_written a b c (Err e) at bytes rest is first more = wrote_front a c at bytes (keeps_on a b c (take at bytes) first more)
+-- a beginning was written, and then the output failed
+pub cut_at : (a b : Option (List ℕ)) (failed : Type 0) (at : ℕ) (bytes : List ℕ) → Appends a b (take at bytes) → failed → IsCutShort bytes (taken a b failed)
+cut_at a b failed at bytes first lost = (lost, (take at bytes, drop at bytes, sym (take-append-drop at bytes), first))
 
-pub front_before : (a b : Option (List ℕ)) (x y : List ℕ) → AppendsFront a b x → AppendsFront a b (x ++ y)
-front_before a b x y f = (f.0, f.1 ++ y, ap (λ l. l ++ y) f.2 ∙ append_assoc f.0 f.1 y, f.3)
+-- by whether all was taken
+pub put_all : (done : Bool) (bytes : List ℕ) (w : Written) → done ≡ true → Puts done bytes w → HasAll bytes w
+put_all true bytes w is all = all
+put_all false bytes w is cut = absurd (cc)
 
-pub front_behind : (a b c : Option (List ℕ)) (x y : List ℕ) → Appends a b x → AppendsFront b c y → AppendsFront a c (x ++ y)
-front_behind a b c x y first f = (x ++ f.0, f.1, ap (λ l. x ++ l) f.2 ∙ sym (append_assoc x f.0 f.1), appends_on a b c x f.0 first f.3)
+pub put_part : (done : Bool) (bytes : List ℕ) (w : Written) → done ≡ false → Puts done bytes w → IsCutShort bytes w
+put_part true bytes w is all = absurd (cc)
+put_part false bytes w is cut = cut
 
-pub keeps_same : (a : Option (List ℕ)) → Keeps a a
-keeps_same None = tt
-keeps_same (Some bytes) = refl
+-- a text that was cut short, with more behind
+pub cut_before : (w : Written) (x y : List ℕ) → IsCutShort x w → IsCutShort (x ++ y) w
+cut_before w x y c = (c.0, (c.1.0, c.1.1 ++ y, ap (λ l. l ++ y) c.1.2 ∙ append_assoc c.1.0 c.1.1 y, c.1.3))
 
--- a text that was printed, whole or not
-pub tells_text : (b : Bool) (status : ℕ) (text : List ℕ) (out out' err : Option (List ℕ)) → status ≡ (if b then 0 else 1) → AppendsFront out out' text → (IsTrue b → Appends out out' text) → Tells (Ok text) status out out' err err
-tells_text true status text out out' err is front whole = (inl (is, whole refl), keeps_same err)
-tells_text false status text out out' err is front whole = (inr (is, front), keeps_same err)
+-- and with more before
+pub cut_behind : (a b c : Option (List ℕ)) (failed : Type 0) (x y : List ℕ) → Appends a b x → IsCutShort y (taken b c failed) → IsCutShort (x ++ y) (taken a c failed)
+cut_behind a b c failed x y first cut =
+    (cut.0, (x ++ cut.1.0, cut.1.1, ap (λ l. x ++ l) cut.1.2 ∙ sym (append_assoc x cut.1.0 cut.1.1), appends_on a b c x cut.1.0 first cut.1.3))
+
+-- a part of a text behind another
+pub put_behind : (a b c : Option (List ℕ)) (failed : Type 0) (done : Bool) (x y : List ℕ) → Appends a b x → Puts done y (taken b c failed) → HasText (x ++ y) (taken a c failed)
+put_behind a b c failed true x y first all = inl (all.0, appends_on a b c x y first all.1)
+put_behind a b c failed false x y first cut = inr (cut_behind a b c failed x y first cut)
+
+-- nothing was written
+pub keeps_none : (a b : Option (List ℕ)) → Appends a b [] → Keeps a b
+keeps_none None b h = tt
+keeps_none (Some xs) (Some ys) h = h ∙ append-nil xs
+keeps_none (Some xs) None h = h

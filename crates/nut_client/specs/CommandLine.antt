@@ -10,6 +10,7 @@ use Rattle.clap.specs.Words.{App, Kinds, Row, Rule, fault_of, first_of, matches_
 use Rattle.clap.specs.declared.builder.ArgAction.TheVariants.{SetTrue}
 use Rattle.nut_conf.specs.Target.{parted, target}
 use Rattle.nut_conf.specs.declared.target.NameFault.{NameFault}
+use Rattle.nut_client.specs.declared.destination.Destination.{Destination}
 use Rattle.nut_client.specs.declared.failure.Failure.{Failure}
 use Rattle.nut_client.specs.declared.failure.Failure.TheVariants.{BadArguments, BadName}
 use Rattle.nut_client.specs.declared.wanted.Deed.TheVariants as deeds
@@ -31,7 +32,7 @@ abbrev pub tool : List ℕ → List Rule → App
 tool name rules = fold with_rule (on_top (λ s. record s { has_version = true }) (new_app name)) rules
 
 unfoldable pub upsc_tool : App
-upsc_tool = tool (codes "upsc") (flag (codes "names") 108 ∷ flag (codes "descriptions") 76 ∷ flag (codes "clients") 99 ∷ argument (codes "name") ∷ argument (codes "variable") ∷ [])
+upsc_tool = tool (codes "upsc") (flag (codes "names") 108 ∷ flag (codes "descriptions") 76 ∷ flag (codes "clients") 99 ∷ flag (codes "json") 106 ∷ argument (codes "name") ∷ argument (codes "variable") ∷ [])
 
 unfoldable pub upsrw_tool : App
 upsrw_tool = tool (codes "upsrw") (valued (codes "setting") 115 ∷ valued (codes "user") 117 ∷ valued (codes "password") 112 ∷ argument (codes "name") ∷ [])
@@ -77,14 +78,15 @@ options_of (Some wanted) name =
 abbrev pub is_given : List ℕ → List Row → Bool
 is_given id rows = option_map_or (λ v. bytes_eq v (codes "true")) (first_of id rows) false
 
--- The flags for names, descriptions and clients exclude each other and a variable.
-abbrev pub upsc_wanted : Bool → Bool → Bool → Option (List ℕ) → Option Wanted
-upsc_wanted false false false None = Some wanteds.Variables
-upsc_wanted false false false (Some variable) = Some (wanteds.Value variable)
-upsc_wanted true false false None = Some wanteds.Names
-upsc_wanted false true false None = Some wanteds.Descriptions
-upsc_wanted false false true None = Some wanteds.Clients
-upsc_wanted names descriptions clients variable = None
+-- The flags for names, descriptions, clients and an object exclude each other and a variable.
+abbrev pub upsc_wanted : Bool → Bool → Bool → Bool → Option (List ℕ) → Option Wanted
+upsc_wanted false false false false None = Some wanteds.Variables
+upsc_wanted false false false false (Some variable) = Some (wanteds.Value variable)
+upsc_wanted true false false false None = Some wanteds.Names
+upsc_wanted false true false false None = Some wanteds.Descriptions
+upsc_wanted false false true false None = Some wanteds.Clients
+upsc_wanted false false false true None = Some wanteds.Object
+upsc_wanted names descriptions clients json variable = None
 
 -- A setting, parted at its first `=`, has a user and a password, and these come with nothing else.
 abbrev pub upsrw_wanted : Option (List ℕ) → Option (List ℕ) → Option (List ℕ) → Option Wanted
@@ -100,7 +102,8 @@ upscmd_wanted list command user password = None
 
 abbrev pub upsc_options : List Row → Result Options Failure
 upsc_options rows =
-    options_of (upsc_wanted (is_given (codes "names") rows) (is_given (codes "descriptions") rows) (is_given (codes "clients") rows) (first_of (codes "variable") rows))
+    options_of (upsc_wanted (is_given (codes "names") rows) (is_given (codes "descriptions") rows) (is_given (codes "clients") rows) (is_given (codes "json") rows)
+    (first_of (codes "variable") rows))
     (first_of (codes "name") rows)
 
 abbrev pub upsrw_options : List Row → Result Options Failure
@@ -136,3 +139,7 @@ abbrev pub target_of : CommandLine → Option (List ℕ × ℕ)
 target_of (Ok (Ok options)) = Some (options.host, options.port)
 target_of (Ok (Err failure)) = None
 target_of (Err faults) = None
+
+-- those of a destination
+abbrev pub dialed : Destination → List ℕ × ℕ
+dialed d = (d.host.bytes.items, d.port.number)

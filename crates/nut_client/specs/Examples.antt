@@ -17,6 +17,8 @@ asks ups host port wanted = Ok (Ok (record { ups = ups; host = host; port = port
 -- Words that read, and make a query or no command line of the tool; words that clap refuses; and the help.
 pub record CommandLineExamples : Type 0 where
   pub all : upsc_line (codes "upsc" ∷ codes "su700" ∷ []) ≡ asks (codes "su700") (codes "localhost") 3493 wanteds.Variables
+  pub object : upsc_line (codes "upsc" ∷ codes "-j" ∷ codes "su700" ∷ []) ≡ asks (codes "su700") (codes "localhost") 3493 wanteds.Object
+  pub object_of_one : upsc_line (codes "upsc" ∷ codes "-j" ∷ codes "su700" ∷ codes "ups.status" ∷ []) ≡ Ok (Err failures.BadArguments)
   pub one : upsc_line (codes "upsc" ∷ codes "su700@h:5" ∷ codes "ups.status" ∷ []) ≡ asks (codes "su700") (codes "h") 5 (wanteds.Value (codes "ups.status"))
   pub server : upsc_line (codes "upsc" ∷ codes "-L" ∷ codes "h:5" ∷ []) ≡ asks (codes "u") (codes "h") 5 wanteds.Descriptions
   pub no_server : upsc_line (codes "upsc" ∷ codes "-l" ∷ []) ≡ asks (codes "u") (codes "localhost") 3493 wanteds.Names
@@ -46,6 +48,9 @@ pub record RunExamples : Type 0 where
   pub unfinished : ending (run_of value_of_v (codes "VAR u v 1")).standing ≡ Err failures.ConnectionLost
   pub unwritable : run_of (script (codes "u") (wanteds.Value (codes "a\nb"))) (codes "VAR u v 1\n") ≡ record { queries = []; standing = Failed failures.BadQuery }
   pub listed : run_of (script (codes "u") wanteds.Variables) (codes "BEGIN LIST VAR u\nVAR u v \"1 2\"\nVAR u w 3\nEND LIST VAR u\n") ≡ record { queries = codes "LIST VAR u\n"; standing = Printed (codes "v: 1 2\nw: 3\n") }
+  pub as_object : run_of (script (codes "u") wanteds.Object) (codes "BEGIN LIST VAR u\nVAR u v \"1 \\\"2\\\"\"\nVAR u w \\\\\nEND LIST VAR u\n")
+      ≡ record { queries = codes "LIST VAR u\n"; standing = Printed (codes "{\"v\": \"1 \\\"2\\\"\", \"w\": \"\\\\\"}\n") }
+  pub no_rows : run_of (script (codes "u") wanteds.Object) (codes "BEGIN LIST VAR u\nEND LIST VAR u\n") ≡ record { queries = codes "LIST VAR u\n"; standing = Printed (codes "{}\n") }
   pub cut_list : ending (run_of (script (codes "u") wanteds.Variables) (codes "BEGIN LIST VAR u\nVAR u v \"1 2\"\n")).standing ≡ Err failures.ConnectionLost
   pub done : run_of (script (codes "u") (wanteds.Does (codes "a") (codes "p") (deeds.Command (codes "load.off")))) (codes "OK\nOK\nOK TRACKING\n")
       ≡ record { queries = codes "USERNAME a\nPASSWORD p\nINSTCMD u load.off\n"; standing = Printed (codes "OK\n") }

@@ -6,7 +6,9 @@ pub mod Hearing
 pub mod Parts
 pub mod Bounds
 pub mod Stream
+pub mod Output
 pub mod Unread
+pub mod Json
 pub mod Script
 pub mod CommandLine
 pub mod Tool

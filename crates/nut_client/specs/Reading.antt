@@ -1,5 +1,5 @@
 -- How the code reads a command line.
-use Rattle.std.specs.Prelude.{◌≡◌, ℕ, List, [], ◌⊎◌, Option, Result, Ok, Err, IsErr}
+use Rattle.std.specs.Prelude.{◌≡◌, ℕ, List, [], ◌⊎◌, Result, Ok, Err, IsErr}
 use Rattle.clap.specs.Words.{App, IsAmong, fault_of, found_of, kind_of, matches_of, rows_of}
 use Rattle.clap.specs.declared.error.Error.{Error}
 use Rattle.clap.specs.declared.error.ErrorKind.TheVariants.{OutOfMemory}
@@ -15,6 +15,7 @@ use Rattle.nut_client.specs.declared.command_line.Refusal.TheVariants.{Usage, Fa
 use Rattle.nut_client.specs.declared.failure.Failure.{Failure}
 use Rattle.nut_client.specs.declared.failure.Failure.TheVariants.{BadArguments, BadName, Memory}
 use Rattle.nut_client.specs.CommandLine.{CommandLine, Options}
+use Rattle.nut_client.specs.Output.{Written}
 use Rattle.nut_client.specs.Tool.{Explains, Tells, is_asked_for}
 
 -- what clap's error becomes
@@ -52,7 +53,7 @@ abbrev pub words_failure : IoErrorKind → Failure
 words_failure io_kinds.OutOfMemory = Memory
 words_failure kind = BadArguments
 
--- what is told of a refusal
-abbrev pub TellsRefusal : Refusal → ℕ → Option (List ℕ) → Option (List ℕ) → Option (List ℕ) → Option (List ℕ) → Type 0
-TellsRefusal (Usage error) status out out' err err' = Explains (is_asked_for (kind_of error)) status out out' err err'
-TellsRefusal (Failed failure) status out out' err err' = Tells (Err failure) status out out' err err'
+-- what is told of a refusal; of clap's text this, where there is memory for it
+abbrev pub TellsRefusal : Refusal → ℕ → Written → Written → Type 0
+TellsRefusal (Usage error) status out err = Explains (is_asked_for (kind_of error)) status out err ⊎ Tells (Err Memory) status out err
+TellsRefusal (Failed failure) status out err = Tells (Err failure) status out err

@@ -18,6 +18,7 @@ use Rattle.nut_client.specs.declared.wanted.Deed.{Deed}
 use Rattle.nut_client.specs.declared.wanted.Deed.TheVariants as deeds
 use Rattle.nut_client.specs.declared.wanted.Wanted.{Wanted}
 use Rattle.nut_client.specs.declared.wanted.Wanted.TheVariants as wanteds
+use Rattle.nut_client.specs.Json.{json_object}
 
 -- What is left to do: to print a text, to fail, or to ask a query and go on by what came of it.
 pub data Script : Type 0 where
@@ -117,6 +118,7 @@ gives_password ups password deed = Asks (requests.Password password) (on_done (d
 -- What a tool does that is asked for this of a UPS.
 abbrev pub script : List ℕ → Wanted → Script
 script ups wanteds.Variables = lists (requests.List (queries.Var ups)) Pairs
+script ups wanteds.Object = Asks (requests.List (queries.Var ups)) (on_rows (λ rows. Prints (json_object rows)))
 script ups (wanteds.Value variable) = Asks (requests.GetVar ups variable) (on_words (λ words. Prints (line (word 0 words ∷ []))))
 script ups wanteds.Names = lists (requests.List queries.Ups) Firsts
 script ups wanteds.Descriptions = lists (requests.List queries.Ups) Pairs

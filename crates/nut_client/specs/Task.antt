@@ -24,6 +24,7 @@ use Rattle.nut_client.specs.Tool.{breaks_off}
 -- the query with which a script begins
 abbrev pub first_query : List ℕ → Wanted → Request
 first_query ups wanteds.Variables = requests.List (queries.Var ups)
+first_query ups wanteds.Object = requests.List (queries.Var ups)
 first_query ups (wanteds.Value variable) = requests.GetVar ups variable
 first_query ups wanteds.Names = requests.List queries.Ups
 first_query ups wanteds.Descriptions = requests.List queries.Ups

@@ -5,7 +5,7 @@ use Rattle.std.specs.Borrow.{MutBor}
 use Rattle.clap.specs.Words.{IsAmong, Kinds}
 use Rattle.clap.specs.declared.error.ErrorKind.{ErrorKind}
 use Rattle.clap.specs.declared.error.ErrorKind.TheVariants as kinds
-use Rattle.std.specs.Io.KnownBytes.{Appends, Keeps, append_known, prepend_known}
+use Rattle.std.specs.Io.KnownBytes.{append_known, prepend_known}
 use Rattle.nut_words.specs.Lines.{LineText, lines}
 use Rattle.nut_proto.specs.declared.request.Request.{Request}
 use Rattle.nut_proto.specs.Requests.{request_line}
@@ -19,6 +19,7 @@ use Rattle.nut_client.specs.declared.outcome.Outcome.{Outcome}
 use Rattle.nut_client.specs.Asking.{query_of, is_writable}
 use Rattle.nut_client.specs.Link.{heard, outcome_of}
 use Rattle.nut_client.specs.CommandLine.{CommandLine, Options}
+use Rattle.nut_client.specs.Output.{Written, HasAll, HasText, IsCutShort, IsUntouched}
 use Rattle.nut_client.specs.Script.{Script, Prints, Fails, Asks, script}
 
 -- How far a tool is: it waits for the answer to a query, and goes on by what comes of it; or it has a text to print; or it
@@ -111,6 +112,7 @@ breaks_off (failures.Refused name) = false
 breaks_off failures.BadAnswer = false
 breaks_off failures.BadQuery = false
 breaks_off failures.Memory = true
+breaks_off failures.OutputFailed = false
 
 -- These bytes were written of the queries: all, but perhaps a beginning where the connection was lost or memory was
 -- refused.
@@ -145,6 +147,7 @@ reason (failures.Refused name) = name
 reason failures.BadAnswer = codes "bad answer"
 reason failures.BadQuery = codes "bad query"
 reason failures.Memory = codes "out of memory"
+reason failures.OutputFailed = codes "output failed"
 
 abbrev pub error_text : Failure → List ℕ
 error_text failure = codes "Error: " ++ reason failure ++ 10 ∷ []
@@ -158,27 +161,28 @@ status_of (failures.Refused name) = 1
 status_of failures.BadAnswer = 1
 status_of failures.BadQuery = 1
 status_of failures.Memory = 1
+status_of failures.OutputFailed = 1
 
--- The known bytes grew by a beginning of these.
-abbrev pub AppendsFront : Option (List ℕ) → Option (List ℕ) → List ℕ → Type 0
-AppendsFront old new bytes = (front : List ℕ) × (back : List ℕ) × (bytes ≡ front ++ back) × Appends old new front
+-- A failure's line goes to the error output.
+abbrev pub Reports : Failure → ℕ → Written → Type 0
+Reports failure status err = (status ≡ status_of failure) × HasText (error_text failure) err
 
--- What a tool prints, and its status. A text goes to the output: all of it with status 0, or a beginning with status 1. A
--- failure's line goes to the error output, or a beginning of it, and nothing to the output.
-abbrev pub Tells : Result (List ℕ) Failure → ℕ → Option (List ℕ) → Option (List ℕ) → Option (List ℕ) → Option (List ℕ) → Type 0
-Tells (Ok text) status out out' err err' = ((status ≡ 0) × Appends out out' text ⊎ (status ≡ 1) × AppendsFront out out' text) × Keeps err err'
-Tells (Err failure) status out out' err err' = (status ≡ status_of failure) × Keeps out out' × AppendsFront err err' (error_text failure)
+-- What a tool prints, and its status: a text to the output, with status 0. Where the output has failed, a beginning of the
+-- text went there, and that is reported. A failure is reported too, and then nothing goes to the output.
+abbrev pub Tells : Result (List ℕ) Failure → ℕ → Written → Written → Type 0
+Tells (Ok text) status out err = ((status ≡ 0) × HasAll text out × IsUntouched err) ⊎ (IsCutShort text out × Reports failures.OutputFailed status err)
+Tells (Err failure) status out err = IsUntouched out × Reports failure status err
 
--- The text that clap has for an error of this kind goes to the output, if it was asked for, with status 0, or 1 where the
--- output fails; else to the error output, with status 2.
+-- The text that clap has for an error of this kind is printed as an output is, if it was asked for; else it goes to the
+-- error output, with status 2.
 abbrev pub is_asked_for : ErrorKind → Bool
 is_asked_for kinds.DisplayHelp = true
 is_asked_for kinds.DisplayVersion = true
 is_asked_for other = false
 
-abbrev pub Explains : Bool → ℕ → Option (List ℕ) → Option (List ℕ) → Option (List ℕ) → Option (List ℕ) → Type 0
-Explains true status out out' err err' = ((status ≡ 0) ⊎ (status ≡ 1)) × Keeps err err'
-Explains false status out out' err err' = (status ≡ 2) × Keeps out out'
+abbrev pub Explains : Bool → ℕ → Written → Written → Type 0
+Explains true status out err = (text : List ℕ) × Tells (Ok text) status out err
+Explains false status out err = (text : List ℕ) × (status ≡ 2) × IsUntouched out × HasText text err
 
 -- What comes back of a connection that was lent, or of none.
 abbrev pub Back : Type 0 → Type 0
@@ -206,10 +210,10 @@ IsUnused None back = ⊤
 -- How a program ends: what its command line asks for was done, and it tells what came of that; or memory was refused or
 -- its words make no such command line, and it tells that; or clap doesn't read the words, and its text says so. Where
 -- nothing was asked, the connection isn't used.
-pub data RunsAs (line : CommandLine) (ends : Script → Result (List ℕ) Failure → Type 0) (unused : Type 0) (status : ℕ) (out out' err err' : Option (List ℕ)) : Type 0 where
+pub data RunsAs (line : CommandLine) (ends : Script → Result (List ℕ) Failure → Type 0) (unused : Type 0) (status : ℕ) (out err : Written) : Type 0 where
   asks : (options : Options) → line ≡ Ok (Ok options) → (result : Result (List ℕ) Failure) → ends (script options.ups options.wanted) result
-      → Tells result status out out' err err' → RunsAs line ends unused status out out' err err'
+      → Tells result status out err → RunsAs line ends unused status out err
   refuses : (failure : Failure) → (failure ≡ failures.Memory) ⊎ (line ≡ Ok (Err failure)) → unused
-      → Tells (Err failure) status out out' err err' → RunsAs line ends unused status out out' err err'
+      → Tells (Err failure) status out err → RunsAs line ends unused status out err
   explains : (faults : Kinds) (kind : ErrorKind) → line ≡ Err faults → IsAmong kind faults → unused
-      → Explains (is_asked_for kind) status out out' err err' → RunsAs line ends unused status out out' err err'
+      → Explains (is_asked_for kind) status out err → RunsAs line ends unused status out err

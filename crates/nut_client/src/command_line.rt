@@ -1,8 +1,8 @@
 //! What the command lines of the tools have in common.
-ghost use Rattle.std.specs.Prelude.{◌≡◌, ◌==◌, ◌<◌, IfOk, IfSome, Ok, Result, Some, codes, false, length, map, option_map, position, true};
+ghost use Rattle.std.specs.Prelude.{◌≡◌, ◌==◌, ◌<◌, IfOk, IfSome, Ok, Result, codes, false, length, map, option_map, position, true};
 ghost use Rattle.clap.specs.Words.{App, app_of, first_of, found_of, is_simple_and_free, rows_of, rule_of};
 ghost use Rattle.nut_conf.specs.Target.{parted as parted_at};
-ghost use Rattle.nut_client.specs.CommandLine.{CommandLine, Options as OptionsMeant, argument as argument_rule, flag as flag_rule, is_given as given, names_server as server_named, options_of as options_meant, target_of, valued as valued_rule};
+ghost use Rattle.nut_client.specs.CommandLine.{CommandLine, Options as OptionsMeant, argument as argument_rule, dialed, flag as flag_rule, is_given as given, names_server as server_named, options_of as options_meant, target_of, valued as valued_rule};
 ghost use Rattle.nut_client.specs.Reading.{AreOptions, IsRead, IsReadBy, IsRefusalOf};
 ghost use Rattle.nut_client.specs.declared.command_line.Refusal.TheVariants.{Failed};
 ghost use Rattle.nut_client.specs.declared.failure.Failure.{Failure as FailureValue};
@@ -62,17 +62,18 @@ impl From<Failure> for Refusal {
     }
 }
 
-/// The host and the port that a command line gives, if it reads.
-pub(crate) fn destination_of(options: Result<Options<'_>, Refusal>) -> Option<Destination>
+/// The host and the port that a command line gives, if it reads. An `Err` is for want of memory.
+pub(crate) fn destination_of(
+    options: Result<Options<'_>, Refusal>,
+) -> Result<Option<Destination>, AllocError>
     ensures { (line : CommandLine) → IsRead line options.entry
-        → IfSome result (λ d. target_of line ≡ Some (d.host.bytes.items, d.port.number)) }
+        → IfOk result (λ found. option_map dialed found ≡ target_of line) }
 {
     match options {
-        Ok(Options { target, .. }) => Some(Destination::of(target)),
-        Err(refusal) => {
-            drop(refusal);
-            None
-        }
+        Ok(Options { target, .. }) => Ok(Some(Destination::of(target))),
+        Err(Refusal::Failed(Failure::Memory)) => Err(AllocError),
+        Err(Refusal::Failed(_failure)) => Ok(None),
+        Err(Refusal::Usage(_error)) => Ok(None),
     }
 }
 

@@ -1,26 +1,26 @@
 //! How a tool runs.
-ghost use Rattle.std.specs.Prelude.{◌≡◌, ◌≤◌, Err, IfErr, IsTrue, ⊤, drop, length};
-ghost use Rattle.std.specs.Io.KnownBytes.{Appends};
+ghost use Rattle.std.specs.Prelude.{◌≡◌, ◌≤◌, ◌⊎◌, Err, IfErr, ⊤, drop, length};
 ghost use Rattle.std.specs.IoError.{error_kind};
 ghost use Rattle.clap.specs.Words.{kind_of};
 ghost use Rattle.nut_client.specs.CommandLine.{CommandLine};
+ghost use Rattle.nut_client.specs.Output.{HasText, Puts, written};
 ghost use Rattle.nut_client.specs.Reading.{IsRead, TellsRefusal, words_failure};
 ghost use Rattle.nut_client.specs.Script.{script};
-ghost use Rattle.nut_client.specs.Tool.{AppendsFront, Ends, EndsOver, Explains, error_text, is_asked_for as asked_for, RunsAs, Tells, status_of};
-ghost use Rattle.nut_client.specs.declared.failure.Failure.TheVariants.{ConnectionLost, NoConnection};
+ghost use Rattle.nut_client.specs.Tool.{Ends, EndsOver, Explains, Reports, RunsAs, Tells, error_text, is_asked_for as asked_for};
+ghost use Rattle.nut_client.specs.declared.failure.Failure.TheVariants.{ConnectionLost, Memory, NoConnection};
 
 use crate::command_line::{Options, Refusal};
 use crate::conversation::Conversation;
 use crate::copied::Text;
 use crate::failure::Failure;
-use crate::stream::Stream;
+use crate::output::Output;
+use crate::stream::{Moved, Stream};
 use crate::task::{Next, Task};
 use crate::wanted::Wanted;
 use clap::error::ErrorKind;
 use nut_proto::Word;
 use std::alloc::Global;
 use std::io;
-use std::io::Write;
 use std::sync::Wait;
 
 /// Asks a server what is wanted of the UPS of this name, and gives the text to print once the last answer came.
@@ -62,29 +62,27 @@ fn rest_from(bytes: &[u8], at: usize) -> &[u8]
     &bytes[at..]
 }
 
-/// Writes these bytes, and says whether all were written. Else a beginning of them was.
-fn put_all<W: Write>(rt: &impl Wait, writer: &mut W, bytes: &[u8]) -> bool
-    ensures front { AppendsFront (W.contents writer.old) (W.contents writer.new) bytes.now }
-    ensures whole { IsTrue result → Appends (W.contents writer.old) (W.contents writer.new) bytes.now }
+/// Writes these bytes, and says whether all were written. Else a beginning of them was, and the output has failed.
+fn put_all<O: Output>(rt: &impl Wait, output: &mut O, bytes: &[u8]) -> bool
+    ensures { Puts result bytes.now (written O.contents O.has_failed output.old output.new) }
 {
     let mut at = 0usize;
     for _ in rt.forever() {
         if at == bytes.len() {
-            break;
+            return output.flush();
         }
-        match writer.write(rest_from(bytes, at)) {
-            Ok(0) => return false,
-            Ok(n) => at += n,
-            Err(error) if error.kind() == io::ErrorKind::Interrupted => {}
-            Err(_) => return false,
+        match output.write(rest_from(bytes, at)) {
+            Moved::Bytes(n) => at += n,
+            Moved::Again => {}
+            Moved::Lost => return false,
         }
     }
-    writer.flush().is_ok()
+    unreachable!()
 }
 
-/// Says why there is no output, as far as that can be written.
-fn put_failure<E: Write>(rt: &impl Wait, err: &mut E, failure: &Failure)
-    ensures { AppendsFront (E.contents err.old) (E.contents err.new) (error_text failure.now) }
+/// Says why there is no output, or no more of it.
+fn put_failure<E: Output>(rt: &impl Wait, err: &mut E, failure: &Failure)
+    ensures { HasText (error_text failure.now) (written E.contents E.has_failed err.old err.new) }
 {
     if !put_all(rt, err, b"Error: ") {
         return;
@@ -95,41 +93,52 @@ fn put_failure<E: Write>(rt: &impl Wait, err: &mut E, failure: &Failure)
     put_all(rt, err, b"\n");
 }
 
+/// Says why there is no output, or no more of it, and gives the exit status.
+fn fail<E: Output>(rt: &impl Wait, failure: Failure, err: &mut E) -> u8
+    ensures { Reports failure result (written E.contents E.has_failed err.old err.new) }
+{
+    put_failure(rt, err, &failure);
+    failure.status()
+}
+
 /// Prints what a tool came to, and gives the exit status.
-fn tell<O: Write, E: Write>(
+pub(crate) fn tell<O: Output, E: Output>(
     rt: &impl Wait,
     printed: Result<Text, Failure>,
     out: &mut O,
     err: &mut E,
 ) -> u8
-    ensures { Tells printed result (O.contents out.old) (O.contents out.new) (E.contents err.old) (E.contents err.new) }
+    ensures { Tells printed result (written O.contents O.has_failed out.old out.new) (written E.contents E.has_failed err.old err.new) }
 {
     match printed {
-        Ok(text) => u8::from(!put_all(rt, out, text.as_bytes())),
-        Err(failure) => {
-            put_failure(rt, err, &failure);
-            failure.status()
+        Ok(text) => {
+            if put_all(rt, out, text.as_bytes()) {
+                return 0;
+            }
+            fail(rt, Failure::OutputFailed, err)
         }
+        Err(failure) => fail(rt, failure, err),
     }
 }
 
 /// Says why a command line makes no options, and gives the exit status.
-fn tell_refusal<O: Write, E: Write>(
+fn tell_refusal<O: Output, E: Output>(
     rt: &impl Wait,
+    alloc: Global,
     refusal: Refusal,
     out: &mut O,
     err: &mut E,
 ) -> u8
-    ensures { TellsRefusal refusal result (O.contents out.old) (O.contents out.new) (E.contents err.old) (E.contents err.new) }
+    ensures { TellsRefusal refusal result (written O.contents O.has_failed out.old out.new) (written E.contents E.has_failed err.old err.new) }
 {
     match refusal {
         Refusal::Failed(failure) => tell(rt, Err(failure), out, err),
-        Refusal::Usage(error) => tell_usage(error, out, err),
+        Refusal::Usage(error) => tell_usage(rt, alloc, error, out, err),
     }
 }
 
 /// Runs a tool with what was read of its command line, over a connection, and gives the exit status.
-pub(crate) fn run<S: Stream, O: Write, E: Write>(
+pub(crate) fn run<S: Stream, O: Output, E: Output>(
     rt: &impl Wait,
     alloc: Global,
     options: Result<Options<'_>, Refusal>,
@@ -139,7 +148,7 @@ pub(crate) fn run<S: Stream, O: Write, E: Write>(
 ) -> u8
     ensures { (line : CommandLine) → IsRead line options.entry
         → RunsAs line (EndsOver S.remaining S.taken S.has_ended stream.old stream.new) (stream.new ≡ stream.old)
-        result (O.contents out.old) (O.contents out.new) (E.contents err.old) (E.contents err.new) }
+        result (written O.contents O.has_failed out.old out.new) (written E.contents E.has_failed err.old err.new) }
 {
     match options {
         Ok(Options { target, wanted }) => {
@@ -147,24 +156,25 @@ pub(crate) fn run<S: Stream, O: Write, E: Write>(
             let printed = ask_server(rt, alloc, ups, wanted, stream);
             tell(rt, printed, out, err)
         }
-        Err(refusal) => tell_refusal(rt, refusal, out, err),
+        Err(refusal) => tell_refusal(rt, alloc, refusal, out, err),
     }
 }
 
 /// Runs a tool with what was read of its command line, where no connection was made, and gives the exit status.
-pub(crate) fn run_alone<O: Write, E: Write>(
+pub(crate) fn run_alone<O: Output, E: Output>(
     rt: &impl Wait,
+    alloc: Global,
     options: Result<Options<'_>, Refusal>,
     out: &mut O,
     err: &mut E,
 ) -> u8
     ensures { (line : CommandLine) → IsRead line options.entry
         → RunsAs line (λ _ printed. printed ≡ Err NoConnection) ⊤
-        result (O.contents out.old) (O.contents out.new) (E.contents err.old) (E.contents err.new) }
+        result (written O.contents O.has_failed out.old out.new) (written E.contents E.has_failed err.old err.new) }
 {
     match options {
         Ok(_) => tell(rt, Err(Failure::NoConnection), out, err),
-        Err(refusal) => tell_refusal(rt, refusal, out, err),
+        Err(refusal) => tell_refusal(rt, alloc, refusal, out, err),
     }
 }
 
@@ -178,15 +188,35 @@ fn is_asked_for(error: &clap::Error) -> bool
     )
 }
 
-/// Writes clap's text: the help and the version to `out`, with status 0, and a fault to `err`, with status 2.
-fn tell_usage<O: Write, E: Write>(error: clap::Error, out: &mut O, err: &mut E) -> u8
-    ensures { Explains (asked_for (kind_of error)) result (O.contents out.old) (O.contents out.new) (E.contents err.old) (E.contents err.new) }
+/// Writes clap's text for a command line that it refuses to `err`, and gives status 2.
+fn tell_fault<E: Output>(rt: &impl Wait, text: &Text, err: &mut E) -> u8
+    ensures status { result ≡ 2 }
+    ensures text { HasText text.now (written E.contents E.has_failed err.old err.new) }
 {
+    put_all(rt, err, text.as_bytes());
+    2
+}
+
+/// Writes clap's text: the help and the version to `out`, as a tool's output is, and a fault to `err`, with status 2. Want
+/// of memory for the text is said in its place, with status 1.
+fn tell_usage<O: Output, E: Output>(
+    rt: &impl Wait,
+    alloc: Global,
+    error: clap::Error,
+    out: &mut O,
+    err: &mut E,
+) -> u8
+    ensures { Explains (asked_for (kind_of error)) result (written O.contents O.has_failed out.old out.new) (written E.contents E.has_failed err.old err.new)
+        ⊎ Tells (Err Memory) result (written O.contents O.has_failed out.old out.new) (written E.contents E.has_failed err.old err.new) }
+{
+    let text = match format!(in alloc; "{error}") {
+        Ok(text) => Text::of(text.into_bytes()),
+        Err(_) => return tell(rt, Err(Failure::Memory), out, err),
+    };
     if is_asked_for(&error) {
-        u8::from(write!(out, "{error}").is_err())
+        tell(rt, Ok(text), out, err)
     } else {
-        let _ = write!(err, "{error}");
-        2
+        tell_fault(rt, &text, err)
     }
 }
 
@@ -202,11 +232,8 @@ fn words_failure(error: &io::Error) -> Failure
 
 /// Says why the words of the command line can't be had, and gives the exit status: 1 for want of memory, and 2 where a word
 /// isn't UTF-8.
-pub fn refuse_words<E: Write>(rt: &impl Wait, error: &io::Error, err: &mut E) -> u8
-    ensures status { result ≡ status_of (words_failure (error_kind error.now)) }
-    ensures text { AppendsFront (E.contents err.old) (E.contents err.new) (error_text (words_failure (error_kind error.now))) }
+pub fn refuse_words<E: Output>(rt: &impl Wait, error: &io::Error, err: &mut E) -> u8
+    ensures { Reports (words_failure (error_kind error.now)) result (written E.contents E.has_failed err.old err.new) }
 {
-    let failure = words_failure(error);
-    put_failure(rt, err, &failure);
-    failure.status()
+    fail(rt, words_failure(error), err)
 }

@@ -1,4 +1,4 @@
-//! Why a tool ends without its output.
+//! Why a tool ends without its output, or with a part of it.
 ghost use Rattle.std.specs.Prelude.{◌≡◌};
 ghost use Rattle.nut_client.specs.Tool.{failure_of, reason, status_of};
 ghost use Rattle.nut_client.specs.declared.failure.Failure.TheVariants.{Memory};
@@ -7,7 +7,7 @@ use crate::copied::Text;
 use crate::fault::LinkFault;
 use std::alloc::{AllocError, AllocFailed};
 
-/// Why a tool ends without its output.
+/// Why a tool ends without its output, or with a part of it.
 #[derive(Debug, Drop)]
 pub enum Failure {
     /// The words of the command line read, but make no combination that the tool knows.
@@ -26,6 +26,8 @@ pub enum Failure {
     BadQuery,
     /// Memory was refused.
     Memory,
+    /// The output failed, and a beginning of the text was written.
+    OutputFailed,
 }
 
 impl From<AllocError> for Failure {
@@ -73,6 +75,7 @@ impl Failure {
             Failure::BadAnswer => b"bad answer",
             Failure::BadQuery => b"bad query",
             Failure::Memory => b"out of memory",
+            Failure::OutputFailed => b"output failed",
         }
     }
 
@@ -88,7 +91,8 @@ impl Failure {
             | Failure::Refused(_)
             | Failure::BadAnswer
             | Failure::BadQuery
-            | Failure::Memory => 1,
+            | Failure::Memory
+            | Failure::OutputFailed => 1,
         }
     }
 }

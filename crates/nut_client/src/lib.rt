@@ -17,9 +17,11 @@ mod expected;
 mod failure;
 mod fault;
 mod heading;
+mod json;
 mod laws;
 mod link;
 mod outcome;
+mod output;
 mod printing;
 mod program;
 mod query;
@@ -46,7 +48,9 @@ pub use laws::{
     replies_match, rests_stay,
 };
 pub use link::Link;
+pub use nut_conf::{NameFault, Target, split_name};
 pub use outcome::Outcome;
+pub use output::{Output, WriterOutput};
 pub use printing::{Form, Values};
 pub use program::{Tool, run_tool};
 pub use query::Query;

@@ -1,13 +1,15 @@
 //! The tools as programs.
 use crate::destination::Destination;
 use crate::dialing::dial;
-use crate::engine::refuse_words;
+use crate::engine::{refuse_words, tell};
+use crate::failure::Failure;
+use crate::output::{Output, WriterOutput};
 use crate::upsc::{run_upsc, upsc_target};
 use crate::upscmd::{run_upscmd, upscmd_target};
 use crate::upsrw::{run_upsrw, upsrw_target};
-use std::alloc::{AllocGlobal, Global};
+use std::alloc::{AllocError, AllocGlobal, Global};
 use std::env::Env;
-use std::io::{Print, Write};
+use std::io::Print;
 use std::net::Net;
 use std::process::ExitCode;
 use std::sync::Wait;
@@ -31,7 +33,7 @@ pub fn run_tool<R: Env + Net + Print + Wait + AllocGlobal, E: Print>(
     stderr: &E,
     tool: Tool,
 ) -> ExitCode {
-    let mut err = io::writer(stderr);
+    let mut err = WriterOutput::new(io::writer(stderr));
     let status = match command_words(rt) {
         Ok(words) => run_words(rt, tool, words.as_slice(), &mut err),
         Err(error) => refuse_words(rt, &error, &mut err),
@@ -46,15 +48,18 @@ fn command_words<R: Env + AllocGlobal>(rt: &R) -> io::Result<Vec<String>> {
 }
 
 /// Runs a tool with these words.
-fn run_words<R: Net + Print + Wait + AllocGlobal, E: Write>(
+fn run_words<R: Net + Print + Wait + AllocGlobal, E: Output>(
     rt: &R,
     tool: Tool,
     words: &[String],
     err: &mut E,
 ) -> u8 {
     let alloc = rt.alloc();
-    let mut out = io::writer(rt);
-    let mut stream = dial(rt, target_of(tool, alloc, words));
+    let mut out = WriterOutput::new(io::writer(rt));
+    let Ok(destination) = target_of(tool, alloc, words) else {
+        return tell(rt, Err(Failure::Memory), &mut out, err);
+    };
+    let mut stream = dial(rt, destination);
     let stream = stream.as_mut();
     match tool {
         Tool::Upsc => run_upsc(rt, alloc, words, stream, &mut out, err),
@@ -64,7 +69,11 @@ fn run_words<R: Net + Print + Wait + AllocGlobal, E: Write>(
 }
 
 /// The host and the port that a tool has to dial with these words, if they read.
-fn target_of(tool: Tool, alloc: Global, words: &[String]) -> Option<Destination> {
+fn target_of(
+    tool: Tool,
+    alloc: Global,
+    words: &[String],
+) -> Result<Option<Destination>, AllocError> {
     match tool {
         Tool::Upsc => upsc_target(alloc, words),
         Tool::Upsrw => upsrw_target(alloc, words),

@@ -1,10 +1,12 @@
 //! What is left of a tool's work, step by step: a query to ask, or a text to print.
 ghost use Rattle.std.specs.Prelude.{◌≡◌, ◌∷◌, List, ℕ, [], codes};
+ghost use Rattle.nut_client.specs.Json.{json_object};
 ghost use Rattle.nut_client.specs.Script.{Prints, deed_query, line, on_done, on_rows, on_words, row_lines, script, word};
 ghost use Rattle.nut_client.specs.Task.{GivesRows, GivesWords, GoesOn, IsDone, Leads, Says, ShowsRow, answered, first_query, first_question, left_at, left_of, row_query, showing, showing_of};
 
 use crate::copied::{Fields, Rows, Text};
 use crate::failure::Failure;
+use crate::json::put_object;
 use crate::outcome::Outcome;
 use crate::printing::{Form, Values, put_heading, put_line, put_rows, values_of};
 use crate::wanted::{Deed, Wanted};
@@ -107,7 +109,7 @@ fn first_query<'t>(ups: &'t Word<'_>, wanted: &'t Wanted<'_>) -> Request<'t>
     ensures { result ≡ first_query ups.now wanted.now }
 {
     match wanted {
-        Wanted::Variables => Request::List(ListQuery::Var { ups: again(ups) }),
+        Wanted::Variables | Wanted::Object => Request::List(ListQuery::Var { ups: again(ups) }),
         Wanted::Value(variable) => Request::GetVar {
             ups: again(ups),
             variable: again(variable),
@@ -188,6 +190,16 @@ fn print_rows<'a>(alloc: Global, form: Form, outcome: Outcome) -> Result<Step<'a
     Ok(Step::Done(text))
 }
 
+/// Prints the rows that answer a list as a JSON object.
+fn print_object<'a>(alloc: Global, outcome: Outcome) -> Result<Step<'a>, Failure>
+    ensures { (ups : List ℕ) → Leads ups (on_rows (λ rows. Prints (json_object rows)) outcome) result }
+{
+    let rows = rows_of(outcome)?;
+    let mut text = Vec::new(alloc);
+    put_object(&mut text, rows.as_slice())?;
+    Ok(Step::Done(text))
+}
+
 /// Prints the first of the words that answer a query.
 fn print_word<'a>(alloc: Global, outcome: Outcome) -> Result<Step<'a>, Failure>
     ensures { (ups : List ℕ) → Leads ups (on_words (λ words. Prints (line (word 0 words ∷ []))) outcome) result }
@@ -217,6 +229,7 @@ fn hear_first<'a>(alloc: Global, wanted: Wanted<'a>, outcome: Outcome) -> Result
 {
     match wanted {
         Wanted::Variables => print_rows(alloc, Form::Pairs, outcome),
+        Wanted::Object => print_object(alloc, outcome),
         Wanted::Names => print_rows(alloc, Form::Firsts, outcome),
         Wanted::Descriptions => print_rows(alloc, Form::Pairs, outcome),
         Wanted::Clients => print_rows(alloc, Form::Firsts, outcome),

@@ -1,7 +1,8 @@
 //! `upsc`: the variables of a UPS, the UPSes of a server, the clients of a UPS.
-ghost use Rattle.std.specs.Prelude.{◌≡◌, IfOk, IfSome, Some, map, option_map};
+ghost use Rattle.std.specs.Prelude.{◌≡◌, IfOk, map, option_map};
 ghost use Rattle.clap.specs.Words.{app_of, found_of, rows_of};
-ghost use Rattle.nut_client.specs.CommandLine.{target_of, upsc_line, upsc_options, upsc_tool, upsc_wanted};
+ghost use Rattle.nut_client.specs.CommandLine.{dialed, target_of, upsc_line, upsc_options, upsc_tool, upsc_wanted};
+ghost use Rattle.nut_client.specs.Output.{written};
 ghost use Rattle.nut_client.specs.Reading.{AreOptions, IsRead};
 ghost use Rattle.nut_client.specs.Tool.{EndsBy, IsUnused, RunsAs};
 
@@ -12,22 +13,21 @@ use crate::command_line::{
 use crate::destination::Destination;
 use crate::engine::{run, run_alone};
 use crate::failure::Failure;
+use crate::output::Output;
 use crate::stream::Stream;
 use crate::wanted::Wanted;
 use clap::{ArgMatches, Command};
 use nut_proto::Word;
 use std::alloc::{AllocError, Global};
 use std::convert::AsStr;
-use std::io::Write;
 use std::sync::Wait;
 
 /// Runs `upsc` with these words of a command line, the program's name first, over a connection to the server, which is
 /// `None` where none was made. It gives the exit status.
 ///
-/// The output goes to `out` once the last answer came, with status 0, or 1 where `out` fails. Where there is no output,
-/// a line on `err` says why, with status 1; where the command line doesn't read, with status 2. The help and the version
-/// go to `out`.
-pub fn run_upsc<W: AsStr, S: Stream, O: Write, E: Write>(
+/// The output goes to `out` once the last answer came, with status 0. Where there is no output, or `out` fails, a line on
+/// `err` says why, with status 1; where the command line doesn't read, with status 2. The help and the version go to `out`.
+pub fn run_upsc<W: AsStr, S: Stream, O: Output, E: Output>(
     rt: &impl Wait,
     alloc: Global,
     words: &[W],
@@ -37,18 +37,19 @@ pub fn run_upsc<W: AsStr, S: Stream, O: Write, E: Write>(
 ) -> u8
     ensures { RunsAs (upsc_line (map W.text words.now))
         (EndsBy S.remaining S.taken S.has_ended stream.entry stream.exit) (IsUnused stream.entry stream.exit)
-        result (O.contents out.old) (O.contents out.new) (E.contents err.old) (E.contents err.new) }
+        result (written O.contents O.has_failed out.old out.new) (written E.contents E.has_failed err.old err.new) }
 {
     let options = read_options(alloc, words);
     match stream {
         Some(stream) => run(rt, alloc, options, stream, out, err),
-        None => run_alone(rt, options, out, err),
+        None => run_alone(rt, alloc, options, out, err),
     }
 }
 
-/// The host and the port that `upsc` has to dial with this command line, if it reads.
-pub fn upsc_target<W: AsStr>(alloc: Global, words: &[W]) -> Option<Destination>
-    ensures { IfSome result (λ d. target_of (upsc_line (map W.text words.now)) ≡ Some (d.host.bytes.items, d.port.number)) }
+/// The host and the port that `upsc` has to dial with this command line. `None` says that the command line names none: it
+/// doesn't read, or makes no combination that the tool knows, or its name doesn't read. An `Err` is for want of memory.
+pub fn upsc_target<W: AsStr>(alloc: Global, words: &[W]) -> Result<Option<Destination>, AllocError>
+    ensures { IfOk result (λ found. option_map dialed found ≡ target_of (upsc_line (map W.text words.now))) }
 {
     destination_of(read_options(alloc, words))
 }
@@ -71,28 +72,31 @@ fn options_in<'a>(matches: &ArgMatches<'a>) -> Result<Options<'a>, Failure>
         is_given(matches, "names"),
         is_given(matches, "descriptions"),
         is_given(matches, "clients"),
+        is_given(matches, "json"),
         value(matches, "variable"),
     );
     options_of(wanted, value(matches, "name"))
 }
 
-/// What the flags for names, descriptions and clients ask for, with or without a variable.
+/// What the flags for names, descriptions, clients and an object ask for, with or without a variable.
 fn wanted_by<'a>(
     names: bool,
     descriptions: bool,
     clients: bool,
+    json: bool,
     variable: Option<&'a str>,
 ) -> Option<Wanted<'a>>
-    ensures { result ≡ upsc_wanted names descriptions clients (option_map (λ s. s.now) variable.entry) }
+    ensures { result ≡ upsc_wanted names descriptions clients json (option_map (λ s. s.now) variable.entry) }
 {
-    match (names, descriptions, clients, variable) {
-        (false, false, false, None) => Some(Wanted::Variables),
-        (false, false, false, Some(variable)) => {
+    match (names, descriptions, clients, json, variable) {
+        (false, false, false, false, None) => Some(Wanted::Variables),
+        (false, false, false, false, Some(variable)) => {
             Some(Wanted::Value(Word::new(variable.as_bytes())))
         }
-        (true, false, false, None) => Some(Wanted::Names),
-        (false, true, false, None) => Some(Wanted::Descriptions),
-        (false, false, true, None) => Some(Wanted::Clients),
+        (true, false, false, false, None) => Some(Wanted::Names),
+        (false, true, false, false, None) => Some(Wanted::Descriptions),
+        (false, false, true, false, None) => Some(Wanted::Clients),
+        (false, false, false, true, None) => Some(Wanted::Object),
         _ => None,
     }
 }
@@ -121,6 +125,12 @@ fn command<'a>(alloc: Global) -> Result<Command<'a>, AllocError>
             "clients",
             'c',
             "List the addresses of the clients that are logged in to the UPS",
+        ))?
+        .arg(flag(
+            alloc,
+            "json",
+            'j',
+            "Print the variables as one JSON object of names and values",
         ))?
         .arg(name_argument(alloc))?
         .arg(argument(

@@ -1,7 +1,8 @@
 //! `upsrw`: the variables of a UPS that may be set, and setting one.
-ghost use Rattle.std.specs.Prelude.{◌≡◌, IfOk, IfSome, Some, map, option_map};
+ghost use Rattle.std.specs.Prelude.{◌≡◌, IfOk, map, option_map};
 ghost use Rattle.clap.specs.Words.{app_of, found_of, rows_of};
-ghost use Rattle.nut_client.specs.CommandLine.{target_of, upsrw_line, upsrw_options, upsrw_tool, upsrw_wanted};
+ghost use Rattle.nut_client.specs.CommandLine.{dialed, target_of, upsrw_line, upsrw_options, upsrw_tool, upsrw_wanted};
+ghost use Rattle.nut_client.specs.Output.{written};
 ghost use Rattle.nut_client.specs.Reading.{AreOptions, IsRead};
 ghost use Rattle.nut_client.specs.Tool.{EndsBy, IsUnused, RunsAs};
 
@@ -12,18 +13,18 @@ use crate::command_line::{
 use crate::destination::Destination;
 use crate::engine::{run, run_alone};
 use crate::failure::Failure;
+use crate::output::Output;
 use crate::stream::Stream;
 use crate::wanted::{Deed, Wanted};
 use clap::{ArgMatches, Command};
 use nut_proto::Word;
 use std::alloc::{AllocError, Global};
 use std::convert::AsStr;
-use std::io::Write;
 use std::sync::Wait;
 
 /// Runs `upsrw` with these words of a command line, the program's name first, over a connection to the server, which is
 /// `None` where none was made. It gives the exit status, as [`run_upsc`](crate::run_upsc) does.
-pub fn run_upsrw<W: AsStr, S: Stream, O: Write, E: Write>(
+pub fn run_upsrw<W: AsStr, S: Stream, O: Output, E: Output>(
     rt: &impl Wait,
     alloc: Global,
     words: &[W],
@@ -33,18 +34,19 @@ pub fn run_upsrw<W: AsStr, S: Stream, O: Write, E: Write>(
 ) -> u8
     ensures { RunsAs (upsrw_line (map W.text words.now))
         (EndsBy S.remaining S.taken S.has_ended stream.entry stream.exit) (IsUnused stream.entry stream.exit)
-        result (O.contents out.old) (O.contents out.new) (E.contents err.old) (E.contents err.new) }
+        result (written O.contents O.has_failed out.old out.new) (written E.contents E.has_failed err.old err.new) }
 {
     let options = read_options(alloc, words);
     match stream {
         Some(stream) => run(rt, alloc, options, stream, out, err),
-        None => run_alone(rt, options, out, err),
+        None => run_alone(rt, alloc, options, out, err),
     }
 }
 
-/// The host and the port that `upsrw` has to dial with this command line, if it reads.
-pub fn upsrw_target<W: AsStr>(alloc: Global, words: &[W]) -> Option<Destination>
-    ensures { IfSome result (λ d. target_of (upsrw_line (map W.text words.now)) ≡ Some (d.host.bytes.items, d.port.number)) }
+/// The host and the port that `upsrw` has to dial with this command line. `None` says that the command line names none: it
+/// doesn't read, or makes no combination that the tool knows, or its name doesn't read. An `Err` is for want of memory.
+pub fn upsrw_target<W: AsStr>(alloc: Global, words: &[W]) -> Result<Option<Destination>, AllocError>
+    ensures { IfOk result (λ found. option_map dialed found ≡ target_of (upsrw_line (map W.text words.now))) }
 {
     destination_of(read_options(alloc, words))
 }

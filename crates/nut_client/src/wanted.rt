@@ -6,6 +6,8 @@ use nut_proto::Word;
 pub enum Wanted<'a> {
     /// All variables of the UPS with their values: `upsc NAME`.
     Variables,
+    /// The same as a JSON object: `upsc -j NAME`.
+    Object,
     /// The value of one variable: `upsc NAME VAR`.
     Value(Word<'a>),
     /// The names of the server's UPSes: `upsc -l`.

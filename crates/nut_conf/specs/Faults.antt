@@ -1,5 +1,5 @@
 -- Reading that stops at the first fault, and what a call owes of it.
-use Rattle.std.specs.Prelude.{◌≡◌, Result, Ok, Err}
+use Rattle.std.specs.Prelude.{◌≡◌, IsOk, Result, Ok, Err}
 use Rattle.nut_conf.specs.declared.fault.FaultKind.{FaultKind}
 use Rattle.nut_conf.specs.declared.fault.FaultKind.TheVariants as kinds
 
@@ -18,6 +18,11 @@ Reads view (Err e) reading = reading ≡ Err e
 abbrev pub Fails : {Y : Type 0} → FaultKind → Result Y FaultKind → Type 0
 Fails kinds.Memory reading = Unit {0}
 Fails e reading = reading ≡ Err e
+
+-- Reading gives this fault; or it is want of memory, where reading has no fault.
+abbrev pub Refuses : {Y : Type 0} → FaultKind → Result Y FaultKind → Type 0
+Refuses kinds.Memory reading = IsOk reading
+Refuses e reading = reading ≡ Err e
 
 -- What a call answered is what reading gives, unless memory ran out.
 abbrev pub Gives : {X Y : Type 0} → (X → Y) → Result X FaultKind → Result Y FaultKind → Type 0

@@ -3,7 +3,7 @@ use Rattle.std.specs.Prelude.{◌≡◌, ℕ, Bool, true, false, List, [], ◌�
 use Rattle.std.specs.List.{list_any, filter_map, find}
 use Rattle.std.specs.Option.{option_map_or}
 use Rattle.std.specs.Str.{bytes_eq}
-use Rattle.nut_conf.specs.Faults.{◌>>=◌, Fails}
+use Rattle.nut_conf.specs.Faults.{◌>>=◌, Refuses}
 use Rattle.nut_conf.specs.Values.{Words, nth, values_of, one, one_of, name, text, number}
 use Rattle.nut_conf.specs.declared.values.Form.{Form}
 use Rattle.nut_conf.specs.declared.notice.NoticeFlags.{NoticeFlags}
@@ -108,10 +108,11 @@ abbrev pub line_fault : List Directive → List Words → Words → Option Fault
 line_fault directives before ws =
     option_map_or (λ d. fault_of (accepts d.rule (settings d before) ws)) (directive_of (nth ws 0) directives) (Some UnknownDirective)
 
--- A call changed the settings from old to new as this line does, or answered the line's fault.
+-- A call changed the settings from old to new as this line does, or answered the line's fault; or, where it has none, want of
+-- memory.
 abbrev pub Puts : Rule → List Setting → Words → Result (Unit {0}) FaultKind → List Setting → Type 0
 Puts r old ws (Ok _) new = accepts r old ws ≡ Ok new
-Puts r old ws (Err e) new = Fails e (accepts r old ws)
+Puts r old ws (Err e) new = Refuses e (accepts r old ws)
 
 -- of what may stand once
 abbrev pub once : Form → (Words → Result Setting FaultKind) → Rule

@@ -16,7 +16,7 @@ pub const FILE_MAX: usize = 1_048_576;
 
 /// Takes in a line.
 fn take_line<D: Draft>(alloc: Global, draft: &mut D, bytes: &[u8]) -> Result<(), FaultKind>
-    ensures memory { result ≡ Err FaultKind.Memory → MayTake D.grows bytes.now }
+    ensures memory { (before : List LineWords) → D.Holds draft.old before → result ≡ Err FaultKind.Memory → MayTake D.fault D.grows before bytes.now }
     ensures takes { (before : List LineWords) → D.Holds draft.old before
         → MatchResult result (λ _. (after : List LineWords) × (with_line D.fault before bytes.now ≡ Ok after) × D.Holds draft.new after) (λ k. Fails k (with_line D.fault before bytes.now)) }
 {

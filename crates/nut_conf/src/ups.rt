@@ -1,5 +1,5 @@
 //! The file ups.conf.
-ghost use Rattle.std.specs.Prelude.{◌≡◌, ◌==◌, ◌<◌, ◌≤◌, [], IfSome, IsTrue, None, MatchOption, IfErr, OnErr, length, slice_get};
+ghost use Rattle.std.specs.Prelude.{◌≡◌, ◌==◌, ◌<◌, ◌≤◌, [], Err, IfSome, IsOk, IsTrue, None, MatchOption, IfErr, OnErr, length, slice_get};
 ghost use Rattle.std.specs.Option.{option_copied, option_map};
 ghost use Rattle.nut_words.specs.Quoting.{IsPrintable};
 ghost use Rattle.nut_conf.specs.Faults.{Gives};
@@ -100,6 +100,9 @@ impl UpsConf {
     pub fn add(&mut self, name: &[u8], desc: &[u8]) -> Result<(), FaultKind>
         ensures added { Gives (λ _. shown_in self.new) result (with_ups (shown_in self.old) name.now desc.now) }
         ensures unchanged { OnErr result (shown_in self.new ≡ shown_in self.old) }
+
+        // Memory may run out only where all tests pass.
+        ensures memory { result ≡ Err FaultKind.Memory → IsOk (with_ups (shown_in self.old) name.now desc.now) }
     {
         let name = Name::read(name)?;
         if desc.len() > DESC_MAX || self.ups.by_name.len() >= UPS_MAX {
@@ -224,7 +227,7 @@ impl Draft for Ups {
 /// Reads ups.conf (NUT man page ups.conf(5), the directives `driver`, `port` and `desc`).
 ///
 /// Gives the configuration that its lines set, or the first line with a fault and the first fault in it. Memory may run
-/// out only at a line with a section or a backslash.
+/// out only at a line with a backslash, or at one without a fault that begins a section.
 pub fn read_ups(alloc: Global, bytes: &[u8]) -> Result<UpsConf, ConfFault>
     ensures means { Means (read_file ups_fault bytes.now) UpsConfHolds result }
     ensures memory { IfErr result (λ fault. fault.kind ≡ FaultKind.Memory → MayRunOut ups_fault ups_conf_grows bytes.now fault.line) }

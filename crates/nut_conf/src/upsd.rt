@@ -173,7 +173,7 @@ impl Draft for UpsdConf {
 /// Reads upsd.conf (NUT man page upsd.conf(5), the directives `LISTEN`, `MAXAGE` and `MAXCONN`).
 ///
 /// Gives the configuration that its lines set, or the first line with a fault and the first fault in it. Memory may run
-/// out only at a line with `LISTEN` or a backslash.
+/// out only at a line with a backslash, or at one without a fault that has `LISTEN`.
 pub fn read_upsd(alloc: Global, bytes: &[u8]) -> Result<UpsdConf, ConfFault>
     ensures means { Means (read_file upsd_fault bytes.now) UpsdHolds result }
     ensures few { IfOk result (λ conf. length conf.listen.items ≤ 16) }

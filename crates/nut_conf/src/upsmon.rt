@@ -270,7 +270,7 @@ impl Draft for UpsmonConf {
 ///
 /// Gives the configuration that its lines set, or the first line with a fault and the first fault in it. Where no line has a
 /// fault and the power values sum to less than `MINSUPPLIES`, the file as a whole is past a limit. Memory may run out only at
-/// a line with `MONITOR`, `NOTIFYMSG`, `NOTIFYFLAG` or a backslash.
+/// a line with a backslash, or at one without a fault that has `MONITOR`, `NOTIFYMSG` or `NOTIFYFLAG`.
 pub fn read_upsmon(alloc: Global, bytes: &[u8]) -> Result<UpsmonConf, ConfFault>
     ensures means { Means (upsmon_reading bytes.now) UpsmonHolds result }
     ensures memory { IfErr result (λ fault. fault.kind ≡ FaultKind.Memory → MayRunOut upsmon_fault upsmon_grows bytes.now fault.line) }

@@ -269,7 +269,7 @@ impl Draft for User {
 /// Reads upsd.users (NUT man page upsd.users(5)).
 ///
 /// Gives the configuration that its lines set, or the first line with a fault and the first fault in it. Memory may run
-/// out only at a line with a section, `actions`, `instcmds` or a backslash.
+/// out only at a line with a backslash, or at one without a fault that begins a section or has `actions` or `instcmds`.
 pub fn read_users(alloc: Global, bytes: &[u8]) -> Result<UsersConf, ConfFault>
     ensures means { Means (read_file users_fault bytes.now) UsersConfHolds result }
     ensures memory { IfErr result (λ fault. fault.kind ≡ FaultKind.Memory → MayRunOut users_fault users_conf_grows bytes.now fault.line) }

@@ -1,11 +1,13 @@
 -- How a script grows by a line.
-use Rattle.std.proofs.Common.{◌≡◌, ℕ, ◌+◌, ◌∷◌, ◌++◌, List, [], Bool, ◌||◌, Ok, Err, Some, refl, sym, ap, ◌∙◌, arith, subst}
+use Rattle.std.proofs.Common.{◌≡◌, ℕ, ◌+◌, ◌∷◌, ◌++◌, List, [], Bool, ◌||◌, Ok, Err, Some, refl, sym, ap, ◌∙◌, arith, subst, append_assoc, length, length-append}
 use Rattle.std.specs.Prelude.{is_some, slice_set, slice_index_or, map, if◌then◌else◌}
 use Rattle.std.specs.List.{insert}
 use Rattle.nut_state.specs.Sorted.{put, IsFound, IsFree, IsAscending}
 use Rattle.nut_state.proofs.PutLemmas.{name-named, ascending-put}
 use Rattle.nut_dummy.specs.Dummy.{declared}
-use Rattle.nut_dummy.specs.Script.{Step, Timeline, Script, timeline, steps_of, with_step, with_line, at_line, whole, read_lines, IsFaultOf, Fails}
+use Rattle.nut_words.specs.Lines.{parts}
+use Rattle.nut_dummy.specs.Memory.{Makes}
+use Rattle.nut_dummy.specs.Script.{Step, Timeline, Script, timeline, steps_of, with_step, with_line, at_line, whole, no_script, read_lines, read_script, IsFaultOf, Fails}
 use Rattle.nut_dummy.specs.declared.fault.ScriptFaultKind.{ScriptFaultKind}
 use Rattle.nut_dummy.specs.declared.fault.ScriptFaultKind.TheVariants as kinds
 use Rattle.nut_dummy.specs.declared.item.ScriptKind.{ScriptKind}
@@ -72,6 +74,21 @@ module _ (kind : ScriptKind) where
   pub read_lines-done : (before : Script) (n : ℕ) → read_lines kind before n [] ≡ whole kind before
   unfolding read_lines
   read_lines-done before n = refl
+
+-- a line more makes the script that it makes of the one before
+pub makes_more : (kind : ScriptKind) (front : List (List ℕ)) (line : List ℕ) (before after : Script) → Makes kind front before → with_line kind before line ≡ Ok after
+    → Makes kind (front ++ line ∷ []) after
+makes_more kind front line before after makes takes more =
+    ap (read_lines kind no_script 1) (append_assoc front (line ∷ []) more)
+    ∙ makes (line ∷ more)
+    ∙ read_lines-more kind before after (length front + 1) line more takes
+    ∙ ap (λ n. read_lines kind after (n + 1) more) (sym (length-append front (line ∷ [])))
+
+-- the text is read on from the script that its first lines made
+pub reads_on : (kind : ScriptKind) (bytes : List ℕ) (front rest : List (List ℕ)) (s : Script) (n : ℕ) → parts bytes ≡ front ++ rest → n ≡ length front → Makes kind front s
+    → read_script kind bytes ≡ read_lines kind s (n + 1) rest
+reads_on kind bytes front rest s n parted count makes =
+    ap (read_lines kind no_script 1) parted ∙ makes rest ∙ ap (λ m. read_lines kind s (m + 1) rest) (sym count)
 
 -- ---- the variables with which a driver begins
 

@@ -1,6 +1,7 @@
 pub mod Item
 pub mod Script
 pub mod Read
+pub mod Memory
 pub mod Due
 pub mod Writable
 pub mod Command

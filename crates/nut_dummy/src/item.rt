@@ -1,9 +1,10 @@
 //! What one line of a script says.
-ghost use Rattle.std.specs.Prelude.{◌≡◌, ◌==◌, IsTrue};
+ghost use Rattle.std.specs.Prelude.{◌≡◌, ◌==◌, Err, IsTrue};
 ghost use Rattle.std.specs.List.{list_all, position};
 ghost use Rattle.nut_words.specs.Spelling.{is_comment};
-ghost use Rattle.nut_words.specs.Reader.{spelled};
+ghost use Rattle.nut_words.specs.Reader.{has_backslash, spelled};
 ghost use Rattle.nut_dummy.specs.Item.{is_skipped, timer, timed, setting, item};
+ghost use Rattle.nut_dummy.specs.Memory.{IsEscaped};
 ghost use Rattle.nut_dummy.specs.Read.{item_of};
 ghost use Rattle.nut_dummy.specs.Script.{Gives};
 
@@ -63,7 +64,8 @@ fn colon(line: &[u8]) -> Option<usize>
 }
 
 fn read_seconds(kind: ScriptKind, seconds: Option<u32>) -> Result<Item, ScriptFaultKind>
-    ensures { Gives item_of result (timer kind seconds) }
+    ensures item { Gives item_of result (timer kind seconds) }
+    ensures memory { result ≡ Err ScriptFaultKind.Memory → ⊥ }
 {
     let Some(seconds) = seconds else {
         return Err(ScriptFaultKind::BadTimer);
@@ -79,7 +81,8 @@ fn read_seconds(kind: ScriptKind, seconds: Option<u32>) -> Result<Item, ScriptFa
 
 /// Reads a line without a colon.
 fn read_timer(alloc: Global, kind: ScriptKind, line: &[u8]) -> Result<Item, ScriptFaultKind>
-    ensures { Gives item_of result (timed kind (spelled line.now)) }
+    ensures item { Gives item_of result (timed kind (spelled line.now)) }
+    ensures memory { result ≡ Err ScriptFaultKind.Memory → IsTrue (has_backslash line.now) }
 {
     let words = match split(alloc, line) {
         Ok(words) => words,
@@ -94,7 +97,8 @@ fn read_timer(alloc: Global, kind: ScriptKind, line: &[u8]) -> Result<Item, Scri
 
 /// Reads a name and a value, without the blanks at their ends.
 fn read_setting(name: &[u8], value: &[u8]) -> Result<Item, ScriptFaultKind>
-    ensures { Gives item_of result (setting name.now value.now) }
+    ensures item { Gives item_of result (setting name.now value.now) }
+    ensures memory { result ≡ Err ScriptFaultKind.Memory → ⊥ }
 {
     if name.is_empty() || !are_name_bytes(name) {
         return Err(ScriptFaultKind::BadName);
@@ -113,7 +117,8 @@ fn read_setting(name: &[u8], value: &[u8]) -> Result<Item, ScriptFaultKind>
 
 /// Reads a line that isn't one to skip.
 pub fn read_item(alloc: Global, kind: ScriptKind, line: &[u8]) -> Result<Item, ScriptFaultKind>
-    ensures { Gives item_of result (item kind line.now) }
+    ensures item { Gives item_of result (item kind line.now) }
+    ensures memory { result ≡ Err ScriptFaultKind.Memory → IsEscaped line.now }
 {
     if line.len() > LINE_MAX {
         return Err(ScriptFaultKind::PastLimit);

@@ -1,8 +1,9 @@
 //! Scripts: the values that a dummy driver tells, and when.
-ghost use Rattle.std.specs.Prelude.{◌≡◌, ◌+◌, ◌<◌, ◌≤◌, ◌^◌, ◌||◌, List, ℕ, length, map, is_some, nat_lt, if◌then◌else◌, IfOk, Ok, Err};
+ghost use Rattle.std.specs.Prelude.{◌≡◌, ◌+◌, ◌<◌, ◌≤◌, ◌^◌, ◌||◌, List, ℕ, length, map, is_some, nat_lt, if◌then◌else◌, IfErr, IfOk, IsTrue, Ok, Err};
 ghost use Rattle.nut_state.specs.Sorted.{IsAscending};
 ghost use Rattle.nut_dummy.specs.Item as said;
-ghost use Rattle.nut_dummy.specs.Script.{read_script, no_script, timeline, with_step, taken_in, with_line, whole, Means, Fails, Gives};
+ghost use Rattle.nut_dummy.specs.Memory.{MayRunOut, MayTake};
+ghost use Rattle.nut_dummy.specs.Script.{has_room, read_script, no_script, timeline, with_step, taken_in, with_line, whole, Means, Fails, Gives};
 ghost use Rattle.nut_dummy.specs.Read.{item_of};
 
 use crate::fault::{ScriptFault, ScriptFaultKind};
@@ -47,6 +48,8 @@ fn with_step(
     ensures step { Gives (λ v. v.items) result (if is_some (timeline name variables.items) || nat_lt (length variables.items) SCRIPT_VARIABLES
         then Ok (with_step name step variables.items) else Err ScriptFaultKind.PastLimit) }
     ensures ascending { IfOk result (λ v. IsAscending (map (λ t. t.name) v.items)) }
+    ensures memory { result ≡ Err ScriptFaultKind.Memory
+        → IsTrue (is_some (timeline name variables.items) || nat_lt (length variables.items) SCRIPT_VARIABLES) }
 {
     match place_of(&variables, name.as_bytes()) {
         Ok(place) => {
@@ -96,7 +99,8 @@ impl Script {
 
     /// The script with one value more.
     fn with_setting(self, name: Name, value: Text) -> Result<Script, ScriptFaultKind>
-        ensures { Gives (λ s. s) result (taken_in self (Ok (said.Setting name value))) }
+        ensures setting { Gives (λ s. s) result (taken_in self (Ok (said.Setting name value))) }
+        ensures memory { result ≡ Err ScriptFaultKind.Memory → IsTrue (has_room self (said.Setting name value)) }
     {
         let Script {
             alloc,
@@ -130,6 +134,7 @@ impl Script {
         requires { self.round < 2 ^ 120 }
         ensures line { Gives (λ s. s) result (with_line kind self line.now) }
         ensures round { IfOk result (λ s. s.round ≤ self.round + 86400) }
+        ensures memory { result ≡ Err ScriptFaultKind.Memory → MayTake kind self line.now }
     {
         if is_skipped(line) {
             return Ok(self);
@@ -142,7 +147,8 @@ impl Script {
 
     /// A script that goes round has a timer.
     fn check_round(self, kind: ScriptKind) -> Result<Script, ScriptFault>
-        ensures { Means result (whole kind self) }
+        ensures whole { Means result (whole kind self) }
+        ensures memory { IfErr result (λ fault. fault.kind ≡ ScriptFaultKind.Memory → ⊥) }
     {
         if kind == ScriptKind::Seq && self.round == 0 {
             return Err(ScriptFault {
@@ -164,9 +170,11 @@ impl Script {
     /// byte outside 0x20 to 0x7E, tab and carriage return; of a timer `BadTimer`, then `TimerInDev`; `BadLine` without a
     /// colon; `BadName`; `PastLimit` for a name past 64 bytes; `BadLine` for a tab or a carriage return in the value;
     /// `PastLimit` for a value past 128 bytes, and for a 510th variable or a 4,097th value. Without a faulty line,
-    /// `NoTimer` at line 0 for a script that goes round and has none. `Memory` at the line at which memory ran out.
+    /// `NoTimer` at line 0 for a script that goes round and has none. `Memory` at the line at which memory ran out, which
+    /// says a value, or has a backslash and no colon.
     pub fn read(alloc: Global, kind: ScriptKind, bytes: &[u8]) -> Result<Script, ScriptFault>
-        ensures { Means result (read_script kind bytes.now) }
+        ensures means { Means result (read_script kind bytes.now) }
+        ensures memory { IfErr result (λ fault. fault.kind ≡ ScriptFaultKind.Memory → MayRunOut kind bytes.now fault.line) }
     {
         let mut script = Script::new(alloc);
         let mut rest = Some(bytes);

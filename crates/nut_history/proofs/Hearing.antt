@@ -1,6 +1,6 @@
 -- How a content hears the bytes of a connection: line by line.
 use Rattle.std.proofs.Common.{◌≡◌, ℕ, zero, suc, ◌<◌, true, false, eqb, List, [], ◌∷◌, ◌++◌, map, length, refl, sym, ◌∙◌, ap, arith, inl, inr, append_assoc, append-nil, Option, Some, None}
-use Rattle.std.specs.Prelude.{if◌then◌else◌, option_map}
+use Rattle.std.specs.Prelude.{◌==◌, if◌then◌else◌, option_map}
 use Rattle.std.proofs.lemmas.Bool.{cases_Bool, eqb-false}
 use Rattle.nut_words.specs.Lines.{LineText, Text, as_line, last_of, parts, rest, joined}
 use Rattle.nut_words.proofs.LineLemmas.{joined-as_line}
@@ -12,7 +12,6 @@ use Rattle.nut_history.specs.Content.{Session, Supply, Content}
 use Rattle.nut_history.specs.Acceptance.{session_of, front, line_feeds}
 use Rattle.nut_history.specs.Machine.{update, update_at, with_rest, with_sessions, guest_of, caller_of, scene_of, answered, answer_in, act_on, acted, after_answer, line_heard, byte_heard, bytes_heard}
 use Rattle.nut_history.specs.Laws.{numbers}
-use Rattle.nut_history.specs.Outcome.{first_line, until_feed}
 use Rattle.nut_history.proofs.Sessions.{KeepsNumber, session_of-update}
 
 pub bytes_heard-append : (c : ℕ) (x y : List ℕ) (s : Content) → bytes_heard c (x ++ y) s ≡ bytes_heard c y (bytes_heard c x s)
@@ -85,6 +84,14 @@ byte_feed c b r s k found is =
     ∙ after-unfinished c r s (command_of r) (answer_in s (command_of r) k))
 
 -- ---- bytes
+
+-- the bytes of a text before its first line feed, and the line that they make behind an unfinished one
+abbrev pub until_feed : List ℕ → List ℕ
+until_feed [] = []
+until_feed (b ∷ bytes) = if b == 10 then [] else b ∷ until_feed bytes
+
+abbrev pub first_line : LineText → List ℕ → LineText
+first_line rest text = joined rest (until_feed text)
 
 -- an unfinished line with nothing behind it, and one that grows byte by byte
 joined_rest : (b : List ℕ) → joined (rest b) [] ≡ rest b

@@ -1,6 +1,7 @@
 -- How a server may answer an event, and the history that stands after it.
-use Rattle.std.specs.Prelude.{◌≡◌, ◌<◌, ℕ, zero, suc, ◌==◌, Bool, true, false, not, ◌&&◌, ◌||◌, IsTrue, if◌then◌else◌, List, [], ◌∷◌, Option, Some, None, Result, Ok, Err}
-use Rattle.nut_words.specs.Lines.{LineText, Text, TooLong, joined}
+use Rattle.std.specs.Prelude.{◌≡◌, ℕ, Bool, true, false, not, ◌&&◌, ◌||◌, IsTrue, List, [], ◌∷◌, slice_get, Option, Some, None, Result, Ok, Err}
+use Rattle.std.specs.Option.{option_map_or}
+use Rattle.nut_words.specs.Lines.{LineText, Text, TooLong, lines_after}
 use Rattle.nut_words.specs.Reader.{has_backslash}
 use Rattle.nut_state.specs.Table.{Table}
 use Rattle.nut_state.specs.Step.{line_adds}
@@ -11,24 +12,10 @@ use Rattle.nut_history.specs.declared.Refused.TheVariants.{NoSuchConnection, Not
 use Rattle.nut_history.specs.Command.{Command, Blank, Malformed, Asks, command_of}
 use Rattle.nut_history.specs.Event.{Event, Bytes, Close, DriverBytes, DriverDown}
 use Rattle.nut_history.specs.Content.{Session, Supply, Content}
-use Rattle.nut_history.specs.Acceptance.{refusal, front, lost, lost_report, line_feeds, session_of, supply_of}
+use Rattle.nut_history.specs.Acceptance.{refusal, front, lost, lost_report, session_of, supply_of}
 use Rattle.nut_history.specs.Machine.{advance, bytes_heard, bytes_reported}
 
 -- ---- where memory may be lacking
-
--- the rest of a piece behind its k-th line feed, and the bytes of a text before its first line feed
-abbrev pub behind : ℕ → List ℕ → List ℕ
-behind zero piece = piece
-behind (suc k) [] = []
-behind (suc k) (b ∷ piece) = if b == 10 then behind k piece else behind (suc k) piece
-
-abbrev pub until_feed : List ℕ → List ℕ
-until_feed [] = []
-until_feed (b ∷ bytes) = if b == 10 then [] else b ∷ until_feed bytes
-
--- the first line that a text completes behind an unfinished line
-abbrev pub first_line : LineText → List ℕ → LineText
-first_line rest text = joined rest (until_feed text)
 
 abbrev pub is_blank : Command → Bool
 is_blank Blank = true
@@ -61,28 +48,30 @@ abbrev pub unfinished_report : Option Supply → LineText
 unfinished_report None = Text []
 unfinished_report (Some d) = d.rest
 
--- the session of c, and the UPS u, after the first k lines that a piece completes
+-- the session of c, and a UPS, after the first k lines that a piece completes
 abbrev pub session_after : ℕ → List ℕ → ℕ → Content → Option Session
 session_after c piece k s = session_of c (bytes_heard c (front k piece) s).sessions
 
-abbrev pub supply_after : ℕ → List ℕ → Option Supply → Option Supply
-supply_after time front None = None
-supply_after time front (Some d) = Some (bytes_reported time front d)
+abbrev pub supply_after : ℕ → List ℕ → ℕ → Option Supply → Option Supply
+supply_after time piece k None = None
+supply_after time piece k (Some d) = Some (bytes_reported time (front k piece) d)
 
--- the line that a piece completes behind its first k may take memory
+-- The line with the number k, counted from 0, of those that a piece completes may take memory.
 abbrev pub MayRunOut : ℕ → List ℕ → ℕ → Content → Type 0
 MayRunOut c piece k s =
-    IsTrue (line_takes (first_line (unfinished_of (session_after c piece k s)) (behind k piece)) (session_after c piece k s))
+    let lines : List LineText = lines_after (unfinished_of (session_of c s.sessions)) piece in
+    IsTrue (option_map_or (λ line. line_takes line (session_after c piece k s)) (slice_get lines k) false)
 
-abbrev pub MayRunOutOf : List ℕ → ℕ → Option Supply → Type 0
-MayRunOutOf piece k o = IsTrue (report_takes (first_line (unfinished_report o) (behind k piece)) o)
+abbrev pub MayRunOutOf : ℕ → List ℕ → ℕ → Option Supply → Type 0
+MayRunOutOf time piece k o =
+    let lines : List LineText = lines_after (unfinished_report o) piece in
+    IsTrue (option_map_or (λ line. report_takes line (supply_after time piece k o)) (slice_get lines k) false)
 
 -- Memory may run out in a piece alone, behind k lines of it that were done, at one that it completes and that may take
 -- memory. All other events take none.
 abbrev pub MayLack : Content → Place → Event → Type 0
-MayLack s (Line c k) (Bytes d piece) = (c ≡ d) × (k < line_feeds piece) × MayRunOut d piece k s
-MayLack s (Report u k) (DriverBytes v piece) =
-    (u ≡ v) × (k < line_feeds piece) × MayRunOutOf piece k (supply_after s.clock (front k piece) (supply_of v s.supplies))
+MayLack s (Line c k) (Bytes d piece) = (c ≡ d) × MayRunOut d piece k s
+MayLack s (Report u k) (DriverBytes v piece) = (u ≡ v) × MayRunOutOf s.clock piece k (supply_of v s.supplies)
 MayLack s place e = ⊥
 
 -- A server with this content may answer so: a refusal names the first test that refuses the event, and memory

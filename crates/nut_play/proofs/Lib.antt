@@ -1,4 +1,5 @@
 pub mod Hears
+pub mod Lacks
 pub mod Takes
 pub mod Places
 pub mod Written

@@ -1,9 +1,10 @@
 -- What a run of steps comes to.
-use Rattle.std.proofs.Common.{◌≡◌, ◌<◌, ◌≤◌, ◌++◌, ℕ, zero, suc, true, List, [], ◌∷◌, length, map, slice_get, Some, Result, Ok, Err, OnOk, is_err, false, refl, sym, ◌∙◌, ap, subst, arith}
+use Rattle.std.proofs.Common.{◌≡◌, ◌<◌, ◌≤◌, ◌++◌, ◌+◌, ◌&&◌, ℕ, zero, suc, Bool, true, List, [], ◌∷◌, length, map, slice_get, Some, Result, Ok, Err, OnOk, is_err, false, refl, sym, ◌∙◌, ap, subst, arith}
 use Rattle.nut_fleet.specs.Schedule.{Step}
 use Rattle.nut_fleet.specs.Log.{Logged, logged}
+use Rattle.nut_play.specs.Lack.{may_lack}
 use Rattle.nut_play.specs.Kept.{Kept, next, fits}
-use Rattle.nut_play.specs.Play.{firsts, before_all, run, run_log, told_at, AreFit, IsPlayed}
+use Rattle.nut_play.specs.Play.{firsts, before_all, run, run_log, told_at, may_run_out, AreFit, IsPlayed, IsLacking}
 
 pub get-map : {A B : Type 0} (f : A → B) (xs : List A) (n : ℕ) (x : A) → slice_get xs n ≡ Some x → slice_get (map f xs) n ≡ Some (f x)
 get-map f [] n x is = cc
@@ -39,3 +40,16 @@ module _ (k : Kept) (steps : List Step) (n : ℕ) (old new : Kept) (x : Step) (i
       ∙ ap (λ j. run_log k (firsts n steps) ++ logged (suc j) (told_at old x)) (sym (length-firsts n steps (omega arith)))
       ∙ ap (λ y. run_log k (firsts n steps) ++ logged (suc (length (firsts n steps))) (told_at y x)) before.fleet
       ∙ sym (ap (λ o. run_log k (before_all o (firsts n steps))) is)
+
+both : (a b : Bool) → a ≡ true → b ≡ true → a && b ≡ true
+both true b e f = f
+both false b e f = cc
+
+pub lacking : (k : Kept) (steps : List Step) (n at : ℕ) (last : Kept) (x : Step) → slice_get steps n ≡ Some x → at ≡ n + 1 → n < length steps →
+    IsPlayed k steps n last → fits last x ≡ true → may_lack x (told_at last x) ≡ true → IsLacking k steps n at last
+lacking k steps n at last x is number within played ok lack = record {
+  number = number;
+  within = within;
+  played = played;
+  lacks = ap (may_run_out last) is ∙ both (fits last x) (may_lack x (told_at last x)) ok lack;
+}

@@ -1,11 +1,12 @@
 -- What a call of play leads to.
-use Rattle.std.specs.Prelude.{ℕ, zero, suc, ◌≡◌, ◌<◌, ◌≤◌, ◌+◌, ◌++◌, Bool, true, false, not, List, [], ◌∷◌, length, slice_get, Option, Some, None}
+use Rattle.std.specs.Prelude.{ℕ, zero, suc, ◌≡◌, ◌<◌, ◌+◌, ◌++◌, Bool, true, false, not, ◌&&◌, List, [], ◌∷◌, length, slice_get, Option, Some, None}
 use Rattle.nut_fleet.specs.Schedule.{Step}
 use Rattle.nut_fleet.specs.Log as L
 use Rattle.nut_fleet.specs.Log.{News, Skipped, logged}
 use Rattle.nut_fleet.specs.Seen.{deed_by}
 use Rattle.nut_play.specs.declared.types.FleetFault.{FleetFault}
 use Rattle.nut_play.specs.declared.types.FleetFault.TheVariants.{BadStep, Memory, Failed}
+use Rattle.nut_play.specs.Lack.{may_lack}
 use Rattle.nut_play.specs.Kept.{Kept, fleet_of, is_played, next, said, fits}
 
 -- what a step tells
@@ -42,6 +43,11 @@ abbrev pub is_bad : Kept → Option Step → Bool
 is_bad k None = false
 is_bad k (Some step) = not (fits k step)
 
+-- whether this is a step that may be played, and at which memory may be lacking
+abbrev pub may_run_out : Kept → Option Step → Bool
+may_run_out k None = false
+may_run_out k (Some step) = fits k step && may_lack step (told_at k step)
+
 -- The first n steps were played.
 pub record IsPlayed (k : Kept) (steps : List Step) (n : ℕ) (new : Kept) : Type 0 where
   pub fit : AreFit k (firsts n steps)
@@ -54,10 +60,17 @@ pub record IsStopped (k : Kept) (steps : List Step) (n : ℕ) (at : ℕ) (new : 
   pub played : IsPlayed k steps n new
   pub bad : is_bad new (slice_get steps n) ≡ true
 
+-- Memory was lacking at step n + 1, behind those that led to what was kept before it.
+pub record IsLacking (k : Kept) (steps : List Step) (n : ℕ) (at : ℕ) (before : Kept) : Type 0 where
+  pub number : at ≡ n + 1
+  pub within : n < length steps
+  pub played : IsPlayed k steps n before
+  pub lacks : may_run_out before (slice_get steps n) ≡ true
+
 -- Why a call stopped: memory ends the claim.
 abbrev pub IsFault : Kept → List Step → FleetFault → Kept → Type 0
 IsFault k steps (BadStep at) new = (n : ℕ) × IsStopped k steps n at new
-IsFault k steps (Memory at) new = (new.failed ≡ true) × (0 < at) × (at ≤ length steps)
+IsFault k steps (Memory at) new = (new.failed ≡ true) × (n : ℕ) × (before : Kept) × IsLacking k steps n at before
 IsFault k steps Failed new = ⊥
 
 pub record IsLog (k : Kept) (steps : List Step) (told : List L.Logged) (new : Kept) : Type 0 where

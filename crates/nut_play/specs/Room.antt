@@ -1,16 +1,17 @@
 -- What a fleet says of the whole schedule that it has played.
-use Rattle.std.specs.Prelude.{ℕ, ◌≡◌, ◌<◌, ◌≤◌, ◌+◌, ◌++◌, true, false, List, length, map, take, slice_get, Some}
+use Rattle.std.specs.Prelude.{ℕ, ◌≡◌, ◌+◌, ◌++◌, true, false, List, map, take, slice_get, Some}
 use Rattle.std.specs.List.{AllByRecursion}
 use Rattle.nut_conf.specs.declared.upsmon.UpsmonConf.{UpsmonConf}
 use Rattle.nut_history.specs.Configuration.{Configuration as ServerConfiguration}
 use Rattle.nut_decision.specs.Configuration.{configuration_of}
 use Rattle.nut_fleet.specs.Schedule as S
 use Rattle.nut_fleet.specs.World.{Setup, is_fit, world}
-use Rattle.nut_fleet.specs.Log.{Logged, log}
+use Rattle.nut_fleet.specs.Log.{Logged, log, news}
 use Rattle.nut_fleet.specs.Fleet.{EventsAreAccepted, PipesCarryBeginnings, StatusesWereShown, ShutdownsHaveCauses, SupplySufficesBefore, PrimariesGoLast}
 use Rattle.nut_play.specs.declared.types.Step.{Step}
 use Rattle.nut_play.specs.declared.types.FleetFault.{FleetFault}
 use Rattle.nut_play.specs.declared.types.FleetFault.TheVariants.{BadStep, Memory, Failed}
+use Rattle.nut_play.specs.Lack.{may_lack}
 use Rattle.nut_play.specs.Kept.{Kept, IsFleet}
 use Rattle.nut_play.specs.Steps.{step_of, steps_of}
 
@@ -38,10 +39,16 @@ pub record StopsBehind (setup : Setup) (before : List S.Step) (schedule : List S
   pub fleet : HasPlayed setup (steps_of (take n schedule) ++ before) new
   pub bad : (step : S.Step) × (slice_get (map step_of schedule) n ≡ Some step) × (is_fit setup step ≡ false)
 
--- Why a call of a fleet that hasn't failed stops: at a step that may not be played, or for want of memory at one of its steps.
+-- The first n steps of a call may be played, and so may the one behind them, at which memory may be lacking.
+pub record LacksBehind (setup : Setup) (before : List S.Step) (schedule : List Step) (n : ℕ) : Type 0 where
+  pub fit : AreFit setup (steps_of (take n schedule))
+  pub lacks : (step : S.Step) × (slice_get (map step_of schedule) n ≡ Some step) × (is_fit setup step ≡ true)
+      × (may_lack step (news setup (world setup (steps_of (take n schedule) ++ before)) step) ≡ true)
+
+-- Why a call of a fleet that hasn't failed stops: at a step that may not be played, or for want of memory at one that may.
 abbrev pub IsFaultOf : Setup → List S.Step → List Step → FleetFault → Kept → Type 0
 IsFaultOf setup before schedule (BadStep at) new = (n : ℕ) × (at ≡ n + 1) × StopsBehind setup before schedule n new
-IsFaultOf setup before schedule (Memory at) new = (new.failed ≡ true) × (0 < at) × (at ≤ length schedule)
+IsFaultOf setup before schedule (Memory at) new = (new.failed ≡ true) × (n : ℕ) × (at ≡ n + 1) × LacksBehind setup before schedule n
 IsFaultOf setup before schedule Failed new = ⊥
 
 -- What holds of a room after every schedule: nothing was refused or invented on the way, each status was shown, whoever began

@@ -1,12 +1,13 @@
 //! The fleet.
 
-ghost use Rattle.std.specs.Prelude.{◌≡◌, ◌++◌, ◌∷◌, ◌<◌, ℕ, true, false, List, [], length, map, IfOk, IfErr, Err, OnOk, Some, slice_get};
+ghost use Rattle.std.specs.Prelude.{◌≡◌, ◌++◌, ◌∷◌, ◌<◌, ◌≤◌, ◌||◌, ℕ, true, false, List, [], length, map, IfOk, IfErr, Err, OnOk, OnErr, IsTrue, Some, slice_get};
 ghost use Rattle.std.specs.Option.{option_map};
 ghost use Rattle.nut_decision.specs.Configuration.{configuration_of};
 ghost use Rattle.nut_server.specs.Arrival.{event_of};
 ghost use Rattle.nut_monitor.specs.Events.{event_of as told_as};
 ghost use Rattle.nut_fleet.specs.Log.{logged};
 ghost use Rattle.nut_fleet.specs.Seen.{deed_by};
+ghost use Rattle.nut_play.specs.Lack.{is_piece, is_link_piece, is_told, may_lack};
 ghost use Rattle.nut_play.specs.Kept.{fleet_of, is_played, tell_by, inform_by, reach_by, back_by, out_by, land_by, link_by, told_by, told_news, told_to, with_seat, hear_seat, reach_seat, back_seat, out_seat, land_seat, join_seat, known_of, link_of, fits, fits_link, next, said, reach_next, back_next, join_next, links_in, fresh_seat, fresh_fleet};
 ghost use Rattle.nut_play.specs.Steps.{step_of, steps_of, logged_of};
 ghost use Rattle.nut_play.specs.Play.{told_at, IsLog, IsFault};
@@ -88,6 +89,7 @@ impl Fleet {
     fn serve(&mut self, arrival: Arrival<'_>) -> Result<bool, Lack>
         ensures played { IfOk result (λ played. played ≡ is_played (tell_by self.old.server (event_of arrival.entry))) }
         ensures fleet { OnOk result (self.new ≡ told_to self.old (event_of arrival.entry)) }
+        ensures lack { OnErr result (IsTrue (is_piece (event_of arrival.entry))) }
     {
         tell(&mut self.server, arrival)
     }
@@ -105,6 +107,8 @@ impl Fleet {
         ensures fleet { OnOk result (self.new ≡ with_seat self.old m (hear_seat m (told_as event.entry))) }
         ensures log { OnOk result (map logged_of log.new.items
             ≡ map logged_of log.old.items ++ logged step (told_news (inform_by m (known_of self.old m) (told_as event.entry)) (known_of self.old m))) }
+        ensures lack { OnErr result (IsTrue (is_link_piece (told_as event.entry)
+            || is_told (told_news (inform_by m (known_of self.old m) (told_as event.entry)) (known_of self.old m)))) }
     {
         self.seats[m].hear(m, event, step, log)
     }
@@ -162,6 +166,7 @@ impl Fleet {
         ensures fleet { OnOk result (self.new ≡ join_next self.old place.monitor place.link) }
         ensures log { OnOk result (map logged_of log.new.items
             ≡ map logged_of log.old.items ++ logged place.step (told_news (link_by place.monitor self.old.server (known_of self.old place.monitor) place.link (link_of self.old place.monitor place.link)) (known_of self.old place.monitor))) }
+        ensures lack { OnErr result (IsTrue (is_told (told_news (link_by place.monitor self.old.server (known_of self.old place.monitor) place.link (link_of self.old place.monitor place.link)) (known_of self.old place.monitor)))) }
     {
         self.seats[place.monitor].join(&mut self.server, place, log)
     }
@@ -177,19 +182,20 @@ impl Fleet {
     }
 
     /// Plays one step, and logs what its monitor tells. It says whether the step was played, and else skipped.
-    #[tactic(auto, using(crate::proofs::Fits::fits_within, crate::proofs::Fits::fits_there, crate::proofs::Fits::fits_watched))]
+    #[tactic(auto, using(crate::proofs::Fits::fits_line, crate::proofs::Fits::fits_within, crate::proofs::Fits::fits_there, crate::proofs::Fits::fits_watched))]
     fn step(&mut self, step: &Step, k: usize, log: &mut Vec<Logged>) -> Result<bool, Lack>
         requires fit { fits self.old (step_of step.now) ≡ true }
         ensures played { IfOk result (λ played. played ≡ is_played (deed_by (fleet_of self.old) (step_of step.now))) }
         ensures fleet { OnOk result (self.new ≡ next self.old (step_of step.now)) }
         ensures log { OnOk result (map logged_of log.new.items ≡ map logged_of log.old.items ++ logged k (said self.old (step_of step.now))) }
+        ensures lack { OnErr result (IsTrue (may_lack (step_of step.now) (said self.old (step_of step.now)))) }
     {
         match step {
             Step::ServerClock(t) => self.serve(Arrival::Moment(*t)),
             Step::MonitorClock(m, t) => self.hear(*m, Event::Moment(*t), k, log),
             Step::Up(u) => self.serve(Arrival::DriverUp(*u)),
             Step::Driver(u, line) => {
-                let piece = with_feed(line.as_slice())?;
+                let piece = with_feed(line.as_slice());
                 self.serve(Arrival::DriverBytes(*u, piece.as_slice()))
             }
             Step::Down(u) => self.serve(Arrival::DriverDown(*u)),
@@ -237,10 +243,12 @@ impl Fleet {
     }
 
     /// Plays one step, and logs what it tells.
+    #[tactic(auto, using(crate::proofs::Lacks::lacks_skipped, crate::proofs::Lacks::lacks_told))]
     fn play_one(&mut self, step: &Step, k: usize, log: &mut Vec<Logged>) -> Result<(), Lack>
         requires fit { fits self.old (step_of step.now) ≡ true }
         ensures fleet { OnOk result (self.new ≡ next self.old (step_of step.now)) }
         ensures log { OnOk result (map logged_of log.new.items ≡ map logged_of log.old.items ++ logged k (told_at self.old (step_of step.now))) }
+        ensures lack { OnErr result (IsTrue (may_lack (step_of step.now) (told_at self.old (step_of step.now)))) }
     {
         if self.step(step, k, log)? {
             return Ok(());
@@ -278,8 +286,9 @@ impl Fleet {
     ///
     /// # Errors
     ///
-    /// `BadStep` where a step isn't one that may be played: those before it stand. `Memory` where memory was refused: the
-    /// fleet has failed, nothing is claimed of it, and `Failed` is the answer to every later call.
+    /// `BadStep` where a step isn't one that may be played: those before it stand. `Memory` where memory was refused, at a
+    /// line of a driver, a step that moves bytes, or one that tells something: the fleet has failed, nothing is claimed of
+    /// it, and `Failed` is the answer to every later call.
     pub fn play(&mut self, schedule: &[Step]) -> Result<FleetLog, FleetFault>
         ensures failed { self.old.failed ≡ true → (result ≡ Err Failed) × (self.new ≡ self.old) }
         ensures played { (setup : Setup) (before : List S.Step) → HasPlayed setup before self.old
@@ -330,21 +339,12 @@ fn place(monitor: usize, link: usize, step: usize) -> Place
 }
 
 /// A driver's line with its line feed.
-fn with_feed(line: &[u8]) -> Result<ArrayVec<u8, 512>, Lack>
-    ensures { IfOk result (λ piece. piece.items ≡ line.now ++ 10 ∷ []) }
+fn with_feed(line: &[u8]) -> ArrayVec<u8, 512>
+    requires fit { length line.now ≤ 511 }
+    ensures { result.items ≡ line.now ++ 10 ∷ [] }
 {
     let mut piece = ArrayVec::new();
-    put_text(&mut piece, line)?;
-    put_text(&mut piece, b"\n")?;
-    Ok(piece)
-}
-
-/// Bytes go behind others.
-fn put_text(piece: &mut ArrayVec<u8, 512>, bytes: &[u8]) -> Result<(), Lack>
-    ensures { OnOk result (piece.new.items ≡ piece.old.items ++ bytes.now) }
-{
-    match piece.try_extend_from_slice(bytes) {
-        Ok(()) => Ok(()),
-        Err(_) => Err(Lack),
-    }
+    piece.try_extend_from_slice(line).unwrap();
+    piece.try_extend_from_slice(b"\n").unwrap();
+    piece
 }

@@ -4,10 +4,13 @@
 mod fleet;
 mod laws;
 mod link;
+mod reading;
 mod seat;
 mod telling;
 mod types;
+mod verb;
 
 pub use fleet::Fleet;
 pub use laws::rooms_hold;
+pub use reading::{StepFault, read_step};
 pub use types::{FleetFault, FleetLog, Logged, News, Step};

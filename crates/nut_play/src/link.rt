@@ -1,12 +1,13 @@
 //! A link with its pipes.
 
-ghost use Rattle.std.specs.Prelude.{◌≡◌, ◌++◌, ◌+◌, ◌≤◌, ◌<◌, IfOk, OnOk, [], ◌∷◌, ℕ, min, map, length, take, drop, is_some, true};
+ghost use Rattle.std.specs.Prelude.{◌≡◌, ◌++◌, ◌+◌, ◌≤◌, ◌<◌, IfOk, OnOk, OnErr, IsTrue, [], ◌∷◌, ℕ, min, map, length, take, drop, is_some, true};
 ghost use Rattle.nut_history.specs.Acceptance.{session_of, waiting_of};
 ghost use Rattle.nut_history.specs.Event.{Took};
 ghost use Rattle.nut_history.specs.Machine.{advance};
 ghost use Rattle.nut_fleet.specs.World.{address_of};
 ghost use Rattle.nut_fleet.specs.Log.{logged};
 ghost use Rattle.nut_fleet.specs.Going.{put_on};
+ghost use Rattle.nut_play.specs.Lack.{is_told};
 ghost use Rattle.nut_play.specs.Kept.{is_played, reach_by, back_by, out_by, land_by, link_by, told_by, heard_by, told_news, reached_by, landed_by, back_put, out_put, made_by, open_by, waits_by, no_ends};
 ghost use Rattle.nut_play.specs.Steps.{logged_of};
 
@@ -199,11 +200,12 @@ impl Link {
         ensures link { OnOk result (self.new ≡ made_by (link_by place.monitor server.old monitor.old.content place.link self.old) server.old self.old) }
         ensures log { OnOk result (map logged_of log.new.items
             ≡ map logged_of log.old.items ++ logged place.step (told_news (link_by place.monitor server.old monitor.old.content place.link self.old) monitor.old.content)) }
+        ensures lack { OnErr result (IsTrue (is_told (told_news (link_by place.monitor server.old monitor.old.content place.link self.old) monitor.old.content))) }
     {
         if is_open(server, self.connection) || monitor.linked(place.link) {
             return Ok(false);
         }
-        let address = address_of(place.monitor)?;
+        let address = address_of(place.monitor);
         if !tell(server, Arrival::Open(address.as_slice()))? {
             return Ok(false);
         }
@@ -275,22 +277,14 @@ fn take_front(
 }
 
 /// The address of the links of a monitor.
-fn address_of(m: usize) -> Result<ArrayVec<u8, 64>, Lack>
-    ensures { IfOk result (λ a. a.items ≡ address_of m) }
+fn address_of(m: usize) -> ArrayVec<u8, 64>
+    ensures { result.items ≡ address_of m }
 {
     let mut address = ArrayVec::new();
     let mut buffer = Buffer::new();
-    put_text(&mut address, b"m")?;
-    put_text(&mut address, buffer.format(m).as_bytes())?;
-    Ok(address)
-}
-
-/// Bytes go behind an address.
-fn put_text(address: &mut ArrayVec<u8, 64>, bytes: &[u8]) -> Result<(), Lack>
-    ensures { OnOk result (address.new.items ≡ address.old.items ++ bytes.now) }
-{
-    match address.try_extend_from_slice(bytes) {
-        Ok(()) => Ok(()),
-        Err(_) => Err(Lack),
-    }
+    address.try_extend_from_slice(b"m").unwrap();
+    address
+        .try_extend_from_slice(buffer.format(m).as_bytes())
+        .unwrap();
+    address
 }

@@ -1,8 +1,9 @@
 //! A monitor with its links.
 
-ghost use Rattle.std.specs.Prelude.{◌≡◌, ◌++◌, ◌<◌, IfOk, OnOk, map, length};
+ghost use Rattle.std.specs.Prelude.{◌≡◌, ◌++◌, ◌<◌, ◌||◌, IfOk, OnOk, OnErr, IsTrue, map, length};
 ghost use Rattle.nut_fleet.specs.Log.{logged};
 ghost use Rattle.nut_monitor.specs.Events.{event_of as told_as};
+ghost use Rattle.nut_play.specs.Lack.{is_link_piece, is_told};
 ghost use Rattle.nut_play.specs.Kept.{is_played, inform_by, reach_by, back_by, out_by, land_by, link_by, told_by, told_news, ends_at, hear_seat, reach_seat, back_seat, out_seat, land_seat, join_seat, no_ends, fresh_seat};
 ghost use Rattle.nut_play.specs.Steps.{logged_of};
 
@@ -68,6 +69,8 @@ impl Seat {
         ensures seat { OnOk result (self.new ≡ hear_seat m (told_as event.entry) self.old) }
         ensures log { OnOk result (map logged_of log.new.items
             ≡ map logged_of log.old.items ++ logged step (told_news (inform_by m self.old.monitor.content (told_as event.entry)) self.old.monitor.content)) }
+        ensures lack { OnErr result (IsTrue (is_link_piece (told_as event.entry)
+            || is_told (told_news (inform_by m self.old.monitor.content (told_as event.entry)) self.old.monitor.content))) }
     {
         inform(&mut self.monitor, event, m, step, log)
     }
@@ -135,6 +138,7 @@ impl Seat {
         ensures seat { OnOk result (self.new ≡ join_seat server.old place.monitor place.link self.old) }
         ensures log { OnOk result (map logged_of log.new.items
             ≡ map logged_of log.old.items ++ logged place.step (told_news (link_by place.monitor server.old self.old.monitor.content place.link (ends_at self.old.links place.link)) self.old.monitor.content)) }
+        ensures lack { OnErr result (IsTrue (is_told (told_news (link_by place.monitor server.old self.old.monitor.content place.link (ends_at self.old.links place.link)) self.old.monitor.content))) }
     {
         self.links[place.link].join(server, &mut self.monitor, place, log)
     }

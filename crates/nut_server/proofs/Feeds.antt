@@ -1,15 +1,21 @@
 -- The fronts of a piece through its line feeds, and the line that a cutter hands out.
 use Rattle.std.proofs.Common.{◌≡◌, ℕ, zero, suc, ◌+◌, ◌<◌, ◌≤◌, eqb, List, [], ◌∷◌, ◌++◌, length, take, drop, refl, sym, ◌∙◌, ap, arith, inl, inr}
-use Rattle.std.specs.Prelude.{nat_le, Option, Some, None, IfNone, OnSome}
+use Rattle.std.specs.Prelude.{◌==◌, if◌then◌else◌, nat_le, Option, Some, None, IfNone, OnSome}
 use Rattle.std.proofs.lemmas.Bool.{cases_Bool, eqb-true, false≢true}
 use Rattle.std.proofs.lemmas.List.{append-nil, append_assoc, append_cancel_left, length-append, take-append-drop}
 use Rattle.nut_words.specs.Lines.{LineText, Text, TooLong, as_line, last_of, parts, lines, rest, joined, lines_after}
 use Rattle.nut_words.proofs.LineLemmas.{joined-as_line}
 use Rattle.nut_words.proofs.StreamGrowth.{lines-append, lines_at_line_feed, rest_at_line_feed, lines_within, rest_within}
 use Rattle.nut_history.specs.Acceptance.{front, line_feeds}
-use Rattle.nut_history.specs.Outcome.{behind, until_feed, first_line}
+use Rattle.nut_history.proofs.Hearing.{until_feed, first_line}
 
 -- ---- fronts
+
+-- the rest of a piece behind its k-th line feed
+abbrev pub behind : ℕ → List ℕ → List ℕ
+behind zero piece = piece
+behind (suc k) [] = []
+behind (suc k) (b ∷ piece) = if b == 10 then behind k piece else behind (suc k) piece
 
 pub front_and_behind : (k : ℕ) (p : List ℕ) → front k p ++ behind k p ≡ p
 front_and_behind zero p = refl

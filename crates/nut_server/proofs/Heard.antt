@@ -9,7 +9,6 @@ use Rattle.nut_history.specs.Effect.{target}
 use Rattle.nut_history.specs.Acceptance.{session_of}
 use Rattle.nut_history.specs.Event.{Close}
 use Rattle.nut_history.specs.Machine.{update, with_rest, with_sessions, answered, act_on, acted, after_answer, without, advance}
-use Rattle.nut_history.specs.Outcome.{line_takes, first_line, unfinished_of}
 use Rattle.nut_history.proofs.Hearing.{update-update, with_unfinished, with_unfinished-same}
 use Rattle.nut_history.proofs.Sessions.{KeepsNumber, session_of-update, without-update}
 use Rattle.nut_server.specs.Effects.{answered_by}
@@ -49,12 +48,3 @@ answered_then c command reply s =
 pub closed_then : (c : ℕ) (r : LineText) (s h : Content) → with_unfinished c r s ≡ h → with_sessions (without c s.sessions) s ≡ advance h (Close c)
 closed_then c r s h is =
     ap (λ sessions. with_sessions sessions s) (sym (without-update c (with_rest r) s.sessions (λ k. refl))) ∙ ap (λ s. advance s (Close c)) is
-
--- a line that may take memory
-pub may_run_out : (c : ℕ) (r line : LineText) (behind : List ℕ) (s h : Content) (k : Session) → with_unfinished c r s ≡ h → session_of c s.sessions ≡ Some k → line ≡ first_line r behind
-    → IsTrue (line_takes line (Some k)) → IsTrue (line_takes (first_line (unfinished_of (session_of c h.sessions)) behind) (session_of c h.sessions))
-may_run_out c r line behind s h k is found first takes =
-    let there : session_of c (with_unfinished c r s).sessions ≡ Some (with_rest r k) = session_of-update c (with_rest r) s.sessions (λ k. refl) ∙ ap (option_map (with_rest r)) found in
-    let P : Option Session → Type 0 = λ o. IsTrue (line_takes (first_line (unfinished_of o) behind) o) in
-    let here : P (Some (with_rest r k)) = subst (λ (l : LineText). IsTrue (line_takes l (Some k))) first takes in
-    subst (λ (s : Content). P (session_of c s.sessions)) is (subst P (sym there) here)

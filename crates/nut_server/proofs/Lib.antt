@@ -9,12 +9,14 @@ pub mod Places
 pub mod Orderly
 pub mod Searching
 pub mod Entries
-pub mod ByVerdict
 pub mod Acting
+pub mod Quiet
+pub mod Deciding
 pub mod Saying
 pub mod ShortNames
 pub mod Arrives
 pub mod Heard
 pub mod Settled
 pub mod Limited
+pub mod NthLine
 mod WholeLine

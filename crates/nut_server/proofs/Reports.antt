@@ -7,7 +7,7 @@ use Rattle.nut_words.proofs.StreamGrowth.{rest_within}
 use Rattle.nut_history.specs.Content.{Supply}
 use Rattle.nut_history.specs.Acceptance.{front, line_feeds}
 use Rattle.nut_history.specs.Machine.{reported_by, byte_reported, bytes_reported}
-use Rattle.nut_history.specs.Outcome.{first_line, until_feed}
+use Rattle.nut_history.proofs.Hearing.{first_line, until_feed}
 use Rattle.nut_server.proofs.Feeds.{joined_rest, joined_next}
 
 -- a UPS with this unfinished line of its driver

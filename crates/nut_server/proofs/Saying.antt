@@ -1,18 +1,18 @@
 -- What a content is once a command was answered.
-use Rattle.std.proofs.Common.{◌≡◌, ℕ, List, [], ◌∷◌, true, eqb, refl, sym, ap, ◌∙◌, inl, inr}
+use Rattle.std.proofs.Common.{◌≡◌, ℕ, List, [], ◌∷◌, ◌++◌, true, eqb, refl, sym, ap, ◌∙◌, inl, inr}
 use Rattle.std.proofs.lemmas.Bool.{cases_Bool}
 use Rattle.std.proofs.lemmas.List.{append-nil}
-use Rattle.nut_history.specs.Command.{Command, Blank}
+use Rattle.nut_proto.specs.declared.request.Request.TheVariants as requests
+use Rattle.nut_history.specs.Command.{Command, Blank, Asks}
+use Rattle.nut_history.specs.Configuration.{Configuration}
 use Rattle.nut_history.specs.Answer.{Answer, Silence, text_of}
 use Rattle.nut_history.specs.Content.{Session, Supply, Content}
-use Rattle.nut_history.specs.Effect.{target, request_of}
-use Rattle.nut_history.specs.Machine.{update, act_on, acted, answer_in, answered, requested}
+use Rattle.nut_history.specs.Effect.{target}
+use Rattle.nut_history.specs.Machine.{update, acted, answer_in, answered}
 use Rattle.nut_server.specs.declared.effect.Effect.{Effect}
-use Rattle.nut_server.specs.declared.verdict.Verdict.{Verdict}
-use Rattle.nut_server.specs.Effects.{affected, said, decided, reply_of, answered_by}
-use Rattle.nut_server.specs.Verdicts.{verdict_of}
-use Rattle.nut_server.proofs.ByVerdict.{answered_as, acted_as, nothing}
-use Rattle.nut_server.proofs.Acting.{act_same, act_idle, requested_none}
+use Rattle.nut_server.specs.Effects.{affected, acting, said, Does, answered_by}
+use Rattle.nut_server.proofs.Acting.{act_idle}
+use Rattle.nut_server.proofs.Deciding.{at_rest}
 
 update_same : (c : ℕ) (f g : Session → Session) (ks : List Session) → ((k : Session) → f k ≡ g k) → update c f ks ≡ update c g ks
 update_same c f g [] same = refl
@@ -24,32 +24,38 @@ update_idle c f [] same = refl
 update_idle c f (k ∷ ks) same =
     elim (cases_Bool (eqb k.number c)) [ inl e ↦ rw e (ap (λ x. x ∷ ks) (same k)) | inr e ↦ rw e (ap (λ xs. k ∷ xs) (update_idle c f ks same)) ]
 
--- The effect that a verdict has on the connection, and what it does to a UPS, is what the answer does.
-pub answered_all : (v : Content) (ks : List Session) (c : ℕ) (command : Command) (reply : Answer) (verdict : Verdict) (effect : Effect) (text : List ℕ)
-    → verdict ≡ verdict_of reply → text ≡ text_of reply → ((k : Session) → affected effect k ≡ decided v.configuration command verdict k)
-    → ks ≡ update c (λ k. affected effect (said text k)) v.sessions
-    → record v { sessions = ks; supplies = act_on (target v.configuration command) (acted command (reply_of verdict)) v.supplies } ≡ answered_by c command reply v
-answered_all v ks c command reply verdict effect text is said_is does changed =
-    let each : (k : Session) → affected effect (said text k) ≡ answered v.configuration command reply k = λ k.
-    does (said text k) ∙ ap (λ t. decided v.configuration command verdict (said t k)) said_is ∙ answered_as v.configuration command reply verdict k is in
-    let sessions = changed ∙ update_same c (λ k. affected effect (said text k)) (λ k. answered v.configuration command reply k) v.sessions each in
-    let supplies = act_same (target v.configuration command) (acted command (reply_of verdict)) (acted command reply) v.supplies (λ d. acted_as v.configuration command reply verdict d is) in
-    ap (λ ks. record v { sessions = ks; supplies = act_on (target v.configuration command) (acted command (reply_of verdict)) v.supplies }) sessions
-    ∙ ap (λ ds. record v { sessions = update c (λ k. answered v.configuration command reply k) v.sessions; supplies = ds }) supplies
+-- a command that is answered by nothing changes nothing
+abbrev pub StandsStill : Configuration → Command → Type 0
+StandsStill configuration command =
+    ((k : Session) → record (answered configuration command Silence k) { waits = k.waits } ≡ k) × ((d : Supply) → acted command Silence d ≡ d)
 
--- a command that is answered by nothing
+stands_still : (configuration : Configuration) (command : Command) → StandsStill configuration command
+stands_still configuration (Asks (requests.Username name)) = (λ k. refl, at_rest)
+stands_still configuration (Asks (requests.Password password)) = (λ k. refl, at_rest)
+stands_still configuration (Asks (requests.Login ups)) = (λ k. refl, at_rest)
+stands_still configuration (Asks (requests.Fsd ups)) = (λ k. refl, at_rest)
+stands_still configuration (Asks (requests.SetVar ups variable value)) = (λ k. refl, at_rest)
+stands_still configuration (Asks (requests.InstCmd ups name)) = (λ k. refl, at_rest)
+stands_still configuration command = (λ k. refl, at_rest)
+
 pub silent : (c : ℕ) (command : Command) (v : Content) → v ≡ answered_by c command Silence v
 unfolding text_of
 silent c command v =
-    let still = nothing v.configuration command in
-    let each : (k : Session) → answered v.configuration command Silence k ≡ k = λ k.
-    ap (λ w. record (answered v.configuration command Silence k) { waits = w }) (append-nil k.waits)
-    ∙ rw (still.0 k.user, still.1 k.password, still.2 k.login, still.3 k.logged_out) refl in
-    let acts : (d : Supply) → acted command Silence d ≡ d = λ d.
-    ap (λ b. record d { device = record d.device { forced = b; waits = requested (request_of command Silence) d.device } }) (still.4 d.device.forced)
-    ∙ ap (λ w. record d { device = record d.device { waits = w } }) (ap (λ r. requested r d.device) still.5 ∙ requested_none d.device) in
+    let still = stands_still v.configuration command in
+    let each : (k : Session) → answered v.configuration command Silence k ≡ k = λ k. ap (λ w. record (answered v.configuration command Silence k) { waits = w }) (append-nil k.waits) ∙ still.0 k in
     ap (λ ks. record v { sessions = ks }) (sym (update_idle c (λ k. answered v.configuration command Silence k) v.sessions each))
-    ∙ ap (λ ds. record v { sessions = update c (λ k. answered v.configuration command Silence k) v.sessions; supplies = ds }) (sym (act_idle (target v.configuration command) (acted command Silence) v.supplies acts))
+    ∙ ap (λ ds. record v { sessions = update c (λ k. answered v.configuration command Silence k) v.sessions; supplies = ds }) (sym (act_idle (target v.configuration command) (acted command Silence) v.supplies still.1))
+
+-- The answer is said and what is decided is done: that is what the answer does.
+pub answered_all : (v : Content) (ks : List Session) (ds : List Supply) (c : ℕ) (command : Command) (reply : Answer) (effect : Effect) (line text : List ℕ)
+    → text ≡ text_of reply → Does v.configuration command reply effect line
+    → ks ≡ update c (λ k. affected effect (said text k)) v.sessions → ds ≡ acting effect line v.supplies
+    → record v { sessions = ks; supplies = ds } ≡ answered_by c command reply v
+answered_all v ks ds c command reply effect line text is does changed acted_on =
+    let each : (k : Session) → affected effect (said text k) ≡ answered v.configuration command reply k = λ k.
+    does.0 (said text k) ∙ ap (λ t. record (answered v.configuration command reply k) { waits = k.waits ++ t }) is in
+    ap (λ ks. record v { sessions = ks; supplies = ds }) (changed ∙ update_same c (λ k. affected effect (said text k)) (λ k. answered v.configuration command reply k) v.sessions each)
+    ∙ ap (λ ds. record v { sessions = update c (λ k. answered v.configuration command reply k) v.sessions; supplies = ds }) (acted_on ∙ does.1 v.supplies)
 
 pub silent_out : (c : ℕ) (command : Command) (v : Content) (k : Session) → k.logged_out ≡ true → v ≡ answered_by c command (answer_in v command k) v
 silent_out c command v k out = let is : answer_in v command k ≡ Silence = rw out refl in silent c command v ∙ ap (λ r. answered_by c command r v) (sym is)

@@ -12,7 +12,8 @@ use Rattle.nut_history.proofs.Hearing.{with_unfinished-same, line_heard_front}
 use Rattle.nut_history.proofs.Sessions.{session_of-update}
 use Rattle.nut_server.specs.Effects.{answered_by}
 use Rattle.nut_server.proofs.Feeds.{handed_is, has_feed, line_feeds-append, one_feed, take_all}
-use Rattle.nut_server.proofs.Heard.{answered_then, may_run_out}
+use Rattle.nut_server.proofs.Heard.{answered_then}
+use Rattle.nut_server.proofs.NthLine.{may_run_out}
 
 front_closed : (x : List ℕ) → line_feeds x ≡ 0 → front 1 (x ++ 10 ∷ []) ≡ x ++ 10 ∷ []
 front_closed [] none = refl
@@ -60,4 +61,4 @@ module _ (c : ℕ) (text piece : List ℕ) (s : Content) (k : Session) (found : 
   -- memory may run out at it where the line may take some
   pub whole_runs_out : IsTrue (line_takes (Text text) (Some k)) → MayRunOut c piece 0 s
   whole_runs_out takes =
-      may_run_out c (Text []) (Text text) piece s s k (with_unfinished-same c (Text []) s k found start) found (handed_is [] (length piece) piece (Text text) brought) takes
+      may_run_out c 0 (Text []) (Text text) piece s s k k found has_line (with_unfinished-same c (Text []) s k found start) found (handed_is [] (length piece) piece (Text text) brought) takes

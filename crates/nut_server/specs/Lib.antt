@@ -3,7 +3,7 @@ pub mod Settling
 pub mod Login
 pub mod Place
 pub mod Inside
-pub mod Verdicts
+pub mod Decisions
 pub mod Configured
 pub mod Answers
 pub mod Access

@@ -1,8 +1,8 @@
 //! Who may do what.
 
-ghost use Rattle.std.specs.Prelude.{◌≡◌, ℕ, MatchResult};
+ghost use Rattle.std.specs.Prelude.{◌≡◌, ◌<◌, ℕ, Some, MatchResult, length};
 ghost use Rattle.nut_history.specs.Answer as definitions;
-ghost use Rattle.nut_history.specs.Answer.{has_right, is_primary, refused, with_right};
+ghost use Rattle.nut_history.specs.Answer.{has_right, is_primary, refused, ups_number, with_right};
 ghost use Rattle.nut_history.specs.Configuration.{user_named};
 ghost use Rattle.nut_history.specs.Machine.{caller_of};
 ghost use Rattle.nut_server.specs.Access.{allows};
@@ -69,7 +69,8 @@ pub fn authorize(
     ups: &[u8],
 ) -> Result<usize, Refusal>
     ensures { MatchResult result
-        (λ u. (next : ℕ → definitions.Answer) → with_right scene.now (caller_of caller.now) (allows right.entry) ups.now next ≡ next u)
+        (λ u. ((next : ℕ → definitions.Answer) → with_right scene.now (caller_of caller.now) (allows right.entry) ups.now next ≡ next u)
+        × (ups_number scene.now ups.now ≡ Some u) × (u < length scene.now.configuration.upses))
         (λ refusal. (next : ℕ → definitions.Answer) → with_right scene.now (caller_of caller.now) (allows right.entry) ups.now next ≡ refused refusal) }
 {
     let Some(user) = caller.user() else {

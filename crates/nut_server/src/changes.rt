@@ -1,39 +1,40 @@
-//! What the requests are answered that change something (RFC 9271).
+//! What the requests do that change something, and why each is refused (RFC 9271).
 
-ghost use Rattle.std.specs.Prelude.{◌≡◌, is_none, option_map};
-ghost use Rattle.nut_proto.specs.declared.refusal.Refusal.TheVariants as refusals;
+ghost use Rattle.std.specs.Prelude.{◌≡◌, ◌≤◌, ℕ, List, length, true, MatchResult, OnOk};
+ghost use Rattle.nut_proto.specs.declared.driver_ask.DriverAsk.TheVariants as asks;
 ghost use Rattle.nut_proto.specs.declared.reply.Reply.TheVariants as replies;
+ghost use Rattle.nut_proto.specs.declared.request.Request.TheVariants as requests;
 ghost use Rattle.nut_proto.specs.DriverAsks.{ask_line};
-ghost use Rattle.nut_history.specs.Answer.{Line, check, command_answer, handed_on, may_be_primary, may_force, may_log_in, may_set, on_data, once, set_answer, with_right};
-ghost use Rattle.nut_history.specs.Configuration.{may_command};
+ghost use Rattle.nut_history.specs.Answer.{Line, Scene, command_answer, refused, set_answer};
+ghost use Rattle.nut_history.specs.Command.{Asks};
+ghost use Rattle.nut_history.specs.Device.{fits};
 ghost use Rattle.nut_history.specs.Machine.{caller_of};
-ghost use Rattle.nut_server.specs.Answers.{outcome};
+ghost use Rattle.nut_server.specs.Decisions.{Grants};
 
 use crate::access::{Right, authorize};
-use crate::answer::Answer;
 use crate::connection::Connection;
+use crate::credential::LentCredential;
 use crate::device::Device;
+use crate::effect::Effect;
 use crate::queries::variable_of;
 use crate::scene::Scene;
-use crate::setting::{has_room, misfit};
-use nut_proto::{DriverAsk, Refusal, Reply, Word};
+use crate::setting::{misfit, put_ask};
+use arrayvec::ArrayVec;
+use nut_proto::{DriverAsk, Refusal, Word};
 
-/// `OK`, where what is asked of the driver fits behind what waits for it.
-fn hand_on<'a>(
-    refusal: Refusal,
-    ask: &DriverAsk<'_>,
+/// Writes into `line` that the driver is to set a variable, if the variable takes the value and the line fits behind what
+/// waits for the driver.
+fn ask_to_set(
     device: &Device,
-) -> Result<Answer<'a>, Refusal>
-    ensures { outcome result ≡ handed_on refusal (ask_line ask.now) device.now.device }
-{
-    if !has_room(device, ask) {
-        return Err(refusal);
-    }
-    Ok(Answer::Line(Reply::Accepted))
-}
-
-fn set_answer<'a>(device: &Device, name: &[u8], value: &[u8]) -> Result<Answer<'a>, Refusal>
-    ensures { outcome result ≡ set_answer device.now.device name.now value.now }
+    name: &[u8],
+    value: &[u8],
+    line: &mut ArrayVec<u8, 4096>,
+) -> Result<(), Refusal>
+    ensures answer { MatchResult result
+        (λ done. set_answer device.now.device name.now value.now ≡ Line replies.Accepted)
+        (λ refusal. set_answer device.now.device name.now value.now ≡ refused refusal) }
+    ensures line { OnOk result (line.new.items ≡ ask_line (asks.Set name.now value.now)) }
+    ensures fits { OnOk result (fits line.new.items device.now.device ≡ true) }
 {
     let variable = variable_of(device, name)?;
     if let Some(refusal) = misfit(variable, value) {
@@ -43,11 +44,20 @@ fn set_answer<'a>(device: &Device, name: &[u8], value: &[u8]) -> Result<Answer<'
         variable: Word::new(name),
         value: Word::new(value),
     };
-    hand_on(Refusal::SetFailed, &ask, device)
+    if !put_ask(line, &ask, device) {
+        return Err(Refusal::SetFailed);
+    }
+    Ok(())
 }
 
-fn command_answer<'a>(device: &Device, name: &[u8]) -> Result<Answer<'a>, Refusal>
-    ensures { outcome result ≡ command_answer device.now.device name.now }
+/// Writes into `line` that the driver is to do a command, if it has the command and the line fits behind what waits for
+/// the driver.
+fn ask_to_do(device: &Device, name: &[u8], line: &mut ArrayVec<u8, 4096>) -> Result<(), Refusal>
+    ensures answer { MatchResult result
+        (λ done. command_answer device.now.device name.now ≡ Line replies.Accepted)
+        (λ refusal. command_answer device.now.device name.now ≡ refused refusal) }
+    ensures line { OnOk result (line.new.items ≡ ask_line (asks.InstCmd name.now)) }
+    ensures fits { OnOk result (fits line.new.items device.now.device ≡ true) }
 {
     if !device.table().has_cmd(name) {
         return Err(Refusal::CmdNotSupported);
@@ -55,75 +65,104 @@ fn command_answer<'a>(device: &Device, name: &[u8]) -> Result<Answer<'a>, Refusa
     let ask = DriverAsk::InstCmd {
         command: Word::new(name),
     };
-    hand_on(Refusal::InstCmdFailed, &ask, device)
+    if !put_ask(line, &ask, device) {
+        return Err(Refusal::InstCmdFailed);
+    }
+    Ok(())
 }
 
-/// What SET VAR is answered.
-pub fn set_variable<'a>(
+/// SET VAR asks the driver to set a variable, by a line that is written into `line`.
+pub fn set_variable(
     scene: &Scene<'_>,
     caller: &Connection,
     ups: &[u8],
     name: &[u8],
     value: &[u8],
-) -> Result<Answer<'a>, Refusal>
-    ensures { outcome result ≡ with_right scene.now (caller_of caller.now) may_set ups.now (λ u. on_data scene.now u (λ d. set_answer d name.now value.now)) }
+    line: &mut ArrayVec<u8, 4096>,
+) -> Result<Effect<'static>, Refusal>
+    ensures { Grants scene.now (caller_of caller.now) (Asks (requests.SetVar ups.now name.now value.now)) replies.Accepted
+        result line.new.items }
 {
     let u = authorize(scene, caller, Right::Set, ups)?;
-    let device = scene.data_of(u)?;
-    set_answer(device, name, value)
+    ask_to_set(scene.data_of(u)?, name, value, line)?;
+    Ok(Effect::Ask(u))
 }
 
-/// What INSTCMD is answered.
-pub fn give_command<'a>(
+/// INSTCMD asks the driver to do a command, by a line that is written into `line`.
+pub fn give_command(
     scene: &Scene<'_>,
     caller: &Connection,
     ups: &[u8],
     name: &[u8],
-) -> Result<Answer<'a>, Refusal>
-    ensures { outcome result ≡ with_right scene.now (caller_of caller.now) (may_command name.now) ups.now (λ u. on_data scene.now u (λ d. command_answer d name.now)) }
+    line: &mut ArrayVec<u8, 4096>,
+) -> Result<Effect<'static>, Refusal>
+    ensures { Grants scene.now (caller_of caller.now) (Asks (requests.InstCmd ups.now name.now)) replies.Accepted
+        result line.new.items }
 {
     let u = authorize(scene, caller, Right::Command(name), ups)?;
-    let device = scene.data_of(u)?;
-    command_answer(device, name)
+    ask_to_do(scene.data_of(u)?, name, line)?;
+    Ok(Effect::Ask(u))
 }
 
-/// What USERNAME and PASSWORD are answered, which are each given once.
-pub fn once<'a>(refusal: Refusal, given: Option<&[u8]>) -> Result<Answer<'a>, Refusal>
-    ensures { outcome result ≡ once refusal (option_map (λ text. text.now) given.entry) }
+/// USERNAME gives the user name, once.
+pub fn give_user<'l>(caller: &Connection, name: &'l [u8]) -> Result<Effect<'l>, Refusal>
+    requires { length name.now ≤ 128 }
+    ensures { (s : Scene) (line : List ℕ) → Grants s (caller_of caller.now) (Asks (requests.Username name.now)) replies.Accepted
+        result line }
 {
-    match given {
-        None => Ok(Answer::Line(Reply::Accepted)),
-        Some(_) => Err(refusal),
+    if caller.user().is_some() {
+        return Err(Refusal::AlreadySetUsername);
     }
+    Ok(Effect::User(LentCredential::new(name)))
 }
 
-/// What LOGIN is answered.
-pub fn log_in<'a>(scene: &Scene<'_>, caller: &Connection, ups: &[u8]) -> Result<Answer<'a>, Refusal>
-    ensures { outcome result ≡ with_right scene.now (caller_of caller.now) may_log_in ups.now (λ u. check refusals.AlreadyLoggedIn (is_none (caller_of caller.now).login) (Line replies.Accepted)) }
+/// PASSWORD gives the password, once.
+pub fn give_password<'l>(caller: &Connection, password: &'l [u8]) -> Result<Effect<'l>, Refusal>
+    requires { length password.now ≤ 128 }
+    ensures { (s : Scene) (line : List ℕ) → Grants s (caller_of caller.now) (Asks (requests.Password password.now)) replies.Accepted
+        result line }
 {
-    authorize(scene, caller, Right::LogIn, ups)?;
-    if caller.login().is_some() {
-        return Err(Refusal::AlreadyLoggedIn);
+    if caller.password().is_some() {
+        return Err(Refusal::AlreadySetPassword);
     }
-    Ok(Answer::Line(Reply::Accepted))
+    Ok(Effect::Password(LentCredential::new(password)))
 }
 
-/// What PRIMARY is answered.
-pub fn become_primary<'a>(
+/// LOGIN logs the client in to a UPS, once.
+pub fn log_in(
     scene: &Scene<'_>,
     caller: &Connection,
     ups: &[u8],
-) -> Result<Answer<'a>, Refusal>
-    ensures { outcome result ≡ with_right scene.now (caller_of caller.now) may_be_primary ups.now (λ u. Line replies.Accepted) }
+) -> Result<Effect<'static>, Refusal>
+    ensures { (line : List ℕ) → Grants scene.now (caller_of caller.now) (Asks (requests.Login ups.now)) replies.Accepted
+        result line }
 {
-    authorize(scene, caller, Right::BePrimary, ups)?;
-    Ok(Answer::Line(Reply::Accepted))
+    let u = authorize(scene, caller, Right::LogIn, ups)?;
+    if caller.login().is_some() {
+        return Err(Refusal::AlreadyLoggedIn);
+    }
+    Ok(Effect::Login(u))
 }
 
-/// What FSD is answered.
-pub fn force<'a>(scene: &Scene<'_>, caller: &Connection, ups: &[u8]) -> Result<Answer<'a>, Refusal>
-    ensures { outcome result ≡ with_right scene.now (caller_of caller.now) may_force ups.now (λ u. Line replies.FsdSet) }
+/// PRIMARY asks whether the client may be the primary of a UPS, and changes nothing.
+pub fn become_primary(
+    scene: &Scene<'_>,
+    caller: &Connection,
+    ups: &[u8],
+) -> Result<Effect<'static>, Refusal>
+    ensures { (line : List ℕ) → Grants scene.now (caller_of caller.now) (Asks (requests.Primary ups.now)) replies.Accepted
+        result line }
 {
-    authorize(scene, caller, Right::Force, ups)?;
-    Ok(Answer::Line(Reply::FsdSet))
+    authorize(scene, caller, Right::BePrimary, ups)?;
+    Ok(Effect::Nothing)
+}
+
+/// FSD forces a shutdown of a UPS.
+pub fn force(scene: &Scene<'_>, caller: &Connection, ups: &[u8]) -> Result<Effect<'static>, Refusal>
+    requires { length scene.now.devices ≡ length scene.now.configuration.upses }
+    ensures { (line : List ℕ) → Grants scene.now (caller_of caller.now) (Asks (requests.Fsd ups.now)) replies.FsdSet
+        result line }
+{
+    let u = authorize(scene, caller, Right::Force, ups)?;
+    Ok(Effect::Force(u))
 }

@@ -1,6 +1,6 @@
 //! An open connection.
 
-ghost use Rattle.std.specs.Prelude.{◌≡◌, ◌≤◌, ◌++◌, [], ◌∷◌, true, Some, None, IfSome, OnSome, drop, length, map, option_map, OnOk, OnErr};
+ghost use Rattle.std.specs.Prelude.{◌≡◌, ◌≢◌, ◌≤◌, ◌++◌, ℕ, List, [], ◌∷◌, true, Some, None, All, IfSome, IsSome, OnSome, drop, length, map, option_map, OnOk, OnErr};
 ghost use Rattle.nut_words.specs.Cutter.{kept_of};
 ghost use Rattle.nut_queue.specs.Front.{IsFrontPart};
 ghost use Rattle.nut_history.specs.Acceptance.{may_read, leaves};
@@ -170,9 +170,9 @@ impl Connection {
     }
 
     /// Puts an answer behind those that wait, and does what its line does to the connection. At an `Err` nothing changed.
-    pub fn answer(&mut self, text: &[u8], effect: Effect) -> Result<(), AllocError>
+    pub fn answer(&mut self, text: &[u8], effect: &Effect<'_>) -> Result<(), AllocError>
         ensures number { self.new.number ≡ self.old.number }
-        ensures ok { OnOk result (self.new ≡ affected effect (said text.now self.old)) }
+        ensures ok { OnOk result (self.new ≡ affected effect.now (said text.now self.old)) }
         ensures err { OnErr result (self.new ≡ self.old) }
     {
         self.outbox.push(text)?;
@@ -180,15 +180,15 @@ impl Connection {
         Ok(())
     }
 
-    fn apply(&mut self, effect: Effect)
+    fn apply(&mut self, effect: &Effect<'_>)
         ensures number { self.new.number ≡ self.old.number }
-        ensures value { self.new ≡ affected effect self.old }
+        ensures value { self.new ≡ affected effect.now self.old }
     {
         match effect {
-            Effect::Nothing => {}
-            Effect::User(user) => self.user = Some(user),
-            Effect::Password(password) => self.password = Some(password),
-            Effect::Login(login) => self.login = login,
+            Effect::Nothing | Effect::Force(_) | Effect::Ask(_) => {}
+            Effect::User(user) => self.user = Some(user.copied()),
+            Effect::Password(password) => self.password = Some(password.copied()),
+            Effect::Login(u) => self.login = Some(*u),
             Effect::Logout => {
                 self.login = None;
                 self.logged_out = true;
@@ -202,6 +202,8 @@ impl Connection {
         ensures start { OnSome result (self.now.rest ≡ Text []) }
         ensures whole { IfSome result (λ line. piece.now ≡ line.now ++ 10 ∷ []) }
         ensures line { IfSome result (λ line. lines piece.now ≡ Text line.now ∷ []) }
+        ensures taken { (text : List ℕ) → self.now.rest ≡ Text [] → piece.now ≡ text ++ 10 ∷ [] → All (λ b. b ≢ 10) text
+            → length text ≤ 512 → IsSome result }
     {
         self.cutter.whole_line(piece)
     }

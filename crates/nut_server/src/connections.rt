@@ -228,11 +228,11 @@ impl Connections {
     }
 
     /// The connection at this place is answered, and changes as its line does. At an `Err` nothing changed.
-    pub fn answer(&mut self, at: usize, text: &[u8], effect: Effect) -> Result<(), AllocError>
+    pub fn answer(&mut self, at: usize, text: &[u8], effect: &Effect<'_>) -> Result<(), AllocError>
         requires { at < length self.old }
         ensures numbers { numbers_of self.new ≡ numbers_of self.old }
         ensures ok { (c : ℕ) → Stands c self.old at → OnOk result (self.new
-            ≡ update c (λ k. affected effect (said text.now k)) self.old) }
+            ≡ update c (λ k. affected effect.now (said text.now k)) self.old) }
         ensures err { OnErr result (self.new ≡ self.old) }
     {
         let key = self.order[at];

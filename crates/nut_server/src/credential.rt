@@ -8,7 +8,48 @@ use std::marker::Model;
 /// How many bytes a user name or a password has at most.
 pub const CREDENTIAL_MAX: usize = 128;
 
-/// A user name or a password, without memory of its own.
+/// A user name or a password, as a request lends it.
+#[derive(Drop)]
+pub struct LentCredential<'l> {
+    bytes: &'l [u8],
+}
+
+impl<'l> Model for LentCredential<'l> {
+    ghost Value = { List ℕ };
+
+    ghost view = { λ c. c.bytes.now };
+
+    ghost invariant = { λ c. length c.bytes.now ≤ 128 };
+}
+
+impl<'l> LentCredential<'l> {
+    /// These bytes.
+    pub fn new(bytes: &'l [u8]) -> LentCredential<'l>
+        requires { length bytes.now ≤ 128 }
+        ensures { result ≡ bytes.now }
+    {
+        LentCredential { bytes }
+    }
+
+    /// Its bytes.
+    fn as_bytes(&self) -> &'l [u8]
+        ensures value { result.now ≡ self.now }
+        ensures within { length result.now ≤ 128 }
+    {
+        self.bytes
+    }
+
+    /// The same bytes, to keep.
+    pub fn copied(&self) -> Credential
+        ensures { result ≡ self.now }
+    {
+        let mut bytes = ArrayVec::new();
+        bytes.try_extend_from_slice(self.as_bytes()).unwrap();
+        Credential { bytes }
+    }
+}
+
+/// A user name or a password that is kept, without memory of its own.
 #[derive(Drop)]
 pub struct Credential {
     bytes: ArrayVec<u8, 128>,
@@ -21,16 +62,6 @@ impl Model for Credential {
 }
 
 impl Credential {
-    /// These bytes.
-    pub fn new(text: &[u8]) -> Credential
-        requires { length text.now ≤ 128 }
-        ensures { result ≡ text.now }
-    {
-        let mut bytes = ArrayVec::new();
-        bytes.try_extend_from_slice(text).unwrap();
-        Credential { bytes }
-    }
-
     /// Its bytes.
     pub fn as_bytes(&self) -> &[u8]
         ensures { result.now ≡ self.now }

@@ -242,8 +242,7 @@ impl Device {
         ensures ok { OnOk result (self.new ≡ bytes_reported time piece.now self.old) }
         ensures lost { IfErr result (λ done. self.new ≡ down (bytes_reported time (front done piece.now) self.old)) }
         ensures few { IfErr result (λ done. done < line_feeds piece.now) }
-        ensures memory { IfErr result (λ done. MayRunOutOf piece.now done
-            (Some (bytes_reported time (front done piece.now) self.old))) }
+        ensures memory { IfErr result (λ done. MayRunOutOf time piece.now done (Some self.old)) }
     {
         let mut cutter = mem::take(&mut self.cutter);
         let mut left = piece;

@@ -1,74 +1,45 @@
-//! What an answered line does to its connection.
+//! What a request does beside being answered.
 
-ghost use Rattle.std.specs.Prelude.{◌≡◌, ◌≤◌, ℕ, List, length};
-ghost use Rattle.nut_proto.specs.declared.request.Request.TheVariants as requests;
-ghost use Rattle.nut_history.specs.Command as definitions;
-ghost use Rattle.nut_history.specs.Command.{asked};
-ghost use Rattle.nut_history.specs.Content.{Session};
-ghost use Rattle.nut_server.specs.Effects.{affected, decided, HasShortNames};
+ghost use Rattle.std.specs.Prelude.{◌≡◌, length, map};
+ghost use Rattle.nut_server.specs.Effects.{acting, IsPossible};
 
-use crate::config::Config;
-use crate::credential::Credential;
-use crate::verdict::Verdict;
-use nut_proto::{Refusal, Request};
+use crate::credential::LentCredential;
+use crate::device::Device;
 
-/// What a line does to its connection besides the answer that waits.
+/// What a request does beside being answered: to the session of its connection, or to a UPS and its driver. It lends the
+/// request's words.
 #[derive(Drop)]
-pub enum Effect {
+pub enum Effect<'l> {
     Nothing,
     /// The client gave its user name.
-    User(Credential),
+    User(LentCredential<'l>),
     /// The client gave its password.
-    Password(Credential),
+    Password(LentCredential<'l>),
     /// The client logged in to the UPS with this number.
-    Login(Option<usize>),
+    Login(usize),
     /// The client logged out.
     Logout,
+    /// The client forced a shutdown of the UPS with this number.
+    Force(usize),
+    /// The driver of the UPS with this number is asked something, in a line that stands elsewhere.
+    Ask(usize),
 }
 
-/// What a request that is answered `OK` does to its connection.
-fn effect_of_accepted(config: &Config, request: &Result<Request<'_>, Refusal>) -> Effect
-    requires { HasShortNames (asked request.now) }
-    ensures { (k : Session) → affected result k ≡ decided config.now (asked request.now) Verdict.Accepted k }
-{
-    let Ok(request) = request else {
-        return Effect::Nothing;
-    };
-    match request {
-        Request::Username { name } => Effect::User(Credential::new(name.as_bytes())),
-        Request::Password { password } => Effect::Password(Credential::new(password.as_bytes())),
-        Request::Login { ups } => Effect::Login(config.find_ups(ups.as_bytes())),
-        Request::GetNumLogins { .. }
-        | Request::GetUpsDesc { .. }
-        | Request::GetVar { .. }
-        | Request::GetType { .. }
-        | Request::GetDesc { .. }
-        | Request::GetCmdDesc { .. }
-        | Request::List(_)
-        | Request::SetVar { .. }
-        | Request::InstCmd { .. }
-        | Request::Primary { .. }
-        | Request::Fsd { .. }
-        | Request::Logout
-        | Request::Ver
-        | Request::NetVer
-        | Request::Help
-        | Request::StartTls => Effect::Nothing,
-    }
-}
-
-/// What a request, or a line that is none, does to its connection, by what its answer decides.
-pub fn effect_of(
-    config: &Config,
-    request: &Result<Request<'_>, Refusal>,
-    verdict: Verdict,
-) -> Effect
-    requires { HasShortNames (asked request.now) }
-    ensures { (k : Session) → affected result k ≡ decided config.now (asked request.now) verdict k }
-{
-    match verdict {
-        Verdict::Accepted => effect_of_accepted(config, request),
-        Verdict::Goodbye => Effect::Logout,
-        Verdict::FsdSet | Verdict::Other => Effect::Nothing,
+impl Effect<'_> {
+    /// Does to the UPSes what it does to one of them, where this line is what a driver is asked.
+    pub fn act(&self, devices: &mut Vec<Device>, line: &[u8])
+        requires { IsPossible (map (λ d. d.device) devices.old.items) self.now line.now }
+        ensures value { devices.new.items ≡ acting self.now line.now devices.old.items }
+        ensures len { length devices.new.items ≡ length devices.old.items }
+    {
+        match self {
+            Effect::Force(u) => devices[*u].force(),
+            Effect::Ask(u) => devices[*u].ask(line),
+            Effect::Nothing
+            | Effect::User(_)
+            | Effect::Password(_)
+            | Effect::Login(_)
+            | Effect::Logout => {}
+        }
     }
 }

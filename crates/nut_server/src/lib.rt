@@ -10,16 +10,15 @@ mod config;
 mod connection;
 mod connections;
 mod credential;
+mod decision;
 mod device;
 mod effect;
 mod lists;
 mod queries;
-mod reply;
 mod scene;
 mod server;
 mod setting;
 mod text;
-mod verdict;
 
 pub use arrival::{Arrival, PIECE_MAX};
 pub use config::{Config, Ups, User};

@@ -1,6 +1,6 @@
 //! What is known where a line is answered.
 
-ghost use Rattle.std.specs.Prelude.{◌≡◌, None, Some, MatchResult};
+ghost use Rattle.std.specs.Prelude.{◌≡◌, ◌<◌, None, Some, MatchResult, length};
 ghost use Rattle.nut_proto.specs.declared.refusal.Refusal.TheVariants as refusals;
 ghost use Rattle.nut_history.specs.Answer.{ups_number, device_at};
 ghost use Rattle.nut_history.specs.Device.{trouble};
@@ -39,7 +39,7 @@ impl<'a> Scene<'a> {
     /// The number of the UPS of this name.
     pub fn number_of(&self, name: &[u8]) -> Result<usize, Refusal>
         ensures { MatchResult result
-            (λ u. ups_number self.now name.now ≡ Some u)
+            (λ u. (ups_number self.now name.now ≡ Some u) × (u < length self.now.configuration.upses))
             (λ refusal. (ups_number self.now name.now ≡ None) × (refusal ≡ refusals.UnknownUps)) }
     {
         self.config.find_ups(name).ok_or(Refusal::UnknownUps)

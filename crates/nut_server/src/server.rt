@@ -20,6 +20,7 @@ use crate::arrival::Arrival;
 use crate::config::Config;
 use crate::connections::Connections;
 use crate::device::Device;
+use arrayvec::ArrayVec;
 use nut_history::{Refused, waits_are_bounded};
 use std::alloc::{AllocError, Global};
 use std::marker::Model;
@@ -53,7 +54,10 @@ pub struct Server {
     opened: u64,
     devices: Vec<Device>,
     connections: Connections,
+    /// The answer to a request, while it is heard.
     scratch: Vec<u8>,
+    /// What a request asks of a driver, while it is heard.
+    line: ArrayVec<u8, 4096>,
     alloc: Global,
 }
 
@@ -104,6 +108,7 @@ impl Server {
             devices,
             connections,
             scratch: Vec::new(alloc),
+            line: ArrayVec::new(),
             alloc,
         })
     }

@@ -1,6 +1,7 @@
-//! What may be set, and what fits behind the requests that wait for a driver.
+//! What may be set, and what a driver is asked.
 
 ghost use Rattle.std.specs.Prelude.{◌≡◌};
+ghost use Rattle.std.specs.Bool.{OnTrue};
 ghost use Rattle.std.specs.List.{list_any};
 ghost use Rattle.nut_proto.specs.DriverAsks.{ask_line};
 ghost use Rattle.nut_state.specs.Attribute.{lists_enum};
@@ -82,10 +83,11 @@ pub fn misfit(variable: &Variable, value: &[u8]) -> Option<Refusal>
     misfit_by(kind_of(variable), variable, value)
 }
 
-/// Whether what is asked of a driver fits behind what waits for it. Takes no memory.
-pub fn has_room(device: &Device, ask: &DriverAsk<'_>) -> bool
-    ensures { result ≡ fits (ask_line ask.now) device.now.device }
+/// Writes what is asked of a driver into `line`, and says whether it fits behind what waits for the driver. Takes no memory.
+pub fn put_ask(line: &mut ArrayVec<u8, 4096>, ask: &DriverAsk<'_>, device: &Device) -> bool
+    ensures value { result ≡ fits (ask_line ask.now) device.now.device }
+    ensures put { OnTrue result (line.new.items ≡ ask_line ask.now) }
 {
-    let mut line = ArrayVec::<u8, 4096>::new();
-    ask.put_in(&mut line) && device.fits(line.as_slice())
+    line.clear();
+    ask.put_in(line) && device.fits(line.as_slice())
 }

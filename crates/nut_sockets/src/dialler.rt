@@ -18,8 +18,8 @@ impl<'a, N: Net> Dialler<'a, N> {
     pub fn dial(&self, address: SocketAddr) -> io::Result<TcpStream> {
         let mut stream = TcpStream::connect(self.net, address)?;
         let _ = stream.set_nodelay(true);
-        let both = Interest::READABLE | Interest::WRITABLE;
-        self.registry.register(&mut stream, self.token, both)?;
+        let all = Interest::READABLE | Interest::WRITABLE | Interest::PRIORITY;
+        self.registry.register(&mut stream, self.token, all)?;
         Ok(stream)
     }
 }

@@ -1,6 +1,6 @@
 //! All the links of a monitor, watched by one poll.
 
-ghost use Rattle.std.specs.Prelude.{◌≢◌, length, IfSome, IfOk};
+ghost use Rattle.std.specs.Prelude.{◌≡◌, ◌≢◌, length, IfSome, IfOk, Some, None};
 ghost use Rattle.nut_serve.specs.Record.{IsWithin};
 ghost use Rattle.nut_watch.specs.declared.types.Next.TheVariants as next;
 
@@ -37,6 +37,17 @@ enum Loss {
     Closed,
     /// The server didn't answer for so many seconds.
     Silent(u8),
+    /// The server said what the monitor can't read, or hadn't asked for.
+    Unread,
+}
+
+/// A piece that was handed on. The monitor reads it, or drops its link.
+#[derive(Drop)]
+struct Handed {
+    /// The number of the link.
+    link: usize,
+    /// The query that a line of the piece answers, if one does, and what the line says.
+    answer: Option<(Query, Reply)>,
 }
 
 /// The links to the servers of the MONITOR lines, by their numbers, and a clock. The token of a link is its number.
@@ -51,6 +62,8 @@ pub struct Links<'r, 'e, R: Processes, E> {
     limits: Limits,
     /// Whether the shutdown has begun.
     is_ending: bool,
+    /// The piece that was handed on last, until it is known whether the monitor read it.
+    handed: Option<Handed>,
     reports: Reports<'e, E>,
 }
 
@@ -74,6 +87,7 @@ impl<'r, 'e, R: Net + Clock + Processes, E: Write> Links<'r, 'e, R, E> {
             look_ups: LookUps::none(rt, alloc),
             limits: CALM,
             is_ending: false,
+            handed: None,
             reports,
         };
         links.look_up();
@@ -87,6 +101,9 @@ impl<'r, 'e, R: Net + Clock + Processes, E: Write> Links<'r, 'e, R, E> {
         ensures goes_on { IfOk result (λ n. n ≢ next.End) }
     {
         self.follow(monitor);
+        if let Some(link) = self.link_of_handed() {
+            self.judge(monitor.linked(link));
+        }
         if let Some(next) = self.look(monitor, piece) {
             return Ok(next);
         }
@@ -98,19 +115,71 @@ impl<'r, 'e, R: Net + Clock + Processes, E: Write> Links<'r, 'e, R, E> {
         Ok(self.look(monitor, piece).unwrap_or(Next::Again))
     }
 
-    /// Offers bytes to the server of a link.
+    /// Offers bytes to the server of a link, which the monitor keeps then.
     pub fn offer(&mut self, i: usize, bytes: &[u8]) -> Written
         ensures { IsWithin result (length bytes.now) }
     {
+        if self.link_of_handed() == Some(i) {
+            self.judge(true);
+        }
         match self.upstreams.get_mut(i) {
             Some(upstream) => upstream.offer(bytes),
             None => Written::Failed,
         }
     }
 
-    /// Closes a link.
+    /// Closes a link. Where the monitor was just handed a piece of it, that is why.
     pub fn close(&mut self, i: usize) {
-        self.end(i, Loss::Closed);
+        if self.link_of_handed() == Some(i) {
+            self.judge(false);
+            self.end(i, Loss::Unread);
+        } else {
+            self.end(i, Loss::Closed);
+        }
+    }
+
+    /// The link of the piece that was handed on last, until it is known whether the monitor read it.
+    fn link_of_handed(&self) -> Option<usize>
+        ensures some { IfSome self.now.handed (λ h. result ≡ Some h.link) }
+        ensures none { self.now.handed ≡ None → result ≡ None }
+    {
+        match &self.handed {
+            Some(handed) => Some(handed.link),
+            None => None,
+        }
+    }
+
+    /// Tells of the piece that was handed on last, which the monitor read or not.
+    fn judge(&mut self, is_read: bool)
+        ensures { self.new.handed ≡ None }
+    {
+        let Some(Handed { link, answer }) = self.handed.take() else {
+            return;
+        };
+        let Some((query, reply)) = answer else {
+            return;
+        };
+        self.tell_answer(link, query, &reply, is_read);
+    }
+
+    /// Tells of an answer what is to be told of it: that its server begins to serve, if it was read, and what is refused.
+    fn tell_answer(&mut self, i: usize, query: Query, reply: &Reply, is_read: bool)
+        ensures { self.new.handed ≡ self.old.handed }
+    {
+        let Some(upstream) = self.upstreams.get_mut(i) else {
+            return;
+        };
+        let is_told = upstream.note_reply(query, reply);
+        if is_read && is_behind_opening(query) && upstream.begins_to_serve() {
+            self.reports.tell(Report::Reached(upstream.name()));
+        }
+        if is_told {
+            self.reports.tell(Report::Refused(
+                upstream.name(),
+                title(query),
+                text_of(reply.error()),
+            ));
+        }
     }
 
     /// Closes a link, and tells of it: of a server that served, that it is lost, and of another one, once, that there is no
@@ -193,7 +262,7 @@ impl<'r, 'e, R: Net + Clock + Processes, E: Write> Links<'r, 'e, R, E> {
             }
         };
         if next.is_some() {
-            self.note_reply(monitor, i, piece);
+            self.hand_on(monitor, i, piece);
         }
         if self.upstreams.get(i)?.is_overdue(self.limits) {
             self.end(i, Loss::Silent(self.limits.answer));
@@ -202,35 +271,17 @@ impl<'r, 'e, R: Net + Clock + Processes, E: Write> Links<'r, 'e, R, E> {
         next
     }
 
-    /// Notes what a piece says to the query on a link, and tells of a server that begins to serve, and of a refusal.
-    fn note_reply(&mut self, monitor: &Monitor, i: usize, piece: &Piece) {
-        let Some(last) = monitor.last_query(i) else {
-            return;
-        };
+    /// Notes that a piece is handed on, and what it says to the query on its link.
+    fn hand_on(&mut self, monitor: &Monitor, i: usize, piece: &Piece) {
         let Some(upstream) = self.upstreams.get_mut(i) else {
             return;
         };
-        if let Some(reply) = upstream.reply_in(self.alloc, piece.as_slice()) {
-            self.tell_reply(i, last.query, &reply);
-        }
-    }
-
-    /// Tells of a reply what is to be told of it.
-    fn tell_reply(&mut self, i: usize, query: Query, reply: &Reply) {
-        let Some(upstream) = self.upstreams.get_mut(i) else {
-            return;
+        let reply = upstream.reply_in(self.alloc, piece.as_slice());
+        let answer = match (monitor.last_query(i), reply) {
+            (Some(last), Some(reply)) => Some((last.query, reply)),
+            _ => None,
         };
-        let is_told = upstream.note_reply(query, reply);
-        if is_behind_opening(query) && upstream.begins_to_serve() {
-            self.reports.tell(Report::Reached(upstream.name()));
-        }
-        if is_told {
-            self.reports.tell(Report::Refused(
-                upstream.name(),
-                title(query),
-                text_of(reply.error()),
-            ));
-        }
+        self.handed = Some(Handed { link: i, answer });
     }
 
     /// Calls the server of a link, or goes on with the call. What it sent already is then to be read.
@@ -377,6 +428,7 @@ fn lost(name: &str, loss: Loss) -> Report<'_> {
     match loss {
         Loss::Closed => Report::Gone(name),
         Loss::Silent(seconds) => Report::GivenUp(name, seconds),
+        Loss::Unread => Report::Unread(name),
     }
 }
 
@@ -385,6 +437,7 @@ fn unserved(name: &str, loss: Loss) -> Report<'_> {
     let why = match loss {
         Loss::Closed => "it closes the connection",
         Loss::Silent(_) => "it does not answer",
+        Loss::Unread => "what it says is not understood",
     };
     Report::Unreachable(name, io::Error::other(why))
 }

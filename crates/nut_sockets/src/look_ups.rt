@@ -126,6 +126,15 @@ impl<'r, R: Processes> LookUps<'r, R> {
 /// Starts the process of a look-up.
 fn run<R: Processes>(processes: &R, alloc: Global, name: &str) -> io::Result<Child<R::Started>> {
     let mut command = Command::new(alloc, "getent")?;
+    start(processes, &mut command, name)
+}
+
+/// Starts `getent` for a host, with a pipe for what it prints.
+fn start<R: Processes>(
+    processes: &R,
+    command: &mut Command<Global>,
+    name: &str,
+) -> io::Result<Child<R::Started>> {
     command.arg("ahosts")?.arg(name)?;
     command
         .stdin(Stdio::null())

@@ -31,6 +31,8 @@ pub enum Report<'a> {
     Gone(&'a str),
     /// The server of a watched UPS didn't answer for so many seconds, and was given up.
     GivenUp(&'a str, u8),
+    /// The server of a watched UPS said what can't be read, or wasn't asked for.
+    Unread(&'a str),
     /// The server of a watched UPS refused what it was asked, with this error.
     Refused(&'a str, &'a str, &'a str),
 }
@@ -56,6 +58,12 @@ impl<'a> fmt::Display for Report<'a> {
             Report::Gone(target) => write!(f, "UPS {target}: server lost"),
             Report::GivenUp(target, seconds) => {
                 write!(f, "UPS {target}: server lost: no answer for {seconds} s")
+            }
+            Report::Unread(target) => {
+                write!(
+                    f,
+                    "UPS {target}: server lost: what it says is not understood"
+                )
             }
             Report::Refused(target, what, error) => {
                 write!(f, "UPS {target}: {what} refused: {error}")

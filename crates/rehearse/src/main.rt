@@ -1,5 +1,5 @@
-//! Plays a script on a server, dummy drivers, monitors and links, and prints how each step was answered. It is a tool of
-//! the tests.
+//! Plays a script on a server, dummy drivers, monitors, links and rooms, and prints how each step was answered. It is a tool
+//! of the tests.
 //!
 //! `rehearse` reads steps from standard input, a line each, and writes a line on each. It keeps no record, so a script of
 //! any length takes the same memory.
@@ -12,8 +12,9 @@
 //! carry N              server and driver of the first UPS take what waits for them, N bytes at a time, until none waits
 //! ```
 //!
-//! What else a server is told and asked is in `server.rt`. What begins with `dummy`, `monitor`, `watch`, `link` or `words`
-//! is for a dummy driver, a monitor, the loop of a monitor, a link, or lines and words: see the file of this name.
+//! What else a server is told and asked is in `server.rt`. What begins with `dummy`, `monitor`, `watch`, `link`, `room`
+//! or `words` is for a dummy driver, a monitor, the loop of a monitor, a link, a room, or lines and words: see the file of
+//! this name.
 //!
 //! In texts `%XX` is the byte with these two hexadecimal digits; what is printed has it for control characters, `%` and
 //! bytes past ASCII. A line that is empty or begins with `#` is printed as it is. One that begins with `? ` is played only
@@ -33,6 +34,7 @@ mod link;
 mod monitor;
 mod played;
 mod playing;
+mod room;
 mod server;
 mod stage;
 mod text;

@@ -62,7 +62,11 @@ pub fn begin(alloc: Global, texts: &Texts) -> Result<Server, Failure> {
 }
 
 /// What the texts say. What was read is let go in functions of their own: that costs the check much less.
-fn read_config(alloc: Global, texts: &Texts) -> Result<Config, ConfFault> {
+///
+/// # Errors
+///
+/// The first fault of a file.
+pub fn read_config(alloc: Global, texts: &Texts) -> Result<Config, ConfFault> {
     let ups = read_ups(alloc, &texts.ups)?;
     match read_users(alloc, &texts.users) {
         Ok(users) => with_upsd(ups, users, read_upsd(alloc, &texts.upsd)),

@@ -2,6 +2,7 @@
 
 use crate::failure::Failure;
 use crate::played::Played;
+use crate::room::Rooms;
 use crate::text::{decode, parted};
 use crate::{carrying, dummy, link, monitor, server, watching, words};
 use nut_client::Link;
@@ -33,6 +34,7 @@ pub struct Stage {
     dummy: Option<Dummy>,
     monitor: Option<Monitor>,
     link: Link,
+    rooms: Rooms,
     cutter: LineCutter,
     /// What comes to the next monitor that watches.
     events: Vec<Given>,
@@ -56,6 +58,7 @@ impl Stage {
             dummy: None,
             monitor: None,
             link: Link::new(alloc),
+            rooms: Rooms::new(alloc),
             cutter: LineCutter::new(),
             events: Vec::new(alloc),
             is_lack: false,
@@ -118,6 +121,9 @@ impl Stage {
             "dummy" => dummy::play(self.alloc, &mut self.dummy, rest, &mut self.piece, out),
             "monitor" => monitor::play(self.alloc, &mut self.monitor, rest, &mut self.piece, out),
             "link" => link::play(self.alloc, &mut self.link, rest, &mut self.piece, out),
+            "room" => self
+                .rooms
+                .play(self.alloc, &self.texts, rest, &mut self.piece, out),
             "words" => words::play(self.alloc, &mut self.cutter, rest, &mut self.piece, out),
             "watch" => watching::play(rt, self.alloc, &mut self.events, rest, &mut self.piece, out),
             _ => self.play_server(engine, rest, line, out),

@@ -4,4 +4,6 @@
 #![tactic(auto)]
 
 #[cfg(test)]
+mod logins;
+#[cfg(test)]
 mod serve;

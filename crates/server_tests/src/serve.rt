@@ -1,5 +1,7 @@
 //! What no clause says: rows from outside, and worlds that are slow, late or broken.
 
+mod broken;
+mod room;
 mod worlds;
 
 /// The rows of one client, and what they are answered.

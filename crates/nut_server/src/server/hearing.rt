@@ -1,120 +1,27 @@
-//! What clients say: each line is answered, and then does what its answer decides.
+//! What clients say: what each line decides is answered and done.
 
-ghost use Rattle.std.specs.Prelude.{◌≡◌, ◌<◌, ◌≤◌, ℕ, List, Some, Ok, Err, true, false, IfErr, IsTrue, OnOk, OnErr, length, slice_get};
-ghost use Rattle.nut_proto.specs.DriverAsks.{ask_line};
+ghost use Rattle.std.specs.Prelude.{◌≡◌, ◌<◌, ℕ, Some, Ok, Err, false, IfErr, IsTrue, OnOk, OnErr, length, slice_get};
 ghost use Rattle.nut_words.specs.Cutter.{line_of};
 ghost use Rattle.nut_words.specs.declared.words.WordFault.TheVariants.{Memory};
 ghost use Rattle.nut_history.specs.Acceptance.{front, line_feeds};
-ghost use Rattle.nut_history.specs.Answer.{answer, device_at};
+ghost use Rattle.nut_history.specs.Answer.{answer};
 ghost use Rattle.nut_history.specs.Command.{asked, command_in, command_of};
-ghost use Rattle.nut_history.specs.Configuration.{number_of_ups};
 ghost use Rattle.nut_history.specs.Content.{Session};
-ghost use Rattle.nut_history.specs.Device.{fits};
-ghost use Rattle.nut_history.specs.Effect.{target, request_of};
-ghost use Rattle.nut_history.specs.Machine.{act_on, acted, answer_in, bytes_heard, caller_of, scene_of, with_supplies, without, with_sessions};
+ghost use Rattle.nut_history.specs.Machine.{answer_in, bytes_heard, caller_of, scene_of};
 ghost use Rattle.nut_history.specs.Outcome.{content_lost, is_blank, line_takes, with_backslash, MayRunOut};
-ghost use Rattle.nut_server.specs.Effects.{HasShortNames, answered_by, forced, reply_of, requesting};
+ghost use Rattle.nut_server.specs.Effects.{HasShortNames, answered_by};
 ghost use Rattle.nut_server.specs.Place.{Stands};
 
-use crate::effect::effect_of;
-use crate::reply::reply;
+use crate::decision::{Decision, decide};
 use crate::scene::Scene;
 use crate::server::Server;
-use crate::verdict::Verdict;
-use arrayvec::ArrayVec;
-use nut_proto::{DriverAsk, Refusal, Request, Word, read};
+use crate::text::put_answer;
+use nut_proto::{Refusal, Request, read};
 use nut_words::{Line, WordFault, Words, split};
 use std::alloc::{AllocError, Global};
 
 impl Server {
-    /// A shutdown of the UPS of this name was forced.
-    fn force(&mut self, ups: &[u8])
-        ensures { self.new ≡ with_supplies (act_on (number_of_ups ups.now self.old.configuration.upses) forced
-            self.old.supplies) self.old }
-    {
-        if let Some(u) = self.config.find_ups(ups) {
-            self.devices[u].force();
-        }
-    }
-
-    /// The driver of the UPS of this name is asked this.
-    fn hand_on(&mut self, ups: &[u8], ask: &DriverAsk<'_>)
-        requires { (u : ℕ) → number_of_ups ups.now self.old.configuration.upses ≡ Some u
-            → fits (ask_line ask.now) (device_at (scene_of self.old) u) ≡ true }
-        ensures { self.new ≡ with_supplies (act_on (number_of_ups ups.now self.old.configuration.upses)
-            (requesting (ask_line ask.now)) self.old.supplies) self.old }
-    {
-        let Some(u) = self.config.find_ups(ups) else {
-            return;
-        };
-        if self.devices[u].is_connected() {
-            let mut line = ArrayVec::<u8, 4096>::new();
-            ask.put_in(&mut line);
-            self.devices[u].ask(line.as_slice());
-        }
-    }
-
-    /// Does what a request does to a UPS and its driver.
-    fn act(&mut self, request: &Result<Request<'_>, Refusal>, verdict: Verdict)
-        requires { (u : ℕ) (line : List ℕ) → target self.old.configuration (asked request.now) ≡ Some u
-            → request_of (asked request.now) (reply_of verdict) ≡ Some line
-            → fits line (device_at (scene_of self.old) u) ≡ true }
-        ensures { self.new ≡ with_supplies (act_on (target self.old.configuration (asked request.now))
-            (acted (asked request.now) (reply_of verdict)) self.old.supplies) self.old }
-    {
-        let Ok(request) = request else {
-            return;
-        };
-        match request {
-            Request::Fsd { ups } => match verdict {
-                Verdict::FsdSet => self.force(ups.as_bytes()),
-                Verdict::Accepted | Verdict::Goodbye | Verdict::Other => {}
-            },
-            Request::SetVar {
-                ups,
-                variable,
-                value,
-            } => match verdict {
-                Verdict::Accepted => self.hand_on(
-                    ups.as_bytes(),
-                    &DriverAsk::Set {
-                        variable: Word::new(variable.as_bytes()),
-                        value: Word::new(value.as_bytes()),
-                    },
-                ),
-                Verdict::FsdSet | Verdict::Goodbye | Verdict::Other => {}
-            },
-            Request::InstCmd { ups, command } => match verdict {
-                Verdict::Accepted => self.hand_on(
-                    ups.as_bytes(),
-                    &DriverAsk::InstCmd {
-                        command: Word::new(command.as_bytes()),
-                    },
-                ),
-                Verdict::FsdSet | Verdict::Goodbye | Verdict::Other => {}
-            },
-            Request::GetNumLogins { .. }
-            | Request::GetUpsDesc { .. }
-            | Request::GetVar { .. }
-            | Request::GetType { .. }
-            | Request::GetDesc { .. }
-            | Request::GetCmdDesc { .. }
-            | Request::List(_)
-            | Request::Username { .. }
-            | Request::Password { .. }
-            | Request::Login { .. }
-            | Request::Primary { .. }
-            | Request::Logout
-            | Request::Ver
-            | Request::NetVer
-            | Request::Help
-            | Request::StartTls => {}
-        }
-    }
-}
-
-impl Server {
-    /// Answers a request of the connection at this place, or a line that is none, and does what the answer decides. At an
+    /// Answers a request of the connection at this place, or a line that is none, and does what is decided. At an
     /// `Err` it left no trace.
     fn hear_request(
         &mut self,
@@ -135,11 +42,16 @@ impl Server {
             devices: self.devices.as_slice(),
             connections: &self.connections,
         };
-        let verdict = reply(&scene, self.connections.at(at), request, &mut self.scratch)?;
-        let effect = effect_of(&self.config, request, verdict);
+        let Decision { answer, effect } = decide(
+            &scene,
+            self.connections.at(at),
+            request,
+            &mut self.line,
+        );
+        put_answer(&mut self.scratch, &answer)?;
         self.connections
-            .answer(at, self.scratch.as_slice(), effect)?;
-        self.act(request, verdict);
+            .answer(at, self.scratch.as_slice(), &effect)?;
+        effect.act(&mut self.devices, self.line.as_slice());
         Ok(())
     }
 

@@ -5,5 +5,5 @@ use Rattle.nut_client.proofs.engine.put_all.Given as goal
 abbrev pub invariant-loop : goal.invariant-loop
 invariant-loop g l = record {
   within : l.at ≤ length l.bytes;
-  wrote : Appends (g.W.Write.contents l.fn.writer) (g.W.Write.contents l.writer) (take l.at l.bytes);
+  wrote : Appends (g.O.Output.contents l.fn.output) (g.O.Output.contents l.output) (take l.at l.bytes);
 }

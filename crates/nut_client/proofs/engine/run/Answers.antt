@@ -13,4 +13,4 @@ returns-in-Ok g c = λ line read.
     c.tell.ensures
 
 pub returns-in-Err : goal.returns-in-Err
-returns-in-Err g c = λ line read. refused line _ _ refl c.in-Err.refusal _ _ _ _ _ (subst (IsRead line) c.in-Err.is read) c.tell_refusal.ensures
+returns-in-Err g c = λ line read. refused line _ _ refl c.in-Err.refusal _ _ _ (subst (IsRead line) c.in-Err.is read) c.tell_refusal.ensures

@@ -8,4 +8,4 @@ pub returns-in-Ok : goal.returns-in-Ok
 returns-in-Ok g c = λ line read. asks (options_view c.in-Ok.field-0) (subst (IsRead line) c.in-Ok.is read) _ refl c.tell.ensures
 
 pub returns-in-Err : goal.returns-in-Err
-returns-in-Err g c = λ line read. refused line _ _ tt c.in-Err.refusal _ _ _ _ _ (subst (IsRead line) c.in-Err.is read) c.tell_refusal.ensures
+returns-in-Err g c = λ line read. refused line _ _ tt c.in-Err.refusal _ _ _ (subst (IsRead line) c.in-Err.is read) c.tell_refusal.ensures

@@ -12,6 +12,8 @@ pub returns-clause-lines : goal.returns-clause-lines
 unfolding clap_on_literals upsc_line upsc_tool upsrw_line upsrw_tool upscmd_line upscmd_tool
 returns-clause-lines c = record {
   all = refl;
+  object = refl;
+  object_of_one = refl;
   one = refl;
   server = refl;
   no_server = refl;
@@ -37,6 +39,8 @@ returns-clause-runs c = record {
   unfinished = refl;
   unwritable = refl;
   listed = refl;
+  as_object = refl;
+  no_rows = refl;
   cut_list = refl;
   done = refl;
   decided = λ result left before after ends. all_bytes _ _ _ left before after ends;

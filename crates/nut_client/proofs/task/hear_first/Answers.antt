@@ -4,6 +4,9 @@ use Rattle.nut_client.proofs.task.hear_first.Goals as goal
 pub returns-in-Variables : goal.returns-in-Variables
 returns-in-Variables c = λ ups. first_leads ups c.args.wanted _ c.args.outcome c.print_rows.result c.in-Variables.is (c.print_rows.ensures ups)
 
+pub returns-in-Object : goal.returns-in-Object
+returns-in-Object c = λ ups. first_leads ups c.args.wanted _ c.args.outcome c.print_object.result c.in-Object.is (c.print_object.ensures ups)
+
 pub returns-in-Names : goal.returns-in-Names
 returns-in-Names c = λ ups. first_leads ups c.args.wanted _ c.args.outcome c.print_rows-in-Names.result c.in-Names.is (c.print_rows-in-Names.ensures ups)
 

@@ -69,7 +69,7 @@ returns-in-Err-clause-memory g c = λ ran_out.
       kept.2.taken ∙ ap (λ ls. kept.1 ++ ls) (ap (pending 10) c.in-Some.is ∙ c.cut.ensures.parts),
       omega (arith, kept.2.count),
       kept.2.reads,
-      c.in-Err.ensures.memory (ap (λ k. Err k) ran_out),
+      c.in-Err.ensures.memory kept.0 kept.2.holds (ap (λ k. Err k) ran_out),
     )
 
 pub returns-clause-means : goal.returns-clause-means

@@ -4,6 +4,7 @@ use Rattle.nut_words.specs.Spelling.{is_printing}
 use Rattle.nut_conf.proofs.DraftLemmas.{Ok-equal}
 use Rattle.nut_conf.proofs.AddedUps.{text-short, any-is, length-shown, shown-insert, with_ups-repeated, with_ups-unreadable, with_ups-ok}
 use Rattle.nut_conf.specs.Ups.{shown_in}
+use Rattle.nut_conf.proofs.SlotLemmas.{is_read}
 use Rattle.nut_conf.proofs.ups.UpsConf.add.Goals as goal
 
 pub returns-then-contains_key-clause-added : goal.returns-then-contains_key-clause-added
@@ -25,6 +26,19 @@ returns-then-not-are_printing-clause-added c =
     let same = length-shown map.entries in
     with_ups-unreadable before c.args.name.now name.bytes.items desc desc (c.in_ok-name.ensures {u = tt}) (text-short desc (omega arith)) (omega (arith, same, c.len.ensures.len))
     (sym (c.if-contains_key.ensures {u = tt} ∙ any-is map name)) (sym (c.if-not-are_printing.ensures {u = tt}))
+
+pub returns-in_err-insert-clause-memory : goal.returns-in_err-insert-clause-memory
+returns-in_err-insert-clause-memory c = λ _.
+    let before = shown_in c.args.self.now in
+    let map = c.args.self.now.ups.by_name in
+    let name = c.in_ok-name.name in
+    let desc = c.args.desc.now in
+    let text = c.in_ok-read.field-0 in
+    let described = c.in_ok-read.ensures {u = tt} in
+    let is : text.bytes.items ≡ desc = Ok-equal text.bytes.items desc (sym described ∙ text-short desc (omega arith)) in
+    let same = length-shown map.entries in
+    is_read _ _ (with_ups-ok before c.args.name.now name.bytes.items desc text.bytes.items (c.in_ok-name.ensures {u = tt}) described (omega (arith, same, c.len.ensures.len))
+    (sym (c.if-contains_key.ensures {u = tt} ∙ any-is map name)) (ap (list_all is_printing) is ∙ sym (c.if-not-are_printing.ensures {u = tt})))
 
 pub returns-clause-added : goal.returns-clause-added
 returns-clause-added c =

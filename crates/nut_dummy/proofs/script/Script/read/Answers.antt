@@ -1,33 +1,67 @@
-use Rattle.std.proofs.Common.{◌≡◌, ℕ, ◌+◌, ◌≤◌, ◌∷◌, length, sym, ap, ◌∙◌, subst, arith}
-use Rattle.nut_dummy.specs.Script.{read_lines, read_script, IsFaultOf, Means}
+use Rattle.std.proofs.Common.{◌≡◌, ℕ, ◌+◌, ◌≤◌, [], ◌∷◌, ◌++◌, Err, length, refl, sym, ap, ◌∙◌, subst, arith, append_assoc, length-append}
+use Rattle.nut_dummy.specs.Script.{read_lines, IsFaultOf, Means}
 use Rattle.nut_words.proofs.CutLemmas.{pending, left, left-shorter}
-use Rattle.nut_dummy.proofs.ScriptLemmas.{read_lines-more, read_lines-fault, read_lines-done}
+use Rattle.nut_dummy.proofs.ScriptLemmas.{read_lines-fault, read_lines-done, makes_more, reads_on}
 use Rattle.nut_dummy.proofs.script.Script.read.Goals as goal
 
-pub returns-in-Err : goal.returns-in-Err
-returns-in-Err c =
-    let kind = c.args.kind in
+pub loop-rest-init : goal.loop-rest-init
+loop-rest-init c = (
+  [],
+  record {
+    taken = refl;
+    count = refl;
+    makes = λ more. ap (λ s. read_lines c.args.kind s 1 more) (sym c.new-script.ensures);
+    room = omega arith;
+    round = omega (arith, ap (λ s. s.round) c.new-script.ensures);
+  },
+)
+
+pub returns-in-Err-clause-means : goal.returns-in-Err-clause-means
+returns-in-Err-clause-means c =
+    let kept = c.loop-rest.invariant in
+    let behind = pending 10 c.cut.result.1 in
     let n : ℕ = c.loop-rest.number + 1 in
-    let whole_text : read_lines kind c.loop-rest.script n (c.cut.result.0.now ∷ pending 10 c.cut.result.1) ≡ read_script kind c.args.bytes.now =
-    ap (read_lines kind c.loop-rest.script n) (sym (ap (pending 10) c.in-Some.is ∙ c.cut.ensures.parts)) ∙ c.loop-rest.invariant.completes in
-    subst (IsFaultOf n c.in-Err.kind) whole_text (read_lines-fault kind c.loop-rest.script n c.in-Err.kind c.cut.result.0.now (pending 10 c.cut.result.1) c.in-Err.ensures.line)
+    let line_of : pending 10 c.loop-rest.rest ≡ c.cut.result.0.now ∷ behind = ap (pending 10) c.in-Some.is ∙ c.cut.ensures.parts in
+    subst (IsFaultOf n c.in-Err.kind) (sym (reads_on c.args.kind c.args.bytes.now kept.0 (c.cut.result.0.now ∷ behind) c.loop-rest.script c.loop-rest.number (kept.1.taken ∙ ap (λ ls. kept.0 ++ ls) line_of) kept.1.count kept.1.makes))
+    (read_lines-fault c.args.kind c.loop-rest.script n c.in-Err.kind c.cut.result.0.now behind c.in-Err.ensures.line)
+
+pub returns-in-Err-clause-memory : goal.returns-in-Err-clause-memory
+returns-in-Err-clause-memory c = λ ran_out.
+    let kept = c.loop-rest.invariant in
+    record {
+      front = kept.0;
+      line = c.cut.result.0.now;
+      rest = pending 10 c.cut.result.1;
+      before = c.loop-rest.script;
+      parted = kept.1.taken ∙ ap (λ ls. kept.0 ++ ls) (ap (pending 10) c.in-Some.is ∙ c.cut.ensures.parts);
+      number = omega (arith, kept.1.count);
+      makes = kept.1.makes;
+      takes = c.in-Err.ensures.memory (ap (λ k. Err k) ran_out);
+    }
 
 pub loop-rest-preserved : goal.loop-rest-preserved
 loop-rest-preserved c =
-    let kind = c.args.kind in
-    let n : ℕ = c.loop-rest.number + 1 in
-    record {
-      completes = sym (read_lines-more kind c.loop-rest.script c.in-Ok.script n c.cut.result.0.now (pending 10 c.cut.result.1) c.in-Ok.ensures.line)
-          ∙ ap (read_lines kind c.loop-rest.script n) (sym (ap (pending 10) c.in-Some.is ∙ c.cut.ensures.parts)) ∙ c.loop-rest.invariant.completes;
-      room =
-          let shorter : left c.cut.result.1 ≤ length c.in-Some.text.now = left-shorter c.cut.result.1 (length c.in-Some.text.now) c.cut.ensures.shorter in
-          let was : left c.loop-rest.rest ≡ length c.in-Some.text.now + 1 = ap left c.in-Some.is in
-          omega (arith, c.loop-rest.invariant.room);
-      round = omega (arith, c.loop-rest.invariant.round, c.in-Ok.ensures.round);
-    }
+    let kept = c.loop-rest.invariant in
+    let line = c.cut.result.0.now in
+    let behind = pending 10 c.cut.result.1 in
+    let line_of : pending 10 c.loop-rest.rest ≡ line ∷ behind = ap (pending 10) c.in-Some.is ∙ c.cut.ensures.parts in (
+      kept.0 ++ line ∷ [],
+      record {
+        taken = kept.1.taken ∙ ap (λ ls. kept.0 ++ ls) line_of ∙ sym (append_assoc kept.0 (line ∷ []) behind);
+        count = omega (arith, kept.1.count, length-append kept.0 (line ∷ []));
+        makes = makes_more c.args.kind kept.0 line c.loop-rest.script c.in-Ok.script kept.1.makes c.in-Ok.ensures.line;
+        room =
+            let shorter : left c.cut.result.1 ≤ length c.in-Some.text.now = left-shorter c.cut.result.1 (length c.in-Some.text.now) c.cut.ensures.shorter in
+            let was : left c.loop-rest.rest ≡ length c.in-Some.text.now + 1 = ap left c.in-Some.is in
+            omega (arith, kept.1.room);
+        round = omega (arith, kept.1.round, c.in-Ok.ensures.round);
+      },
+    )
 
-pub returns : goal.returns
-returns c =
-    let kind = c.args.kind in
-    subst (Means c.check_round.result) (sym (read_lines-done kind c.loop-rest.script (c.loop-rest.number + 1))
-    ∙ ap (λ r. read_lines kind c.loop-rest.script (c.loop-rest.number + 1) (pending 10 r)) (sym c.in_default.is) ∙ c.loop-rest.invariant.completes) c.check_round.ensures
+pub returns-clause-means : goal.returns-clause-means
+returns-clause-means c =
+    let kept = c.loop-rest.invariant in
+    subst (Means c.check_round.result)
+    (sym (reads_on c.args.kind c.args.bytes.now kept.0 [] c.loop-rest.script c.loop-rest.number (kept.1.taken ∙ ap (λ r. kept.0 ++ pending 10 r) c.in_default.is) kept.1.count kept.1.makes
+    ∙ read_lines-done c.args.kind c.loop-rest.script (c.loop-rest.number + 1)))
+    c.check_round.ensures.whole

@@ -1,13 +1,15 @@
-use Rattle.std.proofs.Common.{◌≡◌, ◌+◌, ◌*◌, ◌≤◌, length}
+use Rattle.std.proofs.Common.{◌≡◌, ◌+◌, ◌*◌, ◌≤◌, ◌++◌, ℕ, List, length}
 use Rattle.nut_words.specs.Lines.{parts}
-use Rattle.nut_dummy.specs.Script.{read_lines, no_script}
+use Rattle.nut_dummy.specs.Memory.{Makes}
 use Rattle.nut_words.proofs.CutLemmas.{pending, left}
 use Rattle.nut_dummy.proofs.script.Script.read.Given as goal
 
--- the script so far, with the lines that are left, completes the text
+-- the lines so far made the script, and the others are left
 abbrev pub invariant-loop-rest : goal.invariant-loop-rest
-invariant-loop-rest l = record {
-  completes : read_lines l.kind l.script (l.number + 1) (pending 10 l.rest) ≡ read_lines l.kind no_script 1 (parts l.bytes);
+invariant-loop-rest l = (front : List (List ℕ)) × record {
+  taken : parts l.bytes ≡ front ++ pending 10 l.rest;
+  count : l.number ≡ length front;
+  makes : Makes l.kind front l.script;
   room : l.number + left l.rest ≤ length l.bytes + 1;
   round : l.script.round ≤ 86400 * l.number;
 }

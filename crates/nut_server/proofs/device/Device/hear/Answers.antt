@@ -5,9 +5,10 @@ use Rattle.nut_words.specs.Cutter.{handed_out, line_of}
 use Rattle.nut_history.specs.Content.{Supply}
 use Rattle.nut_history.specs.Acceptance.{front, line_feeds}
 use Rattle.nut_history.specs.Machine.{down, bytes_reported, reported_by}
-use Rattle.nut_history.specs.Outcome.{behind, first_line, text_takes}
+use Rattle.nut_history.proofs.Hearing.{first_line}
 use Rattle.nut_server.specs.contracts.device.Device.{the_view}
-use Rattle.nut_server.proofs.Feeds.{front_and_behind, front_next, behind_next, line_feeds_behind, line_feeds-length, no_feed, has_feed, handed_is, left_is, none_of, some_of, take_all}
+use Rattle.nut_server.proofs.Feeds.{behind, front_and_behind, front_next, behind_next, line_feeds_behind, line_feeds-length, no_feed, has_feed, handed_is, left_is, none_of, some_of, take_all}
+use Rattle.nut_server.proofs.NthLine.{report_may_run_out}
 use Rattle.nut_server.proofs.Results.{ok_is, err_is}
 use Rattle.nut_server.proofs.Reports.{with_report, bytes_reported-append, line_reported, rest_reported}
 use Rattle.nut_server.proofs.device.Device.hear.Goals as goal
@@ -56,11 +57,12 @@ returns-then-is_err-clause-memory c =
     let b = g.0 in
     let d = c.loop-line.self in
     let brought = c.feed.ensures.line b g.1 ∙ ap (λ o. lines b ++ handed_out o) c.in-Some.is in
+    let more = has_feed b c.feed.result.1 c.loop-line.left.now (line_of c.in-Some.line) brought in
+    let few = line_feeds_behind c.loop-line.done c.args.piece.now (subst (λ (x : List ℕ). 0 < line_feeds x) g.2 more) in
     let takes = err_is c.hear_line.result _ c.if-is_err.ensures.value c.hear_line.ensures.memory in
     let is : line_of c.in-Some.line ≡ first_line c.loop-line.cutter (behind c.loop-line.done c.args.piece.now) =
     handed_is b c.feed.result.1 c.loop-line.left.now (line_of c.in-Some.line) brought ∙ ap (λ r. first_line r c.loop-line.left.now) (sym g.1) ∙ ap (first_line c.loop-line.cutter) g.2 in
-    let P : Supply → Type 0 = λ e. IsTrue (text_takes (first_line e.rest (behind c.loop-line.done c.args.piece.now)) e.device.table) in
-    subst P g.3 (subst (λ (l : LineText). IsTrue (text_takes l d.device.table)) is takes)
+    report_may_run_out c.args.time c.loop-line.done c.loop-line.cutter (line_of c.in-Some.line) c.args.piece.now d c.args.self.now few g.3 is takes
 
 pub overflow_add-done : goal.overflow_add-done
 overflow_add-done c =

@@ -7,15 +7,15 @@ use Rattle.nut_history.specs.Command.{command_of}
 use Rattle.nut_history.specs.Content.{Content}
 use Rattle.nut_history.specs.Laws.{IsUpTo}
 use Rattle.nut_history.specs.Machine.{after_answer, answer_in, answered, bytes_heard, with_rest, with_sessions, without}
-use Rattle.nut_history.specs.Outcome.{behind, first_line}
-use Rattle.nut_history.proofs.Hearing.{with_unfinished, bytes_heard-append, line_heard_front, rest_heard}
+use Rattle.nut_history.proofs.Hearing.{first_line, with_unfinished, bytes_heard-append, line_heard_front, rest_heard}
 use Rattle.nut_server.specs.Effects.{answered_by}
 use Rattle.nut_server.specs.Inside.{numbers_of}
 use Rattle.nut_server.specs.Place.{Stands}
 use Rattle.nut_server.specs.contracts.server.Server.{the_view}
-use Rattle.nut_server.proofs.Feeds.{front_and_behind, front_next, behind_next, line_feeds_behind, line_feeds-length, no_feed, has_feed, handed_is, left_is, none_of, some_of, take_all}
+use Rattle.nut_server.proofs.Feeds.{behind, front_and_behind, front_next, behind_next, line_feeds_behind, line_feeds-length, no_feed, has_feed, handed_is, left_is, none_of, some_of, take_all}
 use Rattle.nut_server.proofs.Arrives.{numbers-length, fewer}
-use Rattle.nut_server.proofs.Heard.{stands_updated, standing, cutter_out, answered_then, closed_then, may_run_out}
+use Rattle.nut_server.proofs.Heard.{stands_updated, standing, cutter_out, answered_then, closed_then}
+use Rattle.nut_server.proofs.NthLine.{may_run_out}
 use Rattle.nut_server.proofs.Orderly.{IsUpTo-without}
 use Rattle.nut_server.proofs.Results.{ok_is, err_is}
 use Rattle.nut_server.proofs.server.Server.hear_lines.Goals as goal
@@ -89,11 +89,14 @@ returns-then-is_err-clause-memory c =
     let b = g.0 in
     let s = c.loop-line.self in
     let it = standing c.args.c s.sessions c.args.at g.4 in
+    let began = standing c.args.c c.args.self.now.sessions c.args.at c.requires in
     let brought = c.feed.ensures.line b g.1 ∙ ap (λ o. lines b ++ handed_out o) c.in-Some.is in
+    let more = has_feed b c.feed.result.1 c.loop-line.left.now (line_of c.in-Some.line) brought in
+    let few = line_feeds_behind c.loop-line.done c.args.piece.now (subst (λ (x : List ℕ). 0 < line_feeds x) g.2 more) in
     let takes = err_is c.hear_line.result _ c.if-is_err.ensures.value (c.hear_line.ensures.memory it.0 it.2) in
     let is : line_of c.in-Some.line ≡ first_line c.loop-line.cutter (behind c.loop-line.done c.args.piece.now) =
     handed_is b c.feed.result.1 c.loop-line.left.now (line_of c.in-Some.line) brought ∙ ap (λ r. first_line r c.loop-line.left.now) (sym g.1) ∙ ap (first_line c.loop-line.cutter) g.2 in
-    may_run_out c.args.c c.loop-line.cutter (line_of c.in-Some.line) (behind c.loop-line.done c.args.piece.now) s _ it.0 g.3 it.1 is takes
+    may_run_out c.args.c c.loop-line.done c.loop-line.cutter (line_of c.in-Some.line) c.args.piece.now s c.args.self.now it.0 began.0 began.1 few g.3 it.1 is takes
 
 pub overflow_add-done : goal.overflow_add-done
 overflow_add-done c =

@@ -1,0 +1,94 @@
+//! Arrivals, as a table of a test has them.
+
+ghost use Rattle.std.specs.Prelude.{◌≡◌, ◌<◌, Some, IfSome, IfOk, length};
+ghost use Rattle.nut_serve.specs.Record.{arrival_of};
+ghost use Rattle.nut_serve.specs.Memory.{may_come};
+ghost use Rattle.failing_world.specs.Failing.{event_of, first_coming};
+
+use nut_serve::{Address, Fault, Next, Piece};
+use nut_server::Server;
+
+/// One thing that comes from outside.
+#[derive(Clone, Copy)]
+pub enum Row {
+    /// It is so many seconds since the start.
+    Moment(u64),
+    /// A client connects from this address.
+    Open(&'static [u8]),
+    /// The connection with this number sends these bytes.
+    Bytes(u64, &'static [u8]),
+    /// The connection with this number goes away.
+    Close(u64),
+    /// The driver of the UPS with this number is connected.
+    Up(usize),
+    /// The driver of the UPS with this number sends these bytes.
+    Report(usize, &'static [u8]),
+    /// The driver of the UPS with this number goes away.
+    Down(usize),
+}
+
+/// Where the first row stands that may come: bytes of a connection that may not be read wait.
+pub fn find_coming(server: &Server, rows: &[Row]) -> Option<usize>
+    ensures place { result ≡ first_coming server.now rows.now }
+    ensures within { IfSome result (λ i. i < length rows.now) }
+{
+    rows.iter().position(|row| comes(server, *row))
+}
+
+fn comes(server: &Server, row: Row) -> bool
+    ensures { result ≡ may_come server.now (event_of row) }
+{
+    match row {
+        Row::Bytes(c, _) => server.may_read(c),
+        Row::Moment(_)
+        | Row::Open(_)
+        | Row::Close(_)
+        | Row::Up(_)
+        | Row::Report(_, _)
+        | Row::Down(_) => true,
+    }
+}
+
+/// The row as `next` gives it.
+///
+/// # Errors
+/// A fault where its text is longer than a piece or an address may be.
+pub fn show(row: Row, piece: &mut Piece) -> Result<Next, Fault>
+    ensures { IfOk result (λ n. arrival_of n piece.new.items ≡ Some (event_of row)) }
+{
+    match row {
+        Row::Moment(t) => Ok(Next::Moment(t)),
+        Row::Open(text) => Ok(Next::Open(address(text)?)),
+        Row::Bytes(c, text) => {
+            fill(piece, text)?;
+            Ok(Next::Bytes(c))
+        }
+        Row::Close(c) => Ok(Next::Close(c)),
+        Row::Up(u) => Ok(Next::DriverUp(u)),
+        Row::Report(u, text) => {
+            fill(piece, text)?;
+            Ok(Next::DriverBytes(u))
+        }
+        Row::Down(u) => Ok(Next::DriverDown(u)),
+    }
+}
+
+fn fill(piece: &mut Piece, text: &[u8]) -> Result<(), Fault>
+    ensures { IfOk result (λ _. piece.new.items ≡ text.now) }
+{
+    piece.clear();
+    match piece.try_extend_from_slice(text) {
+        Ok(()) => Ok(()),
+        Err(_) => Err(Fault),
+    }
+}
+
+fn address(text: &[u8]) -> Result<Address, Fault>
+    ensures { IfOk result (λ a. a.items ≡ text.now) }
+{
+    let mut address = Address::new();
+    match address.try_extend_from_slice(text) {
+        Ok(()) => Ok(address),
+        Err(_) => Err(Fault),
+    }
+}

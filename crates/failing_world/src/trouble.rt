@@ -1,0 +1,36 @@
+//! What is wrong with a world's devices.
+
+ghost use Rattle.std.specs.Prelude.{◌≡◌, ◌<◌, length};
+ghost use Rattle.nut_serve.specs.Record.{IsWithin};
+
+use nut_serve::Written;
+
+/// What is wrong with a device: with the connection 1, or with the driver of the UPS 0.
+#[derive(Clone, Copy, Debug, PartialEq, Eq)]
+pub enum Trouble {
+    /// Nothing: it takes all that it is offered.
+    Nothing,
+    /// It takes one byte at a time.
+    OneByte,
+    /// It takes nothing: each write is to come later.
+    Late,
+    /// It takes so many bytes in all, and then each write fails.
+    BreaksBehind(usize),
+}
+
+/// What becomes of a write to a device that took so many bytes before.
+pub fn answer(trouble: Trouble, taken: usize, bytes: &[u8]) -> Written
+    requires some { 0 < length bytes.now }
+    ensures within { IsWithin result (length bytes.now) }
+    ensures late { result ≡ Written.Later → trouble ≡ Trouble.Late }
+{
+    match trouble {
+        Trouble::Nothing => Written::Took(bytes.len()),
+        Trouble::OneByte => Written::Took(1),
+        Trouble::Late => Written::Later,
+        Trouble::BreaksBehind(most) if taken < most => {
+            Written::Took(bytes.len().min(most - taken))
+        }
+        Trouble::BreaksBehind(_) => Written::Failed,
+    }
+}

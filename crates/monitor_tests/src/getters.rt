@@ -1,0 +1,127 @@
+//! What a monitor says of itself: what its clauses say can't tell whether it says anything at all.
+
+use nut_conf::read_upsmon;
+use nut_decision::Communication;
+use nut_monitor::{Event, Known, LastQuery, Monitor, MonitorFault, Query, StatusFlags};
+use std::alloc::Global;
+use std::test::Fail;
+
+const FILE: &[u8] = b"MONITOR a@localhost 1 mon m1 secondary\n";
+
+/// The answers to the first three queries of a link, and then the status.
+static ANSWERS: [&[u8]; 4] = [b"OK\n", b"OK\n", b"OK\n", b"VAR a ups.status \"OL CHRG\"\n"];
+
+/// A monitor to which nothing was said.
+fn quiet_monitor(alloc: Global) -> Result<Monitor, Fail> {
+    let config = read_upsmon(alloc, FILE)?;
+    let monitor = Monitor::new(alloc, config)?;
+    Ok(monitor)
+}
+
+/// Its link is made at the moment 7.
+fn link(monitor: &mut Monitor) -> Result<(), MonitorFault> {
+    monitor.arrive(Event::Moment(7))?;
+    monitor.arrive(Event::Linked(0))
+}
+
+/// The query that waits is taken, and answered by this line.
+fn answer(monitor: &mut Monitor, line: &[u8]) -> Result<(), MonitorFault> {
+    let waits = monitor.waiting(0).len();
+    monitor.arrive(Event::LinkTook(0, waits))?;
+    monitor.arrive(Event::LinkBytes(0, line))
+}
+
+/// The link is made, and each of its first queries is answered.
+fn link_and_answer(monitor: &mut Monitor) -> Result<(), MonitorFault> {
+    link(monitor)?;
+    for line in ANSWERS {
+        answer(monitor, line)?;
+    }
+    Ok(())
+}
+
+/// What a monitor says of a MONITOR line.
+#[derive(Clone, Copy, PartialEq, Eq)]
+struct Said {
+    known: Option<Known>,
+    last_query: Option<LastQuery>,
+}
+
+fn what_is_said(monitor: &Monitor, line: usize) -> Said {
+    Said {
+        known: monitor.known(line),
+        last_query: monitor.last_query(line),
+    }
+}
+
+/// A monitor is let go in a function of its own, which costs the check much less than where much else is done.
+fn let_go(_monitor: Monitor) {}
+
+/// What is known of a UPS of which nothing came.
+const NOTHING: Known = Known {
+    flags: None,
+    polled: 0,
+    calm: 0,
+    communication: Communication::Never,
+    replace_told: None,
+    silence_told: None,
+    forced: false,
+    logins: None,
+};
+
+const ON_LINE: StatusFlags = StatusFlags {
+    on_line: true,
+    on_battery: false,
+    low_battery: false,
+    forced_shutdown: false,
+    replace_battery: false,
+    calibrating: false,
+};
+
+#[test]
+fn nothing_is_known_at_first(rt: HostRuntime) -> Result<(), Fail> {
+    let monitor = quiet_monitor(rt.alloc())?;
+    let first = what_is_said(&monitor, 0);
+    let beyond = what_is_said(&monitor, 1);
+    let_go(monitor);
+    assert!(rt; first.known == Some(NOTHING) && first.last_query.is_none());
+    assert!(rt; beyond.known.is_none() && beyond.last_query.is_none());
+    Ok(())
+}
+
+#[test]
+fn a_link_asks_for_its_user_first(rt: HostRuntime) -> Result<(), Fail> {
+    let mut monitor = quiet_monitor(rt.alloc())?;
+    let linked = link(&mut monitor);
+    let first = what_is_said(&monitor, 0);
+    let_go(monitor);
+    let asked = LastQuery {
+        query: Query::Username,
+        moment: 7,
+    };
+    assert!(rt; linked.is_ok());
+    assert!(rt; first.known == Some(NOTHING) && first.last_query == Some(asked));
+    Ok(())
+}
+
+#[test]
+fn a_status_is_known(rt: HostRuntime) -> Result<(), Fail> {
+    let mut monitor = quiet_monitor(rt.alloc())?;
+    let answered = link_and_answer(&mut monitor);
+    let first = what_is_said(&monitor, 0);
+    let_go(monitor);
+    let asked = LastQuery {
+        query: Query::Status,
+        moment: 7,
+    };
+    let known = Known {
+        flags: Some(ON_LINE),
+        polled: 7,
+        calm: 7,
+        communication: Communication::Good,
+        ..NOTHING
+    };
+    assert!(rt; answered.is_ok());
+    assert!(rt; first.known == Some(known) && first.last_query == Some(asked));
+    Ok(())
+}

@@ -1,0 +1,74 @@
+//! The word of a directive that a configuration file doesn't take, which NUT may know.
+
+ghost use Rattle.std.specs.Prelude.{◌≡◌, IfSome, Some, string_bytes};
+ghost use Rattle.nut.specs.Unknown.{first_word};
+
+use crate::conf_file::ConfFile;
+use nut_conf::{ConfFault, FaultKind};
+use nut_words::split;
+use std::alloc::Global;
+use std::str;
+
+/// A section line.
+const SECTION: &[u8] = b"[a]\n";
+
+/// The word of the directive at which a file has a fault, where no line with that word may stand in the file, in a section
+/// neither. Where memory is refused for it, there is none.
+pub fn unknown_word<C: ConfFile>(alloc: Global, bytes: &[u8], fault: ConfFault) -> Option<String> {
+    let is_unknown = match fault.kind {
+        FaultKind::UnknownDirective => true,
+        FaultKind::OutsideSection => is_unknown_in_section::<C>(alloc, bytes, fault.line),
+        _ => false,
+    };
+    if is_unknown {
+        word_at(alloc, bytes, fault.line)
+    } else {
+        None
+    }
+}
+
+/// Whether a line of a file isn't known in a section neither: one of its own has it behind the section's line.
+fn is_unknown_in_section<C: ConfFile>(alloc: Global, bytes: &[u8], number: u32) -> bool {
+    let Some(line) = line_at(bytes, number) else {
+        return false;
+    };
+    let mut text = Vec::new(alloc);
+    if text.extend_from_slice(SECTION).is_err() || text.extend_from_slice(line).is_err() {
+        return false;
+    }
+    match C::read(alloc, text.as_slice()) {
+        Ok(_) => false,
+        Err(fault) => fault.kind == FaultKind::UnknownDirective,
+    }
+}
+
+/// The first word of a line, counted from 1. None where there is no such line, it has no words, its first word is empty, or
+/// memory is refused.
+fn word_at(alloc: Global, bytes: &[u8], number: u32) -> Option<String> {
+    first_word(alloc, line_at(bytes, number)?)
+}
+
+/// The first word of a line, where that isn't empty and memory isn't refused.
+fn first_word(alloc: Global, line: &[u8]) -> Option<String>
+    ensures { IfSome result (λ word. first_word line.now ≡ Some (string_bytes word)) }
+{
+    let Ok(words) = split(alloc, line) else {
+        return None;
+    };
+    let Ok(word) = str::from_utf8(words.get(0)) else {
+        return None;
+    };
+    if word.is_empty() {
+        return None;
+    }
+    match String::from_str(alloc, word) {
+        Ok(word) => Some(word),
+        Err(_) => None,
+    }
+}
+
+/// A line of a file, counted from 1.
+fn line_at(bytes: &[u8], number: u32) -> Option<&[u8]> {
+    let before = number.checked_sub(1)?;
+    bytes.split(|byte| *byte == b'\n').nth(before as usize)
+}

@@ -1,0 +1,96 @@
+//! Rows as a JSON text (RFC 8259).
+ghost use Rattle.std.specs.Prelude.{◌≡◌, ◌<◌, ◌++◌, OnOk, codes};
+ghost use Rattle.std.specs.List.{flat_map};
+ghost use Rattle.nut_client.specs.Json.{escaped, hex_digit as hex_digit_of, json_object, json_string, member, members};
+
+use crate::copied::Fields;
+use std::alloc::AllocError;
+
+/// The digit of a number below 16.
+fn hex_digit(number: u8) -> u8
+    requires { number < 16 }
+    ensures { result ≡ hex_digit_of number }
+{
+    if number < 10 {
+        b'0' + number
+    } else {
+        b'a' - 10 + number
+    }
+}
+
+/// Appends a byte as it stands in a string.
+fn put_byte(out: &mut Vec<u8>, byte: u8) -> Result<(), AllocError>
+    ensures { OnOk result (out.new.items ≡ out.old.items ++ escaped byte) }
+{
+    if byte == b'"' || byte == b'\\' {
+        out.extend_from_slice(&[b'\\', byte])?;
+    } else if byte < b' ' || byte > b'~' {
+        out.extend_from_slice(b"\\u00")?;
+        out.extend_from_slice(&[hex_digit(byte / 16), hex_digit(byte % 16)])?;
+    } else {
+        out.push(byte)?;
+    }
+    Ok(())
+}
+
+/// Appends the bytes of a string.
+fn put_bytes(out: &mut Vec<u8>, text: &[u8]) -> Result<(), AllocError>
+    ensures { OnOk result (out.new.items ≡ out.old.items ++ flat_map escaped text.now) }
+{
+    for byte in text {
+        put_byte(out, *byte)?;
+    }
+    Ok(())
+}
+
+/// Appends a string.
+fn put_string(out: &mut Vec<u8>, text: &[u8]) -> Result<(), AllocError>
+    ensures { OnOk result (out.new.items ≡ out.old.items ++ json_string text.now) }
+{
+    out.push(b'"')?;
+    put_bytes(out, text)?;
+    out.push(b'"')?;
+    Ok(())
+}
+
+/// Appends the name and the value of a row.
+fn put_member(out: &mut Vec<u8>, row: &Fields) -> Result<(), AllocError>
+    ensures { OnOk result (out.new.items ≡ out.old.items ++ member row.now) }
+{
+    put_string(out, row.get(0))?;
+    out.extend_from_slice(b": ")?;
+    put_string(out, row.get(1))?;
+    Ok(())
+}
+
+/// Appends further members.
+fn put_more(out: &mut Vec<u8>, rows: &[Fields]) -> Result<(), AllocError>
+    ensures { OnOk result (out.new.items ≡ out.old.items ++ flat_map (λ r. codes ", " ++ member r) rows.now) }
+{
+    for row in rows {
+        out.extend_from_slice(b", ")?;
+        put_member(out, row)?;
+    }
+    Ok(())
+}
+
+/// Appends the members of all rows.
+fn put_members(out: &mut Vec<u8>, rows: &[Fields]) -> Result<(), AllocError>
+    ensures { OnOk result (out.new.items ≡ out.old.items ++ members rows.now) }
+{
+    if let Some((first, more)) = rows.split_first() {
+        put_member(out, first)?;
+        put_more(out, more)?;
+    }
+    Ok(())
+}
+
+/// Appends the rows as one object, a line of its own.
+pub(crate) fn put_object(out: &mut Vec<u8>, rows: &[Fields]) -> Result<(), AllocError>
+    ensures { OnOk result (out.new.items ≡ out.old.items ++ json_object rows.now) }
+{
+    out.push(b'{')?;
+    put_members(out, rows)?;
+    out.extend_from_slice(b"}\n")?;
+    Ok(())
+}

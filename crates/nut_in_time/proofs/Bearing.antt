@@ -1,0 +1,315 @@
+-- Lines that are borne: what is known of them is no reason for a shutdown.
+use Rattle.std.proofs.Common.{◌≡◌, ◌⊎◌, ℕ, suc, ◌+◌, ◌<◌, ◌≤◌, ◌&&◌, inl, inr, List, ◌∷◌, length, Bool, true, false, not, Option, Some, None, is_some, refl, sym, ◌∙◌, ap, subst, arith}
+use Rattle.std.specs.Prelude.{nat_lt}
+use Rattle.std.proofs.lemmas.Bool.{cases_Bool, and_parts, eq-eqb, lt-ltb, ltb-false, ltb-true, not-true}
+use Rattle.nut_decision.specs.Configuration.{Configuration}
+use Rattle.nut_decision.specs.Decision.{power_where}
+use Rattle.nut_decision.specs.Event.{Event, NoticeTaken}
+use Rattle.nut_decision.specs.Query.{status_in}
+use Rattle.nut_decision.specs.Trace.{Asked, Entry, clock, at_status, status, status_of_answer, newest_answer, polled, gives_status, is_short, begun, has_begun, answer_of, entry_of, notices_waiting, trace}
+use Rattle.nut_fleet.specs.Schedule.{Step, IsFront}
+use Rattle.nut_fleet.specs.World.{Setup, monitor_of, line_of, world}
+use Rattle.nut_fleet.specs.Fleet.{IsSetup, IsReason, Cause}
+use Rattle.nut_fleet.proofs.Entries.{entry-answer, is_made}
+use Rattle.nut_fleet.proofs.Fronts.{fronts-compare}
+use Rattle.nut_fleet.proofs.Shutdowns.{shutdowns-have_causes}
+use Rattle.nut_fleet.proofs.Sound.{IsLawful}
+use Rattle.nut_in_time.specs.Pace.{Pace, IsPrompt, Says, seen_at, shown_at}
+use Rattle.nut_in_time.specs.InTime.{turn, seen_by, is_low, has_fsd}
+use Rattle.nut_in_time.specs.InVain.{is_bearable, NoneBeginsLater, NoneBeginsAnyMore, WasBorne, NoneBegins}
+use Rattle.nut_in_time.proofs.Asking.{wait-comes, rest-stays, waits-on, waits-outstanding, not-made}
+use Rattle.nut_in_time.proofs.Climbing.{climb, forth}
+use Rattle.nut_in_time.proofs.Ending.{clock-entry, clock-grows, earliest-sooner, earliest-stays, earliest-now}
+use Rattle.nut_in_time.proofs.Polling.{IsGiven, Current, late-next, status-unread, status-read}
+use Rattle.nut_in_time.proofs.Lasting.{Chosen, AllGood, Lasts, lasts-next, lasts-first, event-by-event}
+use Rattle.nut_in_time.proofs.Beginning.{power-less}
+
+-- ---- an event, where the monitor is up to date
+
+module _ (configuration : Configuration) (i n0 t0 turn : ℕ) (pace : Pace) (Words : List (List ℕ) → Bool) where
+  -- the status has such words, and it isn't old
+  pub record Bears (past : List Entry) : Type 0 where
+    pub says : Says Words (status i past)
+    pub young : clock past ≤ polled i past + configuration.poll_freq + pace.skip + pace.delay
+
+  module _ (past : List Entry) (event : Event) (made : is_made i event ≡ false) where
+    abbrev next : List Entry
+    next = entry_of configuration past event ∷ past
+
+    pub bears-next : clock next ≤ clock past + suc pace.skip → IsPrompt pace i next → IsGiven i n0 Words (answer_of configuration past event) →
+        Current configuration i n0 t0 turn pace Words past → Bears next
+    bears-next steady prompt given c =
+        let last = c.last in
+        elim c.stage [
+          | inl w ↦ elim (wait-comes configuration i past event last made w.0) [
+            | inl on ↦
+                let same = status-unread configuration i n0 t0 turn pace Words past event on.1 in
+                let at : polled i next ≡ polled i past = ap clock same in
+                let in_time : clock next ≤ last.moment + pace.delay = prompt last (waits-outstanding i next last (waits-on configuration i past event last on.0)) in
+                let bound = w.1 in
+                record {
+                  says = subst (λ front. Says Words (status_of_answer (newest_answer front))) (sym same) c.fresh.says;
+                  young = omega (arith, at, in_time, bound);
+                }
+            | inr came ↦
+                let read = came.1 in
+                let a = read.0 in
+                let is : answer_of configuration past event ≡ Some a = read.1 in
+                let link : a.link ≡ i = read.2 in
+                let says : Says Words (status_in a.asked.query a.outcome) =
+                given a is link (ap (λ (x : Asked). x.query) read.3 ∙ c.is_status) (subst (λ (x : Asked). n0 < x.event) (sym read.3) c.after) in
+                let gives : gives_status i (answer_of configuration past event) ≡ true =
+                ap (gives_status i) is ∙ ap (λ b. b && is_some (status_in a.asked.query a.outcome)) (eq-eqb a.link i link) ∙ ap is_some says.1 in
+                let front : at_status i next ≡ next = status-read configuration i n0 t0 turn pace Words past event gives in
+                let newest : newest_answer (at_status i next) ≡ Some a = ap newest_answer front ∙ entry-answer configuration past event ∙ is in
+                let at : polled i next ≡ clock next = ap clock front in
+                record {
+                  says = subst (λ o. Says Words (status_of_answer o)) (sym newest) says;
+                  young = omega (arith, at);
+                }
+          ]
+          | inr r ↦
+              let on = rest-stays configuration i past event last made r.0 in
+              let same = status-unread configuration i n0 t0 turn pace Words past event on.1 in
+              let at : polled i next ≡ polled i past = ap clock same in
+              let early = r.1 in
+              let bound = r.2 in
+              record {
+                says = subst (λ front. Says Words (status_of_answer (newest_answer front))) (sym same) c.fresh.says;
+                young = omega (arith, at, early, bound, steady);
+              }
+        ]
+
+-- ---- over a schedule
+
+module _ (configuration : Configuration) (n0 t0 turn : ℕ) (pace : Pace) (Words : List (List ℕ) → Bool) (fine : ℕ → Bool)
+    (turned : configuration.poll_freq + pace.skip ≤ turn) (soon : pace.delay ≤ turn) where
+  -- a shutdown that began late began in spite of these lines
+  pub record Borne (told : List Event) : Type 0 where
+    pub lasts : Lasts configuration n0 t0 turn pace Words fine told
+    pub began : has_begun configuration (trace configuration told) ≡ true → t0 + turn + pace.delay < clock (begun configuration (trace configuration told)) →
+        Chosen configuration fine (λ i. Bears configuration i n0 t0 turn pace Words (begun configuration (trace configuration told)))
+
+  pub borne-next : (told : List Event) (event : Event) → AllGood configuration n0 pace Words fine told → AllGood configuration n0 pace Words fine (event ∷ told) →
+      clock (trace configuration (event ∷ told)) ≤ clock (trace configuration told) + suc pace.skip → Borne told → Borne (event ∷ told)
+  borne-next told event before now steady p =
+      let past = trace configuration told in
+      let entry = entry_of configuration past event in
+      record {
+        lasts = lasts-next configuration n0 t0 turn pace Words fine turned soon told event before now steady p.lasts;
+        began = λ any late. elim (cases_Bool (has_begun configuration past)) [
+          | inl was ↦
+              let same = earliest-stays (is_short configuration) entry past was in
+              let at = ap clock same in
+              let all = p.began was (omega (arith, at, late)) in
+              subst (λ front. Chosen configuration fine (λ i. Bears configuration i n0 t0 turn pace Words front)) (sym same) all
+          | inr was_not ↦
+              let same : begun configuration (entry ∷ past) ≡ entry ∷ past = (earliest-now (is_short configuration) entry past was_not any).0 in
+              let at : clock (begun configuration (entry ∷ past)) ≡ clock (entry ∷ past) = ap clock same in
+              let late' : t0 + turn + pace.delay < clock (entry ∷ past) = omega (arith, at, late) in
+              let all : Chosen configuration fine (λ i. Bears configuration i n0 t0 turn pace Words (entry ∷ past)) = (λ i within is.
+              let b = before i within is in
+              let g = now i within is in
+              let made = not-made configuration told event i within g.accepted.1 b.there in
+              bears-next configuration i n0 t0 turn pace Words past event made steady g.prompt
+              (subst (λ o. IsGiven i n0 Words o) (entry-answer configuration past event) g.given.0)
+              (late-next configuration i n0 t0 turn pace Words past event turned made steady b.prompt (p.lasts.polls was_not i within is) g.prompt late')) in
+              subst (λ front. Chosen configuration fine (λ i. Bears configuration i n0 t0 turn pace Words front)) (sym same) all
+        ];
+      }
+
+-- ---- what is no cause
+
+no-reason : (setup : Setup) (m i : ℕ) (time calm polled : ℕ) (words : List (List ℕ)) → is_bearable words ≡ true →
+    time ≤ polled + (monitor_of setup m).dead_time → IsReason (monitor_of setup m) (line_of setup m i) time calm polled words → ⊥
+no-reason setup m i time calm polled words fine young reason =
+    let parts = and_parts (not (has_fsd words)) (not (is_low words)) fine in
+    elim reason [
+      | inl fsd ↦ let bad : true ≡ false = sym fsd ∙ not-true (has_fsd words) parts.0 in cc
+      | inr (inl low) ↦
+          let all : is_low words ≡ true = rw (low.0, low.1, low.2) refl in
+          let bad : true ≡ false = sym all ∙ not-true (is_low words) parts.1 in cc
+      | inr (inr gone) ↦ let late = gone.1 in omega (arith, young, late)
+    ]
+
+same-words : (o : Option (List (List ℕ))) (a b : List (List ℕ)) → o ≡ Some a → o ≡ Some b → a ≡ b
+same-words o a b p q = let e : Some a ≡ Some b = sym p ∙ q in cc
+
+says-words : (o : Option (List (List ℕ))) (words : List (List ℕ)) → Says is_bearable o → o ≡ Some words → is_bearable words ≡ true
+says-words o words says is = subst (λ w. is_bearable w ≡ true) (same-words o says.0 words says.1 is) says.2
+
+-- the lines that there are
+abbrev among : ℕ → (ℕ → Bool) → ℕ → Bool
+among count fine i = fine i && nat_lt i count
+
+-- A shutdown has begun: were none of these lines a cause, they would have supplied enough.
+no-causes : (setup : Setup) → IsLawful setup.server → IsSetup setup → (schedule : List Step) (m : ℕ) (fine : ℕ → Bool) →
+    (monitor_of setup m).min_supplies ≤ power_where fine (monitor_of setup m).lines →
+    has_begun (monitor_of setup m) (seen_at setup m schedule) ≡ true →
+    Chosen (monitor_of setup m) fine (λ i. Cause setup schedule m i (begun (monitor_of setup m) (seen_at setup m schedule)) → ⊥) → ⊥
+no-causes setup law fine_setup schedule m fine enough over none =
+    let config = monitor_of setup m in
+    let count = length config.lines in
+    let few = shutdowns-have_causes setup law fine_setup schedule m (among count fine) over
+    (λ i is cause. let parts = and_parts (fine i) (nat_lt i count) is in none i (ltb-true i count parts.1) parts.0 cause) in
+    let more = power-less fine (among count fine) config.lines (λ i within is. rw (is, lt-ltb i count within) refl) in
+    omega (arith, enough, few, more)
+
+module _ (setup : Setup) (law : IsLawful setup.server) (fine_setup : IsSetup setup) (schedule : List Step) where
+  pub none-begins_later : NoneBeginsLater setup schedule
+  none-begins_later pace m fine start b over =
+      let config = monitor_of setup m in
+      let past = seen_at setup m schedule in
+      let n0 = length ((world setup start).monitor m) in
+      let t0 = clock (seen_at setup m start) in
+      let most = turn config pace in
+      let turned : config.poll_freq + pace.skip ≤ most = omega arith in
+      let soon : pace.delay ≤ most = omega arith in
+      let sooner = earliest-sooner (is_short config) (seen_at setup m start) in
+      let p : Borne config n0 t0 most pace is_bearable fine turned soon ((world setup schedule).monitor m) =
+      event-by-event setup law fine_setup pace m start schedule b.front is_bearable fine b.lines
+      (Borne config n0 t0 most pace is_bearable fine turned soon) b.steady
+      (record { lasts = lasts-first setup law fine_setup pace m start schedule b.front is_bearable fine b.lines most; began = λ any late. absurd (omega (arith, sooner, late)) })
+      (borne-next config n0 t0 most pace is_bearable fine turned soon) in
+      elim (cases_Bool (nat_lt (seen_by config pace t0) (clock (begun config past)))) [
+        | inl late ↦
+            let all = p.began over (ltb-true (seen_by config pace t0) (clock (begun config past)) late) in
+            absurd (no-causes setup law fine_setup schedule m fine b.enough over (λ i within is cause.
+            let bears = all i within is in
+            let young = bears.young in
+            let patient = b.patient in
+            no-reason setup m i (clock (begun config past)) _ (polled i (begun config past)) cause.words (says-words (status i (begun config past)) cause.words bears.says cause.status_is)
+            (omega (arith, young, patient)) cause.reason))
+        | inr early ↦ ltb-false (seen_by config pace t0) (clock (begun config past)) early
+      ]
+
+  -- ---- from a time on at which none has begun
+
+  module _ (m : ℕ) (middle : List Step) where
+    pub record Behind (told : List Event) : Type 0 where
+      pub since : clock (seen_at setup m middle) ≤ clock (trace (monitor_of setup m) told)
+      pub began : has_begun (monitor_of setup m) (trace (monitor_of setup m) told) ≡ true →
+          clock (seen_at setup m middle) ≤ clock (begun (monitor_of setup m) (trace (monitor_of setup m) told))
+
+    behind-next : (told : List Event) (event : Event) → Behind told → Behind (event ∷ told)
+    behind-next told event b =
+        let config = monitor_of setup m in
+        let past = trace config told in
+        let entry = entry_of config past event in
+        let time = clock-entry config past event in
+        let grows = clock-grows event (clock past) in
+        let since = b.since in
+        record {
+          since = omega (arith, time, grows, since);
+          began = λ any. elim (cases_Bool (has_begun config past)) [
+            | inl was ↦
+                let at = ap clock (earliest-stays (is_short config) entry past was) in
+                let le = b.began was in
+                omega (arith, at, le)
+            | inr was_not ↦
+                let at = ap clock (earliest-now (is_short config) entry past was_not any).0 in
+                omega (arith, at, time, grows, since)
+          ];
+        }
+
+    behind : IsFront middle schedule → has_begun (monitor_of setup m) (seen_at setup m middle) ≡ false → Behind ((world setup schedule).monitor m)
+    behind front not_begun =
+        climb setup m middle schedule Behind front
+        (record { since = omega arith; began = λ any. let bad : false ≡ true = sym not_begun ∙ any in cc })
+        (λ step earlier event within since is before.
+        let told = (world setup earlier).monitor m in
+        forth Behind (λ t. Unit {0}) (λ t q. tt) (λ t p q. behind-next t NoticeTaken p)
+        (notices_waiting (trace (monitor_of setup m) (event ∷ told))) (event ∷ told) (behind-next told event before) tt)
+
+  pub none-begins_any_more : NoneBeginsAnyMore setup schedule
+  none-begins_any_more pace m fine start middle b within late not_begun = elim (cases_Bool (has_begun (monitor_of setup m) (seen_at setup m schedule))) [
+    | inr f ↦ f
+    | inl over ↦
+        let soon = none-begins_later pace m fine start b over in
+        let on = (behind m middle within not_begun).began over in
+        absurd (omega (arith, soon, on, late))
+  ]
+
+  -- ---- from before the monitor is up to date
+
+  module _ (pace : Pace) (m i : ℕ) (start : List Step) where
+    abbrev seen_first : ℕ
+    seen_first = seen_by (monitor_of setup m) pace (clock (seen_at setup m start))
+
+    -- there is no status, or it may last until then
+    abbrev Lasting : List Entry → Type 0
+    Lasting past = (status i past ≡ None) ⊎ (seen_by (monitor_of setup m) pace (clock (seen_at setup m start)) ≤ polled i past + (monitor_of setup m).dead_time)
+
+    pub record Kept (told : List Event) : Type 0 where
+      pub since : clock (seen_at setup m start) ≤ clock (trace (monitor_of setup m) told)
+      pub last : Lasting (trace (monitor_of setup m) told)
+      pub began : has_begun (monitor_of setup m) (trace (monitor_of setup m) told) ≡ true → Lasting (begun (monitor_of setup m) (trace (monitor_of setup m) told))
+
+    kept-next : seen_by (monitor_of setup m) pace 0 ≤ (monitor_of setup m).dead_time → (told : List Event) (event : Event) → Kept told → Kept (event ∷ told)
+    kept-next patient told event k =
+        let config = monitor_of setup m in
+        let past = trace config told in
+        let entry = entry_of config past event in
+        let time = clock-entry config past event in
+        let grows = clock-grows event (clock past) in
+        let since = k.since in
+        let last : Lasting (entry ∷ past) = elim (cases_Bool (gives_status i (answer_of config past event))) [
+          | inl read ↦
+              let at : polled i (entry ∷ past) ≡ clock (entry ∷ past) = ap clock (status-read config i 0 0 0 pace is_bearable past event read) in
+              inr (omega (arith, at, time, grows, since, patient))
+          | inr unread ↦
+              let same = status-unread config i 0 0 0 pace is_bearable past event unread in
+              subst (λ front. (status_of_answer (newest_answer front) ≡ None) ⊎ (seen_first ≤ clock front + config.dead_time)) (sym same) k.last
+        ] in
+        record {
+          since = omega (arith, time, grows, since);
+          last = last;
+          began = λ any. elim (cases_Bool (has_begun config past)) [
+            | inl was ↦ subst Lasting (sym (earliest-stays (is_short config) entry past was)) (k.began was)
+            | inr was_not ↦ subst Lasting (sym (earliest-now (is_short config) entry past was_not any).0) last
+          ];
+        }
+
+    kept : IsFront start schedule → seen_by (monitor_of setup m) pace 0 ≤ (monitor_of setup m).dead_time → Kept ((world setup start).monitor m) →
+        Kept ((world setup schedule).monitor m)
+    kept front patient first =
+        climb setup m start schedule Kept front first
+        (λ step earlier event within since is before.
+        let told = (world setup earlier).monitor m in
+        forth Kept (λ t. Unit {0}) (λ t q. tt) (λ t p q. kept-next patient t NoticeTaken p)
+        (notices_waiting (trace (monitor_of setup m) (event ∷ told))) (event ∷ told) (kept-next patient told event before) tt)
+
+  kept-first : (pace : Pace) (m i : ℕ) (start : List Step) → has_begun (monitor_of setup m) (seen_at setup m start) ≡ false → WasBorne setup pace m i start →
+      Kept pace m i start ((world setup start).monitor m)
+  kept-first pace m i start not_begun was = record {
+    since = omega arith;
+    last = by (status i (seen_at setup m start)) refl;
+    began = λ any. let bad : false ≡ true = sym not_begun ∙ any in cc;
+  }
+    where
+      by : (o : Option (List (List ℕ))) → status i (seen_at setup m start) ≡ o → Lasting pace m i start (seen_at setup m start)
+      by None is = inl is
+      by (Some words) is = inr (was.young (ap is_some is))
+
+  pub none-begins : NoneBegins setup schedule
+  none-begins pace m fine start b before patient not_begun = elim (cases_Bool (has_begun (monitor_of setup m) (seen_at setup m schedule))) [
+    | inr f ↦ f
+    | inl over ↦
+        let config = monitor_of setup m in
+        let past = seen_at setup m schedule in
+        let soon : clock (begun config past) ≤ seen_by config pace (clock (seen_at setup m start)) = none-begins_later pace m fine start b over in
+        absurd (no-causes setup law fine_setup schedule m fine b.enough over (λ i within is cause.
+        let was = before i within is in
+        let k = kept pace m i start b.front patient (kept-first pace m i start not_begun was) in
+        let early = cause.shown.early in
+        let bearable : is_bearable cause.words ≡ true = elim (fronts-compare early start schedule cause.shown.between.front b.front) [
+          | inl older ↦ was.shown early cause.words older cause.shown.shown
+          | inr newer ↦
+              let shows = (b.lines i within is).shows early cause.shown.between.front newer in
+              says-words (shown_at setup early (line_of setup m i).ups) cause.words shows cause.shown.shown
+        ] in
+        elim (k.began over) [
+          | inl none ↦ let bad : None ≡ Some cause.words = sym none ∙ cause.status_is in cc
+          | inr young ↦ no-reason setup m i (clock (begun config past)) _ (polled i (begun config past)) cause.words bearable (omega (arith, young, soon)) cause.reason
+        ]))
+  ]

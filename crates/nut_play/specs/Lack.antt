@@ -1,0 +1,34 @@
+-- Where memory may be lacking at a step.
+use Rattle.std.specs.Prelude.{Bool, true, false, ◌||◌, List, [], ◌∷◌}
+use Rattle.nut_history.specs.Event as arrivals
+use Rattle.nut_decision.specs.Event as events
+use Rattle.nut_fleet.specs.Schedule.{Step, Driver, Out, Reach, Back, Land}
+use Rattle.nut_fleet.specs.Log.{News}
+
+-- Of what a server and a monitor are told, pieces alone may take memory.
+abbrev pub is_piece : arrivals.Event → Bool
+is_piece (arrivals.Bytes c piece) = true
+is_piece (arrivals.DriverBytes u piece) = true
+is_piece event = false
+
+abbrev pub is_link_piece : events.Event → Bool
+is_link_piece (events.LinkBytes i piece) = true
+is_link_piece event = false
+
+-- whether there is anything to log
+abbrev pub is_told : List News → Bool
+is_told [] = false
+is_told (one ∷ more) = true
+
+-- whether a step brings a driver's line or moves bytes
+abbrev pub brings_bytes : Step → Bool
+brings_bytes (Driver u line) = true
+brings_bytes (Out m i n) = true
+brings_bytes (Reach m i n) = true
+brings_bytes (Back m i n) = true
+brings_bytes (Land m i n) = true
+brings_bytes step = false
+
+-- Memory may be lacking at such a step, and at any other where it tells something.
+abbrev pub may_lack : Step → List News → Bool
+may_lack step news = brings_bytes step || is_told news

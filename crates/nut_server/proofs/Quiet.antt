@@ -1,0 +1,63 @@
+-- No answer but that to a LOGOUT logs a client out.
+use Rattle.std.proofs.Common.{◌≡◌, ℕ, Bool, true, false, List, refl, Option, Some, None}
+use Rattle.nut_proto.specs.declared.refusal.Refusal.{Refusal}
+use Rattle.nut_proto.specs.declared.request.ListQuery.{ListQuery}
+use Rattle.nut_proto.specs.declared.request.ListQuery.TheVariants as queries
+use Rattle.nut_proto.specs.declared.reply.Reply.TheVariants as replies
+use Rattle.std.specs.Prelude.{map, filter}
+use Rattle.nut_state.specs.Table.{Entry, variable, has_command}
+use Rattle.nut_history.specs.Answer.{Answer, Scene, require, check, unless, on_device, on_ups, on_data, on_variable, on_command, ups_number, device_at, described, list_answer, Listing, var_row, rw_row, guests_of}
+use Rattle.nut_history.specs.Command.{Blank}
+use Rattle.nut_history.specs.Configuration.{Configuration, Ups}
+use Rattle.nut_history.specs.Device.{Device, trouble}
+use Rattle.nut_history.specs.Effect.{login_then, logged_out_then}
+
+-- the answer leaves its session logged in, and not logged out
+abbrev pub IsQuiet : Answer → Type 0
+IsQuiet reply =
+    ((b : Bool) → logged_out_then Blank reply b ≡ b) × ((configuration : Configuration) (b : Option ℕ) → login_then configuration Blank reply b ≡ b)
+
+pub of_require : {A : Type 0} (refusal : Refusal) (o : Option A) (next : A → Answer) → ((x : A) → IsQuiet (next x)) → IsQuiet (require refusal o next)
+of_require refusal None next quiet = (λ b. refl, λ configuration b. refl)
+of_require refusal (Some x) next quiet = quiet x
+
+pub of_check : (refusal : Refusal) (holds : Bool) (next : Answer) → IsQuiet next → IsQuiet (check refusal holds next)
+of_check refusal true next quiet = quiet
+of_check refusal false next quiet = (λ b. refl, λ configuration b. refl)
+
+pub of_unless : (trouble : Option Refusal) (next : Answer) → IsQuiet next → IsQuiet (unless trouble next)
+of_unless None next quiet = quiet
+of_unless (Some refusal) next quiet = (λ b. refl, λ configuration b. refl)
+
+pub of_described : (name : List ℕ) (ups : Option Ups) → IsQuiet (described name ups)
+of_described name None = (λ b. refl, λ configuration b. refl)
+of_described name (Some ups) = (λ b. refl, λ configuration b. refl)
+
+pub of_ups : (s : Scene) (name : List ℕ) (next : ℕ → Device → Answer) → ((u : ℕ) (d : Device) → IsQuiet (next u d)) → IsQuiet (on_ups s name (λ u. on_data s u (next u)))
+of_ups s name next quiet =
+    of_require _ (ups_number s name) (λ u. on_data s u (next u)) (λ u. of_unless (trouble s.configuration.max_age s.clock (device_at s u)) (next u (device_at s u)) (quiet u (device_at s u)))
+
+pub of_device : (s : Scene) (name : List ℕ) (next : Device → Answer) → ((d : Device) → IsQuiet (next d)) → IsQuiet (on_device s name next)
+of_device s name next quiet = of_ups s name (λ u. next) (λ u. quiet)
+
+pub of_variable : (s : Scene) (ups name : List ℕ) (next : Device → Entry → Answer) → ((d : Device) (v : Entry) → IsQuiet (next d v)) → IsQuiet (on_device s ups (λ d. on_variable name d (next d)))
+of_variable s ups name next quiet =
+    of_device s ups (λ d. on_variable name d (next d)) (λ d. of_require _ (variable d.table name) (next d) (quiet d))
+
+pub of_command : (s : Scene) (ups name : List ℕ) (next : Answer) → IsQuiet next → IsQuiet (on_device s ups (λ d. on_command name d next))
+of_command s ups name next quiet = of_device s ups (λ d. on_command name d next) (λ d. of_check _ (has_command d.table name) next quiet)
+
+pub of_list : (s : Scene) (query : ListQuery) → IsQuiet (list_answer s query)
+of_list s queries.Ups = (λ b. refl, λ configuration b. refl)
+of_list s (queries.Var ups) =
+    of_device s ups (λ d. Listing (queries.Var ups) (map (var_row ups d) d.table.variables)) (λ d. (λ b. refl, λ configuration b. refl))
+of_list s (queries.Rw ups) =
+    of_device s ups (λ d. Listing (queries.Rw ups) (map (rw_row ups d) (filter (λ v. v.flags.writable) d.table.variables))) (λ d. (λ b. refl, λ configuration b. refl))
+of_list s (queries.Cmd ups) =
+    of_device s ups (λ d. Listing (queries.Cmd ups) (map (λ k. replies.Cmd ups k) d.table.commands)) (λ d. (λ b. refl, λ configuration b. refl))
+of_list s (queries.Enum ups name) =
+    of_variable s ups name (λ d v. Listing (queries.Enum ups name) (map (λ x. replies.Enum ups name x) v.enums)) (λ d v. (λ b. refl, λ configuration b. refl))
+of_list s (queries.Range ups name) =
+    of_variable s ups name (λ d v. Listing (queries.Range ups name) (map (λ r. replies.Range ups name r.minimum r.maximum) v.ranges)) (λ d v. (λ b. refl, λ configuration b. refl))
+of_list s (queries.Client ups) =
+    of_ups s ups (λ u d. Listing (queries.Client ups) (map (λ g. replies.Client ups g.address) (guests_of u s.guests))) (λ u d. (λ b. refl, λ configuration b. refl))

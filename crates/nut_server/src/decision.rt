@@ -1,0 +1,162 @@
+//! What each request decides: its answer, and what it does.
+
+ghost use Rattle.std.specs.Prelude.{◌≡◌, length, MatchResult};
+ghost use Rattle.nut_proto.specs.declared.refusal.Refusal.TheVariants as refusals;
+ghost use Rattle.nut_history.specs.Answer.{refused};
+ghost use Rattle.nut_history.specs.Answer as definitions;
+ghost use Rattle.nut_history.specs.Command.{Asks, asked};
+ghost use Rattle.nut_history.specs.Machine.{caller_of};
+ghost use Rattle.nut_server.specs.Answers.{given, outcome};
+ghost use Rattle.nut_server.specs.Decisions.{Decides};
+ghost use Rattle.nut_server.specs.Effects.{HasShortNames};
+ghost use Rattle.nut_server.specs.declared.effect.Effect.TheVariants as effects;
+
+use crate::answer::Answer;
+use crate::changes::{
+    become_primary, force, give_command, give_password, give_user, log_in, set_variable,
+};
+use crate::connection::Connection;
+use crate::effect::Effect;
+use crate::lists::list_answer;
+use crate::queries::{
+    count_logins, describe_command, describe_ups, describe_variable, show_type, show_variable,
+};
+use crate::scene::Scene;
+use arrayvec::ArrayVec;
+use nut_proto::{Refusal, Reply, Request};
+
+/// What is decided on a request.
+#[derive(Drop)]
+pub struct Decision<'a, 'l> {
+    /// What it is answered.
+    pub answer: Answer<'a>,
+    /// What it does beside.
+    pub effect: Effect<'l>,
+}
+
+/// This answer, and nothing beside.
+fn only<'a>(answer: Answer<'a>) -> Decision<'a, 'static>
+    ensures answer { given result.answer ≡ given answer.entry }
+    ensures effect { result.effect ≡ effects.Nothing }
+{
+    Decision {
+        answer,
+        effect: Effect::Nothing,
+    }
+}
+
+/// What was asked for is told, or the request is refused.
+fn tell<'a>(told: Result<Answer<'a>, Refusal>) -> Decision<'a, 'static>
+    ensures answer { given result.answer ≡ outcome told.entry }
+    ensures effect { result.effect ≡ effects.Nothing }
+{
+    match told {
+        Ok(answer) => only(answer),
+        Err(refusal) => only(Answer::Line(Reply::Refused(refusal))),
+    }
+}
+
+/// A request is granted by this line and has its effect, or is refused and has none.
+fn grant<'a, 'l>(reply: Reply<'a>, granted: Result<Effect<'l>, Refusal>) -> Decision<'a, 'l>
+    ensures { MatchResult granted.entry
+        (λ effect. (given result.answer ≡ definitions.Line reply.entry) × (result.effect ≡ effect))
+        (λ refusal. (given result.answer ≡ refused refusal) × (result.effect ≡ effects.Nothing)) }
+{
+    match granted {
+        Ok(effect) => Decision {
+            answer: Answer::Line(reply),
+            effect,
+        },
+        Err(refusal) => tell(Err(refusal)),
+    }
+}
+
+/// Decides on a request.
+fn decide_request<'a, 'l>(
+    scene: &'a Scene<'_>,
+    caller: &Connection,
+    request: &'a Request<'l>,
+    line: &mut ArrayVec<u8, 4096>,
+) -> Decision<'a, 'l>
+    requires all { length scene.now.devices ≡ length scene.now.configuration.upses }
+    requires short { HasShortNames (Asks request.now) }
+    ensures { Decides scene.now (caller_of caller.now) (Asks request.now) result line.new.items }
+{
+    match request {
+        Request::GetNumLogins { ups } => tell(count_logins(scene, ups.as_bytes())),
+        Request::GetUpsDesc { ups } => tell(describe_ups(scene, ups.as_bytes())),
+        Request::GetVar { ups, variable } => tell(show_variable(
+            scene,
+            ups.as_bytes(),
+            variable.as_bytes(),
+        )),
+        Request::GetType { ups, variable } => tell(show_type(
+            scene,
+            ups.as_bytes(),
+            variable.as_bytes(),
+        )),
+        Request::GetDesc { ups, variable } => tell(describe_variable(
+            scene,
+            ups.as_bytes(),
+            variable.as_bytes(),
+        )),
+        Request::GetCmdDesc { ups, command } => tell(describe_command(
+            scene,
+            ups.as_bytes(),
+            command.as_bytes(),
+        )),
+        Request::List(query) => tell(list_answer(scene, query)),
+        Request::SetVar {
+            ups,
+            variable,
+            value,
+        } => grant(
+            Reply::Accepted,
+            set_variable(
+                scene,
+                caller,
+                ups.as_bytes(),
+                variable.as_bytes(),
+                value.as_bytes(),
+                line,
+            ),
+        ),
+        Request::InstCmd { ups, command } => grant(
+            Reply::Accepted,
+            give_command(scene, caller, ups.as_bytes(), command.as_bytes(), line),
+        ),
+        Request::Username { name } => grant(Reply::Accepted, give_user(caller, name.as_bytes())),
+        Request::Password { password } => grant(
+            Reply::Accepted,
+            give_password(caller, password.as_bytes()),
+        ),
+        Request::Login { ups } => grant(Reply::Accepted, log_in(scene, caller, ups.as_bytes())),
+        Request::Primary { ups } => grant(
+            Reply::Accepted,
+            become_primary(scene, caller, ups.as_bytes()),
+        ),
+        Request::Fsd { ups } => grant(Reply::FsdSet, force(scene, caller, ups.as_bytes())),
+        Request::Logout => grant(Reply::Goodbye, Ok(Effect::Logout)),
+        Request::Ver => only(Answer::Line(Reply::Version)),
+        Request::NetVer => only(Answer::Line(Reply::NetworkVersion)),
+        Request::Help => only(Answer::Line(Reply::Commands)),
+        Request::StartTls => tell(Err(Refusal::FeatureNotConfigured)),
+    }
+}
+
+/// Decides on a request, or on a line that is none. Where a driver is to be asked, `line` then has what it is asked.
+pub fn decide<'a, 'l>(
+    scene: &'a Scene<'_>,
+    caller: &Connection,
+    request: &'a Result<Request<'l>, Refusal>,
+    line: &mut ArrayVec<u8, 4096>,
+) -> Decision<'a, 'l>
+    requires all { length scene.now.devices ≡ length scene.now.configuration.upses }
+    requires short { HasShortNames (asked request.now) }
+    ensures { Decides scene.now (caller_of caller.now) (asked request.now) result line.new.items }
+{
+    match request {
+        Ok(request) => decide_request(scene, caller, request, line),
+        Err(refusal) => tell(Err(*refusal)),
+    }
+}

@@ -1,0 +1,28 @@
+//! The command line of nutsim.
+
+use clap::{Arg, ArgAction, Command};
+use std::alloc::{AllocError, Global};
+
+/// The command line `nutsim DIR SCHEDULE MONCONF..`.
+pub fn nutsim_command<'a>(alloc: Global) -> Result<Command<'a>, AllocError> {
+    let folder = Arg::new(alloc, "folder")
+        .value_name("DIR")
+        .required(true)
+        .help("The folder of ups.conf, upsd.users and upsd.conf");
+    let schedule = Arg::new(alloc, "schedule")
+        .value_name("SCHEDULE")
+        .required(true)
+        .help("The file of the steps, one a line");
+    let monitors = Arg::new(alloc, "monitors")
+        .value_name("MONCONF")
+        .required(true)
+        .num_args(1..)
+        .action(ArgAction::Append)
+        .help("The upsmon.conf of each monitor; the first is monitor 0");
+    Command::new(alloc, "nutsim")
+        .version("profile 1.2")
+        .about("Plays a schedule on one server and many monitors, joined in memory")
+        .arg(folder)?
+        .arg(schedule)?
+        .arg(monitors)
+}

@@ -1,0 +1,42 @@
+//! Why a schedule isn't played to its end.
+
+use nut::{Failure, FileFault, OwnFault};
+use std::fmt;
+
+/// What nutsim alone meets.
+#[derive(Debug, Drop)]
+pub enum NutsimFault<'a> {
+    /// A configuration file, of the server or of a monitor, gives no configuration.
+    File(FileFault<'a>),
+    /// This file can't be read.
+    CannotRead(&'a str),
+    /// This line of a schedule, counted from 1, isn't a step, or not one that may be played in the room.
+    BadStep(&'a str, u64),
+}
+
+impl<'a> fmt::Display for NutsimFault<'a> {
+    fn fmt<W: fmt::Write>(&self, f: &mut fmt::Formatter<W>) -> fmt::Result {
+        match self {
+            NutsimFault::File(fault) => write!(f, "{fault}"),
+            NutsimFault::CannotRead(file) => write!(f, "{file}: cannot read"),
+            NutsimFault::BadStep(schedule, number) => write!(f, "{schedule}:{number}: BadStep"),
+        }
+    }
+}
+
+impl<'a> OwnFault for NutsimFault<'a> {
+    fn unknown_word(&self) -> Option<&str> {
+        match self {
+            NutsimFault::File(fault) => fault.unknown_word(),
+            NutsimFault::CannotRead(_) | NutsimFault::BadStep(..) => None,
+        }
+    }
+}
+
+/// Why nutsim ends where a configuration file gives no configuration.
+pub fn file_failure<'a>(fault: FileFault<'a>) -> Failure<NutsimFault<'a>> {
+    match fault {
+        FileFault::Memory => Failure::Memory,
+        fault => Failure::Own(NutsimFault::File(fault)),
+    }
+}

@@ -1,0 +1,47 @@
+//! What steps tell, as lines.
+
+use nut_monitor::Phase;
+use nut_play::{Fleet, Logged, News};
+use std::io;
+use std::io::Write;
+
+/// Writes what the step with this number, counted from 1 in its schedule, tells.
+pub fn write_news<W: Write>(
+    out: &mut W,
+    fleet: &Fleet,
+    number: u64,
+    logged: &Logged,
+) -> io::Result<()> {
+    match logged.news {
+        News::Skipped => writeln!(out, "{number}: skipped"),
+        News::Notice(monitor, notice) => {
+            write!(out, "{number}: monitor {monitor} notice ")?;
+            out.write_all(notice.kind.word())?;
+            if let Some(target) = target_of(fleet, monitor, notice.line) {
+                out.write_all(b" ")?;
+                out.write_all(target)?;
+            }
+            out.write_all(b"\n")
+        }
+        News::Phase(monitor, phase) => {
+            let phase = phase_word(phase);
+            writeln!(out, "{number}: monitor {monitor} phase {phase}")
+        }
+    }
+}
+
+/// The target of a MONITOR line, as it is written there. None where no line is named.
+fn target_of(fleet: &Fleet, monitor: usize, line: Option<usize>) -> Option<&[u8]> {
+    let config = fleet.config(monitor)?;
+    let monitored = config.monitors.lines.get(line?)?;
+    Some(monitored.written.as_slice())
+}
+
+fn phase_word(phase: Phase) -> &'static str {
+    match phase {
+        Phase::Watching => "Watching",
+        Phase::Forcing => "Forcing",
+        Phase::Final => "Final",
+        Phase::Halted { .. } => "Halted",
+    }
+}

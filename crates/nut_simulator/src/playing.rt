@@ -1,0 +1,163 @@
+//! A schedule is played, line by line.
+
+use crate::fault::NutsimFault;
+use crate::news::write_news;
+use crate::progress::Progress;
+use nut::Failure;
+use nut_play::{Fleet, FleetFault, Step, StepFault, read_step};
+use nut_words::{Line, LineCutter};
+use std::alloc::Global;
+use std::io::{BufRead, BufWriter, IsTerminal, Write};
+use std::slice;
+
+/// Why a schedule isn't played to its end.
+#[derive(Clone, Copy)]
+enum Halt {
+    /// The line with this number isn't a step that may be played.
+    BadStep(u64),
+    /// Memory was refused.
+    Memory,
+    /// The schedule can't be read.
+    Input,
+    /// The news can't be written.
+    Output,
+}
+
+/// A room, and where its news go.
+#[derive(Drop)]
+struct Stage<'a, O, E> {
+    fleet: &'a mut Fleet,
+    alloc: Global,
+    /// How many lines of the schedule were begun.
+    number: u64,
+    out: &'a mut O,
+    progress: Progress<'a, E>,
+}
+
+/// Plays the lines of a schedule, and writes what they tell. What the steps before a fault told is written before the fault is
+/// given.
+pub fn play_schedule<'a, R: BufRead, O: Write, E: Write + IsTerminal>(
+    alloc: Global,
+    fleet: &mut Fleet,
+    path: &'a str,
+    schedule: &mut R,
+    out: &mut O,
+    err: &mut E,
+) -> Result<(), Failure<NutsimFault<'a>>> {
+    let mut out = BufWriter::new(alloc, out)?;
+    let played = play_on(alloc, fleet, schedule, &mut out, err);
+    let flushed = out.flush();
+    match played {
+        Err(Halt::BadStep(number)) => Err(Failure::Own(NutsimFault::BadStep(path, number))),
+        Err(Halt::Memory) => Err(Failure::Memory),
+        Err(Halt::Input) => Err(Failure::Own(NutsimFault::CannotRead(path))),
+        Err(Halt::Output) => Err(Failure::Io),
+        Ok(()) if flushed.is_err() => Err(Failure::Io),
+        Ok(()) => Ok(()),
+    }
+}
+
+/// Plays the lines of a schedule on a room.
+fn play_on<R: BufRead, O: Write, E: Write + IsTerminal>(
+    alloc: Global,
+    fleet: &mut Fleet,
+    schedule: &mut R,
+    out: &mut O,
+    err: &mut E,
+) -> Result<(), Halt> {
+    let mut stage = Stage {
+        fleet,
+        alloc,
+        number: 0,
+        out,
+        progress: Progress::new(err),
+    };
+    let played = stage.play_lines(schedule);
+    stage.progress.clear();
+    played
+}
+
+impl<'a, O: Write, E: Write + IsTerminal> Stage<'a, O, E> {
+    /// Plays all lines of a schedule. A last line without a line feed is a line too.
+    fn play_lines<R: BufRead>(&mut self, schedule: &mut R) -> Result<(), Halt> {
+        let mut cutter = LineCutter::new();
+        let mut is_line_open = false;
+        for _ in 0..u64::MAX {
+            let Ok(piece) = schedule.fill_buf() else {
+                return Err(Halt::Input);
+            };
+            let Some(last) = piece.last() else {
+                break;
+            };
+            is_line_open = *last != b'\n';
+            let length = piece.len();
+            self.play_piece(&mut cutter, piece)?;
+            schedule.consume(length);
+        }
+        if is_line_open {
+            self.play_piece(&mut cutter, b"\n")?;
+        }
+        Ok(())
+    }
+
+    /// Plays the lines that a piece of a schedule completes.
+    fn play_piece(&mut self, cutter: &mut LineCutter, piece: &[u8]) -> Result<(), Halt> {
+        let mut left = piece;
+        while !left.is_empty() {
+            let (line, used) = cutter.feed(left);
+            if let Some(line) = line {
+                self.play_line(line)?;
+            }
+            left = &left[used..];
+        }
+        Ok(())
+    }
+
+    /// Plays a line.
+    fn play_line(&mut self, line: Line<'_>) -> Result<(), Halt> {
+        self.number = self.number.saturating_add(1);
+        let step = self.read(line)?;
+        self.play(&step)?;
+        if self.progress.is_due(self.number) {
+            self.show_progress()?;
+        }
+        Ok(())
+    }
+
+    /// The step of a line.
+    fn read(&self, line: Line<'_>) -> Result<Step, Halt> {
+        let Line::Text(text) = line else {
+            return Err(Halt::BadStep(self.number));
+        };
+        match read_step(self.alloc, text) {
+            Ok(step) => Ok(step),
+            Err(StepFault::BadStep) => Err(Halt::BadStep(self.number)),
+            Err(StepFault::Memory) => Err(Halt::Memory),
+        }
+    }
+
+    /// Plays a step, and writes what it tells.
+    fn play(&mut self, step: &Step) -> Result<(), Halt> {
+        let log = match self.fleet.play(slice::from_ref(step)) {
+            Ok(log) => log,
+            Err(FleetFault::BadStep(_)) => return Err(Halt::BadStep(self.number)),
+            Err(FleetFault::Memory(_) | FleetFault::Failed) => return Err(Halt::Memory),
+        };
+        for logged in &log {
+            self.progress.clear();
+            if write_news(self.out, self.fleet, self.number, logged).is_err() {
+                return Err(Halt::Output);
+            }
+        }
+        Ok(())
+    }
+
+    /// Tells how far the schedule was played, behind the news so far.
+    fn show_progress(&mut self) -> Result<(), Halt> {
+        if self.out.flush().is_err() {
+            return Err(Halt::Output);
+        }
+        self.progress.show(self.number);
+        Ok(())
+    }
+}

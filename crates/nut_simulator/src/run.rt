@@ -1,0 +1,120 @@
+//! nutsim: a room in memory.
+
+use crate::command::nutsim_command;
+use crate::fault::{NutsimFault, file_failure};
+use crate::playing::play_schedule;
+use crate::room::{read_config, read_monitors};
+use nut::Failure;
+use nut_play::Fleet;
+use nut_server::Config;
+use std::alloc::Global;
+use std::convert::AsStr;
+use std::fs::File;
+use std::io;
+use std::io::{BufRead, BufReader, ErrorKind, IsTerminal, Write};
+use std::rt::Files;
+
+/// Plays a schedule on one server and its monitors, joined by pipes in memory, and gives the exit status.
+///
+/// The words are those of the command line `nutsim DIR SCHEDULE MONCONF..`, with the program's name first. The server is made
+/// by ups.conf, upsd.users and upsd.conf in the folder DIR, and a monitor by each MONCONF, an upsmon.conf whose hosts don't
+/// count. Each line of the file SCHEDULE is a step (`read_step`). What steps tell is printed on `out`, a line each, with the
+/// number of the step, counted from 1: `K: skipped` where a step was in the wrong state and changed nothing;
+/// `K: monitor M notice TYPE`, with a blank and the target of the MONITOR line where a UPS is named; and then
+/// `K: monitor M phase P` where the phase of a monitor is another than before the step. The status is 0 once all was played.
+///
+/// It takes no more memory for a longer schedule. Where `err` is a terminal, a line there tells how far a schedule of more
+/// than 100,000 steps has been played.
+///
+/// Where the words don't read, clap's text says so on `err`, and the status is 2; the help and the version go to `out`, with
+/// status 0. Files are read in the order of the command line, and the first fault is told on `err`, with status 1:
+/// `nutsim: FILE: cannot read`, or a configuration file's first fault, as `nutsim: ups.conf:2: BadName`, which is named
+/// without its folder. A line that isn't a step, or names a monitor, a link or a UPS that isn't there, is told as
+/// `nutsim: SCHEDULE:K: BadStep`, after what the steps before it told. `nutsim: out of memory` is told where memory was
+/// refused, and `nutsim: I/O failed` where `out` fails.
+pub fn run_nutsim<S: AsStr, O: Write, E: Write + IsTerminal>(
+    files: &impl Files,
+    alloc: Global,
+    words: &[S],
+    out: &mut O,
+    err: &mut E,
+) -> u8 {
+    match run(files, alloc, words, out, err) {
+        Ok(()) => 0,
+        Err(failure) => failure.tell("nutsim", out, err),
+    }
+}
+
+fn run<'a, S: AsStr, O: Write, E: Write + IsTerminal>(
+    files: &impl Files,
+    alloc: Global,
+    words: &'a [S],
+    out: &mut O,
+    err: &mut E,
+) -> Result<(), Failure<NutsimFault<'a>>> {
+    let matches = nutsim_command(alloc)?.try_get_matches_from(words)?;
+    let names = Names {
+        folder: matches.get_str("folder").unwrap_or(""),
+        schedule: matches.get_str("schedule").unwrap_or(""),
+        monitors: matches.get_strs("monitors").unwrap_or(&[]),
+    };
+    play_room(files, alloc, names, out, err)
+}
+
+/// What a command line names: the folder of the server's files, the schedule, and the file of each monitor.
+#[derive(Clone, Copy)]
+struct Names<'a, 'b> {
+    folder: &'a str,
+    schedule: &'a str,
+    monitors: &'b [&'a str],
+}
+
+/// Reads the files of a room, and plays its schedule.
+fn play_room<'a, O: Write, E: Write + IsTerminal>(
+    files: &impl Files,
+    alloc: Global,
+    names: Names<'a, '_>,
+    out: &mut O,
+    err: &mut E,
+) -> Result<(), Failure<NutsimFault<'a>>> {
+    let config = match read_config(files, alloc, names.folder) {
+        Ok(config) => config,
+        Err(fault) => return Err(file_failure(fault)),
+    };
+    let mut schedule = open_schedule(files, alloc, names.schedule)?;
+    let mut fleet = make_fleet(files, alloc, config, names.monitors)?;
+    play_schedule(alloc, &mut fleet, names.schedule, &mut schedule, out, err)
+}
+
+/// A room of this server and of the monitors that these files make.
+fn make_fleet<'a>(
+    files: &impl Files,
+    alloc: Global,
+    config: Config,
+    paths: &[&'a str],
+) -> Result<Fleet, Failure<NutsimFault<'a>>> {
+    let monitors = read_monitors(files, alloc, paths)?;
+    match Fleet::new(alloc, config, monitors) {
+        Ok(fleet) => Ok(fleet),
+        Err(_) => Err(Failure::Memory),
+    }
+}
+
+/// Opens a schedule, and sees that it can be read.
+fn open_schedule<'a, F: Files>(
+    files: &F,
+    alloc: Global,
+    path: &'a str,
+) -> Result<BufReader<F::File>, Failure<NutsimFault<'a>>> {
+    match opened(files, alloc, path) {
+        Ok(schedule) => Ok(schedule),
+        Err(error) if error.kind() == ErrorKind::OutOfMemory => Err(Failure::Memory),
+        Err(_) => Err(Failure::Own(NutsimFault::CannotRead(path))),
+    }
+}
+
+fn opened<F: Files>(files: &F, alloc: Global, path: &str) -> io::Result<BufReader<F::File>> {
+    let mut schedule = BufReader::new(alloc, File::open(files, path)?)?;
+    schedule.fill_buf()?;
+    Ok(schedule)
+}

@@ -1,0 +1,27 @@
+//! Plays a room of UPSes in memory: one server and its monitors.
+#![tactic(auto)]
+
+use std::io::Lock;
+use std::process::ExitCode;
+use std::{env, io};
+
+fn main(rt: HostRuntime) -> ExitCode {
+    let mut err = rt.stderr().lock();
+    let status = match words(&rt) {
+        Ok(words) => nut_simulator::run_nutsim(
+            &rt,
+            rt.alloc(),
+            words.as_slice(),
+            &mut io::writer(&rt),
+            &mut err,
+        ),
+        Err(error) => nut::refuse_start("nutsim", &error, &mut err),
+    };
+    ExitCode::from(status)
+}
+
+/// The words of the command line, the program's name first.
+fn words(rt: &HostRuntime) -> io::Result<Vec<String>> {
+    let words = env::args(rt)?.collect(rt.alloc())?;
+    Ok(words)
+}

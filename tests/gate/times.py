@@ -1,0 +1,154 @@
+#!/usr/bin/env python3
+"""What each crate takes of the processor while the gate runs: measured, shown beside the last landing's, and kept.
+
+usage: python3 -m tests.gate.times [--keep]
+
+It shows the times of the last `make check` beside those in tests/gate-times.txt, or with --keep writes them there."""
+
+import os
+import shutil
+import sys
+import threading
+
+from tests.support.harness import ROOT
+
+LAST = os.path.join(ROOT, "bin", "gate-times.txt")
+LANDED = os.path.join(ROOT, "tests", "gate-times.txt")
+PARTS = ("proof", "tests", "build", "edits")
+# What swings from run to run: a part of a crate grew where it takes a fifth more and these seconds more.
+FIFTH, SWING = 1.2, 5
+
+
+def processes():
+    """Each process's parent, and its start and processor time in ticks, with that of its children which have ended."""
+    found = {}
+    for pid in filter(str.isdigit, os.listdir("/proc")):
+        try:
+            with open(f"/proc/{pid}/stat", encoding="utf-8", errors="replace") as file:
+                fields = file.read().rpartition(")")[2].split()
+        except OSError:
+            continue
+        found[int(pid)] = int(fields[1]), int(fields[19]), sum(map(int, fields[11:15]))
+    return found
+
+
+def check_of(pid):
+    """The crate that a process of the prover checks, and which part of the gate that is; or None."""
+    try:
+        with open(f"/proc/{pid}/cmdline", encoding="utf-8", errors="replace") as file:
+            words = file.read().split("\0")
+        here = os.readlink(f"/proc/{pid}/cwd")
+    except OSError:
+        return None
+    if "--crate-name" not in words[:-1]:
+        return None
+    crate = words[words.index("--crate-name") + 1]
+    # an edit is tried in a copy of its crate
+    if not here.startswith(os.path.join(ROOT, "crates")):
+        return crate, "edits"
+    return crate, "tests" if "--test" in words else "build" if "--crate-checked" in words else "proof"
+
+
+def ticks_below(pid, running, children):
+    return running[pid][2] + sum(ticks_below(it, running, children) for it in children.get(pid, []))
+
+
+class Stopwatch:
+    """Looks twice a second at the provers that run below this process, and sums what each crate takes."""
+
+    def __enter__(self):
+        self.seen, self.ended = {}, threading.Event()
+        self.thread = threading.Thread(target=self.watch, daemon=True)
+        self.thread.start()
+        return self
+
+    def __exit__(self, *_):
+        self.ended.set()
+        self.thread.join()
+
+    def watch(self):
+        while not self.ended.wait(0.5):
+            self.look()
+
+    def look(self):
+        running, children = processes(), {}
+        for pid, (parent, _, _) in running.items():
+            children.setdefault(parent, []).append(pid)
+        left = [os.getpid()]
+        while left:
+            pid = left.pop()
+            check = check_of(pid)
+            if check is None:
+                left += children.get(pid, [])
+            elif pid in running:
+                self.seen[pid, running[pid][1]] = check, ticks_below(pid, running, children)
+
+    def seconds(self):
+        """The processor seconds of each crate of the repository, by the part of the gate."""
+        found = {}
+        for (crate, part), ticks in self.seen.values():
+            if not os.path.isdir(os.path.join(ROOT, "crates", crate)):
+                continue
+            parts = found.setdefault(crate, dict.fromkeys(PARTS, 0.0))
+            parts[part] += ticks / os.sysconf("SC_CLK_TCK")
+        return found
+
+
+def lines_of(crate):
+    """How many lines the code, the definitions and the proofs of a crate have."""
+    count = 0
+    for part in ("src", "specs", "proofs"):
+        for at, _, names in os.walk(os.path.join(ROOT, "crates", crate, part)):
+            for name in names:
+                with open(os.path.join(at, name), "rb") as file:
+                    count += file.read().count(b"\n")
+    return count
+
+
+def write(seconds, path):
+    os.makedirs(os.path.dirname(path), exist_ok=True)
+    with open(path, "w", encoding="utf-8") as file:
+        file.write(f"# processor seconds of make check, written by make check-times\n# crate lines {' '.join(PARTS)}\n")
+        for crate in sorted(seconds):
+            file.write(f"{crate} {lines_of(crate)} {' '.join(f'{seconds[crate][part]:.0f}' for part in PARTS)}\n")
+
+
+def read(path):
+    """The lines and the seconds of each crate that a file holds; nothing where there is no such file."""
+    found = {}
+    if os.path.isfile(path):
+        with open(path, encoding="utf-8") as file:
+            for crate, *numbers in (line.split() for line in file if not line.startswith("#")):
+                found[crate] = dict(zip(("lines", *PARTS), map(int, numbers)))
+    return found
+
+
+def show(now, landed):
+    """Prints the table, and which parts grew."""
+    columns, grown = ("lines", *PARTS), []
+    both = lambda new, old: f"{new} ({'-' if old is None else old})"
+    print(f"{'processor seconds (last landing)':<34}" + "".join(f"{it:>15}" for it in columns))
+    for crate in sorted(now):
+        was = landed.get(crate, {})
+        print(f"{crate:<34}" + "".join(f"{both(now[crate][it], was.get(it)):>15}" for it in columns))
+        for part in PARTS:
+            new, old = now[crate][part], was.get(part)
+            if old is not None and new > FIFTH * old and new > old + SWING:
+                grown.append(f"{crate}: {part} grew from {old} to {new} seconds")
+    sums = [sum(it[part] for it in now.values()) for part in columns]
+    olds = [sum(it[part] for it in landed.values()) if landed else None for part in columns]
+    print(f"{'all':<34}" + "".join(f"{both(new, old):>15}" for new, old in zip(sums, olds)))
+    print(f"processor minutes in all: {sum(sums[1:]) / 60:.0f}", *grown, sep="\n", flush=True)
+
+
+def main(words):
+    if not os.path.isfile(LAST):
+        sys.exit("make check has to run first: it measures each crate")
+    if words == ["--keep"]:
+        shutil.copyfile(LAST, LANDED)
+    else:
+        show(read(LAST), read(LANDED))
+
+
+if __name__ == "__main__":
+    main(sys.argv[1:])

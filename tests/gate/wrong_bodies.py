@@ -1,0 +1,378 @@
+#!/usr/bin/env python3
+"""Sees that the prover refuses wrong bodies: many of them in one check, each in the function that it edits.
+
+usage: python3 -m tests.gate.wrong_bodies [--look | --one-by-one] [CRATE ..]
+
+The edits are crates/NAME/wrong-bodies/*.edit, and crates/NAME/must-fail/*.edit, which the toolchain's own gate tries too.
+docs/tests.md says how one is written. A round applies edits of different functions to a copy of their crate and checks these
+functions alone. All others have empty bodies and open proofs there. A control round shows that the unedited functions pass
+that check.
+--look says only which edits cannot be applied. --one-by-one also tries each edit as the toolchain's gate does, in a check of
+the whole crate, and fails where the two disagree. Both need the libraries below a crate: those that the gate has just built
+serve, and what is missing is built. The last line is 'N passed, M failed'."""
+
+import glob
+import os
+import re
+import shutil
+import subprocess
+import sys
+import tempfile
+import threading
+
+from tests.gate.functions import functions_of, toolchain
+from tests.support.harness import ROOT
+
+FOLDERS = ("wrong-bodies", "must-fail")
+# A goal of a function that is open, on a line above the function's own.
+GOAL = re.compile(r"note: (src/\S+: .*\(`\S+`\).*)")
+# What antt says of a proof file that names what an edit took away.
+NAMES = re.compile(r"has no field|is not in scope|has no `|was not admitted")
+
+
+class Edit:
+    """An edit, the functions that its texts stand in, and those that have to refuse it."""
+
+    def __init__(self, crate, path, functions):
+        self.crate, self.path, self.name = crate, path, f"{crate.name}/{os.path.basename(path)}"
+        self.texts, self.fault = toolchain().read_edit(path, crate.folder)
+        with open(path, encoding="utf-8", errors="replace") as file:
+            lines = [line.rstrip("\n").partition(": ") for line in file]
+        self.refused_by = next((words.strip() for key, _, words in lines if key == "refused by"), None)
+        self.edited = set() if self.fault else self.functions_at(lines, functions)
+        self.wanted = {self.refused_by} if self.refused_by else self.edited
+        if None in self.wanted and not self.fault:
+            self.fault = "it edits no function, and has no line 'refused by: FUNCTION'"
+
+    def functions_at(self, lines, functions):
+        """The functions that the texts stand in, and None for a text that stands in none."""
+        found, file, texts, changes = set(), None, {}, {}
+        for key, _, words in lines:
+            if key == "file":
+                file = words.strip()
+                texts.setdefault(file, open_text(f"{self.crate.folder}/{file}"))
+            elif key == "old":
+                old, at = words.encode(), texts[file].find(words.encode())
+                here = place_before(changes.setdefault(file, []), at)
+                found.add(next((it.path for it in functions if it.holds(file, here)), None))
+            elif key == "new":
+                texts[file] = texts[file].replace(old, words.encode())
+                changes[file].append((at, len(old), len(words.encode())))
+        return found
+
+    def is_of_bodies(self):
+        """Whether all that it edits are bodies, which no other function's proof looks into, and one of these refuses it."""
+        return None not in self.edited and self.wanted <= self.edited
+
+
+def open_text(path):
+    with open(path, "rb") as file:
+        return file.read()
+
+
+def place_before(changes, at):
+    """Where a place in an edited text stood before these changes, each of which put a text of one length for another's."""
+    for start, old, new in reversed(changes):
+        at = at - new + old if at >= start + new else min(at, start)
+    return at
+
+
+class Report:
+    """What a check says of each function, by the function's path in its crate."""
+
+    def __init__(self, crate, said, changed):
+        self.lines = said.rstrip("\n").split("\n")
+        self.ended = self.lines[-1].startswith("only=")
+        self.unread = [it for it in self.lines if toolchain().unread(it, changed)]
+        self.status, self.goals, goals = {}, {}, []
+        for line in self.lines:
+            found = re.match(rf"fn {crate.name}::(\S+): (.*)", line)
+            goals += [it[1] for it in [GOAL.match(line)] if it]
+            if found:
+                self.status[found[1]], self.goals[found[1]] = found[2], goals
+            if found or line.startswith("struct "):
+                goals = []
+
+    def of(self, path):
+        """The symbols of a function and of its closures, as `m::fn::f::find` of a closure in `m::f`."""
+        plain = {it: re.sub(r"\bfn::", "", it, count=1) for it in self.status}
+        return [it for it in self.status if it == path or plain[it] != it and plain[it].startswith(f"{path}::")]
+
+    def passes(self, path):
+        return self.status.get(path, "").startswith(("no holes", "depends on a hole", "proved"))
+
+    def refusal(self, path, is_of_body):
+        """Why a function is refused in its own goals, or None; and what a proof file names that is gone. Where an edit isn't
+        of a body, the lemmas that the function stands on count too."""
+        gone = None
+        for symbol in self.of(path):
+            if not self.status[symbol].startswith(("no proof", "not proved")):
+                continue
+            if self.goals[symbol]:
+                return self.goals[symbol][0], None
+            own = f"proofs/{symbol.replace('::', '/')}/" if is_of_body else "proofs/"
+            told = [it for it in self.lines if re.match(rf"(\./)?{re.escape(own)}\S+: error", it)]
+            first = next((it for it in told if not NAMES.search(it)), None)
+            if first or "`search` did not prove" in self.status[symbol]:
+                return first or self.status[symbol], None
+            gone = gone or next(iter(told), None)
+        return None, gone
+
+
+class Room:
+    """A copy of a crate in which all functions but some have empty bodies and open proofs."""
+
+    def __init__(self, crate, functions, shown, folder):
+        self.crate, self.folder, self.changed, self.seconds = crate, folder, set(), 0.0
+        for part in toolchain().rtlib.PARTS:
+            if os.path.isdir(f"{crate.folder}/{part}"):
+                shutil.copytree(f"{crate.folder}/{part}", f"{folder}/{part}")
+        for function in [it for it in functions if it.path in shown]:
+            self.begin_answers(function)
+        opened = [it for it in functions if it.path not in shown and self.leave_open(it)]
+        # from the end of each file on, so that the places of those before stay right
+        for function in sorted(opened, key=lambda it: it.first, reverse=True):
+            if not any(it is not function and function.holds(it.file, it.first) for it in functions):
+                self.empty(function)
+
+    def proof_of(self, function):
+        """The folder of a function's proof, or None where functions that call each other have one proof, +NAME."""
+        proof = f"{self.folder}/proofs/{function.path.replace('::', '/')}"
+        return None if glob.glob(f"{os.path.dirname(proof)}/+*") else proof
+
+    def begin_answers(self, function):
+        """Gives a function that has no proof file one with no answer. A check that has to offer a new file takes twice the time."""
+        proof = self.proof_of(function)
+        if proof and not os.path.isfile(f"{proof}/Answers.antt") and not os.path.isfile(f"{proof}/Proof.antt"):
+            os.makedirs(proof, exist_ok=True)
+            with open(f"{proof}/Answers.antt", "w", encoding="utf-8") as file:
+                file.write("-- no answers\n")
+
+    def leave_open(self, function):
+        """Leaves the proof of a function open, and says whether that was possible."""
+        proof = self.proof_of(function)
+        if not proof:
+            return False
+        shutil.rmtree(proof, ignore_errors=True)
+        os.makedirs(proof)
+        name = function.parts[-1]
+        with open(f"{proof}/Proof.antt", "w", encoding="utf-8") as file:
+            file.write(f"use Rattle.{self.crate.name}.proofs.{function.path.replace('::', '.')}.Statement.{{statement}}\n\n")
+            file.write(f"pub {name}_spec : {{M : Type 1}} → statement M\n{name}_spec = ?\n")
+        return True
+
+    def empty(self, function):
+        """Empties the body of a function: a check would translate it, and check all that it calls."""
+        path = f"{self.folder}/{function.file}"
+        text = open_text(path)
+        with open(path, "wb") as file:
+            file.write(text[: function.first] + b"{ unreachable!() }" + text[function.end :])
+
+    def apply(self, edits):
+        """Applies these edits, and gives those that fit beside the others."""
+        applied = []
+        for edit in edits:
+            texts, fault = toolchain().read_edit(edit.path, self.folder)
+            if not fault:
+                applied.append(edit)
+                self.changed.update(texts)
+                for path, text in texts.items():
+                    with open(f"{self.folder}/{path}", "w", encoding="utf-8") as file:
+                        file.write(text)
+        return applied
+
+    def check(self, wanted, kept):
+        """Checks these functions, over what earlier checks of the crate have kept."""
+        only = [word for path in sorted(wanted) for word in ("--only", path)]
+        flags = ["--jobs", "1", "--allow-holes", "--incremental", kept, *only]
+        words = [*toolchain().rtlib.guarded(), toolchain().rtlib.RATTLE, "check", *self.crate.words(flags, keeps=False)]
+        how = {"stdin": subprocess.DEVNULL, "stdout": subprocess.PIPE, "stderr": subprocess.STDOUT}
+        # a check that is killed, most likely for memory, is tried once more
+        for _ in range(2):
+            with subprocess.Popen(words, cwd=self.folder, **how) as run:
+                said = run.stdout.read().decode(errors="replace")
+                _, run.returncode, used = os.wait4(run.pid, 0)
+            self.seconds += used.ru_utime + used.ru_stime
+            if not os.WIFSIGNALED(run.returncode):
+                break
+        return Report(self.crate, said, self.changed)
+
+
+class Rounds:
+    """The rounds of one crate, and what they say of each of its edits."""
+
+    def __init__(self, crate, edits, functions, folder):
+        self.crate, self.edits, self.functions, self.folder = crate, edits, functions, folder
+        self.said, self.count, self.seconds = {}, 0, 0.0
+
+    def say(self, edit, refused, why):
+        self.said[edit] = refused, f"{edit.name}: {why}"
+
+    def room(self, edits):
+        """A room in which the functions of these edits have their bodies."""
+        shutil.rmtree(f"{self.folder}/room", ignore_errors=True)
+        shown = {path for it in edits for path in it.wanted | it.edited}
+        return Room(self.crate, self.functions, shown, f"{self.folder}/room")
+
+    def check(self, room, edits):
+        """What a check of the functions that are to fail by these edits says of them."""
+        report = room.check({path for edit in edits for path in edit.wanted}, f"{self.folder}/kept")
+        self.seconds += room.seconds
+        return report
+
+    def run(self):
+        if self.edits and self.control():
+            for edits in self.shared():
+                for edit in self.round(edits):
+                    self.round([edit])
+        return self.said
+
+    def control(self):
+        """Whether the functions that are to fail pass in a copy that isn't edited."""
+        report = self.check(self.room(self.edits), self.edits)
+        for edit in self.edits:
+            fallen = [it for it in sorted(edit.wanted) if not report.ended or not report.passes(it)]
+            if fallen:
+                said = report.status.get(fallen[0], report.lines[-1])
+                self.say(edit, False, f"NOT TRIED: without any edit the prover says of {fallen[0]}: {said[:300]}")
+        self.edits = [it for it in self.edits if it not in self.said]
+        return bool(self.edits)
+
+    def shared(self):
+        """The edits in rounds: no edit of a round edits a function that another wants, and what edits more than bodies stands alone."""
+        rounds = []
+        for edit in [it for it in self.edits if it.is_of_bodies()]:
+            fits = [it for it in rounds if not any(other.edited & edit.wanted or other.wanted & edit.edited for other in it)]
+            if fits:
+                fits[0].append(edit)
+            else:
+                rounds.append([edit])
+        return rounds + [[it] for it in self.edits if not it.is_of_bodies()]
+
+    def round(self, edits):
+        """Tries edits together, and gives those that have to be tried alone: another edit may be why they weren't refused."""
+        self.count += 1
+        room = self.room(edits)
+        applied = room.apply(edits)
+        report = self.check(room, applied)
+        for edit in applied:
+            if len(applied) == 1:
+                self.say(edit, *self.judged(edit, report))
+            elif report.ended and not report.unread and self.refusal(edit, report):
+                self.say(edit, True, self.refusal(edit, report))
+        return [it for it in edits if it not in self.said]
+
+    def refusal(self, edit, report):
+        found = [report.refusal(path, edit.is_of_bodies())[0] for path in sorted(edit.wanted)]
+        by = "" if edit.is_of_bodies() else f" by {edit.refused_by}, in a round of its own, since it edits more than a body"
+        return f"refused, as it must be{by}: {next(filter(None, found))[:160]}" if any(found) else None
+
+    def judged(self, edit, report):
+        """What a round of this edit alone shows."""
+        gone = [it for it in (report.refusal(path, edit.is_of_bodies())[1] for path in sorted(edit.wanted)) if it]
+        if report.unread or not report.ended:
+            told = report.unread or [it for it in report.lines if "error" in it] or report.lines
+            return False, f"BAD EDIT: the prover cannot read the edited text: {told[0][:200]}"
+        if self.refusal(edit, report):
+            return True, self.refusal(edit, report)
+        if gone:
+            return False, f"BAD EDIT: refused only because a name is gone: {gone[0][:200]}"
+        said = "; ".join(f"{path}: {report.status.get(path)}" for path in sorted(edit.wanted))
+        return False, f"not refused in its own function, of which the prover says: {said[:300]}"
+
+
+def edits_of(crate):
+    """The crate's edits, and what lies beside them that is none."""
+    good, bad = [], []
+    for name in FOLDERS:
+        folder = f"{crate.folder}/{name}"
+        for file in sorted(os.listdir(folder) if os.path.isdir(folder) else []):
+            is_edit = re.fullmatch(r"[\w-][\w.-]*\.edit", file) and os.path.isfile(f"{folder}/{file}")
+            (good if is_edit else bad).append(f"{folder}/{file}")
+    return good, [it for it in bad if not it.endswith(".md")]
+
+
+def is_newer(crate):
+    """Whether the crate's library was built after the last change of what it is made of."""
+    files = [it for made in [crate, *crate.below()] for it in toolchain().rtlib.files_of(made.folder)]
+    built = f"{crate.rlib}/format"
+    return os.path.isfile(built) and max(map(os.path.getmtime, files)) <= os.path.getmtime(built)
+
+
+def build_libraries(crates):
+    """Builds what the crates need of the libraries below them. Those of the gate have no stamp, and serve if all do."""
+    below = list(dict.fromkeys(it for crate in crates for it in crate.below()))
+    if all(not os.path.isfile(f"{it.folder}/out/rlib/stamp") and is_newer(it) for it in below):
+        return
+    for crate in below:
+        if crate.build_rlib(["--jobs", "1"], anew=False):
+            sys.exit(f"{crate.name} isn't proved, so no edit above it was tried\n0 passed, 1 failed")
+
+
+def look(crates):
+    """The edits of each crate, and those that cannot be applied."""
+    found, faults = {}, []
+    for crate in crates:
+        paths, bad = edits_of(crate)
+        functions = functions_of(crate.folder) if paths else []
+        found[crate] = functions, [Edit(crate, path, functions) for path in paths]
+        faults += [f"{it.name}: BAD EDIT: {it.fault}" for it in found[crate][1] if it.fault]
+        faults += [f"{os.path.relpath(it, ROOT)}: BAD EDIT: its name is of letters, digits, _, - and . and ends in .edit" for it in bad]
+    return found, faults
+
+
+def in_rounds(crate, functions, edits, printing):
+    """Runs the rounds of a crate, and gives what they say of each edit's path."""
+    with tempfile.TemporaryDirectory(prefix="wrong-bodies-") as folder:
+        rounds = Rounds(crate, edits, functions, folder)
+        said = rounds.run()
+    with printing:
+        print(*[why for _, why in said.values()], sep="\n")
+        print(f"{crate.name}: {len(edits)} edits, {rounds.count} rounds and the control round: {rounds.seconds:.0f} processor seconds", flush=True)
+    return {edit.path: refused for edit, (refused, _) in said.items()}
+
+
+def one_by_one(crate, edits, printing):
+    """Tries each edit as the toolchain's gate does, and gives what it says of each edit's path."""
+    tried = toolchain().must_fail_all(crate, [it.path for it in edits], ["--jobs", "1"])
+    with printing:
+        print(*[text for _, text in tried], sep="\n", flush=True)
+    return {edit.path: refused for edit, (refused, _) in zip(edits, tried)}
+
+
+def side_by_side(found, way):
+    """Runs a way of trying on each crate, as many as the machine has processors and memory for."""
+    printing, tasks = threading.Lock(), {}
+    for crate, (functions, edits) in found.items():
+        call = lambda given, jobs, it=crate, edits=edits, functions=functions: way(it, functions, edits, printing)
+        tasks[crate.name, "edits"] = [], len(edits), toolchain().need(crate), call
+    return {path: refused for said in toolchain().in_lanes(tasks).values() for path, refused in said.items()}
+
+
+def main(words):
+    os.chdir(ROOT)
+    names = [it for it in words if not it.startswith("--")]
+    crates = [it for it in toolchain().rtlib.crates_below(ROOT) if not names or it.name in names]
+    found, faults = look(crates)
+    faults += [f"{it}: crates.txt names no such crate" for it in names if it not in [crate.name for crate in crates]]
+    print(*faults, sep="\n", end="\n" if faults else "")
+    found = {crate: it for crate, it in found.items() if it[1]}
+    passed, failed = 0, len(faults)
+    if "--look" not in words:
+        build_libraries(found)
+        for crate, (_, edits) in found.items():
+            edits[:] = [it for it in edits if not it.fault]
+        said = side_by_side(found, in_rounds)
+        passed, failed = sum(said.values()), failed + len(said) - sum(said.values())
+        if "--one-by-one" in words:
+            alone = side_by_side(found, lambda crate, _, edits, printing: one_by_one(crate, edits, printing))
+            differ = sorted(it for it in said if said[it] != alone[it])
+            for it in differ:
+                print(f"{os.path.relpath(it, ROOT)}: the rounds and the toolchain's gate disagree")
+            failed += len(differ)
+    print(f"{passed} passed, {failed} failed")
+    return 1 if failed else 0
+
+
+if __name__ == "__main__":
+    sys.exit(main(sys.argv[1:]))

@@ -1,0 +1,112 @@
+#!/usr/bin/env python3
+"""Shows what the rounds of wrong_bodies.py find, on a crate of four functions that is written here: that a wrong body is
+refused, and that a right body is told, one that a contract lets through, an edit that only another function refuses, and
+one of which nothing follows. The last line is 'N passed, M failed'."""
+
+import os
+import sys
+import tempfile
+
+from tests.gate import functions
+from tests.gate import wrong_bodies
+
+CODE = """//! Functions whose bodies are edited.
+#![tactic(auto)]
+
+ghost use Rattle.std.specs.Prelude.{◌≡◌, ◌+◌, ◌<◌, ◌≤◌};
+
+const MOST: usize = 8;
+
+/// One more.
+pub fn next(count: usize) -> usize
+    requires { count < 1000 }
+    ensures { result ≡ count + 1 }
+{
+    count + 1
+}
+
+/// Two more.
+pub fn second(count: usize) -> usize
+    requires { count < 999 }
+    ensures { result ≡ count + 2 }
+{
+    next(next(count))
+}
+
+/// Two more too.
+pub fn as_second(count: usize) -> usize
+    requires { count < 998 }
+    ensures { result ≡ count + 2 }
+{
+    second(count)
+}
+
+/// At most eight.
+pub fn few(count: usize) -> usize
+    ensures { result ≤ 8 }
+{
+    if count < MOST { count } else { MOST }
+}
+"""
+
+# An answer that cites a call by its name.
+ANSWER = """use Rattle.edited.proofs.as_second.Goals as goal
+
+pub returns : goal.returns
+returns c = c.second.ensures
+"""
+
+# How it begins what is said of an edit that its own function lets through.
+LET_THROUGH = "not refused in its own function, of which the prover says: "
+
+# Each edit's text, and how what is said of it has to begin.
+EDITS = {
+    "wrong": ("    count + 1\nnew:     count + 2", "refused, as it must be: src/lib.rt"),
+    "right": ("    next(next(count))\nnew:     1 + next(count)", f"{LET_THROUGH}second: "),
+    "contract-too-weak": ("{ count } else { MOST }\nnew: { 0 } else { MOST }", f"{LET_THROUGH}few: "),
+    "wrong-beside-its-callee": ("    second(count)\nnew:     second(count) + 1", "refused, as it must be: ./proofs/as_second/Answers.antt"),
+    "unreadable": ("    count + 1\nnew:     counted + 1", "BAD EDIT: the prover cannot read"),
+    "name-gone": ("    second(count)\nnew:     count + 2", "BAD EDIT: refused only because a name is gone"),
+    "constant": ("const MOST: usize = 8;\nnew: const MOST: usize = 9;\nrefused by: few", "refused, as it must be by few, in a round of its own"),
+    "constant-of-another": ("const MOST: usize = 8;\nnew: const MOST: usize = 9;\nrefused by: next", f"{LET_THROUGH}next: "),
+    "nowhere": ("const MOST: usize = 8;\nnew: const MOST: usize = 9;", "BAD EDIT: it edits no function"),
+    "twice": ("usize\nnew: u64", "BAD EDIT: an 'old:' text is in src/lib.rt"),
+}
+
+
+def write(path, text):
+    os.makedirs(os.path.dirname(path), exist_ok=True)
+    with open(path, "w", encoding="utf-8") as file:
+        file.write(text)
+
+
+def said_of_edits(root):
+    """What the rounds say of each edit of the crate that stands in this folder, by the edit's name."""
+    write(f"{root}/crates.txt", "edited:\n")
+    write(f"{root}/crates/edited/src/lib.rt", CODE)
+    write(f"{root}/crates/edited/proofs/as_second/Answers.antt", ANSWER)
+    for name, (texts, _) in EDITS.items():
+        write(f"{root}/crates/edited/wrong-bodies/{name}.edit", f"file: src/lib.rt\nold: {texts}\n")
+    os.chdir(root)
+    found, faults = wrong_bodies.look(functions.toolchain().rtlib.crates_below(root))
+    said = list(faults)
+    for crate, (bodies, edits) in found.items():
+        with tempfile.TemporaryDirectory(prefix="wrong-bodies-") as folder:
+            rounds = wrong_bodies.Rounds(crate, [it for it in edits if not it.fault], bodies, folder)
+            said += [why for _, why in rounds.run().values()]
+        print(f"{rounds.count} rounds and the control round: {rounds.seconds:.0f} processor seconds")
+    return dict(line.partition(".edit: ")[::2] for line in said)
+
+
+def main():
+    with tempfile.TemporaryDirectory(prefix="edited-") as root:
+        said = said_of_edits(root)
+    failed = [name for name, (_, wanted) in EDITS.items() if not said.get(f"edited/{name}", "").startswith(wanted)]
+    for name in failed:
+        print(f"{name}: found {said.get(f'edited/{name}')!r}, wanted {EDITS[name][1]!r}")
+    print(f"{len(EDITS) - len(failed)} passed, {len(failed)} failed")
+    return 1 if failed else 0
+
+
+if __name__ == "__main__":
+    sys.exit(main())

@@ -1,0 +1,113 @@
+#!/usr/bin/env python3
+"""Runs upsmon against NUT's own upsd with NUT's own dummy-ups, on loopback, out of a folder of its own.
+
+    python3 -m tests.peers.monitor UPSMON
+
+Where Debian's packages nut-server and nut-client aren't installed, what needs them is skipped with a line that says so. The
+last line is 'N passed, M failed'."""
+
+import os
+import subprocess
+import sys
+import tempfile
+
+from tests.support.harness import expect, run_tests
+from tests.support.monitored import BATTERY_LOW, ESTABLISHED, FLAG, FORCED, LOST, ON_BATTERY, QUICK, SHUTDOWN, USERS, Watch
+from tests.peers.server import NutRoom, needed
+from tests.support.room import until
+
+ADMIN = b"[admin]\npassword = pw\nactions = SET\ninstcmds = ALL\n"
+HALTS = 'POWERDOWNFLAG FOLDER/flag\nSHUTDOWNCMD "touch FOLDER/halted"\n'
+
+
+class Tests:
+    def __init__(self, upsmon, folder):
+        self.upsmon = upsmon
+        self.folder = folder
+
+    def room(self):
+        return NutRoom((None, None), self.folder)
+
+    def begin(self, room, text):
+        """Starts NUT's driver and its server, and waits until they tell a status."""
+        driver, server = needed("dummy-ups", "nut-server"), needed("upsd", "nut-server")
+        needed("upsc", "nut-client")
+        room.configure_nut(text)
+        users = os.path.join(room.path("nut"), "upsd.users")
+        with open(users, "wb") as file:
+            file.write(ADMIN + USERS)
+        room.driver_process = room.start_nut(driver, "-a", "su700")
+        process = room.start_nut(server)
+        until(lambda: room.can_connect(process), "NUT's upsd listens")
+        until(lambda: room.tool("upsc", "ROOM", "ups.status")[0] == 0, "NUT's upsd tells a status")
+        return f"su700@127.0.0.1:{room.port}"
+
+    def watch(self, target, user, conf):
+        name, password, role = user
+        return Watch(self.upsmon, self.folder, f"MONITOR {target} 1 {name} {password} {role}\n{conf}")
+
+    def set_status(self, room, status):
+        words = ["-s", f"ups.status={status}", "-u", "admin", "-p", "pw", "ROOM"]
+        # soon after its start NUT's driver lets nothing be set
+        until(lambda: room.tool("upsrw", *words)[0] == 0, f"the status is set to {status}")
+
+    # Each method from here on whose name begins with 'test_' is a test.
+
+    def test_power_fails(self):
+        with self.room() as room:
+            target = self.begin(room, b"ups.status: OB LB\n")
+            with self.watch(target, ("mon", "m1", "primary"), QUICK + HALTS) as watch:
+                expect(watch.status(20), 0, "status")
+                expect(watch.lines(), [ON_BATTERY % target, BATTERY_LOW % target, SHUTDOWN], "what upsmon prints")
+                expect((watch.read("flag"), watch.read("halted")), (FLAG, b""), "the halt")
+                self.expect_known_flag(room, watch)
+
+    def expect_known_flag(self, room, watch):
+        """Expects that NUT's own monitor knows this POWERDOWNFLAG for what it is."""
+        upsmon = needed("upsmon", "nut-client")
+        path = os.path.join(room.path("nut"), "upsmon.conf")
+        for name, status in (("flag", 0), ("none", 1)):
+            with open(path, "w") as file:
+                file.write(f"MONITOR su700@localhost 1 mon m1 primary\nPOWERDOWNFLAG {watch.path(name)}\nSHUTDOWNCMD true\n")
+            os.chmod(path, 0o600)
+            done = subprocess.run([upsmon, "-K"], env=room.environment(), stdin=subprocess.DEVNULL, capture_output=True, timeout=60)
+            expect(done.returncode, status, f"'upsmon -K' with the file {name}")
+
+    def test_two_machines(self):
+        with self.room() as room:
+            target = self.begin(room, b"ups.status: OL\n")
+            conf = "POLLFREQ 1\nFINALDELAY 0\nHOSTSYNC 60\n" + HALTS
+            with self.watch(target, ("guest", "g1", "secondary"), conf) as guest, self.watch(
+                target, ("mon", "m1", "primary"), conf
+            ) as primary:
+                room.until(b"GET NUMLOGINS su700\n", b"NUMLOGINS su700 2\n")
+                self.set_status(room, "OB LB")
+                expect((guest.status(30), primary.status(30)), (0, 0), "status of both")
+                wanted = {ON_BATTERY % target, BATTERY_LOW % target, FORCED % target, SHUTDOWN}
+                expect((set(guest.lines()) <= wanted, guest.lines()[-1]), (True, SHUTDOWN), "what the secondary prints")
+                expect(guest.read("flag"), None, "a secondary writes no POWERDOWNFLAG")
+                expect((primary.read("flag"), primary.read("halted")), (FLAG, b""), "the primary's halt")
+
+    def test_driver_that_comes_and_goes(self):
+        with self.room() as room:
+            target = self.begin(room, b"ups.status: OL\n")
+            with self.watch(target, ("mon", "m1", "secondary"), "POLLFREQ 1\n") as watch:
+                until(lambda: "server connected" in watch.read("err").decode(), "the server is connected")
+                room.until(b"GET NUMLOGINS su700\n", b"NUMLOGINS su700 1\n")
+                room.driver_process.kill()
+                room.driver_process.wait()
+                watch.until_printed(LOST % target, 30)
+                room.start_nut(needed("dummy-ups", "nut-server"), "-a", "su700")
+                watch.until_printed(ESTABLISHED % target, 30)
+                expect(watch.lines(), [LOST % target, ESTABLISHED % target], "what upsmon prints")
+
+
+def main():
+    upsmon, *names = sys.argv[1:]
+    with tempfile.TemporaryDirectory() as folder:
+        tests = Tests(os.path.abspath(upsmon), folder)
+        return run_tests(tests, names, "'apt-get install nut-client nut-server' installs what they need")
+
+
+if __name__ == "__main__":
+    sys.exit(main())

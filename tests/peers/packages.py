@@ -1,0 +1,204 @@
+#!/usr/bin/env python3
+"""Puts this project's packages in place of NUT's on a Debian where NUT runs, and NUT's back, with the programs handed in.
+
+    python3 -m tests.peers.packages [--root FOLDER] UPSD DUMMY-UPS UPSMON UPSC UPSRW UPSCMD
+
+The Debian is made by debootstrap, which wants root and a network, or is a copy of FOLDER, in which debootstrap made one with
+systemd; NUT's packages come from Debian. It runs under systemd-nspawn. The last line is 'N passed, M failed'."""
+
+import os
+import re
+import shutil
+import sys
+
+from tests.support.debian_root import Booted, fresh_root
+from tests.support.harness import Missing, ensure, expect
+from tests.programs.packages import ROOT, main
+
+# NUT with a dummy UPS, as an operator of Debian has it: files of Debian's packages with a few lines more.
+UPS_CONF = '[su700]\n  driver = dummy-ups\n  port = su700.dev\n  desc = "Server room"\n'
+UPSD_USERS = "[admin]\n  password = pw\n  actions = set\n  instcmds = all\n[monuser]\n  password = m1\n  upsmon master\n"
+UPSMON_CONF = 'MONITOR su700@localhost 1 monuser m1 master\nSHUTDOWNCMD "touch /root/halted"\nRUN_AS_USER root\nFINALDELAY 0\nPOWERDOWNFLAG /run/killpower\n'
+DEVICE = "ups.mfr: Dummy\nups.model: Peer\nups.id: rack\nups.status: {}\n"
+
+# what mulgefa-check has to tell, in this order
+TOLD = [
+    "ups.conf:%d: OutsideSection: maxretry = 3",
+    "upsd.users:%d: UnknownWord: actions = set",
+    "upsd.users:%d: UnknownWord: upsmon master",
+    "upsmon.conf:%d: UnknownDirective: POLLFREQALERT 5",
+    "upsmon.conf:%d: UnknownWord: MONITOR su700@localhost 1 monuser .. master",
+    "upsmon.conf:%d: UnknownDirective: RUN_AS_USER root",
+]
+
+
+def shown_commands(block):
+    """The three commands of one of the blocks that docs/from-nut.md has under Examples: those there, and those back."""
+    with open(os.path.join(ROOT, "docs", "from-nut.md")) as file:
+        section = re.search(r"^## Examples\n(.*?)^## ", file.read(), re.MULTILINE | re.DOTALL)[1]
+    commands = re.findall(r"^```\n(.*?)^```", section, re.MULTILINE | re.DOTALL)[block].splitlines()
+    expect(len(commands), 3, f"commands: {commands}")
+    return commands
+
+
+class Tests:
+    def __init__(self, packages, saved):
+        self.packages = packages
+        self.saved = saved
+
+    def nut_installed(self, name):
+        """A Debian with NUT installed and configured, whose packages can be had again without a network."""
+        folder = os.path.join(self.packages.folder, name)
+        root = fresh_root(folder, self.saved)
+        root.write("/etc/apt/apt.conf.d/90test", 'APT::Get::Assume-Yes "true";\nAPT::Install-Recommends "false";\n', 0o644)
+        status, said = root.run("apt-get update && apt-get install nut-server nut-client python3-nut")
+        if status != 0:
+            raise Missing(f"NUT's packages can't be had: {said.splitlines()[-1:]}")
+        root.write("/etc/nut/ups.conf", root.read("/etc/nut/ups.conf") + UPS_CONF)
+        root.write("/etc/nut/upsd.users", root.read("/etc/nut/upsd.users") + UPSD_USERS)
+        kept = [it for it in root.read("/etc/nut/upsmon.conf").splitlines() if not it.startswith(("SHUTDOWNCMD", "FINALDELAY", "POWERDOWNFLAG"))]
+        root.write("/etc/nut/upsmon.conf", "\n".join(kept) + "\n" + UPSMON_CONF)
+        root.write("/etc/nut/nut.conf", "MODE=standalone\n")
+        # NUT's clients ask without end for a name that nobody knows
+        root.write("/etc/hosts", "127.0.0.1 localhost\n", 0o644)
+        root.write("/etc/nut/su700.dev", DEVICE.format("OL"))
+        root.do("chgrp nut /etc/nut/su700.dev")
+        for path in (*self.packages.made("deb").values(), *self.packages.made("tar").values()):
+            shutil.copy(path, root.path("/root"))
+        os.mkdir(root.path("/root/later"))
+        for path in self.packages.made("deb", env={"SOURCE_DATE_EPOCH": "4000000000"}).values():
+            shutil.copy(path, root.path("/root/later"))
+        root.do("tar -xf /root/mulgefa-*.tar.gz -C /root && rm /root/mulgefa-*.tar.gz")
+        return folder
+
+    def test_exchange_and_back(self):
+        machine = Booted(self.nut_installed("machine"))
+        try:
+            self.nut_serves(machine)
+            before = {name: machine.read(f"/etc/nut/{name}") for name in os.listdir(machine.path("/etc/nut"))}
+            nut = machine.do("id nut")
+            self.exchange(machine)
+            self.is_served_here(machine)
+            self.client_sees_an_upgrade(machine)
+            self.halts(machine)
+            self.bring_back(machine)
+            for name, text in before.items():
+                found = machine.read(f"/etc/nut/{name}.nut" if os.path.exists(machine.path(f"/etc/nut/{name}.nut")) else f"/etc/nut/{name}")
+                if name != "su700.dev":
+                    expect(found == text, True, f"what {name} was is kept")
+            expect(machine.do("id nut"), nut, "the user nut")
+            machine.do("dpkg --purge mulgefa-server mulgefa-client")
+            self.nut_serves(machine)
+            left = machine.do("find / -xdev -name '*mulgefa*' -not -path '/root/*' -not -path '/proc/*' -not -path '/sys/*'").split()
+            expect([it for it in left if not it.startswith(("/var/log/", "/var/cache/", "/run/systemd/", "/var/lib/dpkg/info/"))], [], "what a purge leaves")
+        finally:
+            machine.stop()
+
+    def test_drivers_of_nut_stay(self):
+        """A driver of NUT's, which wants a directive that isn't known here, out of a package made of NUT's own. It needs no
+        device, since it copies what another driver tells."""
+        folder = self.nut_installed("drivers")
+        with open(os.path.join(folder, "etc/nut/ups.conf"), "a") as file:
+            file.write("[copy]\n  driver = clone\n  port = dummy-ups-su700\n  pollinterval = 1\n")
+        machine = Booted(folder)
+        try:
+            machine.wait_for("upsc copy ups.status 2> /dev/null", "OL", 90)
+            machine.do("/root/mulgefa-*/packaging/mulgefa-check -w /etc/mulgefa")
+            machine.do("dpkg-deb -x ./mulgefa-server_*.deb unpacked && unpacked/usr/sbin/mulgefa-nut-drivers /var/cache/apt/archives/nut-server_*.deb")
+            for unit in ("mulgefa-upsd.service", "mulgefa-upsmon.service"):
+                os.makedirs(machine.path(f"/etc/systemd/system/{unit}.d"))
+                machine.write(f"/etc/systemd/system/{unit}.d/folder.conf", "[Service]\nEnvironment=NUT_CONFPATH=/etc/mulgefa\n", 0o644)
+            before = machine.read("/etc/nut/ups.conf")
+            machine.do("apt-get install ./mulgefa-*.deb")
+            machine.do("systemctl enable --now mulgefa-upsd mulgefa-upsmon nut-driver@su700 nut-driver@copy")
+            machine.wait_for("upsc copy ups.status 2> /dev/null", "OL", 60)
+            machine.wait_for("upsc su700 ups.status 2> /dev/null", "OL", 60)
+            expect(machine.do("upsc copy driver.name"), "clone\n", "the driver")
+            ensure("2.8.0" not in self.version(machine), "this project's server answers")
+            expect(machine.read("/etc/nut/ups.conf"), before, "the drivers' ups.conf")
+            expect(machine.do("dpkg --verify mulgefa-nut-drivers"), "", "files that differ")
+            machine.do("upsrw -s ups.status=OB -u admin -p pw su700")
+            machine.wait_for("upsc copy ups.status", "OB")
+            machine.do("apt-get install nut-server nut-client")
+            expect(machine.do("dpkg -l 'mulgefa*' | grep -c ^ii || true"), "0\n", "this project's packages are gone")
+            machine.do("systemctl restart nut-driver-enumerator nut-server nut-monitor")
+            self.nut_serves(machine)
+            machine.wait_for("upsc copy ups.status 2> /dev/null", "OL", 60)
+        finally:
+            machine.stop()
+
+    def nut_serves(self, machine):
+        machine.wait_for("upsc su700 ups.status 2> /dev/null", "OL", 90)
+        for unit in ("nut-server", "nut-monitor", "nut-driver@su700"):
+            expect(machine.do(f"systemctl is-active {unit} || true"), "active\n", unit)
+        ensure("2.8.0" in self.version(machine), "NUT's own server answers")
+
+    def version(self, machine):
+        """What the server at the port says that it is."""
+        return machine.do("python3 -c 'import socket; s = socket.create_connection((\"127.0.0.1\", 3493)); s.sendall(b\"VER\\n\"); print(s.recv(200).decode())'")
+
+    def exchange(self, machine):
+        check = "/root/mulgefa-*/packaging/mulgefa-check"
+        status, said = machine.run(check)
+        expect(status, 1, f"mulgefa-check: {said}")
+        for wanted in TOLD:
+            name, text = wanted.split(":%d: ")
+            directive = text.split(": ")[1].replace(" .. ", " m1 ")
+            number = [i + 1 for i, it in enumerate(machine.read(f"/etc/nut/{name}").splitlines()) if it.strip() == directive]
+            expect(len(number), 1, f"lines that are {directive}")
+            ensure(f"/etc/nut/{wanted % number[0]}\n" in said, f"{wanted % number[0]} isn't told: {said}")
+        ensure("m1" not in said, f"a password is told: {said}")
+        expect(machine.do("systemctl is-active nut-server nut-monitor"), "active\nactive\n", "NUT is running")
+
+        _, said, _ = [machine.do(it) for it in shown_commands(0)]
+
+        ensure("nut-client" in said and "nut-server" in said and "REMOVED" in said, f"apt removes NUT's packages: {said}")
+        expect(machine.do("dpkg --verify mulgefa-client mulgefa-server"), "", "files that differ")
+        status, said = machine.run("mulgefa-check")
+        expect((status, said), (0, ""), "mulgefa-check")
+
+    def is_served_here(self, machine):
+        machine.wait_for("upsc su700 ups.status 2> /dev/null", "OL")
+        ensure("2.8.0" not in self.version(machine), "this project's server answers")
+        for unit in ("mulgefa-upsd", "mulgefa-upsmon", "mulgefa-dummy-ups@su700", "nut-server", "nut-monitor"):
+            expect(machine.do(f"systemctl is-active {unit} || true"), "active\n", unit)
+        machine.wait_for("upsc -c su700", "127.0.0.1")
+        expect(machine.do("upsrw -s ups.id=other -u admin -p pw su700"), "OK\n", "upsrw")
+        machine.wait_for("upsc su700 ups.id", "other")
+        expect(machine.do("upscmd -u admin -p pw su700 test.failure.start"), "OK\n", "upscmd")
+        machine.wait_for("upsc su700 ups.status", "OB")
+        machine.do("upscmd -u admin -p pw su700 test.failure.stop")
+        machine.wait_for("upsc su700 ups.status", "OL")
+        # NUT's own module for Python is a client that stayed
+        said = machine.do("""python3 -c 'import PyNUT; print(PyNUT.PyNUTClient().GetUPSVars("su700")[b"ups.model"])'""")
+        expect(said, "b'Peer'\n", "NUT's module for Python")
+
+    def client_sees_an_upgrade(self, machine):
+        before = machine.do("systemctl show -p MainPID mulgefa-upsd mulgefa-upsmon mulgefa-dummy-ups@su700")
+        machine.do("cd /root/later && apt-get install ./mulgefa-server_*.deb ./mulgefa-client_*.deb")
+        after = machine.do("systemctl show -p MainPID mulgefa-upsd mulgefa-upsmon mulgefa-dummy-ups@su700")
+        for one, other in zip(before.split(), after.split()):
+            ensure(one != other and not other.endswith("=0"), f"the services run on by the new programs: {before} {after}")
+        machine.wait_for("upsc su700 ups.status 2> /dev/null", "OL")
+        machine.wait_for("upsc -c su700 2> /dev/null", "127.0.0.1")
+
+    def halts(self, machine):
+        machine.write("/etc/nut/su700.dev", DEVICE.format("OB LB"))
+        machine.do("systemctl restart mulgefa-dummy-ups@su700")
+        machine.wait_for("ls /root/halted 2> /dev/null", "/root/halted", 60)
+        expect(machine.do("cat /run/killpower"), "upsmon-shutdown-file\n", "POWERDOWNFLAG")
+        machine.do("upsmon -K")
+        machine.write("/etc/nut/su700.dev", DEVICE.format("OL"))
+        # the mark of a forced shutdown is the server's, and ends with it
+        machine.do("systemctl stop mulgefa-upsmon && systemctl restart mulgefa-dummy-ups@su700 mulgefa-upsd")
+        machine.do("rm /root/halted && systemctl start mulgefa-upsmon")
+        machine.wait_for("upsc su700 ups.status 2> /dev/null", "OL")
+
+    def bring_back(self, machine):
+        for command in shown_commands(1):
+            machine.do(command)
+        self.nut_serves(machine)
+
+
+if __name__ == "__main__":
+    sys.exit(main(Tests, "'apt-get install debootstrap systemd-container' installs what they need; they want root and a network"))

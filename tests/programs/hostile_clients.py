@@ -1,0 +1,396 @@
+#!/usr/bin/env python3
+"""Has clients of upsd do what holds others up or wears a server out, and lets upsd and its drivers be stopped and killed.
+
+    python3 -m tests.programs.hostile_clients UPSD DUMMY_UPS
+
+Where a minute or more has to pass, upsd runs by a clock that is hastened (tests/support/hasten.c), so a C compiler is needed. The
+last line is 'N passed, M failed'."""
+
+import contextlib
+import os
+import resource
+import signal
+import socket
+import stat
+import struct
+import subprocess
+import sys
+import tempfile
+import time
+
+from tests.support.harness import Failed, Missing, build_library, ensure, expect, processor_time, run_tests
+from tests.support.room import NOT_CONNECTED, ONLINE, SOON, STATUS, VERSION, Client, Room, until
+
+# the default of MAXCONN
+MOST = 256
+# the longest table that a dummy driver tells: every byte of a value takes two in an answer
+LONGEST = b"ups.status: OL\n" + b"".join(b"%s.%03d: %s\n" % (b"x" * 60, i, b'"' * 128) for i in range(508))
+# one whose list has 27 KB
+LONG = b"ups.status: OL\n" + b"".join(b"ambient.%d.status: %s\n" % (i, b"x" * 100) for i in range(200))
+STALE = b"ERR DATA-STALE\n"
+SILENT = "upsd: client 127.0.0.1 closed: silent for {} s"
+LOG_IN = b"USERNAME mon\nPASSWORD m1\nLOGIN su700\n"
+
+
+def resident(pid):
+    """The resident memory of a process in KiB."""
+    with open(f"/proc/{pid}/status") as status:
+        return next(int(line.split()[1]) for line in status if line.startswith("VmRSS:"))
+
+
+def descriptors(pid):
+    """How many descriptors a process has open."""
+    return len(os.listdir(f"/proc/{pid}/fd"))
+
+
+def probed(port):
+    """After how many seconds the system will probe the peers of the connections to a port of this machine."""
+    found = []
+    with open("/proc/net/tcp") as table:
+        for _, local, _, state, _, timer, *_ in map(str.split, table.readlines()[1:]):
+            kind, at = timer.split(":")
+            if int(local.split(":")[1], 16) == port and state == "01" and kind == "02":
+                found.append(int(at, 16) / os.sysconf("SC_CLK_TCK"))
+    return found
+
+
+def is_quiet(pid):
+    """Whether a process has nothing to do for a while."""
+    used = processor_time(pid)
+    time.sleep(0.5)
+    return processor_time(pid) - used < 0.1
+
+
+class Hostile:
+    """A client that reads nothing. Its buffers are small, and by its short segments those of the server are too."""
+
+    def __init__(self, room, request):
+        self.socket = socket.socket()
+        self.socket.setsockopt(socket.SOL_SOCKET, socket.SO_RCVBUF, 2048)
+        self.socket.setsockopt(socket.IPPROTO_TCP, socket.TCP_MAXSEG, 536)
+        self.socket.settimeout(SOON)
+        self.socket.connect((room.host, room.port))
+        self.socket.sendall(request)
+
+    def lists(self, count):
+        """Reads so many lists."""
+        self.file = self.socket.makefile("rb")
+        while count > 0:
+            line = self.file.readline()
+            ensure(line, "the connection ended")
+            count -= line.startswith(b"END LIST")
+
+    def close(self):
+        self.socket.close()
+
+
+@contextlib.contextmanager
+def closing(clients):
+    """Closes the clients of a list at the end."""
+    try:
+        yield clients
+    finally:
+        for client in clients:
+            client.close()
+
+
+@contextlib.contextmanager
+def stopped(process):
+    """Stops a process, and lets it go on at the end."""
+    process.send_signal(signal.SIGSTOP)
+    try:
+        yield
+    finally:
+        process.send_signal(signal.SIGCONT)
+
+
+def said(process):
+    """What a process that is ended now has said on standard error."""
+    process.kill()
+    return process.stderr.read().decode().splitlines()
+
+
+class Tests:
+    def __init__(self, upsd, dummy, folder):
+        self.programs = (upsd, dummy)
+        self.folder = folder
+        self.library = build_library("hasten", folder)
+
+    def room(self, **texts):
+        return Room(self.programs, self.folder, **texts)
+
+    def hastened(self, room, haste, **settings):
+        """Starts upsd with a clock that runs so many times as fast."""
+        if not os.path.exists(self.library):
+            raise Missing("a C compiler")
+        env = {**os.environ, "LD_PRELOAD": self.library, "HASTE": str(haste), **settings}
+        return room.upsd(env=env)
+
+    def full(self, room, request):
+        """As many clients as there may be, each of which has sent this."""
+        return [Hostile(room, request) for _ in range(MOST)]
+
+    # Each method from here on whose name begins with 'test_' is a test.
+
+    def test_as_many_as_there_may_be_never_read(self):
+        with self.room() as room:
+            room.dummy(LONG)
+            upsd = room.upsd()
+            room.until(STATUS, ONLINE)
+            with closing(self.full(room, b"LIST VAR su700\n" * 10)) as clients:
+                # each is answered until its buffers are full, and then none takes anything
+                until(lambda: is_quiet(upsd.pid), "a server whose clients don't read has nothing to do", 60)
+                for client in clients:
+                    client.socket.sendall(b"LIST VAR su700\n" * 10)
+                until(lambda: is_quiet(upsd.pid), "it has nothing to do again", 60)
+                expect(upsd.poll(), None, "a server whose clients don't read")
+                clients[0].lists(20)
+                clients[0].socket.sendall(b"VER\n")
+                expect(clients[0].file.readline(), VERSION, "one that reads at last")
+            until(room.serves, "a new client is served")
+
+    def test_what_is_kept_for_greedy_clients(self):
+        with self.room() as room:
+            room.dummy(LONGEST)
+            upsd = room.upsd()
+            room.until(STATUS, ONLINE)
+            with closing([Hostile(room, b"LIST VAR su700\n" * 34) for _ in range(MOST - 1)]):
+                with room.client() as client:
+                    client.socket.settimeout(60)
+                    expect(client.ask(STATUS), ONLINE, "beside greedy clients")
+                    until(lambda: is_quiet(upsd.pid), "nothing is left to do for clients that take nothing", 60)
+                    ensure(resident(upsd.pid) < 64 * 1024, f"{resident(upsd.pid)} KiB are resident")
+                    listed = client.list(b"LIST VAR su700\n")
+                    expect(len(listed), 511, "the lines of the longest list")
+
+    def test_lists_in_one_piece(self):
+        """What is held back of a piece comes in its order, however the piece is cut and whatever stands between."""
+        asked = b"VER\nlist UPS\n\nGET UPSDESC su700\n \"LIST\" UPS\n#\nL\nVER\n"
+        answer = [b"BEGIN LIST UPS\n", b'UPS su700 "Server room"\n', b"END LIST UPS\n"]
+        desc = b'UPSDESC su700 "Server room"\n'
+        wanted = [VERSION, *answer, desc, *answer, b"ERR UNKNOWN-COMMAND\n", VERSION]
+        with self.room() as room:
+            room.upsd()
+            for cut in range(0, len(asked), 3):
+                with room.client() as client:
+                    client.socket.setsockopt(socket.IPPROTO_TCP, socket.TCP_NODELAY, 1)
+                    client.send(asked[:cut])
+                    client.send(asked[cut:])
+                    expect([client.line() for _ in wanted], wanted, f"cut at {cut}")
+            with room.client() as client:
+                client.send(asked * 40)
+                client.socket.shutdown(socket.SHUT_WR)
+                expect(client.file.read(), b"".join(wanted * 40), "all at once, and the end behind them")
+
+    def test_silent_clients(self):
+        """A minute of the server's clock lasts four seconds here."""
+        with self.room() as room:
+            upsd = self.hastened(room, 15)
+            begun = time.monotonic()
+            with closing([room.client() for _ in range(MOST - 1)]) as clients, room.client() as speaker:
+                expect(speaker.ask(b"VER\n"), VERSION, "a client that speaks")
+                with room.client() as more:
+                    ensure(more.is_closed(), "a server that is full takes one more")
+                drip = clients[0]
+                waiting = list(clients)
+                while waiting and time.monotonic() < begun + 60:
+                    expect(speaker.ask(b"VER\n"), VERSION, "a client that speaks all the time")
+                    with contextlib.suppress(OSError):
+                        drip.send(b"V")
+                    waiting = [client for client in waiting if not self.has_ended(client)]
+                    time.sleep(0.2)
+                took = (time.monotonic() - begun) * 15
+                expect(len(waiting), 0, "silent clients, one with a byte now and then, that are there after 15 minutes")
+                ensure(took > 59, f"silent clients were closed after {took:.0f} s")
+                expect(room.serves(), True, "a new client is served")
+                expect(speaker.ask(b"VER\n"), VERSION, "a client that spoke all the time")
+            told = [line for line in said(upsd) if "client" in line]
+            expect(told, [SILENT.format(60)] * (MOST - 1), "what is told of it")
+
+    def test_silent_login(self):
+        """Ten minutes of the server's clock last six seconds here."""
+        with self.room() as room:
+            room.dummy()
+            upsd = self.hastened(room, 100)
+            room.until(STATUS, ONLINE)
+            begun = time.monotonic()
+            with closing([room.client() for _ in range(2)]) as clients:
+                silent, speaker = clients
+                for client in clients:
+                    client.send(LOG_IN)
+                    expect([client.line() for _ in range(3)], [b"OK\n"] * 3, "a login")
+                while not self.has_ended(silent) and time.monotonic() < begun + 60:
+                    expect(speaker.ask(b"GET NUMLOGINS su700\n"), b"NUMLOGINS su700 2\n", "both count")
+                    time.sleep(0.1)
+                took = (time.monotonic() - begun) * 100
+                ensure(self.has_ended(silent), "a login that is silent is there for an hour and more")
+                ensure(took > 599, f"a login was ended after {took:.0f} s of silence")
+                expect(speaker.ask(b"GET NUMLOGINS su700\n"), b"NUMLOGINS su700 1\n", "one still counts")
+            ensure(SILENT.format(600) in said(upsd), "what is told of it")
+
+    @staticmethod
+    def has_ended(client):
+        """Whether the other end has closed by now."""
+        client.socket.setblocking(False)
+        try:
+            return client.is_closed()
+        except BlockingIOError:
+            return False
+        finally:
+            client.socket.settimeout(SOON)
+
+    def test_peers_are_probed(self):
+        with self.room() as room:
+            room.upsd()
+            with room.client() as client:
+                expect(client.ask(b"VER\n"), VERSION, "a client")
+                (after,) = until(lambda: probed(room.port), "the client's peer is to be probed")
+                ensure(after <= 60.1, f"it is probed after {after} s")
+
+    def test_urgent_data(self):
+        with self.room() as room:
+            upsd = room.upsd()
+            with room.client() as client, room.client() as other:
+                expect(client.ask(b"VER\n"), VERSION, "a client")
+                with stopped(upsd):
+                    client.send(b"VER\nVE")
+                    client.socket.send(b"!", socket.MSG_OOB)
+                    client.send(b"R\nVER\n")
+                    other.send(b"VER\n")
+                expect([client.line() for _ in range(3)], [VERSION] * 3, "before and behind urgent data")
+                expect(other.line(), VERSION, "another client")
+                for _ in range(20):
+                    client.send(b"VE")
+                    client.socket.send(b"!", socket.MSG_OOB)
+                    expect(client.ask(b"R\n"), VERSION, "urgent data again")
+
+    def test_clients_that_are_gone_before_they_come_in(self):
+        """A second of the server's clock lasts a minute here: the client behind them doesn't wait for it."""
+        with self.room() as room:
+            upsd = self.hastened(room, 1 / 60, ABORTED_ACCEPTS="3")
+            with stopped(upsd):
+                gone = [room.client() for _ in range(2)]
+                last = room.client()
+            with closing([*gone, last]):
+                expect(last.ask(b"VER\n"), VERSION, "the one behind them")
+                for client in gone:
+                    ensure(client.is_closed(), "a client that couldn't come in")
+
+    def test_stopped_server(self):
+        """The server stands still for many times MAXAGE: what lay in its driver's socket is fresh, if anything did."""
+        with self.room(conf=b"MAXAGE 6\n") as room, room.driver() as listener:
+            upsd = self.hastened(room, 20)
+            driver, _ = listener.accept()
+            with driver, room.client() as client:
+                driver.sendall(b'SETINFO ups.status "OL"\nDATAOK\nDUMPDONE\n')
+                until(lambda: client.ask(STATUS) == ONLINE, "the driver is heard")
+                with stopped(upsd):
+                    client.send(STATUS)
+                    driver.sendall(b'SETINFO ups.status "OB"\n')
+                    time.sleep(1)
+                expect(client.line(), b'VAR su700 ups.status "OB"\n', "what the driver told meanwhile")
+                with stopped(upsd):
+                    client.send(STATUS)
+                    time.sleep(1)
+                expect(client.line(), STALE, "of a driver that says nothing")
+
+    def test_stopped_server_asks_its_driver(self):
+        with self.room(conf=b"MAXAGE 1\n") as room:
+            room.dummy()
+            upsd = room.upsd()
+            room.until(STATUS, ONLINE)
+            with room.client() as client:
+                with stopped(upsd):
+                    client.send(STATUS)
+                    time.sleep(3.5)
+                expect(client.line(), ONLINE, "of a driver that answers when it is asked")
+
+    def test_server_that_is_ended(self):
+        with self.room() as room:
+            room.dummy()
+            upsd = room.upsd()
+            room.until(STATUS, ONLINE)
+            with closing([room.client() for _ in range(20)]) as clients:
+                for client in clients:
+                    expect(client.ask(b"VER\n"), VERSION, "a client")
+                upsd.terminate()
+                expect(upsd.wait(SOON), -signal.SIGTERM, "how it ends")
+                for client in clients:
+                    ensure(client.is_closed(), "a connection outlives the server")
+            # its address can be had again, and the driver serves the next one
+            room.upsd()
+            room.until(STATUS, ONLINE)
+
+    def test_connections_in_turn(self):
+        with self.room() as room:
+            upsd = room.upsd()
+            address = (room.host, room.port)
+            reset = struct.pack("ii", 1, 0)
+            before = None
+            for i in range(20_000):
+                with socket.create_connection(address, SOON) as client:
+                    # no port is kept back, so that there are enough of them
+                    client.setsockopt(socket.SOL_SOCKET, socket.SO_LINGER, reset)
+                    client.sendall(b"VER\n")
+                    expect(client.recv(100), VERSION, "one after the other")
+                if i == 1000:
+                    before = resident(upsd.pid)
+            until(lambda: descriptors(upsd.pid) < 12, "no descriptor is left")
+            grown = resident(upsd.pid) - before
+            ensure(grown < 1024, f"{grown} KiB more are resident")
+
+    def test_two_drivers_at_one_socket(self):
+        with self.room() as room:
+            first = room.dummy()
+            path = room.path("dummy-ups-su700")
+            with Client(path):
+                pass
+            until(lambda: stat.S_IMODE(os.stat(path).st_mode) == 0o660, "its user and its group may connect, and nobody else")
+            second = [self.programs[1], room.path("su700.dev"), path]
+            in_use = f"dummy-ups: {path}: another driver listens there\n".encode()
+            for _ in range(2):
+                done = subprocess.run(second, capture_output=True, timeout=60)
+                expect((done.returncode, done.stdout, done.stderr), (1, b"", in_use), "a second driver")
+            room.upsd()
+            room.until(STATUS, ONLINE)
+            first.kill()
+            first.wait()
+            room.until(STATUS, NOT_CONNECTED)
+            ensure(os.path.exists(path), "a driver that is killed leaves its socket behind")
+            room.dummy()
+            room.until(STATUS, ONLINE)
+
+    def test_files_that_are_no_scripts(self):
+        path = os.path.join(self.folder, "endless.dev")
+        at = os.path.join(self.folder, "no-socket")
+        for make, said in (
+            (lambda: os.symlink("/dev/zero", path), "cannot read"),
+            (lambda: os.mkfifo(path), "cannot read"),
+            (lambda: os.mkdir(path), "cannot read"),
+            (lambda: self.sparse(path, 1 << 34), "more than 16777216 bytes"),
+        ):
+            make()
+            done = subprocess.run([self.programs[1], path, at], capture_output=True, timeout=60)
+            wanted = f"dummy-ups: {path}: {said}\n".encode()
+            expect((done.returncode, done.stdout, done.stderr), (1, b"", wanted), said)
+            os.rmdir(path) if os.path.isdir(path) else os.remove(path)
+        ensure(not os.path.exists(at), "a socket was made")
+
+    @staticmethod
+    def sparse(path, length):
+        """A file of this length that takes no room."""
+        with open(path, "wb") as file:
+            file.truncate(length)
+
+
+def main():
+    upsd, dummy, *names = sys.argv[1:]
+    # as many clients as there may be, and what else is open
+    resource.setrlimit(resource.RLIMIT_NOFILE, (1024, resource.getrlimit(resource.RLIMIT_NOFILE)[1]))
+    with tempfile.TemporaryDirectory() as folder:
+        tests = Tests(os.path.abspath(upsd), os.path.abspath(dummy), folder)
+        return run_tests(tests, names, "they need a C compiler")
+
+
+if __name__ == "__main__":
+    sys.exit(main())

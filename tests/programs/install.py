@@ -1,0 +1,557 @@
+#!/usr/bin/env python3
+"""Installs the programs into folders of its own, looks at what is there, and takes it away again.
+
+    python3 -m tests.programs.install [PROGRAM..]
+
+A program that isn't handed in is stood for by a file. The last line is 'N passed, M failed'."""
+
+import os
+import re
+import shutil
+import signal
+import stat
+import subprocess
+import sys
+import tempfile
+
+from tests.support.harness import expect, Failed, Missing, needed, ROOT, run_tests
+
+SERVERS = ("upsd", "upsmon")
+DRIVERS = ("dummy-ups",)
+TOOLS = ("upsc", "upsrw", "upscmd")
+PAGES = ("ups.conf.5", "upsd.conf.5", "upsd.users.5", "upsmon.conf.5", "from-nut.7", "mulgefa-check.8", "nutroom.8")
+EXAMPLES = ("ups.conf", "upsd.conf", "upsd.users", "upsmon.conf", "su700.dev")
+ROOMS = ("primary-alone", "primary-waits", "power-failure", "cut-network", "server-restarts")
+ROOM_FILES = ("m1.conf", "m2.conf", "m3.conf", "m4.conf", "m5.conf", "room", "ups.conf", "upsd.conf", "upsd.users")
+SCHEDULES = ("README.md", "primary.conf", "secondary.conf", *(f"{room}.sched" for room in ROOMS))
+UNITS = {"upsd": "mulgefa-upsd.service", "upsmon": "mulgefa-upsmon.service", "dummy-ups": "mulgefa-dummy-ups@.service"}
+
+# Tools that say what those of a server with two UPSes say; a host named rack has another.
+SCENE = {
+    "upsc": """case $* in
+-l) printf 'su700\\nsu900\\n' ;;
+"-l rack") echo su700 ;;
+"-l rack:1") echo su100 ;;
+su700 | su700@rack) printf 'battery.charge: 100\\nups.model: a: b\\nups.status: OL\\n' ;;
+evil) printf '%s\\n' '$(touch hit): 1' '`touch hit`: 2' '*: 3' ;;
+*) echo "Error: $*" >&2; exit 1 ;;
+esac
+""",
+    "upsrw": """case $* in
+su700) printf '[input.sensitivity]\\nType: RW ENUM\\nValue: low\\nOption: low\\nOption: very high\\n\\n[ups.id]\\nType: RW STRING:16\\nValue: x\\n' ;;
+su900) printf '[ups.delay.start]\\nType: RW RANGE\\nValue: 1\\n' ;;
+*) exit 1 ;;
+esac
+""",
+    "upscmd": """case $* in
+"-l su700") printf 'load.off - Turn off the load\\nload.on - Turn on the load\\n' ;;
+*) exit 1 ;;
+esac
+""",
+}
+
+# What is offered after a line.
+COMPLETIONS = {
+    "upsc ": ["su700", "su900"],
+    "upsc su7": ["su700"],
+    "upsc x": [],
+    "upsc -": ["-j", "-l", "-L", "-c", "-h", "--help", "-V", "--version"],
+    "upsc -l localh": ["localhost"],
+    "upsc su700 ": ["battery.charge", "ups.model", "ups.status"],
+    "upsc su700 ups.s": ["ups.status"],
+    "upsc su700@rack ups.s": ["ups.status"],
+    "upsc su700 ups.status ": [],
+    "upsc su700@": [],
+    "upsc su700@rack": ["rack"],
+    "upsc su700@rack:1": [],
+    "upsc su100@rack:1": ["1"],
+    "upsc -c ": ["su700", "su900"],
+    "upsc -c su700 ": [],
+    "upsc -j ": ["su700", "su900"],
+    "upsc -j su700 ": [],
+    "upsrw ": ["su700", "su900"],
+    "upsrw su700 ": [],
+    "upsrw -": ["-s", "-u", "-p", "-h", "--help", "-V", "--version"],
+    "upsrw -s ": ["input.sensitivity=", "ups.id=", "ups.delay.start="],
+    "upsrw su700 -s in": ["input.sensitivity="],
+    "upsrw -s input.sensitivity=": ["low", "very\\ high"],
+    "upsrw -s input.sensitivity=l": ["low"],
+    "upsrw -s ups.id=": [],
+    "upsrw -s ups.id=x -u ": [],
+    "upsrw -s ups.id=x -u admin -p pw su9": ["su900"],
+    "upscmd ": ["su700", "su900"],
+    "upscmd -l su7": ["su700"],
+    "upscmd -l su700 ": [],
+    "upscmd su700 load.": ["load.off", "load.on"],
+    "upscmd -u admin -p pw su700 load.of": ["load.off"],
+    "upscmd -u admin -p ": [],
+    "upscmd -u": ["-u"],
+    "nutroom -": ["-n", "-s", "--svg", "--steps", "--run", "--nutsim", "-h", "--help", "-V", "--version"],
+    "nutroom -n 5 --s": ["--svg", "--steps"],
+    "nutroom -s ": [],
+    "nutroom x": [],
+}
+
+
+def programs():
+    """The programs that the Makefile builds, as they are installed."""
+    with open(os.path.join(ROOT, "Makefile")) as file:
+        words = re.search(r"^PROGRAMS := (.*)$", file.read(), re.MULTILINE)[1].split()
+    return [it.replace("_", "-") for it in words]
+
+
+def folder_of(program):
+    return "sbin" if program in SERVERS else "lib/mulgefa" if program in DRIVERS else "bin"
+
+
+def wanted_files():
+    """What is installed, with its mode."""
+    files = {"lib/sysusers.d/mulgefa.conf": 0o644, "sbin/mulgefa-check": 0o755, "bin/nutroom": 0o755, "share/bash-completion/completions/nutroom": 0o644}
+    files.update({f"share/mulgefa/{page}": 0o644 for page in ("from-nut.md", "room.md", "room.svg")})
+    files.update({f"share/mulgefa/rooms/five/{file}": 0o644 for file in ROOM_FILES})
+    for program in programs():
+        files[f"{folder_of(program)}/{program}"] = 0o755
+        files[f"share/man/man8/{program}.8"] = 0o644
+        if program in UNITS:
+            files[f"lib/systemd/system/{UNITS[program]}"] = 0o644
+        if program in TOOLS:
+            files[f"share/bash-completion/completions/{program}"] = 0o644
+    files.update({f"share/man/man{page[-1]}/{page}": 0o644 for page in PAGES})
+    files.update({f"share/mulgefa/examples/{example}": 0o644 for example in EXAMPLES})
+    files.update({f"share/mulgefa/schedules/{schedule}": 0o644 for schedule in SCHEDULES})
+    return files
+
+
+def files_below(folder):
+    """Each file below a folder, by its path from there."""
+    for at, _, names in os.walk(folder):
+        for name in names:
+            yield os.path.relpath(os.path.join(at, name), folder)
+
+
+def state_of(folder):
+    """What there is to see of each file below a folder."""
+    state = {}
+    for path in files_below(folder):
+        with open(os.path.join(folder, path), "rb") as file:
+            at = os.stat(file.fileno())
+            state[path] = (stat.S_IMODE(at.st_mode), at.st_mtime_ns, at.st_ino, file.read())
+    return state
+
+
+def passwords_in(folder):
+    """The passwords of a configuration: those of the server's users, by their names, and the monitor's."""
+    with open(os.path.join(folder, "upsd.users")) as file:
+        users = dict(re.findall(r"^\[(\w+)\]\n *password = (.*)$", file.read(), re.MULTILINE))
+    with open(os.path.join(folder, "upsmon.conf")) as file:
+        return users, re.search(r"^MONITOR \S+ 1 monuser (\S+) primary$", file.read(), re.MULTILINE)[1]
+
+
+def state_of_file(path):
+    """What there is to see of a file or a link, but for when it was last read."""
+    at = os.lstat(path)
+    return at.st_mode, at.st_mtime_ns, at.st_ino
+
+
+def put_programs(built, folder):
+    """Puts the programs that were built into a folder, and scripts in place of the others. It gives the names of the former."""
+    os.mkdir(folder)
+    built = {os.path.basename(path).replace("_", "-"): path for path in built}
+    for program in programs():
+        path = os.path.join(folder, program)
+        if program in built:
+            shutil.copy(built[program], path)
+        else:
+            with open(path, "w") as file:
+                file.write("#!/bin/sh\n")
+            os.chmod(path, 0o755)
+    return [it for it in programs() if it in built]
+
+
+def outside_make():
+    """The environment without what a 'make' above a test says, which isn't for the 'make' that the test runs."""
+    return {name: value for name, value in os.environ.items() if not name.startswith(("MAKE", "MFLAGS"))}
+
+
+class Tests:
+    def __init__(self, built, folder):
+        self.folder = folder
+        self.bin = os.path.join(folder, "bin")
+        self.built = put_programs(built, self.bin)
+
+    def make(self, *words, cwd=ROOT):
+        done = subprocess.run(["make", "-s", *words], cwd=cwd, env=outside_make(), stdin=subprocess.DEVNULL, capture_output=True, timeout=60)
+        return done.returncode, done.stdout.decode(), done.stderr.decode()
+
+    def install(self, *words):
+        expect(self.make("install-built", f"BIN={self.bin}", *words), (0, "", ""), "make install-built")
+
+    def installed(self, name):
+        """The folder of a room into which all was installed for itself, so that units name files that are there."""
+        prefix = os.path.join(self.folder, name)
+        self.install(f"PREFIX={prefix}")
+        return prefix
+
+    def configured(self, name, *words):
+        """A folder with a first configuration, and what was said of it."""
+        destination = os.path.join(self.folder, name)
+        status, said, wrong = self.make("configure", f"DESTDIR={destination}", *words)
+        expect((status, wrong), (0, ""), "make configure")
+        return os.path.join(destination, "etc/nut"), said.splitlines()
+
+    # Each method from here on whose name begins with 'test_' is a test.
+
+    def test_tree(self):
+        destination = os.path.join(self.folder, "a package")
+        self.install(f"DESTDIR={destination}", "PREFIX=/usr")
+        found = {path: it[0] for path, it in state_of(destination).items()}
+        expect(found, {f"usr/{path}": mode for path, mode in wanted_files().items()}, "files and modes")
+
+    def test_default_prefix(self):
+        destination = os.path.join(self.folder, "defaults")
+        self.install(f"DESTDIR={destination}")
+        expect(set(files_below(destination)), {f"usr/local/{it}" for it in wanted_files()}, "files")
+
+    def test_second_install_changes_nothing(self):
+        words = [f"DESTDIR={os.path.join(self.folder, 'twice')}", "PREFIX=/usr"]
+        self.install(*words)
+        first = state_of(os.path.join(self.folder, "twice"))
+        self.install(*words)
+        if state_of(os.path.join(self.folder, "twice")) != first:
+            raise Failed("a second install changed a file")
+
+    def test_uninstall_leaves_what_is_not_ours(self):
+        destination = os.path.join(self.folder, "gone")
+        words = [f"DESTDIR={destination}", "PREFIX=/usr"]
+        for path in ("etc/nut/ups.conf", "usr/lib/nut/usbhid-ups"):
+            at = os.path.join(destination, path)
+            os.makedirs(os.path.dirname(at))
+            with open(at, "w") as file:
+                file.write("mine\n")
+        before = state_of(destination)
+        self.install(*words)
+        expect(self.make("uninstall", *words), (0, "", ""), "make uninstall")
+        expect(state_of(destination), before, "what was there before")
+        expect(os.path.exists(os.path.join(destination, "usr/share/mulgefa")), False, "a folder of ours")
+        expect(self.make("uninstall", *words), (0, "", ""), "make uninstall once more")
+
+    def test_configure(self):
+        folder, said = self.configured("configured")
+        expect(said, [], "what is said of it")
+        found = {path: it[0] for path, it in state_of(folder).items()}
+        wanted = {example: 0o600 if example == "upsmon.conf" else 0o640 for example in EXAMPLES}
+        expect((found, stat.S_IMODE(os.stat(folder).st_mode)), (wanted, 0o750), "files and modes")
+        users, monitor = passwords_in(folder)
+        expect((set(users), users["monuser"]), ({"admin", "monuser", "guest"}, monitor), "the passwords fit")
+        other, _ = passwords_in(self.configured("another")[0])
+        for password in (*users.values(), *other.values()):
+            expect(re.fullmatch("[a-z0-9]{20}", password) is not None, True, "a password")
+        expect(len({*users.values(), *other.values()}), 6, "no two are the same")
+        with open(os.path.join(folder, "upsmon.conf")) as file:
+            text = file.read()
+        expect(re.findall("^SHUTDOWNCMD (.*)$", text, re.MULTILINE), ['"echo upsmon would stop this machine now"'], "nothing is stopped yet")
+        expect(re.findall("^POWERDOWNFLAG (.*)$", text, re.MULTILINE), ["/run/killpower"], "where a boot clears it")
+
+    def test_configure_leaves_files_as_they_are(self):
+        folder = os.path.join(self.folder, "mine/etc/nut")
+        os.makedirs(folder)
+        os.chmod(folder, 0o711)
+        with open(os.path.join(folder, "upsd.users"), "w") as file:
+            file.write("mine\n")
+        os.symlink("none", os.path.join(folder, "ups.conf"))
+        before = [state_of_file(os.path.join(folder, name)) for name in ("ups.conf", "upsd.users")]
+        self.configured("mine")
+        after = [state_of_file(os.path.join(folder, name)) for name in ("ups.conf", "upsd.users")]
+        expect((after, stat.S_IMODE(os.stat(folder).st_mode)), (before, 0o711), "what was there")
+        os.remove(os.path.join(folder, "ups.conf"))
+        self.configured("mine")
+        first = state_of(folder)
+        _, said = self.configured("mine")
+        expect(state_of(folder), first, "what a second call changes")
+        expect(said, [f"{folder}/{example} is there already and stays as it is" for example in sorted(EXAMPLES)], "what is said")
+
+    def test_configuration_reads(self):
+        if not {"upsd", "upsmon"} <= set(self.built):
+            raise Missing("no built programs were handed in")
+        folder, _ = self.configured("read")
+        _, password = passwords_in(folder)
+        asks = f"USERNAME monuser\nPASSWORD {password}\nLOGIN su700\nLOGOUT\n"
+        words = [os.path.join(self.bin, "upsd"), "--stdio", "--conf", folder]
+        done = subprocess.run(words, input=asks.encode(), capture_output=True, timeout=60)
+        expect((done.returncode, done.stdout, done.stderr), (0, b"OK\nOK\nOK\nOK Goodbye\n", b""), "the server's")
+        words = [os.path.join(self.bin, "upsmon"), "-K", "--conf", folder]
+        done = subprocess.run(words, stdin=subprocess.DEVNULL, capture_output=True, timeout=60)
+        expect((done.returncode, done.stdout, done.stderr), (1, b"", b""), "the monitor's")
+
+    def test_installed_examples_have_no_passwords(self):
+        destination = os.path.join(self.folder, "examples")
+        self.install(f"DESTDIR={destination}", "PREFIX=/usr")
+        folder = os.path.join(destination, "usr/share/mulgefa/examples")
+        with open(os.path.join(folder, "upsd.users")) as file:
+            expect(re.findall("^ *password.*$", file.read(), re.MULTILINE), [], "a password")
+        with open(os.path.join(folder, "upsmon.conf")) as file:
+            expect(re.findall("^MONITOR.*$", file.read(), re.MULTILINE), ["MONITOR su700@localhost 1 monuser PASSWORD primary"], "a password")
+
+    def test_room_to_try(self):
+        """What the README shows works as pasted, on a network of its own."""
+        unshare = needed("unshare", "util-linux")
+        needed("ip", "iproute2")
+        if not {"upsd", "dummy-ups", "upsc", "upsrw", "upscmd"} <= set(self.built):
+            raise Missing("no built programs were handed in")
+        with open(os.path.join(ROOT, "README.md")) as file:
+            shown = re.search(r"A room to try.*?```sh\n(.*?)```", file.read(), re.DOTALL)[1]
+        room = os.path.join(self.folder, "room")
+        os.mkdir(room)
+        os.symlink(self.bin, os.path.join(room, "bin"))
+        shutil.copytree(os.path.join(ROOT, "examples"), os.path.join(room, "examples"))
+        words = [unshare, "-rn", "bash", "-c", f"ip link set lo up || exit 77\n{shown}wait"]
+        process = subprocess.Popen(
+            words, cwd=room, stdin=subprocess.DEVNULL, stdout=subprocess.PIPE, stderr=subprocess.STDOUT, start_new_session=True,
+            env={**os.environ, "TMPDIR": room}
+        )
+        try:
+            said = process.communicate(timeout=60)[0].decode()
+        finally:
+            try:
+                os.killpg(process.pid, signal.SIGKILL)
+            except ProcessLookupError:
+                pass
+        if process.returncode == 77 or "unshare failed" in said:
+            raise Missing("no network of its own can be had")
+        for line in ("OL", "ups.id: rack7", "ups.status: OB"):
+            expect(line in said.splitlines(), True, f"{line!r} is shown: {said}")
+
+    def check(self, *words):
+        """What mulgefa-check says with the built programs beside it, and its status."""
+        if not {"upsd", "upsmon"} <= set(self.built):
+            raise Missing("no built programs were handed in")
+        prefix = self.installed("checked")
+        env = {it: os.environ[it] for it in ("PATH", "TMPDIR") if it in os.environ}
+        done = subprocess.run([os.path.join(prefix, "sbin/mulgefa-check"), *words], env=env, stdin=subprocess.DEVNULL, stdout=subprocess.PIPE, stderr=subprocess.STDOUT, timeout=60)
+        return done.returncode, done.stdout.decode()
+
+    def nuts_files(self, name, **files):
+        """A folder with files that are right, but for these."""
+        folder = os.path.join(self.folder, name)
+        shutil.copytree(os.path.join(ROOT, "examples"), folder)
+        for file, text in files.items():
+            with open(os.path.join(folder, file.replace("_", ".")), "w") as opened:
+                opened.write(text)
+        return folder
+
+    def test_check_of_what_is_taken(self):
+        folder = self.nuts_files("taken")
+        before = state_of(folder)
+        for words in ((folder,), ("--upsd", folder), ("--upsmon", folder), ("-i", folder)):
+            expect(self.check(*words), (0, ""), f"mulgefa-check {words}")
+        expect(state_of(folder), before, "what it changed")
+        os.remove(os.path.join(folder, "upsd.users"))
+        expect(self.check(folder), (1, f"{folder}/upsd.users: cannot read\n"), "a file that isn't there")
+        for name in ("ups.conf", "upsd.conf"):
+            os.remove(os.path.join(folder, name))
+        expect(self.check(folder), (0, ""), "a machine without a server")
+        for words in (("--none",), ("-w",), (folder, folder), ("-i", "-w", folder), ("-w", folder, folder), (os.path.join(folder, "none"),)):
+            expect(self.check(*words)[0], 2, f"mulgefa-check {words}")
+
+    def test_check_tells_every_line(self):
+        folder = self.nuts_files(
+            "told",
+            ups_conf='maxretry = 3\n[apc]\n driver = usbhid-ups\n port = auto\n vendorid = 051d\n override.battery.charge.low = 30\n',
+            upsd_conf="#\u00a0a comment\nMAXAGE 20\nSTATEPATH /run/nut\n",
+            upsd_users='[mon]\n password = "s3 cret"\n actions = set\n upsmon = master\n',
+            upsmon_conf='RUN_AS_USER nut\nMONITOR apc 1 mon "s3 cret" master # mine\nNOTIFYCMD /sbin/upssched\n',
+        )
+        before = state_of(folder)
+        told = [
+            "ups.conf:1: OutsideSection: maxretry = 3",
+            "    take it out: not taken: units start a driver again without end",
+            "ups.conf:5: UnknownDirective: vendorid = 051d",
+            "    take it out: not taken: it is a driver's",
+            "ups.conf:6: UnknownDirective: override.battery.charge.low = 30",
+            "    take it out: not taken: it is a driver's",
+            "upsd.users:3: UnknownWord: actions = set",
+            "    change it to: actions = SET",
+            "upsd.users:4: BadForm: upsmon = master",
+            "    change it to: upsmon primary",
+            "upsd.conf:1: Unreadable: #\u00a0a comment",
+            "    change it to: #??a comment",
+            "upsd.conf:3: UnknownDirective: STATEPATH /run/nut",
+            "    take it out: not taken: the option -s names the folder of the sockets, and the unit has it",
+            "note: the driver usbhid-ups is NUT's, and isn't part of these packages; see from-nut(7)",
+            "upsmon.conf:1: UnknownDirective: RUN_AS_USER nut",
+            "    take it out: not taken: there is one process, which the unit runs as root",
+            "upsmon.conf:2: BadName: MONITOR apc 1 mon .. master",
+            "    change it to: MONITOR apc@localhost 1 mon .. primary",
+            "note: upssched is NUT's, and isn't part of these packages; see from-nut(7)",
+        ]
+        status, said = self.check(folder)
+        expect((status, said.replace(f"{folder}/", "").splitlines()), (1, told), "what is told")
+        status, said = self.check("-i", folder)
+        expect((status, said.splitlines()[-1][:49]), (1, "nothing is written: the drivers of NUT want " + folder[:5]), "NUT's drivers keep their file")
+        expect(state_of(folder), before, "what it changed")
+
+        to = os.path.join(self.folder, "written")
+        expect(self.check("-w", to, folder)[0], 0, "mulgefa-check -w")
+        expect(self.check(to)[0], 0, "mulgefa-check of what it wrote")
+        written = {path: (it[0], it[3].decode()) for path, it in state_of(to).items()}
+        wanted = {
+            "ups.conf": (0o640, "\n[apc]\n driver = usbhid-ups\n port = auto\n\n\n"),
+            "upsd.conf": (0o640, "#??a comment\nMAXAGE 20\n\n"),
+            "upsd.users": (0o640, '[mon]\n password = "s3 cret"\n actions = SET\n upsmon primary\n'),
+            "upsmon.conf": (0o600, '\nMONITOR apc@localhost 1 mon "s3 cret" primary # mine\nNOTIFYCMD /sbin/upssched\n'),
+        }
+        expect((written, state_of(folder)), (wanted, before), "what it wrote")
+
+    def test_check_changes_in_place(self):
+        old, new = "actions = set\n", "actions = SET\n"
+        folder = self.nuts_files("in place", upsd_users="[a]\n" + old)
+        os.chmod(os.path.join(folder, "upsd.users"), 0o604)
+        status, said = self.check("-i", folder)
+        expect((status, said.splitlines()[-1]), (0, f"{folder}/upsd.users is changed; what it was is {folder}/upsd.users.nut"), "mulgefa-check -i")
+        found = {path: it for path, it in state_of(folder).items() if path.startswith("upsd.users")}
+        expect({path: (it[0], it[3].decode()) for path, it in found.items()}, {"upsd.users": (0o604, "[a]\n" + new), "upsd.users.nut": (0o604, "[a]\n" + old)}, "its files")
+
+    def test_check_leaves_what_people_decide(self):
+        folder = self.nuts_files("open", upsd_conf="MAXAGE 0\n", upsmon_conf="MINSUPPLIES 1\n")
+        to = os.path.join(self.folder, "nothing written")
+        status, said = self.check("-w", to, folder)
+        told = [
+            f"{folder}/upsd.conf:1: BadNumber: MAXAGE 0",
+            "    upsd.conf(5) says what may stand there",
+            f"{folder}/upsmon.conf: PastLimit: the power values of the MONITOR lines sum to less than MINSUPPLIES",
+            "nothing is written: this has to be changed by hand first",
+        ]
+        expect((status, said.splitlines(), os.path.exists(to)), (1, told, False), "what is told")
+
+    def completed(self, line, breaks=" \t\n\"'><=;|&(:@"):
+        """What bash offers at the end of a line, where tools of a scene stand in place of the programs."""
+        scene = os.path.join(self.folder, "scene")
+        if not os.path.isdir(scene):
+            os.mkdir(scene)
+            for name, text in SCENE.items():
+                path = os.path.join(scene, name)
+                with open(path, "w") as file:
+                    file.write(f"#!/bin/sh\n{text}")
+                os.chmod(path, 0o755)
+        program = line.split()[0]
+        script = f"""COMP_WORDBREAKS=$BREAKS
+            . packaging/completions.bash
+            compopt() {{ :; }}
+            COMP_LINE=$LINE COMP_POINT=${{#LINE}}
+            _mulgefa_{program}
+            printf '%s\\n' "${{COMPREPLY[@]}}" """
+        env = {**os.environ, "PATH": f"{scene}:{os.environ['PATH']}", "LINE": line, "BREAKS": breaks, "SCENE": scene}
+        done = subprocess.run([needed("bash", "bash"), "--norc", "-c", script], cwd=ROOT, env=env, stdin=subprocess.DEVNULL, capture_output=True, timeout=60)
+        expect((done.returncode, done.stderr.decode()), (0, ""), f"the completion of {line!r}")
+        return [it for it in done.stdout.decode().split("\n") if it]
+
+    def test_completion(self):
+        for line, offered in COMPLETIONS.items():
+            expect(self.completed(line), offered, f"what is offered after {line!r}")
+        # where bash cuts a word at blanks alone, the whole of it is offered
+        expect(self.completed("upsc su700@rack", " \t\n"), ["su700@rack"], "a whole name")
+        # What a server says is text, whatever the shell would make of it.
+        expect(self.completed("upsc evil "), ["\\$\\(touch\\ hit\\)", "\\`touch\\ hit\\`", "\\*"], "names that a shell would run")
+        expect(os.path.exists(os.path.join(ROOT, "hit")), False, "something was run")
+
+    def test_completion_asks_this_server(self):
+        """The built tools are asked: of a server that isn't there nothing is offered, and nothing is said."""
+        if not {"upsc", "upsrw", "upscmd"} <= set(self.built):
+            raise Missing("no built programs were handed in")
+        for tool in TOOLS:
+            env = {**os.environ, "PATH": f"{self.bin}:{os.environ['PATH']}", "LINE": f"{tool} su700@127.0.0.1:1 "}
+            script = f'. packaging/completions.bash; COMP_LINE=$LINE COMP_POINT=${{#LINE}}; _mulgefa_{tool}; echo "${{#COMPREPLY[@]}}"'
+            done = subprocess.run([needed("bash", "bash"), "--norc", "-c", script], cwd=ROOT, env=env, stdin=subprocess.DEVNULL, capture_output=True, timeout=60)
+            expect((done.stdout, done.stderr), (b"0\n", b""), f"the completion of {tool}")
+
+    def test_install_without_programs(self):
+        destination = os.path.join(self.folder, "nothing")
+        status, _, said = self.make("install-built", f"BIN={self.folder}", f"DESTDIR={destination}")
+        expect((status, "isn't built yet" in said), (2, True), f"what is said: {said}")
+        expect(os.path.exists(destination), False, "something was installed")
+
+    def test_install_builds(self):
+        """What 'make install' would run: each program is built before anything is installed."""
+        status, planned, _ = self.make("--dry-run", "install", f"DESTDIR={self.folder}")
+        expect(status, 0, "a dry run")
+        lines = planned.splitlines()
+        last = max(i for i, line in enumerate(lines) if "packaging/install.sh install" in line)
+        for program in programs():
+            built = [i for i, line in enumerate(lines) if line.endswith(f" bin/{program}") and line.startswith("cp ")]
+            expect(len(built) == 1 and built[0] < last, True, f"{program} is built first")
+
+    def test_units_name_what_is_installed(self):
+        prefix = self.installed("units")
+        for program in programs():
+            if program not in UNITS:
+                continue
+            with open(os.path.join(prefix, "lib/systemd/system", UNITS[program])) as file:
+                text = file.read()
+            expect("@PREFIX@" in text or "@CONFDIR@" in text, False, f"{program}: places left open")
+            started = re.findall(r"^ExecStart=(\S+)", text, re.MULTILINE)
+            expect(started, [os.path.join(prefix, folder_of(program), program)], f"{program} is started")
+            expect(os.access(started[0], os.X_OK), True, f"{started[0]} can be run")
+            expect(re.findall("^Environment=NUT_CONFPATH=(.*)$", text, re.MULTILINE), ["/etc/nut"], f"{program}: the folder of the configuration")
+            expect("${NUT_CONFPATH}" in re.search("^ExecStart=(.*)$", text, re.MULTILINE)[1], True, f"{program} is given that folder")
+            for page, section in re.findall(r"man:([^ (]+)\((\d)\)", text):
+                path = os.path.join(prefix, f"share/man/man{section}/{page}.{section}")
+                expect(os.path.exists(path), True, f"{program}: the page {page}({section})")
+        self.install(f"PREFIX={prefix}", "CONFDIR=/srv/ups")
+        for program in UNITS.keys() & set(programs()):
+            with open(os.path.join(prefix, "lib/systemd/system", UNITS[program])) as file:
+                text = file.read()
+            expect(("=/srv/ups\n" in text, "/etc/nut" in text), (True, False), f"{program}: another folder")
+
+    def test_units_are_read_by_systemd(self):
+        analyze = needed("systemd-analyze", "systemd")
+        prefix = self.installed("systemd")
+        folder = os.path.join(prefix, "lib/systemd/system")
+        env = {**os.environ, "SYSTEMD_UNIT_PATH": folder + ":", "MANPATH": os.path.join(prefix, "share/man")}
+        for name in sorted(os.listdir(folder)):
+            done = subprocess.run([analyze, "verify", os.path.join(folder, name)], env=env, capture_output=True, timeout=60)
+            expect((done.returncode, done.stderr.decode()), (0, ""), name)
+
+    def test_pages_format_without_warnings(self):
+        groff = needed("groff", "groff-base")
+        for page in sorted(os.listdir(os.path.join(ROOT, "man"))):
+            words = [groff, "-man", "-ww", "-Tascii", "-P-cbou", os.path.join(ROOT, "man", page)]
+            done = subprocess.run(words, capture_output=True, timeout=60)
+            expect((done.returncode, done.stderr.decode()), (0, ""), page)
+            text = done.stdout.decode()
+            for heading in ("NAME", "DESCRIPTION", "EXAMPLES", "SEE ALSO"):
+                expect(heading in text, True, f"{page}: {heading}")
+
+    def test_pages_refer_to_pages(self):
+        for page in os.listdir(os.path.join(ROOT, "man")):
+            with open(os.path.join(ROOT, "man", page)) as file:
+                text = file.read()
+            for name, section in re.findall(r"^\.BR (\S+) \((\d)\)", text, re.MULTILINE):
+                if name == "getent":  # the C library's
+                    continue
+                other = f"{name.replace(chr(92), '')}.{section}"
+                expect(os.path.exists(os.path.join(ROOT, "man", other)), True, f"{page}: {other}")
+
+    def test_pages_have_every_option(self):
+        """Each option of a program's help stands in its page, and the page has no other."""
+        if not self.built:
+            raise Missing("no built program was handed in")
+        for program in self.built:
+            done = subprocess.run([os.path.join(self.bin, program), "--help"], capture_output=True, timeout=60)
+            expect(done.returncode, 0, f"{program} --help")
+            options = set(re.findall(r"(?<![\w-])--?[A-Za-z][a-z]*", done.stdout.decode().split("Options:", 1)[1]))
+            with open(os.path.join(ROOT, "man", f"{program}.8")) as file:
+                text = file.read().replace("\\-", "-").replace("\\~", " ")
+            section = re.search(r"^\.SH OPTIONS\n(.*?)^\.SH", text, re.MULTILINE | re.DOTALL)[1]
+            heads = re.findall(r"^\.T[PQ]\n(.*)$", section, re.MULTILINE)
+            found = set(re.findall(r"(?<![\w-])--?[A-Za-z][a-z]*", "\n".join(re.sub(r"^\.B[IR]?", "", it) for it in heads)))
+            expect(sorted(found), sorted(options), f"the options of {program}")
+
+
+def main():
+    with tempfile.TemporaryDirectory() as folder:
+        tests = Tests([os.path.abspath(path) for path in sys.argv[1:]], folder)
+        return run_tests(tests, install="'apt-get install groff-base systemd' installs what they need")
+
+
+if __name__ == "__main__":
+    sys.exit(main())

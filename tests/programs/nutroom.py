@@ -1,0 +1,617 @@
+#!/usr/bin/env python3
+"""Runs `nutroom` with the built `nutsim`: descriptions that read and those that don't, what it prints and draws, and random
+rooms, of which none may pass a bound of the theorem.
+
+    python3 -m tests.programs.nutroom [--rooms COUNT] NUTSIM
+
+Rooms are made from fixed seeds, so that each run of this test plays the same; COUNT is how many, 300 without it. The last line
+is 'N passed, M failed'."""
+
+import collections
+import concurrent.futures
+import contextlib
+import functools
+import importlib.machinery
+import importlib.util
+import os
+import pty
+import random
+import re
+import shlex
+import signal
+import subprocess
+import sys
+import tempfile
+import time
+import xml.etree.ElementTree
+
+from tests.programs.nutsim import server_files
+from tests.support.harness import ROOT, Failed, ensure, expect, run_tests
+from tests.support.model import Config, User, words_of
+from tests.support.room_model import Room, Rules, Watched, shown
+
+PROGRAM = os.path.join(ROOT, "tools", "nutroom")
+PAGE = os.path.join(ROOT, "docs", "room.md")
+PICTURE = os.path.join(ROOT, "docs", "room.svg")
+MANUAL = os.path.join(ROOT, "man", "nutroom.8")
+SVG = "{http://www.w3.org/2000/svg}"
+
+ROOMS = 300
+ROOMS_A_CALL = 25
+# of so many rooms one is also played by the plain model
+MODEL_EACH = 5
+
+CONFIG = Config([(b"su700", b""), (b"su800", b"")], {b"mon": User(b"m1", (), (), "primary"), b"sec": User(b"m2", (), (), "secondary"), b"idle": User(b"x")})
+PRIMARY = Rules([Watched(b"su700", "primary")])
+SECONDARY = Rules([Watched(b"su700", "secondary", user=b"sec", password=b"m2")])
+FILES = {"m1.conf": PRIMARY, "m2.conf": SECONDARY, "both.conf": Rules([Watched(b"su700", "primary"), Watched(b"su800", "primary")])}
+
+PAIR = "machine m1 m1.conf delay 0 2\nmachine m2 m2.conf delay 0 2\n"
+LOW = "at 10 su700 OB\nat 20 su700 OB LB\n"
+
+
+def loaded():
+    """The program as a module."""
+    loader = importlib.machinery.SourceFileLoader("nutroom", PROGRAM)
+    module = importlib.util.module_from_spec(importlib.util.spec_from_loader("nutroom", loader))
+    sys.modules["nutroom"] = module
+    loader.exec_module(module)
+    return module
+
+
+nutroom = loaded()
+
+
+def write(folder, name, text):
+    path = os.path.join(folder, name)
+    os.makedirs(os.path.dirname(path), exist_ok=True)
+    with open(path, "wb") as file:
+        file.write(text.encode() if isinstance(text, str) else text)
+    return path
+
+
+def write_room(folder, text, config=CONFIG, files=None):
+    """A description with its configuration files in a folder."""
+    for name, data in server_files(config).items():
+        write(folder, name, data)
+    for name, rules in (FILES if files is None else files).items():
+        write(folder, name, rules.text())
+    return write(folder, "room", text)
+
+
+# What is wrong with a description, and what is told of it.
+WRONG_LINES = {
+    "wait 5": "'wait' is no line of a room: there are conf, machine, battery and at",
+    'at 10 su700 "OB': "a quote or a backslash is left open",
+    "at 10 su700 OB\\": "a quote or a backslash is left open",
+    "conf": "wanted: conf FOLDER",
+    "conf a b": "wanted: conf FOLDER",
+    "machine m3 m1.conf": "wanted: machine NAME UPSMON.CONF delay LEAST GREATEST",
+    "machine m3 m1.conf 0 1 2": "wanted: machine NAME UPSMON.CONF delay LEAST GREATEST",
+    "machine a/b m1.conf delay 0 1": "'a/b' is no name: 1 to 32 letters, digits, '.', '_' and '-'",
+    "machine m1 m1.conf delay 0 1": "a second machine m1",
+    "machine m3 m1.conf delay 2 1": "the least delay is above the greatest",
+    "machine m3 m1.conf delay 0 5.001": "a delay above 5 s: upsmon gives up a server that takes longer while a UPS is on battery",
+    "machine m3 m1.conf delay 0 1s": "'1s' is no time: seconds up to 86400, with at most 3 digits behind the point",
+    "machine m3 m1.conf delay -1 1": "'-1' is no time: seconds up to 86400, with at most 3 digits behind the point",
+    "battery su700": "wanted: battery UPS SECONDS",
+    "battery m1 5": "ups.conf has no UPS m1",
+    "at 10 su700": "wanted: at SECONDS UPS STATUS.., or: at SECONDS MACHINE cut|back",
+    "at 0.0001 su700 OB": "'0.0001' is no time: seconds up to 86400, with at most 3 digits behind the point",
+    "at 86401 su700 OB": "'86401' is no time: seconds up to 86400, with at most 3 digits behind the point",
+    "at 10 su900 OB": "su900 is neither a machine of this room nor a UPS of ups.conf",
+    "at 10 m1 OB": "a machine is 'cut' or 'back', and not 'OB'",
+    "at 10 su700 cut": "'cut' is no word of a status, which are like OL, OB, LB",
+    'at 10 su700 "OB LB"': "'OB LB' is no word of a status, which are like OL, OB, LB",
+    "at 10 m1 back": "m1 isn't cut",
+}
+
+
+class Tests:
+    def __init__(self, nutsim, rooms, folder):
+        self.nutsim = nutsim
+        self.rooms = rooms
+        self.folder = folder
+        self.made = 0
+
+    def room(self, text, **more):
+        """The description of a new room in a folder of its own."""
+        self.made += 1
+        return write_room(os.path.join(self.folder, f"room-{self.made}"), text, **more)
+
+    def run(self, *words, nutsim=None, cwd=None, **options):
+        """The status, what is printed, and what is told of a failure."""
+        words = [sys.executable, PROGRAM, "--nutsim", nutsim or self.nutsim, *words]
+        done = subprocess.run(words, stdin=subprocess.DEVNULL, capture_output=True, timeout=300, cwd=cwd, **options)
+        return done.returncode, done.stdout.decode(), done.stderr.decode()
+
+    def printed(self, *words, **options):
+        status, out, err = self.run(*words, **options)
+        expect((status, err), (0, ""), words)
+        return out
+
+    def refused(self, path, text, **options):
+        expect(self.run("-n", "1", path, **options), (1, "", f"nutroom: {text}\n"), text)
+
+    def picture(self, path, *words):
+        """The elements of the picture of a room's run, once it was looked at as a whole."""
+        to = os.path.join(os.path.dirname(path), "x.svg")
+        self.printed("-n", "3", "-s", "1", "--svg", to, *words, path)
+        with open(to) as file:
+            return check_picture(file.read())
+
+    # Each method from here on whose name begins with 'test_' is a test.
+
+    def test_command_lines(self):
+        path = self.room(PAIR + LOW)
+        wrong = (
+            [], ["a", "b"], ["--none", path], ["-n", "0", path], ["-n", "x", path], ["-s", "-1", path], ["-n", "2", "--run", "3", path],
+            ["--run", "0", path], ["--svg"],
+        )
+        for words in wrong:
+            status, out, err = self.run(*words)
+            expect((status, out), (2, ""), words)
+            ensure(err.startswith("usage: nutroom "), f"{words}: {err!r}")
+        expect(self.printed("--version"), "nutroom profile 1.2\n", "the version")
+
+    def test_the_manual_page_has_every_option(self):
+        options = set(re.findall(r"(?<![\w-])--?[A-Za-z][a-z]*", re.split("[Oo]ption[a-z ]*:\n", self.printed("--help"))[1]))
+        with open(MANUAL) as file:
+            section = re.search(r"^\.SH OPTIONS\n(.*?)^\.SH", file.read().replace("\\-", "-").replace("\\~", " "), re.MULTILINE | re.DOTALL)[1]
+        heads = re.findall(r"^\.T[PQ]\n(.*)$", section, re.MULTILINE)
+        found = set(re.findall(r"(?<![\w-])--?[A-Za-z][a-z]*", "\n".join(re.sub(r"^\.B[IR]?", "", it) for it in heads)))
+        expect(sorted(found), sorted(options), "the options")
+
+    def test_lines_that_do_not_read(self):
+        for line, text in WRONG_LINES.items():
+            path = self.room(f"# a room\n{PAIR}{line}\n{LOW}")
+            self.refused(path, f"{path}:4: {text}")
+
+    def test_rooms_that_do_not_read(self):
+        for text, what in {
+            LOW: "0: no line 'machine'",
+            PAIR: "0: no line 'at': nothing happens",
+            f"{PAIR}battery su700 5\nbattery su700 6\n{LOW}": "4: a second battery of su700",
+            f"conf .\nconf .\n{PAIR}{LOW}": "2: a second line 'conf'",
+            f"{PAIR}{LOW}at 5 m1 cut\nat 6 m1 cut\n": "6: m1 is cut already",
+            f"{PAIR}{LOW}at 5 m1 back\nat 6 m1 cut\n": "5: m1 isn't cut",
+            f"machine su700 m1.conf delay 0 1\n{LOW}": "2: su700 is a machine and a UPS",
+        }.items():
+            path = self.room(text)
+            self.refused(path, f"{path}:{what}")
+
+    def test_files_that_do_not_read(self):
+        path = self.room(PAIR + LOW)
+        folder = os.path.dirname(path)
+        missing = os.path.join(folder, "none")
+        self.refused(missing, f"{missing}: cannot read: No such file or directory")
+        self.refused(folder, f"{folder}: cannot read: Is a directory")
+        other = self.room(f"machine m1 none.conf delay 0 1\n{LOW}")
+        self.refused(other, f"{os.path.dirname(other)}/none.conf: cannot read")
+        other = self.room(f"conf none\n{PAIR}{LOW}")
+        self.refused(other, f"{os.path.dirname(other)}/none/ups.conf: cannot read: No such file or directory")
+        write(folder, "m2.conf", "MONITOR su700@localhost 1 sec m2 tertiary\n")
+        self.refused(path, f"{folder}/m2.conf:1: UnknownWord")
+        write(folder, "m2.conf", "# nobody\n\nMONITOR su900@localhost 1 sec m2 secondary\n")
+        self.refused(path, f"{folder}/m2.conf:3: ups.conf has no UPS su900")
+        write(folder, "m2.conf", "MONITOR su700@localhost 1 sec m2 secondary\nPOLLFREQ 86401\n")
+        self.refused(path, f"{folder}/m2.conf:2: more than 86400 s take too long to play")
+        write(folder, "m2.conf", "MINSUPPLIES 0\n")
+        self.refused(path, f"{folder}/m2.conf:0: no UPS is watched")
+        write(folder, "upsd.users", "password = x\n")
+        self.refused(path, f"{folder}/upsd.users:1: OutsideSection")
+        write(folder, "upsd.users", "maxretry = 3\n")
+        self.refused(path, f"{folder}/upsd.users:1: OutsideSection\nnutroom: maxretry isn't taken here: see from-nut(7)")
+
+    def test_machines_that_the_server_does_not_let_in(self):
+        for user, password, text in (
+            (b"nobody", b"m1", "no user nobody with the password of {0}/m1.conf"),
+            (b"mon", b"wrong", "no user mon with the password of {0}/m1.conf"),
+            (b"idle", b"x", "user idle has no 'upsmon primary', which {0}/m1.conf needs"),
+            (b"sec", b"m2", "user sec has no 'upsmon primary', which {0}/m1.conf needs"),
+        ):
+            path = self.room(PAIR + LOW, files={**FILES, "m1.conf": Rules([Watched(b"su700", "primary", user=user, password=password)])})
+            self.refused(path, f"{os.path.dirname(path)}/upsd.users: " + text.format(os.path.dirname(path)))
+        path = self.room(PAIR + LOW, config=Config(CONFIG.upses, CONFIG.users, 15, 1))
+        self.refused(path, f"{os.path.dirname(path)}/upsd.conf: MAXCONN 1 lets no 2 links in")
+
+    def test_nutsim_that_fails(self):
+        path = self.room(PAIR + LOW)
+        # the first two calls read the files of the machines
+        count = os.path.join(self.folder, "count")
+        for name, script, text in (
+            ("killed", "kill -9 $$", "nutsim was killed by signal 9 (SIGKILL)"),
+            ("aborted", "kill -6 $$", "nutsim was killed by signal 6 (SIGABRT)"),
+            ("failed", "echo nutsim: out of memory >&2; exit 1", "out of memory"),
+            ("silent", "exit 3", "nutsim ended with status 3"),
+        ):
+            program = write(self.folder, name, f"#!/bin/sh\ncat > /dev/null\necho >> {count}\n[ $(wc -l < {count}) -le 2 ] && exit\n{script}\n")
+            os.chmod(program, 0o755)
+            self.refused(path, f"run 1: {text}", nutsim=program)
+            os.remove(count)
+        self.refused(path, f"{self.folder}/none cannot be run: No such file or directory", nutsim=os.path.join(self.folder, "none"))
+
+    def test_nutsim_is_found(self):
+        path = self.room(PAIR + LOW)
+        for at, env in (("tools", {}), ("bin", {}), ("other", {"PATH": os.path.join(self.folder, "found", "other")})):
+            folder = os.path.join(self.folder, "found")
+            program = write(folder, "tools/nutroom", open(PROGRAM).read())
+            link = os.path.join(folder, at, "nutsim")
+            os.makedirs(os.path.dirname(link), exist_ok=True)
+            os.symlink(self.nutsim, link)
+            done = subprocess.run([sys.executable, program, "-n", "1", path], capture_output=True, timeout=60, env={**os.environ, "PATH": "/none", **env})
+            expect((done.returncode, done.stderr), (0, b""), at)
+            os.remove(link)
+        done = subprocess.run([sys.executable, program, "-n", "1", path], capture_output=True, timeout=60, env={**os.environ, "PATH": "/none"})
+        expect((done.returncode, done.stderr), (1, b"nutroom: nutsim isn't found beside nutroom, in ../bin or on the PATH; --nutsim names it\n"), "nowhere")
+
+    def test_files_that_cannot_be_written(self):
+        path = self.room(PAIR + LOW)
+        status, _, err = self.run("-n", "1", "--svg", os.path.join(self.folder, "none", "x.svg"), path)
+        expect((status, err), (1, f"nutroom: {self.folder}/none/x.svg: cannot write: No such file or directory\n"), "the picture")
+
+    def test_descriptions_that_read(self):
+        """However a room is written down, it is the same."""
+        plain = self.room(PAIR + "battery su700 40\n" + LOW)
+        folder = os.path.dirname(plain)
+        text = (
+            '  at 20.000\tsu700 OB "LB"  # low\r\nbattery "su700" 40\n\n# machines\nat 10 su700 OB\n'
+            f"machine m1 ../{os.path.basename(folder)}/m1.conf delay 0.0 2\nmachine m2 m2.conf delay 0 2.000\nconf ."
+        )
+        other = write(folder, "other", text)
+        first, second = (self.printed("-n", "5", "-s", "9", it) for it in (plain, other))
+        # of the same machines and the same outage
+        expect(first.replace(plain, ""), second.replace(other, ""), "what is printed")
+
+    def test_a_worked_room(self):
+        """The sums of the worked examples of nut_in_time: the primary knows within 7 and is halted within 28, the secondary
+        within 23."""
+        lines = self.printed("-n", "3", self.room(PAIR + "battery su700 3\n" + LOW)).splitlines()
+        ensure("  m1  halted by 20 + POLLFREQ 5 + delay 2 + HOSTSYNC 15 + 1 + FINALDELAY 5 = 48" in lines, lines)
+        ensure("  m2  halted by 20 + delay 2 + HOSTSYNC 15 + 1 + FINALDELAY 5 = 43" in lines, lines)
+        ensure("HOSTSYNC 15 of m1 is enough for m2 (15); in brackets what is enough" in lines, lines)
+        ensure("battery.runtime.low of su700: at least 28 s, and what a machine takes from SHUTDOWNCMD until it is off; the battery of this room lasts 3 s" in lines, lines)
+        rows = [it.split() for it in lines if it.startswith(("m1", "m2"))]
+        expect([(row[0], row[1], row[8], row[9]) for row in rows], [("m1", "primary", "48", "3"), ("m2", "secondary", "43", "3")], "the table")
+
+    def test_what_is_said_of_machines(self):
+        """Which are promised an end, which that they go on, and of which nothing is said."""
+        path = self.room("machine m1 both.conf delay 0 1\nmachine m2 m2.conf delay 0 1\nmachine m3 m2.conf delay 0 5\n" + LOW)
+        lines = self.printed("-n", "2", path).splitlines()
+        ensure("  m1  goes on: its UPSes are neither low nor forced, and DEADTIME is long enough" in lines, lines)
+        rows = {it.split()[0]: it.split()[2:] for it in lines if it.startswith(("m1 ", "m2 ", "m3 "))}
+        expect((rows["m1"], rows["m2"][6], rows["m3"][6]), (["-"] * 6 + ["goes", "on"], "42", "46"), "the table")
+        for line in ("is enough for m2 (14)", "may be too short for m3 (18)"):
+            ensure(f"HOSTSYNC 15 of m1 {line}; in brackets what is enough" in lines, lines)
+        cut = self.printed("-n", "4", self.room(f"{PAIR}{LOW}at 15 m2 cut\n")).splitlines()
+        ensure("  m2  halted by 20 + delay 2 + HOSTSYNC 15 + 1 + FINALDELAY 5 = 43; doesn't hold, since its link was cut" in cut, cut)
+        online = self.printed("-n", "2", self.room(f"{PAIR}at 5 su700 OB\nat 15 m2 cut\nat 8 su700 OL\n")).splitlines()
+        ensure("  m1  goes on: its UPSes are neither low nor forced, and DEADTIME is long enough" in online and "  m2  nothing is said of it" in online, online)
+        ensure("  nobody: 2 of 2" in online, online)
+
+    def test_host_sync_that_is_too_short(self):
+        files = {**FILES, "m1.conf": Rules([Watched(b"su700", "primary")], host_sync=5)}
+        path = self.room("machine m1 m1.conf delay 0 1\nmachine m2 m2.conf delay 0 1\nmachine m3 m2.conf delay 0 3\n" + LOW, files=files)
+        lines = self.printed("-n", "40", "-s", "1", path).splitlines()
+        ensure("HOSTSYNC 5 of m1 may be too short for m2 (13), m3 (15); in brackets what is enough" in lines, lines)
+        orders = [it.strip().split(":")[0].split() for it in lines[lines.index("They were halted in this order:") + 1 :]]
+        ensure(any(it[-1] != "m1" for it in orders), f"m1 was always last: {orders}")
+
+    def test_host_sync_that_is_enough(self):
+        """With what is said to be enough the primary never goes on first. With two seconds less it does, now and then."""
+        for sync, is_enough in ((4, True), (2, False)):
+            files = {name: Rules(it.lines, poll_freq=1, final_delay=0, host_sync=sync) for name, it in FILES.items()}
+            path = self.room("machine m1 m1.conf delay 1 1\nmachine m2 m2.conf delay 1 1\nat 3 su700 OB LB\n", files=files)
+            room, nutsim = nutroom.read_room(path, nutroom.Nutsim(self.nutsim)), nutroom.Nutsim(self.nutsim)
+            expect(nutroom.needed_host_sync(*room.machines), 4, "what is enough")
+            late = 0
+            for number in range(100):
+                _, (first, second) = nutroom.play_run(room, nutsim, 1, number)
+                late += second.halted is None or second.halted > first.final
+            ensure((late == 0) == is_enough, f"HOSTSYNC {sync}: the primary goes on first in {late} of 100 runs")
+
+    def test_the_same_seed_gives_the_same_runs(self):
+        path = self.room(PAIR + LOW)
+        first, second, third = (self.printed("-n", "6", "-s", seed, path) for seed in ("5", "5", "6"))
+        expect(first, second, "the same seed")
+        ensure(first.splitlines()[1:] != third.splitlines()[1:], "another seed changes nothing")
+        told = re.match(r".*: 6 runs, seed (\d+)\n", self.printed("-n", "6", path))
+        expect(self.printed("-n", "6", "-s", told[1], path).splitlines()[0], told[0].strip(), "the seed that is told")
+        ensure(self.printed("-n", "1", path).startswith(f"{path}: 1 run, seed "), "one run")
+
+    def test_steps_are_those_of_the_run(self):
+        """nutsim plays them again, and halts the machines at the times that the table shows."""
+        path = self.room(PAIR + LOW)
+        folder = os.path.dirname(path)
+        to = os.path.join(folder, "steps")
+        self.printed("-n", "3", "-s", "2", "--steps", to, "--run", "2", path)
+        words = [self.nutsim, folder, to, *(os.path.join(folder, it) for it in ("m1.conf", "m2.conf"))]
+        done = subprocess.run(words, stdin=subprocess.DEVNULL, capture_output=True, timeout=60)
+        expect((done.returncode, done.stderr), (0, b""), "nutsim")
+        ensure(b"skipped" not in done.stdout, "a step was skipped")
+        expect(len(re.findall(rb"monitor \d phase Halted", done.stdout)), 2, "machines that were halted")
+        room = nutroom.read_room(path, nutroom.Nutsim(self.nutsim))
+        with open(to) as file:
+            expect("".join(nutroom.play_run(room, nutroom.Nutsim(self.nutsim), 2, 2)[0].steps), file.read(), "the steps")
+
+    def test_pictures(self):
+        first = self.picture(self.room(PAIR + "battery su700 60\n" + LOW))
+        texts = [it.text for it in first.iter(f"{SVG}text")]
+        for text in ("su700", "m1", "primary", "m2", "secondary", "ONBATT", "SHUTDOWN", "by 48", "by 43", "su700 empty at 80", "seconds"):
+            ensure(any(text in it for it in texts), f"{text} isn't shown: {texts}")
+        fills = {it.get("fill") for it in first.iter(f"{SVG}rect")}
+        ensure({"url(#battery)", "url(#low)", "url(#forced)", "url(#Forcing)", "url(#Final)", "#000"} <= fills, f"patterns: {fills}")
+        cut = self.picture(self.room(PAIR + LOW + "at 12 m2 cut\nat 24 m2 back\n"))
+        texts = [it.text for it in cut.iter(f"{SVG}text")]
+        ensure(any("cut" in it for it in texts) and any("COMMBAD" in it for it in texts), f"the cut isn't shown: {texts}")
+        ensure(not any("by 43" in it for it in texts), "a bound is shown that doesn't hold")
+        # UPSes and machines without end, long outages and long names
+        many = "".join(f"machine a-long-name-of-a-machine-{m:04} both.conf delay 0 1\n" for m in range(8))
+        self.picture(self.room(f"{many}battery su700 5000\nat 1 su700 OB\nat 4000.5 su700 OB LB\nat 4010 su800 OB LB\n"))
+        self.picture(self.room(f"{PAIR}at 86400 su700 OB\n"))
+
+    def test_progress_is_told_on_a_terminal(self):
+        main, other = pty.openpty()
+        try:
+            words = [sys.executable, PROGRAM, "--nutsim", self.nutsim, "-n", "2", "-s", "1", self.room(PAIR + LOW)]
+            done = subprocess.run(words, stdin=subprocess.DEVNULL, stdout=subprocess.PIPE, stderr=other, timeout=60)
+            os.close(other)
+            told = b""
+            with contextlib.suppress(OSError):
+                while piece := os.read(main, 4096):
+                    told += piece
+        finally:
+            os.close(main)
+        expect(done.returncode, 0, "the status")
+        bars = [f"\rnutroom: [{'#' * full}{'.' * (30 - full)}] {done} of 2 runs" for done, full in ((0, 0), (1, 15), (2, 30))]
+        expect(told.decode(), "".join(bars) + "\r\x1b[K", "the bar")
+
+    def test_it_can_be_interrupted(self):
+        words = [sys.executable, PROGRAM, "--nutsim", self.nutsim, "-n", "99999", self.room(PAIR + LOW)]
+        # a shell that starts the tests in the background has its children ignore interrupts
+        heed = functools.partial(signal.signal, signal.SIGINT, signal.SIG_DFL)
+        process = subprocess.Popen(
+            words, stdin=subprocess.DEVNULL, stdout=subprocess.PIPE, stderr=subprocess.PIPE, start_new_session=True, preexec_fn=heed
+        )
+        self.wait_for_play(process.pid)
+        os.killpg(process.pid, signal.SIGINT)
+        out, err = process.communicate(timeout=30)
+        expect((process.returncode, out, err), (130, b"", b""), "an interrupt")
+
+    @staticmethod
+    def wait_for_play(pid):
+        """Waits until a nutroom has started its first nutsim."""
+        for _ in range(600):
+            for thread in os.listdir(f"/proc/{pid}/task"):
+                with contextlib.suppress(OSError), open(f"/proc/{pid}/task/{thread}/children") as children:
+                    if children.read().strip():
+                        return
+            time.sleep(0.05)
+        raise Failed("nutroom never started nutsim")
+
+    def test_output_that_nobody_reads(self):
+        line = f"{shlex.quote(sys.executable)} {PROGRAM} --nutsim {self.nutsim} -n 1 {self.room(PAIR + LOW)} | true"
+        done = subprocess.run(["bash", "-c", line], stdin=subprocess.DEVNULL, capture_output=True, timeout=60)
+        expect(done.stderr, b"", "what is told")
+
+    def test_the_page_shows_what_is_printed(self):
+        with open(PAGE) as file:
+            page = file.read()
+        found = re.findall(r"```console\n\$ nutroom (.*)\n((?:.*\n)*?)```", page)
+        ensure(len(found) >= 1, "no command is shown")
+        for words, due in found:
+            words = words.split()
+            svg = os.path.join(self.folder, "page.svg")
+            if "--svg" in words:
+                words[words.index("--svg") + 1] = svg
+            expect(self.printed(*words, cwd=ROOT), due, f"nutroom {' '.join(words)}")
+        with open(svg) as drawn, open(PICTURE) as shown_there:
+            expect(drawn.read() == shown_there.read(), True, "docs/room.svg is what is drawn")
+        ensure("](room.svg)" in page, "the picture isn't shown")
+
+    def test_the_script_that_measures(self):
+        """What docs/room.md shows prints the greatest delay."""
+        with open(PAGE) as file:
+            script = re.search(r"```sh\n( *for .*?)```", file.read(), re.DOTALL)[1]
+        few = re.sub(r"seq \d+", "seq 5", script)
+        ensure(few != script, "nothing is counted")
+        folder = os.path.join(self.folder, "measured")
+        count = os.path.join(folder, "count")
+        # the third answer takes long
+        for name, text in (("sleep", ""), ("upsc", f"echo >> {count}\n[ $(wc -l < {count}) -ne 3 ] || /bin/sleep 0.4\necho OL\n")):
+            os.chmod(write(folder, name, f"#!/bin/sh\n{text}"), 0o755)
+        done = subprocess.run(["sh", "-c", few], capture_output=True, timeout=60, env={**os.environ, "PATH": f"{folder}:{os.environ['PATH']}"})
+        expect((done.returncode, done.stderr), (0, b""), "the script")
+        ensure(400 <= int(done.stdout) < 3000, f"it prints {done.stdout!r}")
+
+    def test_random_rooms(self):
+        """No machine that keeps pace passes its bound, and some reach it; a HOSTSYNC that is enough is enough."""
+        begun = time.monotonic()
+        calls = [range(at, min(at + ROOMS_A_CALL, self.rooms)) for at in range(0, self.rooms, ROOMS_A_CALL)]
+        counts = collections.Counter()
+        with concurrent.futures.ProcessPoolExecutor() as pool:
+            for found in pool.map(functools.partial(play_rooms, self.nutsim, self.folder), calls):
+                counts.update(found)
+        print(f"   {self.rooms} rooms in {time.monotonic() - begun:.1f} s: " + ", ".join(f"{counts[it]} {it}" for it in sorted(counts)))
+        for law in ("primary", "secondary", "forced"):
+            ensure(counts[f"halts within the {law} bound"] > 0, f"no {law} bound was there")
+            ensure(counts[f"halts at the {law} bound"] > 0, f"no run reaches the {law} bound")
+        ensure(counts["machines that went on as promised"] > 0 and counts["HOSTSYNC that was just enough"] > 0, f"not all was played: {counts}")
+
+
+def check_picture(text):
+    """A picture is XML, everything stands in it, no text is small, and no text covers another."""
+    picture = xml.etree.ElementTree.fromstring(text)
+    _, _, width, height = map(float, picture.get("viewBox").split())
+    ensure(width <= 900 and float(picture.get("font-size")) >= 12, "the text is legible at the width of a page")
+    places = []
+    for it in picture.iter():
+        if it.tag in (f"{SVG}rect", f"{SVG}text"):
+            x, y = float(it.get("x")), float(it.get("y"))
+            ensure(-0.5 <= x <= width + 0.5 and -0.5 <= y <= height + 0.5, f"{it.tag} at {x}, {y} of {width}, {height}")
+        if it.tag == f"{SVG}text":
+            ensure(float(it.get("font-size", "13")) >= 12, f"{it.text} is small")
+            wide = nutroom.width_of(it.text) * float(it.get("font-size", "13")) / 13
+            left = x - {"end": wide, "middle": wide / 2}.get(it.get("text-anchor"), 0)
+            ensure(left >= 0 and left + wide <= width + 4, f"{it.text!r} leaves the picture")
+            for other, at, far, line in places:
+                ensure(line != y or left >= far or left + wide <= at, f"{it.text!r} covers {other!r}")
+            places.append((it.text, left, left + wide, y))
+    ensure(not re.search(r'(fill|stroke)="(?!#000|#fff|#bbb|url\(#)', text), "a colour that tells something")
+    return picture
+
+
+# ---- random rooms
+
+
+class RandomRoom:
+    """A room with an outage, in a folder of its own."""
+
+    def __init__(self, seed, folder):
+        self.random = random.Random(f"room {seed}")
+        self.upses = [b"a", b"b"][: self.pick(1, 1, 2)]
+        self.config = Config([(it, b"") for it in self.upses], CONFIG.users)
+        self.rules = [self.rule(m) for m in range(self.pick(1, 2, 2, 3, 4))]
+        lines = [f"machine m{m} m{m}.conf delay {self.delays()}" for m in range(len(self.rules))]
+        for ups in self.upses:
+            lines += [f"at {time:.3f} {ups.decode()} {status}" for time, status in self.outage()]
+        lines += self.cuts()
+        files = {f"m{m}.conf": it for m, it in enumerate(self.rules)}
+        self.path = write_room(os.path.join(folder, f"random-{seed}"), "\n".join(lines), self.config, files)
+
+    def pick(self, *items):
+        return self.random.choice(items)
+
+    def rule(self, m):
+        role = self.pick("primary", "primary", "secondary") if m == 0 else self.pick("secondary", "secondary", "secondary", "primary")
+        names = self.upses if len(self.upses) == 1 else self.pick(self.upses, self.upses, self.upses[:1], self.upses[1:])
+        user, password = (b"mon", b"m1") if role == "primary" else (b"sec", b"m2")
+        lines = [Watched(name, role, 1, user, password) for name in names]
+        return Rules(
+            lines, min_supplies=self.random.randint(1, len(lines)), poll_freq=self.pick(1, 2, 3, 5), dead_time=self.pick(5, 15, 15, 30),
+            host_sync=self.pick(0, 1, 3, 5, 8, 12, 15, 20), final_delay=self.pick(0, 1, 2, 5),
+        )
+
+    def delays(self):
+        greatest = self.pick(0, 1, 1, 2, 2, 3, 4, 5, 0.3, 1.5, 2.7)
+        return f"{self.pick(0, 0, greatest, greatest / 2):g} {greatest:g}"
+
+    def outage(self):
+        """Mostly on battery, then low; but also low at once, for a moment, forced by the UPS itself, or never."""
+        low = self.random.randint(0, 12) + self.pick(0, 0, 0.5, 0.123)
+        kind = self.pick("low", "low", "low", "at once", "moment", "forced", "calibration", "never")
+        first = [] if kind == "at once" else [(max(low - self.random.randint(1, 12), 0), "OB")]
+        ends = {
+            "moment": [(low, "OB LB"), (low + self.random.randint(1, 9), self.pick("OL", "OB")), (low + 30, "OB LB")],
+            "forced": [(low, self.pick("FSD OB", "FSD OL", "OB LB FSD"))],
+            "calibration": [(low, "OB LB CAL"), (low + 10, self.pick("OL", "OB LB", "OB"))],
+            "never": [(low, self.pick("OB", "OB DISCHRG", "OL LB")), (low + 20, self.pick("OL", "OB"))],
+        }
+        return first + ends.get(kind, [(low, "OB LB")])
+
+    def cuts(self):
+        if self.random.random() < 0.75:
+            return []
+        name, time = f"m{self.random.randrange(len(self.rules))}", self.random.randint(0, 20)
+        back = [f"at {time + self.random.randint(1, 15)} {name} back"] if self.random.random() < 0.7 else []
+        return [f"at {time} {name} cut", *back]
+
+
+class Trusted(nutroom.Nutsim):
+    """nutsim that isn't asked whether files read which the test has made."""
+
+    def check(self, folder, machine):
+        pass
+
+
+def play_rooms(program, folder, seeds):
+    """Plays random rooms, and counts what is seen of bounds."""
+    counts, nutsim = collections.Counter(), Trusted(program)
+    for seed in seeds:
+        made = RandomRoom(seed, folder)
+        room = nutroom.read_room(made.path, nutsim)
+        plan, stories = nutroom.play_run(room, nutsim, 1, seed)
+        counts["machines"] += len(stories)
+        for machine, host, story, bound in zip(room.machines, plan.hosts, stories, room.bounds):
+            ensure(not story.is_wrong, f"room {seed}: {machine.name} passes its bound: {bound}, {story}")
+            counts.update(seen_of(plan, machine, host, story, bound))
+        counts.update(syncs_of(seed, room, plan, stories))
+        if seed % MODEL_EACH == 0:
+            compare(made, room, plan, nutsim, seed)
+            counts["rooms played by the plain model"] += 1
+    return counts
+
+
+def seen_of(plan, machine, host, story, bound):
+    """What a machine shows of its bound."""
+    if not story.keeps_pace:
+        return []
+    if bound is None:
+        return ["machines that went on as promised"]
+    if bound.start not in plan.scenes:
+        return []
+    clock = plan.scenes[bound.start][host.number][0]
+    # by the room's clock it is no later either
+    ensure(story.halted <= bound.end, f"{machine.name} is halted at {story.halted}, past {bound}")
+    is_forced = all(nutroom.is_forced(plan.room.last_status(machine.rules.lines[i].ups, bound.start)) for i in bound.lines)
+    law = "forced" if is_forced else "primary" if all(machine.rules.lines[i].is_primary for i in bound.lines) else "secondary"
+    return [f"halts within the {law} bound"] + [f"halts at the {law} bound"] * (story.halted_clock == clock + bound.halts)
+
+
+def syncs_of(seed, room, plan, stories):
+    """Where HOSTSYNC of a primary is enough for a machine, that is halted before the primary stops waiting. Both have to keep
+    pace, and the primary's shutdown to begin by what it was shown."""
+    for p, primary in enumerate(room.machines):
+        for m, machine in enumerate(room.machines):
+            need = nutroom.needed_host_sync(primary, machine) if primary.rules.has_primary and p != m else None
+            if need is None or need > primary.rules.host_sync or room.bounds[p] is None:
+                continue
+            if plan.hosts[p].cuts or plan.hosts[m].cuts or not stories[p].keeps_pace:
+                continue
+            ensure(stories[m].halted is not None and stories[m].halted <= stories[p].final, f"room {seed}: m{p} doesn't wait for m{m}: {stories}")
+            yield "HOSTSYNC that was just enough" if need == primary.rules.host_sync else "HOSTSYNC that was enough"
+
+
+def compare(made, room, plan, nutsim, seed):
+    """The plain model plays the same steps and tells the same. No step is skipped, and each that moves bytes finds some; each
+    query on a link that isn't cut is answered within the machine's delay; and clocks go on by one."""
+    model = Room(made.config, made.rules)
+    due = []
+    for number, (text, at) in enumerate(zip(plan.steps, plan.times), 1):
+        verb, *words = words_of(text.rstrip("\n").encode())
+        verb = verb.decode()
+        step = (verb, int(words[0]), words[1]) if verb == "driver" else (verb, *map(int, words))
+        if verb in ("out", "reach", "back", "land"):
+            ensure(moves(model, step), f"room {seed}, step {number}: nothing is moved by {step}")
+        if verb == "monitor":
+            expect(step[2], model.monitors[step[1]].now + 1, f"room {seed}, step {number}: the clock")
+        due += [shown(number, it) for it in model.play(step)]
+        if verb == "monitor" and not any(cut <= at for cut in plan.hosts[step[1]].cuts):
+            for watch in model.monitors[step[1]].watches:
+                is_late = watch.call is not None and not watch.call.is_idle and step[2] > watch.call.asked_at + room.machines[step[1]].delay
+                ensure(not is_late, f"room {seed}, step {number}: a query of machine {step[1]} waits for longer than its delay")
+    found = nutsim.play(room, plan.steps)
+    ensure(all(words != ["skipped"] for _, words in found), f"room {seed}: a step is skipped")
+    expect([(number, words) for number, words in found], [(int(a), b.split()) for a, _, b in (it.decode().partition(": ") for it in due)], f"room {seed}: what is told")
+
+
+def moves(model, step):
+    verb, m, i, _ = step
+    pipes, watch = model.pipes[m][i], model.monitors[m].watches[i]
+    if verb == "out":
+        return watch.call is not None and bool(watch.call.waits)
+    if verb == "back":
+        return bool(model.server.waits(pipes.connection))
+    return bool(pipes.to_server if verb == "reach" else pipes.to_monitor)
+
+
+def main():
+    words, rooms = sys.argv[1:], ROOMS
+    if words[:1] == ["--rooms"]:
+        rooms, words = int(words[1]), words[2:]
+    with tempfile.TemporaryDirectory() as folder:
+        return run_tests(Tests(os.path.abspath(words[0]), rooms, folder), words[1:])
+
+
+if __name__ == "__main__":
+    sys.exit(main())

@@ -1,0 +1,512 @@
+#!/usr/bin/env python3
+"""Plays schedules of rooms, and compares what their steps tell with the plain model in room.py: with `nutsim`, which reads
+files and plays a step at a time, and with `rehearse`, which plays calls of any length.
+
+    python3 -m tests.programs.nutsim NUTSIM REHEARSE
+
+Schedules are made from fixed seeds, so that each run of this test plays the same. The last line is 'N passed, M failed'."""
+
+import collections
+import concurrent.futures
+import contextlib
+import os
+import pty
+import re
+import shutil
+import subprocess
+import sys
+import tempfile
+import time
+
+from tests.support.harness import ROOT, Failed, ensure, expect, refusals, refusing, run_tests
+from tests.support.model import Config, User, quoted
+from tests.support.player import conf_steps
+from tests.rehearsals.server import greatest_memory
+from tests.support.room_model import Room, Rules, Watched, line_of, rehearsed, shown
+from tests.support.room_schedules import UPSES, RoomMaker
+from tests.support.stage import Stage
+
+EXAMPLES = os.path.join(ROOT, "examples")
+SCHEDULES = os.path.join(EXAMPLES, "schedules")
+
+# random schedules by calls, those by `nutsim`, how many of them go with one room, and how many rooms with one run
+RANDOM_SCHEDULES = 10_000
+RANDOM_FILES = 400
+SCHEDULES_A_ROOM = 20
+ROOMS_A_RUN = 25
+LONG_STEPS = 300_000
+# how many bytes a configuration file has at most (docs/configuration.md)
+FILE_MAX = 1_048_576
+
+ALONE = Config(UPSES[:1], {b"mon": User(b"m1", (), (), "primary")})
+PRIMARY = Rules([Watched(b"su700", "primary")])
+SECONDARY = Rules([Watched(b"su700", "secondary")])
+
+
+def rounds(monitor, count):
+    """Queries of a monitor go to the server, and their answers come back."""
+    return [(word, monitor, 0, 512) for _ in range(count) for word in ("out", "reach", "back", "land")]
+
+
+def live(status):
+    return [("up", 0), says(status), ("driver", 0, b"DATAOK"), ("driver", 0, b"DUMPDONE")]
+
+
+def says(status):
+    return ("driver", 0, b'SETINFO ups.status "%s"' % status)
+
+
+ALONE_ROW = [*live(b"OB LB"), ("link", 0, 0), *rounds(0, 7), ("monitor", 0, 5), ("link", 0, 0)]
+ALONE_DUE = b"""25: monitor 0 notice ONBATT su700@localhost
+25: monitor 0 notice LOWBATT su700@localhost
+25: monitor 0 phase Forcing
+33: monitor 0 notice SHUTDOWN
+33: monitor 0 phase Final
+34: monitor 0 phase Halted
+35: skipped
+"""
+
+# Monitor 1 hears nothing from the low battery on, and monitor 0 waits for it.
+PAIR_ROW = [
+    *live(b"OL"), ("link", 0, 0), *rounds(0, 5), ("link", 1, 0), *rounds(1, 4),
+    says(b"OB LB"), ("monitor", 0, 10), *rounds(0, 3), ("monitor", 0, 25), ("monitor", 0, 26), ("monitor", 0, 31),
+]
+PAIR_DUE = b"""48: monitor 0 notice ONBATT su700@localhost
+48: monitor 0 notice LOWBATT su700@localhost
+48: monitor 0 phase Forcing
+58: monitor 0 notice SHUTDOWN
+58: monitor 0 phase Final
+59: monitor 0 phase Halted
+"""
+
+
+def server_files(config):
+    """The configuration files of a server, by name. No user has an action or a command: nothing of a room asks for one."""
+    users = []
+    for name, user in config.users.items():
+        users.append(b"[%s]\npassword = %s\n" % (name, quoted(user.password)))
+        if user.upsmon is not None:
+            users.append(b"upsmon %s\n" % user.upsmon.encode())
+    return {
+        "ups.conf": b"".join(b"[%s]\ndesc = %s\n" % (name, quoted(description)) for name, description in config.upses),
+        "upsd.users": b"".join(users),
+        "upsd.conf": b"MAXAGE %d\nMAXCONN %d\n" % (config.max_age, config.max_conn),
+    }
+
+
+class RoomFiles:
+    """A room's configuration files in a folder."""
+
+    def __init__(self, folder, config, rules):
+        self.folder = folder
+        os.makedirs(folder, exist_ok=True)
+        for name, text in server_files(config).items():
+            with open(os.path.join(folder, name), "wb") as file:
+                file.write(text)
+        self.monitors = []
+        for number, it in enumerate(rules):
+            path = os.path.join(folder, f"upsmon-{number}.conf")
+            with open(path, "wb") as file:
+                file.write(it.text())
+            self.monitors.append(path)
+
+
+def room_steps(config, rules):
+    """Steps for `rehearse` that make a room."""
+    return [*conf_steps(config)[:-1], *(("room monitor", it.text()) for it in rules), ("room new",)]
+
+
+def call_steps(steps):
+    """Those that play a call."""
+    return [*(("room step", line_of(it)[:-1]) for it in steps), ("room play",)]
+
+
+def call_lines(told):
+    """What `rehearse` prints of a call whose steps tell this."""
+    lines = [rehearsed(number, it).rstrip(b"\n") for number, news in enumerate(told, 1) for it in news]
+    return [*([b"ok"] * len(told)), *lines, b"ok"]
+
+
+class Script:
+    """A script of rooms for `rehearse`, and the lines that it has to print."""
+
+    def __init__(self):
+        self.steps, self.due = [], []
+
+    def add_room(self, config, rules):
+        made = room_steps(config, rules)
+        self.steps += made
+        self.due += [b"ok"] * len(made)
+
+    def add_call(self, steps, told):
+        self.steps += call_steps(steps)
+        self.due += call_lines(told)
+
+
+def played(config, rules, steps):
+    """What each step tells, as the model has it."""
+    room = Room(config, rules)
+    return [room.play(it) for it in steps]
+
+
+def random_script(seeds):
+    """Random schedules of random rooms, each played in calls of some random length."""
+    script = Script()
+    for seed in seeds:
+        maker = RoomMaker(seed)
+        for _ in range(SCHEDULES_A_ROOM):
+            steps, told = maker.schedule(60)
+            size = maker.random.choice([1, 4, 30, len(steps)])
+            script.add_room(maker.config, maker.rules)
+            for at in range(0, len(steps), size):
+                script.add_call(steps[at : at + size], told[at : at + size])
+    return script
+
+
+def compare_by_calls(stage, seeds):
+    """Plays random schedules in calls, and gives how many steps they had."""
+    script = random_script(seeds)
+    lines = stage.play(script.steps)
+    for at, (found, due) in enumerate(zip(lines, script.due)):
+        if found != due:
+            raise Failed(f"rooms {seeds}, line {at}: found {found!r}, wanted {due!r}, behind {lines[max(at - 3, 0):at]}")
+    expect(len(lines), len(script.due), f"the lines of rooms {seeds}")
+    return sum(step[0] == "room step" for step in script.steps)
+
+
+class Refusals:
+    """A room for `rehearse` whose every step is tried once more where memory was refused at it, and what runs with a refusal
+    have to print."""
+
+    def __init__(self, config, rules, calls):
+        self.groups = [([it], [b"ok"], []) for it in conf_steps(config)[:-1]]
+        self.groups += [([it], [b"ok"], [it]) for it in room_steps(config, rules)[3:-1]]
+        self.groups += [([("room new",)], [b"ok"], room_steps(config, rules)[3:])]
+        told = iter(played(config, rules, [step for call in calls for step in call]))
+        for call in calls:
+            steps = call_steps(call)
+            lines = call_lines([next(told) for _ in call])
+            self.groups += [([it], [b"ok"], [it]) for it in steps[:-1]]
+            self.groups.append((steps[-1:], lines[len(call) :], steps[-1:]))
+        self.longest = max(map(len, calls))
+
+    def steps(self):
+        return [it for first, _, again in self.groups for it in [*first, *((f"? {verb}", *rest) for verb, *rest in again)]]
+
+    def outcome(self, lines, at):
+        """Where a run met the refusal: `room` or `call` of a room, or None if its room met none. It fails if the run told
+        anything else than it has to."""
+        left, outcome = list(lines), None
+        for first, due, again in self.groups:
+            if not left:
+                break
+            verb = first[0][0]
+            if verb == "room play" and outcome == "call":
+                # the room has failed
+                wanted = [b"Failed", b""]
+            elif self.is_lack(verb, left[0]):
+                ensure(outcome is None, f"allocation {at}: memory was refused twice")
+                outcome = {"room play": "call", "room new": "room"}.get(verb, "script")
+                wanted = [left[0], *([b"Failed"] if outcome == "call" else [b"ok"] * len(again))]
+            else:
+                wanted = [*due, *([b""] * len(again))]
+            found, left = left[: len(wanted)], left[len(wanted) :]
+            expect(found, wanted[: len(found)], f"allocation {at}, {first[0]}")
+        expect(left, [], f"allocation {at}: more lines")
+        return outcome
+
+    def is_lack(self, verb, line):
+        """Whether a line says that memory was refused, and at a step that was played."""
+        if verb == "room play":
+            at = re.fullmatch(rb"Memory\(([0-9]+)\)", line)
+            return at is not None and 0 < int(at[1]) <= self.longest
+        told = {"room new": rb"Memory\(0\)", "room monitor": rb"([0-9]+: )?Memory"}
+        return re.fullmatch(told.get(verb, rb"Memory"), line) is not None
+
+
+class Tests:
+    def __init__(self, program, rehearse, folder):
+        self.program = program
+        self.folder = folder
+        self.stage = Stage(rehearse, folder)
+        self.shim = self.stage.shim
+
+    def room(self, name, config, rules):
+        return RoomFiles(os.path.join(self.folder, name), config, rules)
+
+    def write(self, name, data):
+        path = os.path.join(self.folder, name)
+        with open(path, "wb") as file:
+            file.write(data)
+        return path
+
+    def run(self, room, path, data=b"", env=None):
+        """The status, what is printed, and what is told of a failure. The schedule may be `/dev/stdin`, which has `data`."""
+        words = [self.program, room.folder, path, *room.monitors]
+        done = subprocess.run(words, input=data, env={**os.environ, **(env or {})}, capture_output=True, timeout=60)
+        return done.returncode, done.stdout, done.stderr
+
+    def plays(self, room, steps, due, what):
+        data = b"".join(map(line_of, steps))
+        expect(self.run(room, "/dev/stdin", data), (0, due, b""), what)
+
+    def compare(self, seed):
+        """Plays random schedules of a random room with nutsim."""
+        maker = RoomMaker(seed)
+        room = self.room(f"room-{seed}", maker.config, maker.rules)
+        for number in range(SCHEDULES_A_ROOM):
+            steps, told = maker.schedule(60)
+            status, out, err = self.run(room, "/dev/stdin", b"".join(map(line_of, steps)))
+            due = [shown(at, it) for at, news in enumerate(told, 1) for it in news]
+            if (status, out, err) == (0, b"".join(due), b""):
+                continue
+            first = next((pair for pair in zip(out.splitlines(True), due) if pair[0] != pair[1]), (out[-200:], b"its end"))
+            raise Failed(f"room {seed}, schedule {number}: status {status}, {err!r}; found {first[0]!r}, wanted {first[1]!r}")
+        return SCHEDULES_A_ROOM
+
+    # Each method from here on whose name begins with 'test_' is a test.
+
+    def test_worked_rows(self):
+        self.plays(self.room("alone", ALONE, [PRIMARY]), ALONE_ROW, ALONE_DUE, "a primary alone")
+        self.plays(self.room("pair", ALONE, [PRIMARY, SECONDARY]), PAIR_ROW, PAIR_DUE, "a primary that waits")
+
+    def test_examples_print_what_their_page_says(self):
+        with open(os.path.join(SCHEDULES, "README.md")) as file:
+            page = file.read()
+        shown = re.findall(r"```console\n\$ nutsim (.*)\n((?:.*\n)*?)```", page)
+        expect(sorted(words.split()[1] for words, _ in shown), sorted(f"examples/schedules/{it}" for it in os.listdir(SCHEDULES) if it.endswith(".sched")), "the schedules")
+        for words, due in shown:
+            done = subprocess.run([self.program, *words.split()], cwd=os.path.dirname(EXAMPLES), capture_output=True, timeout=60)
+            expect((done.returncode, done.stdout.decode(), done.stderr), (0, due, b""), words)
+
+    def test_rows_by_calls_of_any_length(self):
+        """The room goes on from one call to the next as it does within a call."""
+        for config, rules, row in ((ALONE, [PRIMARY], ALONE_ROW), (ALONE, [PRIMARY, SECONDARY], PAIR_ROW)):
+            told = played(config, rules, row)
+            for size in range(1, len(row) + 1):
+                script = Script()
+                script.add_room(config, rules)
+                for at in range(0, len(row), size):
+                    script.add_call(row[at : at + size], told[at : at + size])
+                expect(self.stage.play(script.steps), script.due, f"calls of {size} steps")
+
+    def test_the_model_plays_the_rows(self):
+        for rules, row, due in (([PRIMARY], ALONE_ROW, ALONE_DUE), ([PRIMARY, SECONDARY], PAIR_ROW, PAIR_DUE)):
+            told = played(ALONE, rules, row)
+            expect(b"".join(shown(at, it) for at, news in enumerate(told, 1) for it in news), due, "the model")
+
+    def test_steps_that_may_not_be_played(self):
+        """The steps before them stand, and the room goes on."""
+        bad = [
+            ("up", 1), ("down", 1), ("driver", 1, b"x"), ("monitor", 1, 5), ("link", 1, 0), ("link", 0, 1), ("out", 0, 1, 5), ("reach", 1, 0, 5),
+            ("back", 0, 1, 5), ("land", 1, 0, 5), ("cut-server", 0, 1), ("cut-monitor", 1, 0),
+        ]
+        script = Script()
+        script.add_room(ALONE, [PRIMARY])
+        room = Room(ALONE, [PRIMARY])
+        for step in bad:
+            # the driver is gone behind these, so it can't go once more
+            script.steps += call_steps([("up", 0), ("down", 0), step, ("server", 1)])
+            script.due += [b"ok"] * 4 + [b"BadStep(3)"]
+            expect([room.play(("up", 0)), room.play(("down", 0))], [[], []], "the model")
+            script.add_call([("down", 0)], [[("skipped",)]])
+        script.add_call(ALONE_ROW, [room.play(it) for it in ALONE_ROW])
+        expect(self.stage.play(script.steps), script.due, "steps that may not be played")
+
+    def test_random_schedules(self):
+        begun = time.monotonic()
+        rooms = RANDOM_SCHEDULES // SCHEDULES_A_ROOM
+        runs = [range(at, min(at + ROOMS_A_RUN, rooms)) for at in range(0, rooms, ROOMS_A_RUN)]
+        with concurrent.futures.ProcessPoolExecutor() as pool:
+            steps = sum(pool.map(compare_by_calls, [self.stage] * len(runs), runs))
+        print(f"   {RANDOM_SCHEDULES} schedules of {rooms} rooms, {steps} steps; {time.monotonic() - begun:.1f} s")
+
+    def test_random_schedules_of_files(self):
+        begun = time.monotonic()
+        rooms = range(RANDOM_FILES // SCHEDULES_A_ROOM)
+        with concurrent.futures.ThreadPoolExecutor(max_workers=os.cpu_count() or 1) as pool:
+            count = sum(pool.map(self.compare, rooms))
+        print(f"   {count} schedules of {len(rooms)} rooms; {time.monotonic() - begun:.1f} s")
+
+    def test_a_room_in_which_each_allocation_is_refused_in_turn(self):
+        """Where memory is refused when a room is made, there is none, and the next is made in its place. Where it is refused
+        in a call, the call says so, and so does the room at every later call: it has failed."""
+        calls = [PAIR_ROW[at : at + 7] for at in range(0, len(PAIR_ROW), 7)]
+        refused = Refusals(ALONE, [PRIMARY, SECONDARY], calls)
+        outcomes = collections.Counter()
+        for at, lines, is_whole in self.stage.refused_in_turn(refused.steps()):
+            outcome = refused.outcome(lines, at)
+            outcomes[outcome if is_whole else "program"] += 1
+        print(f"   refused: {', '.join(f'{count} of a {what}' for what, count in sorted(outcomes.items(), key=str))}")
+        ensure(outcomes["room"] > 0 and outcomes["call"] > 0, f"refused: {outcomes}")
+
+    def test_lines_that_are_no_steps(self):
+        room = self.room("lines", ALONE, [PRIMARY])
+        lines = [
+            b"", b"#", b"# a comment", b" \t", b"wait 5", b"server", b"server -1", b"server 1234567890", b"server x", b"server 5 5",
+            b"up 1", b"up", b"down 1", b"driver 1 x", b"driver 0", b"driver 0 a b", b"monitor 1 5", b"monitor 0", b"link 1 0", b"link 0 1",
+            b"out 0 0", b"out 0 1 5", b"reach 1 0 5", b"back 0 0 x", b"land 0 1 1", b"cut-server 0 1", b"cut-monitor 1 0", b"CUT-server 0 0",
+            b'server "5', b'server "5"x', b"server 5\\", b"server \xff", b"server = 5", b"server 0 #" + b"x" * 510,
+        ]
+        for line in lines:
+            found = self.run(room, "/dev/stdin", b"cut-server 0 0\n" + line + b"\nserver 1\n")
+            expect(found, (1, b"1: skipped\n", b"nutsim: /dev/stdin:2: BadStep\n"), line)
+
+    def test_lines_that_are_steps(self):
+        room = self.room("steps", ALONE, [PRIMARY])
+        data = b'  server\t"5"  # a comment\r\nup 0#x\ndriver 0 ""\ndriver 0 "\\\\"\nserver 000000001\nlink 0 0\nout 0 0 999999999 ' + b" " * 480 + b"\nlink 0 0"
+        expect(self.run(room, "/dev/stdin", data), (0, b"8: skipped\n", b""), "lines")
+        path = self.write("a schedule", b"")
+        expect(self.run(room, path), (0, b"", b""), "no step")
+
+    def test_files_are_read_in_turn(self):
+        room = self.room("turn", ALONE, [PRIMARY, SECONDARY])
+        missing = os.path.join(room.folder, "none")
+        room.monitors[1] = os.path.join(room.folder, "other.conf")
+        self.write("turn/other.conf", b"MONITOR su700@localhost 1 mon m1 tertiary\n")
+        expect(self.run(room, missing), (1, b"", f"nutsim: {missing}: cannot read\n".encode()), "no schedule")
+        expect(self.run(room, room.folder), (1, b"", f"nutsim: {room.folder}: cannot read\n".encode()), "a folder")
+        schedule = self.write("turn/schedule", b"nonsense\n")
+        expect(self.run(room, schedule), (1, b"", b"nutsim: other.conf:1: UnknownWord\n"), "a monitor's file")
+        self.write("turn/other.conf", b"\nPOLLFREQALERT 5\n")
+        said = b"nutsim: other.conf:2: UnknownDirective\nnutsim: POLLFREQALERT isn't taken here: see from-nut(7)\n"
+        expect(self.run(room, schedule), (1, b"", said), "a directive of NUT's in a monitor's file")
+        room.monitors[0] = missing
+        expect(self.run(room, schedule), (1, b"", b"nutsim: none: cannot read\n"), "no file of a monitor")
+        self.write("turn/upsd.conf", b"NONSENSE 1\n")
+        said = b"nutsim: upsd.conf:1: UnknownDirective\nnutsim: NONSENSE isn't taken here: see from-nut(7)\n"
+        expect(self.run(room, missing), (1, b"", said), "the server's settings")
+        self.write("turn/upsd.users", b"upsmon primary\n")
+        expect(self.run(room, missing), (1, b"", b"nutsim: upsd.users:1: OutsideSection\n"), "users")
+        os.remove(os.path.join(room.folder, "ups.conf"))
+        expect(self.run(room, missing), (1, b"", b"nutsim: ups.conf: cannot read\n"), "UPSes")
+
+    def test_files_without_a_folder(self):
+        room = self.room("bare", ALONE, [PRIMARY])
+        room.monitors = ["upsmon-0.conf", "other.conf"]
+        self.write("bare/other.conf", b"MONITOR su700@localhost 1 mon m1 tertiary\n")
+        self.write("bare/empty.sched", b"")
+        done = subprocess.run([self.program, ".", "empty.sched", *room.monitors], cwd=room.folder, capture_output=True, timeout=60)
+        expect((done.returncode, done.stdout, done.stderr), (1, b"", b"nutsim: other.conf:1: UnknownWord\n"), "a monitor's file")
+
+    def test_the_longest_file_of_a_monitor(self):
+        room = self.room("longest", ALONE, [PRIMARY])
+        path = self.write("longest.sched", b"")
+        for length, due in ((FILE_MAX, (0, b"", b"")), (FILE_MAX + 1, (1, b"", b"nutsim: upsmon-0.conf:0: PastLimit\n"))):
+            self.write("longest/upsmon-0.conf", PRIMARY.text().ljust(length, b"\n"))
+            expect(self.run(room, path), due, f"{length} bytes")
+
+    def test_command_lines(self):
+        for words, status in (([], 2), (["a"], 2), (["a", "b"], 2), (["a", "b", "c", "--none"], 2)):
+            done = subprocess.run([self.program, *words], capture_output=True, timeout=60)
+            expect((done.returncode, done.stdout), (status, b""), words)
+            ensure(b"Usage: nutsim" in done.stderr, f"{words}: {done.stderr!r}")
+        for word, text in (("--help", b"Usage: nutsim <DIR> <SCHEDULE> <MONCONF>..."), ("--version", b"nutsim profile 1.2")):
+            done = subprocess.run([self.program, word], capture_output=True, timeout=60)
+            expect((done.returncode, done.stderr), (0, b""), word)
+            ensure(text in done.stdout, f"{word}: {done.stdout!r}")
+
+    def test_nutsim_with_each_allocation_refused_in_turn(self):
+        room = self.room("refused", ALONE, [PRIMARY, SECONDARY])
+        path = self.write("refused.sched", b"".join(map(line_of, PAIR_ROW)))
+        got_over = 0
+        for at, env, is_reached in refusals(self.shim):
+            status, out, err = self.run(room, path, env=env)
+            if not is_reached():
+                expect((status, out, err), (0, PAIR_DUE, b""), "without a refusal")
+                print(f"   {at - 1} allocations, and all was played without {got_over} of them")
+                break
+            if status == 0:
+                got_over += 1
+                expect((out, err), (PAIR_DUE, b""), f"allocation {at}, without which all is played")
+                continue
+            expect((status, err), (1, b"nutsim: out of memory\n"), f"allocation {at}")
+            ensure(PAIR_DUE.startswith(out), f"allocation {at}: {out!r}")
+        ensure(got_over <= 1, f"all was played without {got_over} allocations")
+
+    def test_each_read_and_write_refused_in_turn(self):
+        """Also of a schedule that is read, and whose news are written, in more than one piece."""
+        room = self.room("streams", ALONE, [PRIMARY])
+        many = [("cut-server", 0, 0)] * 2_000
+        for steps, due in ((ALONE_ROW, ALONE_DUE), (many, b"".join(b"%d: skipped\n" % at for at in range(1, len(many) + 1)))):
+            path = self.write("streams.sched", b"".join(map(line_of, steps)))
+            told = {b"nutsim: %s: cannot read\n" % it for it in (b"ups.conf", b"upsd.users", b"upsd.conf", path.encode(), b"upsmon-0.conf")}
+            for at, env, is_reached in refusals(self.shim, "file-read"):
+                status, out, err = self.run(room, path, env=env)
+                if not is_reached():
+                    expect((status, out, err), (0, due, b""), "without a refusal")
+                    break
+                expect((status, err in told, due.startswith(out)), (1, True, True), f"read {at}: {err!r}, {out!r}")
+            for at, env, is_reached in refusals(self.shim, "write"):
+                status, out, err = self.run(room, path, env=env)
+                if not is_reached():
+                    break
+                # What a failed write left is written once more at the end, so it may still be there: the status says that a write failed.
+                expect((status, err, due.startswith(out)), (1, b"nutsim: I/O failed\n", True), f"write {at}: {out!r}")
+
+    def test_a_long_schedule_takes_no_more_memory(self):
+        room = self.room("long", ALONE, [PRIMARY])
+        turn = b"".join(map(line_of, [("link", 0, 0), *rounds(0, 5), says(b"OL"), ("cut-server", 0, 0), ("cut-monitor", 0, 0)]))
+        turns = LONG_STEPS // turn.count(b"\n")
+        peaks = []
+        for count in (turns // 30, turns):
+            path = self.write("long.sched", b"".join(map(line_of, live(b"OL"))) + turn * count)
+            begun = time.monotonic()
+            peaks.append(self.peak(room, path))
+            seconds = time.monotonic() - begun
+        steps = turns * turn.count(b"\n")
+        print(f"   {steps} steps in {seconds:.1f} s, {steps / seconds:,.0f} a second; {peaks[0]} and {peaks[1]} KiB")
+        ensure(peaks[1] <= peaks[0] + 256, f"{peaks[0]} KiB for a thirtieth of what takes {peaks[1]} KiB")
+
+    def peak(self, room, path):
+        """The greatest memory of a run, in KiB, once it has read its schedule."""
+        words = [self.program, room.folder, "/dev/stdin", *room.monitors]
+        with open(path, "rb") as schedule:
+            process = subprocess.Popen(words, stdin=subprocess.PIPE, stdout=subprocess.DEVNULL, stderr=subprocess.PIPE)
+            shutil.copyfileobj(schedule, process.stdin)
+            process.stdin.flush()
+            peak = greatest_memory(process)
+            _, err = process.communicate(timeout=60)
+        expect((process.returncode, err), (0, b""), "a long schedule")
+        return peak
+
+    def test_progress_is_told_on_a_terminal(self):
+        room = self.room("progress", ALONE, [PRIMARY])
+        path = self.write("progress.sched", b"server 1\n" * 250_000)
+        expect(self.run_on_terminal(room, path), (0, b"", b"\rnutsim: 100000 steps\rnutsim: 200000 steps\r\x1b[K"), "a long schedule")
+
+    def test_news_stand_above_the_progress(self):
+        """On one terminal, what was told so far stands above the line of the progress, and what is told later in its place."""
+        room = self.room("above", ALONE, [PRIMARY])
+        skipped = b"cut-server 0 0\n"
+        path = self.write("above.sched", skipped + b"server 1\n" * 149_998 + skipped + b"server 1\n" * 50_000 + skipped)
+        due = b"1: skipped\r\n\rnutsim: 100000 steps\r\x1b[K150000: skipped\r\n\rnutsim: 200000 steps\r\x1b[K200001: skipped\r\n"
+        expect(self.run_on_terminal(room, path, is_for_both=True), (0, b"", due), "news and progress")
+        env, is_reached = refusing(self.shim, "write", 1)
+        found = self.run_on_terminal(room, path, env=env)
+        expect((found, is_reached()), ((1, b"1: skipped\n", b"nutsim: I/O failed\r\n"), True), "news that can't be written above the progress")
+
+    def run_on_terminal(self, room, path, is_for_both=False, env=None):
+        """The status, what goes to the output, and what to a terminal, which is the error output, or both of them."""
+        main, other = pty.openpty()
+        try:
+            words = [self.program, room.folder, path, *room.monitors]
+            out = other if is_for_both else subprocess.PIPE
+            done = subprocess.run(words, stdin=subprocess.DEVNULL, stdout=out, stderr=other, env={**os.environ, **(env or {})}, timeout=60)
+            os.close(other)
+            told = b""
+            with contextlib.suppress(OSError):
+                while piece := os.read(main, 4096):
+                    told += piece
+        finally:
+            os.close(main)
+        return done.returncode, done.stdout or b"", told
+
+
+def main():
+    with tempfile.TemporaryDirectory() as folder:
+        return run_tests(Tests(*map(os.path.abspath, sys.argv[1:3]), folder), sys.argv[3:])
+
+
+if __name__ == "__main__":
+    sys.exit(main())

@@ -1,0 +1,308 @@
+#!/usr/bin/env python3
+"""Makes Debian packages and the archive, looks at what is in them, and installs them in a fresh Debian.
+
+    python3 -m tests.programs.packages [--root FOLDER] [PROGRAM..]
+
+A program that isn't handed in is stood for by a script. The fresh Debian is made by debootstrap, which wants root and a
+network, or is a copy of FOLDER, in which debootstrap made one with systemd. The last line is 'N passed, M failed'."""
+
+import hashlib
+import os
+import re
+import shutil
+import stat
+import subprocess
+import sys
+import tarfile
+import tempfile
+
+from tests.programs import install
+from tests.support.debian_root import fresh_root, run
+from tests.support.harness import ensure, expect, needed, ROOT, run_tests
+
+PACKAGES = ("mulgefa-client", "mulgefa-server")
+# the files of each section of the manual, and examples, that are the server's
+SERVERS = ("upsd", "dummy-ups", "ups.conf", "upsd.conf", "upsd.users", "su700.dev")
+NAMES_OF_UNITS = {"nut-server.service": "mulgefa-upsd.service", "nut-monitor.service": "mulgefa-upsmon.service", "nut-client.service": "mulgefa-upsmon.service"}
+
+# what a fresh Debian changes by itself while packages come and go
+UNSTEADY = re.compile(r"var/(lib/(dpkg|apt|systemd/deb-systemd-helper)|cache|log)/|etc/(passwd|group|shadow|gshadow)-?$|root/|tmp/|run/|proc/|sys/|dev/|etc/\.pwd\.lock")
+
+
+def package_of(path):
+    """The package that an installed file belongs to."""
+    name = os.path.basename(path)
+    if path.startswith("share/mulgefa/rooms/"):
+        return "mulgefa-client"
+    for of in SERVERS:
+        if name in (of, f"{of}.5", f"{of}.8") or name in (f"mulgefa-{of}.service", f"mulgefa-{of}@.service"):
+            return "mulgefa-server"
+    return "mulgefa-client"
+
+
+def in_package(path):
+    """Where a package has a file that is installed at this path below PREFIX."""
+    if path.startswith("lib/systemd/"):
+        return path
+    return f"usr/{path}.gz" if path.startswith("share/man/") else f"usr/{path}"
+
+
+def wanted_files(package):
+    """What a package has, with its modes; links have none."""
+    files = {in_package(path): mode for path, mode in install.wanted_files().items() if package_of(path) == package}
+    files.update({f"usr/share/doc/{package}/{name}": 0o644 for name in ("changelog.gz", "copyright")})
+    if package == "mulgefa-server":
+        files.update({"usr/sbin/mulgefa-nut-drivers": 0o755, "usr/share/man/man8/mulgefa-nut-drivers.8.gz": 0o644, "lib/systemd/system/nut-server.service": None})
+    else:
+        files.update({"usr/share/mulgefa/configure.sh": 0o644, "lib/systemd/system/nut-monitor.service": None, "lib/systemd/system/nut-client.service": None})
+    return files
+
+
+def state_of(folder):
+    """What each file below a folder is, but for those that change by themselves."""
+    state = {}
+    for at, folders, names in os.walk(folder):
+        for name in names + [it + "/" for it in folders]:
+            path = os.path.join(at, name)
+            shown = os.path.relpath(path, folder) + ("/" if name.endswith("/") else "")
+            if UNSTEADY.match(shown):
+                continue
+            found = os.lstat(path)
+            digest = ""
+            if stat.S_ISREG(found.st_mode):
+                with open(path, "rb") as file:
+                    digest = hashlib.sha256(file.read()).hexdigest()
+            state[shown] = (found.st_mode, found.st_uid, found.st_gid, digest)
+    return state
+
+
+class Packages:
+    """Built programs or scripts in place of them, and the packages that are made of them."""
+
+    def __init__(self, built, folder):
+        self.folder = folder
+        self.bin = os.path.join(folder, "bin")
+        self.built = install.put_programs(built, self.bin)
+        self.counted = 0
+        # a commit in the middle of the tests makes no other version
+        status, said = run(["git", "log", "-1", "--format=%ct"], cwd=ROOT)
+        self.epoch = said.strip() if status == 0 else "1"
+
+    def make(self, *words, env=(), umask=0o022):
+        """What 'make' printed, which has to end with status 0."""
+        before = os.umask(umask)
+        try:
+            done = subprocess.run(
+                ["make", "-s", *words, f"BIN={self.bin}"], cwd=ROOT, env={**install.outside_make(), "SOURCE_DATE_EPOCH": self.epoch, **dict(env)}, stdin=subprocess.DEVNULL,
+                stdout=subprocess.PIPE, stderr=subprocess.STDOUT, text=True, timeout=600,
+            )
+        finally:
+            os.umask(before)
+        ensure(done.returncode == 0, f"make {' '.join(words)} ends with status {done.returncode}: {done.stdout}")
+        return done.stdout
+
+    def made(self, what, **options):
+        """The files that 'make deb' or 'make tar' makes in a folder of their own, by their names without the version."""
+        self.counted += 1
+        to = os.path.join(self.folder, f"dist{self.counted}")
+        said = self.make(what, f"TO={to}", **options)
+        found = {re.match("mulgefa(-[a-z]+)?", os.path.basename(path))[0]: path for path in said.split()}
+        expect(sorted(os.listdir(to)), sorted(os.path.basename(it) for it in found.values()), "what is in the folder")
+        return found
+
+
+class Tests:
+    def __init__(self, packages, saved):
+        self.packages = packages
+        self.saved = saved
+        self.debs = {}
+
+    def all_debs(self):
+        if not self.debs:
+            needed("dpkg-deb", "dpkg")
+            self.debs = self.packages.made("deb")
+        return self.debs
+
+    def fresh(self, name):
+        """A fresh Debian with the packages in /root."""
+        folder = os.path.join(self.packages.folder, name)
+        if self.saved is None:
+            self.saved = fresh_root(os.path.join(self.packages.folder, "saved")).folder
+        root = fresh_root(folder, self.saved)
+        for path in self.all_debs().values():
+            shutil.copy(path, root.path("/root"))
+        return root
+
+    # Each method from here on whose name begins with 'test_' is a test.
+
+    def test_same_bytes_twice(self):
+        needed("dpkg-deb", "dpkg")
+        first = {**self.all_debs(), **self.packages.made("tar")}
+        for name in os.listdir(self.packages.bin):
+            os.utime(os.path.join(self.packages.bin, name), (1, 1))
+        again = {"umask": 0o077, "env": {"TZ": "Asia/Tokyo", "LC_ALL": "C.UTF-8", "TMPDIR": self.packages.folder}}
+        second = {**self.packages.made("deb", **again), **self.packages.made("tar", **again)}
+        expect(sorted(first), ["mulgefa", *PACKAGES], "what is made")
+        for name, path in first.items():
+            with open(path, "rb") as one, open(second[name], "rb") as other:
+                expect(one.read() == other.read(), True, f"{name} is the same")
+            expect(os.path.basename(path), os.path.basename(second[name]), "its name")
+
+    def test_files(self):
+        for name, path in self.all_debs().items():
+            with subprocess.Popen(["dpkg-deb", "--fsys-tarfile", path], stdout=subprocess.PIPE) as process:
+                with tarfile.open(fileobj=process.stdout, mode="r|") as tar:
+                    entries = [it for it in tar]
+            for entry in entries:
+                expect((entry.uid, entry.gid, entry.uname, entry.gname), (0, 0, "root", "root"), f"{name}: the owner of {entry.name}")
+                if entry.isdir():
+                    expect(entry.mode, 0o755, f"{name}: the mode of {entry.name}")
+                ensure(not entry.name.startswith("./etc"), f"{name} has {entry.name}")
+            found = {it.name[2:]: None if it.issym() else it.mode for it in entries if not it.isdir()}
+            expect(found, wanted_files(name), f"{name}: files and modes")
+            links = {os.path.basename(it.name): it.linkname for it in entries if it.issym()}
+            expect(links, {link: unit for link, unit in NAMES_OF_UNITS.items() if f"lib/systemd/system/{link}" in found}, f"{name}: links")
+
+    def test_fields(self):
+        for name, path in self.all_debs().items():
+            nuts = name.replace("mulgefa", "nut")
+            _, said = run(["dpkg-deb", "--field", path])
+            fields = dict(re.findall(r"^(\S+): (.*)$", said, re.MULTILINE))
+            for field in ("Conflicts", "Provides"):
+                ensure(nuts in fields[field].split(", "), f"{name}: {field}: {fields[field]}")
+            # dpkg would then remove NUT's package after unpacking this one, and the same files with it: its /sbin/upsd is
+            # our /usr/sbin/upsd
+            ensure("Replaces" not in fields, f"{name} replaces files")
+        _, depends = run(["dpkg-deb", "--field", self.all_debs()["mulgefa-server"], "Depends"])
+        _, version = run(["dpkg-deb", "--field", self.all_debs()["mulgefa-client"], "Version"])
+        ensure(f"mulgefa-client (= {version.strip()})" in depends, f"the server wants this client: {depends}")
+
+    def test_units_in_packages(self):
+        """NUT's names mustn't be both another name of a unit and what it excludes."""
+        for name, path in self.all_debs().items():
+            tree = os.path.join(self.packages.folder, f"tree-{name}")
+            run(["dpkg-deb", "-x", path, tree])
+            for unit in os.listdir(os.path.join(tree, "lib/systemd/system")):
+                with open(os.path.join(tree, "lib/systemd/system", unit)) as file:
+                    text = file.read()
+                excluded = re.findall(r"^Conflicts=(.*)$", text, re.MULTILINE)
+                expect([it for it in excluded if it in NAMES_OF_UNITS], [], f"{unit} excludes itself")
+                ensure("@" not in re.sub(r"@%i|ups@|@system-service|@privileged|@resources", "", text), f"{unit}: a place left open")
+
+    def test_lintian(self):
+        lintian = needed("lintian", "lintian")
+        for name, path in self.all_debs().items():
+            status, said = run([lintian, "--fail-on", "error", "--tag-display-limit", "0", path], timeout=600)
+            expect((status, re.findall("^E: .*$", said, re.MULTILINE)), (0, []), f"{name}: what lintian says: {said}")
+
+    def test_archive(self):
+        """What the archive installs is what 'make install-built' does, and it takes that away again."""
+        archive = self.packages.made("tar")["mulgefa"]
+        folder = os.path.join(self.packages.folder, "archive")
+        os.mkdir(folder)
+        subprocess.run(["tar", "-xf", archive, "-C", folder], check=True, timeout=60)
+        (top,) = os.listdir(folder)
+        expect(f"{top}.tar.gz", os.path.basename(archive), "its folder")
+        wanted = os.path.join(self.packages.folder, "wanted")
+        self.packages.make("install-built", f"DESTDIR={wanted}", "PREFIX=/opt/mulgefa")
+        found = os.path.join(self.packages.folder, "found")
+        script = os.path.join(folder, top, "packaging/install.sh")
+        env = {**os.environ, "DESTDIR": found, "PREFIX": "/opt/mulgefa"}
+        expect(run([script, "install"], env=env, cwd="/"), (0, ""), "its script")
+        shown = [{path: (it[0], it[3]) for path, it in state_of(folder).items() if not path.endswith("/")} for folder in (wanted, found)]
+        for states in shown:
+            for path in list(states):
+                # programs are shipped without the names of their functions
+                if os.path.basename(path) in install.programs():
+                    states[path] = states[path][0]
+        expect(shown[1], shown[0], "what is installed")
+        expect(run([script, "configure"], env={**env, "CONFDIR": "/etc/nut"}, cwd="/"), (0, ""), "a first configuration")
+        expect(sorted(os.listdir(os.path.join(found, "etc/nut"))), sorted(install.EXAMPLES), "its files")
+        expect(run([script, "uninstall"], env=env, cwd="/"), (0, ""), "its script")
+        expect([it for it in install.files_below(found) if not it.startswith("etc/nut/")], [], "what is left")
+
+    def test_fresh_system(self):
+        """Installed, changed by hand, upgraded, removed and purged; what is left is the user nut."""
+        root = self.fresh("fresh")
+        before = state_of(root.folder)
+        root.do("dpkg -i /root/mulgefa-*.deb")
+        expect(root.do("dpkg --verify mulgefa-client mulgefa-server"), "", "files that differ")
+        nut = root.do("id -u nut").strip()
+        for name in install.EXAMPLES:
+            found = os.stat(root.path(f"/etc/nut/{name}"))
+            group = 0 if name == "upsmon.conf" else int(root.do("id -g nut"))
+            mode = 0o600 if name == "upsmon.conf" else 0o640
+            expect((stat.S_IMODE(found.st_mode), found.st_uid, found.st_gid), (mode, 0, group), f"the mode of {name}")
+        users, monitor = install.passwords_in(root.path("/etc/nut"))
+        expect(users["monuser"], monitor, "the passwords fit")
+        expect(len(set(users.values())), 3, "no two are the same")
+
+        root.write("/etc/nut/ups.conf", "[mine]\n")
+        root.write("/etc/nut/other", "mine\n")
+        kept = {name: root.read(f"/etc/nut/{name}") for name in os.listdir(root.path("/etc/nut"))}
+        later = self.packages.made("deb", env={"SOURCE_DATE_EPOCH": "4000000000"})
+        for path in later.values():
+            shutil.copy(path, root.path("/root/later-" + os.path.basename(path)))
+        os.remove(root.path("/etc/nut/su700.dev"))
+        del kept["su700.dev"]
+        root.do("dpkg -i /root/later-mulgefa-*.deb")
+        expect({name: root.read(f"/etc/nut/{name}") for name in os.listdir(root.path("/etc/nut"))}, kept, "files after an upgrade")
+        expect(root.do("id -u nut").strip(), nut, "the number of the user")
+
+        root.do("dpkg --remove mulgefa-server mulgefa-client")
+        expect({name: root.read(f"/etc/nut/{name}") for name in os.listdir(root.path("/etc/nut"))}, kept, "files after the removal")
+        root.do("dpkg --purge mulgefa-client mulgefa-server")
+        expect(os.listdir(root.path("/etc/nut")), ["other"], "a file that no package made")
+        shutil.rmtree(root.path("/etc/nut"))
+        after = state_of(root.folder)
+        expect({it: after.get(it) for it in after.keys() | before.keys() if after.get(it) != before.get(it)}, {}, "what a purge leaves")
+
+    def test_purge_leaves_nothing(self):
+        root = self.fresh("purged")
+        before = state_of(root.folder)
+        root.do("dpkg -i /root/mulgefa-*.deb")
+        root.do("systemctl enable mulgefa-upsd mulgefa-upsmon mulgefa-dummy-ups@su700")
+        root.do("dpkg --purge mulgefa-server mulgefa-client")
+        after = state_of(root.folder)
+        expect({it: after.get(it) for it in after.keys() | before.keys() if after.get(it) != before.get(it)}, {}, "what a purge leaves")
+
+    def test_files_of_others_stay(self):
+        """A configuration that is there, of NUT as a rule, is neither replaced nor taken away."""
+        root = self.fresh("mine")
+        os.mkdir(root.path("/etc/nut"))
+        mine = {name: f"# my {name}\n" for name in ("ups.conf", "upsd.conf", "upsd.users", "upsmon.conf", "nut.conf")}
+        for name, text in mine.items():
+            root.write(f"/etc/nut/{name}", text)
+        said = root.do("dpkg -i /root/mulgefa-*.deb")
+        for name in ("ups.conf", "upsmon.conf"):
+            ensure(f"/etc/nut/{name} is there already and stays as it is" in said, f"{name} isn't told of: {said}")
+        expect({name: root.read(f"/etc/nut/{name}") for name in os.listdir(root.path("/etc/nut"))}, mine, "files")
+        ensure(not os.path.exists(root.path("/etc/systemd/system/multi-user.target.wants/mulgefa-upsd.service")), "something was enabled")
+        root.do("dpkg --purge mulgefa-server mulgefa-client")
+        expect({name: root.read(f"/etc/nut/{name}") for name in os.listdir(root.path("/etc/nut"))}, mine, "files after a purge")
+
+    def test_services_follow_nut_conf(self):
+        """What NUT's nut.conf has run is enabled, and nothing else."""
+        wanted = {"none": [], "netclient": ["mulgefa-upsmon"], "standalone": ["mulgefa-upsd", "mulgefa-upsmon"], "netserver": ["mulgefa-upsd", "mulgefa-upsmon"]}
+        root = self.fresh("modes")
+        for mode, services in wanted.items():
+            os.makedirs(root.path("/etc/nut"), exist_ok=True)
+            root.write("/etc/nut/nut.conf", f"# MODE=netserver\nMODE={mode}\n")
+            root.do("dpkg -i /root/mulgefa-*.deb")
+            found = [it.removesuffix(".service") for it in os.listdir(root.path("/etc/systemd/system/multi-user.target.wants")) if it.startswith("mulgefa")]
+            expect(sorted(found), services, f"what is enabled with MODE={mode}")
+            root.do("dpkg --purge mulgefa-server mulgefa-client")
+
+
+def main(tests, wants):
+    """Runs tests of packages by the command line, which may begin with the folder of a root that was saved."""
+    words = sys.argv[1:]
+    saved = None
+    if words[:1] == ["--root"]:
+        saved, words = os.path.abspath(words[1]), words[2:]
+    with tempfile.TemporaryDirectory() as folder:
+        return run_tests(tests(Packages([os.path.abspath(it) for it in words], folder), saved), install=wants)
+
+
+if __name__ == "__main__":
+    sys.exit(main(Tests, "'apt-get install lintian debootstrap' installs what they need; some want root and a network"))

@@ -1,0 +1,318 @@
+#!/usr/bin/env python3
+"""Runs upsc, upsrw and upscmd against a listener on loopback that answers as NUT's upsd does.
+
+    python3 -m tests.programs.tools UPSC UPSRW UPSCMD
+
+The last line is 'N passed, M failed'."""
+
+import json
+import os
+import resource
+import socket
+import subprocess
+import sys
+import tempfile
+import threading
+import time
+
+from tests.support.harness import Failed, build_shim, expect, refusals, run_tests
+
+# every byte that a value may have
+EVERY = bytes(range(0x20, 0x7F))
+
+# what the server answers to each query; any other is an unknown command
+ANSWERS = {
+    b"LIST VAR su700": b'BEGIN LIST VAR su700\nVAR su700 battery.charge "100"\nVAR su700 ups.mfr "a \\"b\\" \\\\c"\n'
+    b'VAR su700 ups.status "OL"\nEND LIST VAR su700\n',
+    b"GET VAR su700 ups.status": b'VAR su700 ups.status "OL"\n',
+    b"LIST UPS": b'BEGIN LIST UPS\nUPS su700 "Server room"\nUPS b ""\nEND LIST UPS\n',
+    b"LIST CLIENT su700": b"BEGIN LIST CLIENT su700\nCLIENT su700 ::1\nCLIENT su700 10.0.0.1\nEND LIST CLIENT su700\n",
+    b"LIST VAR stale": b"ERR DATA-STALE\n",
+    b"LIST VAR wrong": b"BEGIN LIST VAR su700\nEND LIST VAR su700\n",
+    b"LIST VAR quoted": b'"BEGIN\n',
+    b"LIST VAR long": b"BEGIN LIST VAR long\nVAR long a " + b"x" * 600 + b"\nEND LIST VAR long\n",
+    b"LIST VAR past": "BEGIN LIST VAR past\nVAR past a \"caf\u00e9\"\nEND LIST VAR past\n".encode(),
+    b"LIST VAR every": b'BEGIN LIST VAR every\nVAR every a "' + EVERY.replace(b"\\", b"\\\\").replace(b'"', b'\\"') + b'"\nEND LIST VAR every\n',
+    b"LIST VAR none": b"BEGIN LIST VAR none\nEND LIST VAR none\n",
+    b"LIST RW su700": b'BEGIN LIST RW su700\nRW su700 input.sensitivity "low"\nRW su700 ups.delay "5"\nRW su700 ups.id "x"\n'
+    b"END LIST RW su700\n",
+    b"GET TYPE su700 input.sensitivity": b"TYPE su700 input.sensitivity RW ENUM\n",
+    b"GET TYPE su700 ups.delay": b"TYPE su700 ups.delay RW RANGE NUMBER\n",
+    b"GET TYPE su700 ups.id": b"TYPE su700 ups.id RW STRING:16\n",
+    b"LIST ENUM su700 input.sensitivity": b'BEGIN LIST ENUM su700 input.sensitivity\nENUM su700 input.sensitivity "low"\n'
+    b'ENUM su700 input.sensitivity "high"\nEND LIST ENUM su700 input.sensitivity\n',
+    b"LIST RANGE su700 ups.delay": b'BEGIN LIST RANGE su700 ups.delay\nRANGE su700 ups.delay "0" "9"\n'
+    b'RANGE su700 ups.delay "20" "30"\nEND LIST RANGE su700 ups.delay\n',
+    b"LIST CMD su700": b"BEGIN LIST CMD su700\nCMD su700 load.off\nCMD su700 load.on\nEND LIST CMD su700\n",
+    b"GET CMDDESC su700 load.off": b'CMDDESC su700 load.off "Turn off the load"\n',
+    b"GET CMDDESC su700 load.on": b'CMDDESC su700 load.on "Turn on the load"\n',
+    b"USERNAME admin": b"OK\n",
+    b"PASSWORD pw": b"OK\n",
+    b'SET VAR su700 ups.id "y"': b"OK\n",
+    b'SET VAR su700 ups.id "a=b \\"c\\""': b"OK\n",
+    b'SET VAR su700 ups.mfr "y"': b"ERR READONLY\n",
+    b"INSTCMD su700 load.off": b"OK TRACKING 1\n",
+    b"INSTCMD su700 beep": b"ERR CMD-NOT-SUPPORTED\n",
+}
+
+VARIABLES = b'battery.charge: 100\nups.mfr: a "b" \\c\nups.status: OL\n'
+OBJECT = b'{"battery.charge": "100", "ups.mfr": "a \\"b\\" \\\\c", "ups.status": "OL"}\n'
+SETTINGS = (
+    b"[input.sensitivity]\nType: RW ENUM\nValue: low\nOption: low\nOption: high\n\n"
+    b"[ups.delay]\nType: RW RANGE NUMBER\nValue: 5\nRange: 0..9\nRange: 20..30\n\n"
+    b"[ups.id]\nType: RW STRING:16\nValue: x\n\n"
+)
+COMMANDS = b"load.off - Turn off the load\nload.on - Turn on the load\n"
+OUTPUT_FAILED = b"Error: output failed\n"
+ADMIN = ["-u", "admin", "-p", "pw"]
+LOGIN = [b"USERNAME admin", b"PASSWORD pw"]
+
+# the tool, its arguments (AT stands for the server's host and port), its queries, and its output
+GOOD = [
+    ("upsc", ["su700@AT"], [b"LIST VAR su700"], VARIABLES),
+    ("upsc", ["su700@AT", "ups.status"], [b"GET VAR su700 ups.status"], b"OL\n"),
+    ("upsc", ["-l", "AT"], [b"LIST UPS"], b"su700\nb\n"),
+    ("upsc", ["-L", "AT"], [b"LIST UPS"], b"su700: Server room\nb: \n"),
+    ("upsc", ["-c", "su700@AT"], [b"LIST CLIENT su700"], b"::1\n10.0.0.1\n"),
+    ("upsc", ["none@AT"], [b"LIST VAR none"], b""),
+    ("upsc", ["-j", "su700@AT"], [b"LIST VAR su700"], OBJECT),
+    ("upsc", ["-j", "none@AT"], [b"LIST VAR none"], b"{}\n"),
+    (
+        "upsrw",
+        ["su700@AT"],
+        [
+            b"LIST RW su700",
+            b"GET TYPE su700 input.sensitivity",
+            b"LIST ENUM su700 input.sensitivity",
+            b"GET TYPE su700 ups.delay",
+            b"LIST RANGE su700 ups.delay",
+            b"GET TYPE su700 ups.id",
+        ],
+        SETTINGS,
+    ),
+    ("upsrw", ["-s", "ups.id=y", *ADMIN, "su700@AT"], [*LOGIN, b'SET VAR su700 ups.id "y"'], b"OK\n"),
+    ("upsrw", ["-s", 'ups.id=a=b "c"', *ADMIN, "su700@AT"], [*LOGIN, b'SET VAR su700 ups.id "a=b \\"c\\""'], b"OK\n"),
+    (
+        "upscmd",
+        ["-l", "su700@AT"],
+        [b"LIST CMD su700", b"GET CMDDESC su700 load.off", b"GET CMDDESC su700 load.on"],
+        COMMANDS,
+    ),
+    ("upscmd", [*ADMIN, "su700@AT", "load.off"], [*LOGIN, b"INSTCMD su700 load.off"], b"OK\n"),
+]
+
+# the tool, its arguments, its queries, what is said of it, and the status
+BAD = [
+    ("upsc", ["stale@AT"], [b"LIST VAR stale"], b"DATA-STALE", 1),
+    ("upsc", ["nobody@AT"], [b"LIST VAR nobody"], b"UNKNOWN-COMMAND", 1),
+    ("upsc", ["wrong@AT"], [b"LIST VAR wrong"], b"bad answer", 1),
+    ("upsc", ["quoted@AT"], [b"LIST VAR quoted"], b"bad answer", 1),
+    ("upsc", ["long@AT"], [b"LIST VAR long"], b"bad answer", 1),
+    ("upsc", ["su700@AT", "\u00e9"], [], b"bad query", 1),
+    ("upsc", ["su700@AT", "v" * 600], [], b"bad query", 1),
+    ("upsrw", ["-s", "ups.mfr=y", *ADMIN, "su700@AT"], [*LOGIN, b'SET VAR su700 ups.mfr "y"'], b"READONLY", 1),
+    ("upsrw", ["-s", "ups.id=y", "-u", "x", "-p", "pw", "su700@AT"], [b"USERNAME x"], b"UNKNOWN-COMMAND", 1),
+    ("upscmd", [*ADMIN, "su700@AT", "beep"], [*LOGIN, b"INSTCMD su700 beep"], b"CMD-NOT-SUPPORTED", 1),
+    ("upsc", ["a@"], None, b"bad UPS name", 1),
+    ("upsc", ["a b@AT"], None, b"bad UPS name", 1),
+    ("upsc", ["-l", "127.0.0.1:0"], None, b"bad UPS name", 1),
+    ("upsc", [], None, b"bad arguments", 2),
+    ("upsc", ["-l", "-L"], None, b"bad arguments", 2),
+    ("upsc", ["-j"], None, b"bad arguments", 2),
+    ("upsc", ["-j", "su700@AT", "ups.status"], None, b"bad arguments", 2),
+    ("upsc", ["-j", "-c", "su700@AT"], None, b"bad arguments", 2),
+    ("upsc", ["-jl", "AT"], None, b"bad arguments", 2),
+    ("upsc", ["-j", "stale@AT"], [b"LIST VAR stale"], b"DATA-STALE", 1),
+    ("upsc", ["-j", "long@AT"], [b"LIST VAR long"], b"bad answer", 1),
+    ("upsc", ["-j", "past@AT"], [b"LIST VAR past"], b"bad answer", 1),
+    ("upsrw", ["-s", "ups.id", *ADMIN, "su700@AT"], None, b"bad arguments", 2),
+    ("upsrw", ["-u", "admin", "su700@AT"], None, b"bad arguments", 2),
+    ("upscmd", [*ADMIN, "su700@AT"], None, b"bad arguments", 2),
+]
+
+
+class Server:
+    """A listener on loopback that answers one client after the other. `queries` are the lines of the last client; `ready`
+    is called with what is to be sent and gives the pieces, where None closes the connection."""
+
+    def __init__(self):
+        self.listener = socket.create_server(("127.0.0.1", 0))
+        self.at = "127.0.0.1:%d" % self.listener.getsockname()[1]
+        self.whole()
+        self.queries = []
+        self.left = threading.Event()
+        threading.Thread(target=self.serve, daemon=True).start()
+
+    def whole(self):
+        self.pieces = lambda sent, reply: [reply]
+
+    def byte_by_byte(self):
+        self.pieces = lambda sent, reply: [reply[i : i + 1] for i in range(len(reply))]
+
+    def cut_at(self, place):
+        self.pieces = lambda sent, reply: [reply[: max(0, place - sent)], reply[max(0, place - sent) :]]
+
+    def ends_at(self, place):
+        def pieces(sent, reply):
+            left = place - sent
+            return [reply] if len(reply) < left else [reply[:left], None]
+
+        self.pieces = pieces
+
+    def serve(self):
+        while True:
+            client, _ = self.listener.accept()
+            client.setsockopt(socket.IPPROTO_TCP, socket.TCP_NODELAY, 1)
+            self.queries = []
+            try:
+                self.answer(client)
+            except OSError:
+                pass
+            client.close()
+            self.left.set()
+
+    def answer(self, client):
+        sent = 0
+        for line in client.makefile("rb"):
+            query = line.rstrip(b"\n")
+            self.queries.append(query)
+            reply = ANSWERS.get(query, b"ERR UNKNOWN-COMMAND\n")
+            for piece in self.pieces(sent, reply):
+                if piece is None:
+                    return
+                if piece:
+                    client.sendall(piece)
+                    if len(piece) < len(reply):
+                        time.sleep(0.0005)
+            sent += len(reply)
+
+
+class Tests:
+    def __init__(self, tools, folder):
+        self.tools = tools
+        self.folder = folder
+        self.server = Server()
+
+    def run(self, tool, arguments, env=None, **streams):
+        """Runs a tool, and gives its status, its output, its error text, and the queries that the server heard."""
+        words = [word.replace("AT", self.server.at) if isinstance(word, str) else word for word in arguments]
+        streams = {"stdout": subprocess.PIPE, "stderr": subprocess.PIPE, **streams}
+        self.server.queries = []
+        self.server.left.clear()
+        done = subprocess.run([self.tools[tool], *words], env={**os.environ, **(env or {})}, timeout=60, **streams)
+        return done.returncode, done.stdout, done.stderr
+
+    def heard(self):
+        """The queries of the client that has just left."""
+        self.server.left.wait(10)
+        return self.server.queries
+
+    def test_answers_whole_and_byte_by_byte(self):
+        for mode in (self.server.whole, self.server.byte_by_byte):
+            mode()
+            for tool, arguments, queries, output in GOOD:
+                what = f"{tool} {' '.join(arguments)}"
+                expect(self.run(tool, arguments), (0, output, b""), what)
+                expect(self.heard(), queries, f"the queries of {what}")
+
+    def test_object_is_what_a_reader_of_json_takes(self):
+        self.server.whole()
+        for ups, variables in (("su700", {"battery.charge": "100", "ups.mfr": 'a "b" \\c', "ups.status": "OL"}), ("none", {}), ("every", {"a": EVERY.decode()})):
+            status, output, text = self.run("upsc", ["-j", f"{ups}@AT"])
+            expect((status, text, output.count(b"\n"), json.loads(output)), (0, b"", 1, variables), ups)
+
+    def test_failures(self):
+        self.server.whole()
+        for tool, arguments, queries, text, status in BAD:
+            what = f"{tool} {' '.join(arguments)}"
+            expect(self.run(tool, arguments), (status, b"", b"Error: " + text + b"\n"), what)
+            if queries is not None:
+                expect(self.heard(), queries, f"the queries of {what}")
+
+    def test_cut_and_ended_at_every_place(self):
+        for tool, arguments, queries, output in GOOD:
+            if tool == "upsc" and output not in (VARIABLES, OBJECT):
+                continue
+            length = sum(len(ANSWERS[query]) for query in queries)
+            what = f"{tool} {' '.join(arguments)}"
+            for place in range(1, length):
+                self.server.cut_at(place)
+                expect(self.run(tool, arguments), (0, output, b""), f"{what}, cut at {place}")
+                self.server.ends_at(place)
+                lost = (1, b"", b"Error: connection lost\n")
+                expect(self.run(tool, arguments), lost, f"{what}, ended at {place}")
+            self.server.ends_at(length)
+            expect(self.run(tool, arguments), (0, output, b""), f"{what}, ended behind the last answer")
+
+    def test_bytes_behind_the_last_answer_are_ignored(self):
+        self.server.pieces = lambda sent, reply: [reply + b"FOO\n\xff"]
+        expect(self.run("upsc", ["su700@AT"]), (0, VARIABLES, b""), "bytes behind the answer")
+
+    def test_nobody_listens(self):
+        with socket.create_server(("127.0.0.1", 0)) as unused:
+            port = unused.getsockname()[1]
+        for host in ("127.0.0.1", "localhost", "nowhere.invalid"):
+            found = self.run("upsc", [f"su700@{host}:{port}"])
+            expect(found, (1, b"", b"Error: connection failed\n"), host)
+
+    def test_output_that_fails(self):
+        self.server.whole()
+        with open("/dev/full", "wb") as full:
+            for tool, arguments, _, output in GOOD:
+                if output:
+                    expect(self.run(tool, arguments, stdout=full), (1, None, OUTPUT_FAILED), f"{tool} to /dev/full")
+            for option in ("--help", "--version"):
+                expect(self.run("upsc", [option], stdout=full), (1, None, OUTPUT_FAILED), f"upsc {option} to /dev/full")
+            expect(self.run("upsc", ["su700@AT"], stdout=full, stderr=full), (1, None, None), "output and errors to /dev/full")
+            expect(self.run("upsc", ["stale@AT"], stderr=full), (1, b"", None), "errors to /dev/full")
+
+    def test_output_that_takes_10_bytes(self):
+        self.server.whole()
+        path = os.path.join(self.folder, "output")
+        limits = {"preexec_fn": lambda: resource.setrlimit(resource.RLIMIT_FSIZE, (10, 10)), "restore_signals": False}
+        with open(path, "wb") as output:
+            expect(self.run("upsc", ["su700@AT"], stdout=output, **limits), (1, None, OUTPUT_FAILED), "an output with room for 10 bytes")
+        with open(path, "rb") as output:
+            expect(output.read(), VARIABLES[:10], "what it took")
+
+    def test_words_that_are_no_text(self):
+        for tool in ("upsc", "upsrw", "upscmd"):
+            expect(self.run(tool, [b"su700\xff"]), (2, b"", b"Error: bad arguments\n"), f"{tool} with a word that is no text")
+
+    def test_options_that_are_not_there(self):
+        for tool, option in (("upsc", "-W"), ("upsrw", "-w"), ("upscmd", "-w")):
+            status, output, text = self.run(tool, [option, "su700@AT"])
+            expect((status, output, text != b""), (2, b"", True), f"{tool} {option}")
+        for tool in ("upsc", "upsrw", "upscmd"):
+            expect(self.run(tool, ["--version"]), (0, f"{tool} profile 1.2\n".encode(), b""), f"{tool} --version")
+            status, output, text = self.run(tool, ["--help"])
+            expect((status, tool.encode() in output, text), (0, True, b""), f"{tool} --help")
+
+    def test_refused_memory(self):
+        shim = build_shim(self.folder)
+        self.server.whole()
+        for tool, arguments, _, output in GOOD:
+            what = f"{tool} {' '.join(arguments)}"
+            for at, env, is_reached in refusals(shim):
+                found = self.run(tool, arguments, env)
+                if not is_reached():
+                    expect(found, (0, output, b""), f"{what}, allocation {at}, which isn't reached")
+                    break
+                # the C library may do without some memory, as where it flushes a stream unbuffered
+                allowed = [(1, b"", b"Error: out of memory\n"), (1, b"", b"Error: connection failed\n"), (0, output, b"")]
+                if found not in allowed:
+                    raise Failed(f"{what}, allocation {at}: found {found!r}")
+            if at < 3:
+                raise Failed(f"{what}: {at - 1} allocations were seen")
+
+
+def main():
+    if len(sys.argv) != 4:
+        sys.exit(__doc__)
+    tools = dict(zip(("upsc", "upsrw", "upscmd"), map(os.path.abspath, sys.argv[1:])))
+    with tempfile.TemporaryDirectory() as folder:
+        return run_tests(Tests(tools, folder))
+
+
+if __name__ == "__main__":
+    sys.exit(main())

@@ -1,0 +1,530 @@
+#!/usr/bin/env python3
+"""Starts upsd and dummy-ups on sockets of this machine, and is their clients, a driver and a server.
+
+    python3 -m tests.programs.upsd_sockets UPSD DUMMY_UPS
+
+The last line is 'N passed, M failed'."""
+
+import os
+import resource
+import signal
+import socket
+import subprocess
+import sys
+import tempfile
+import time
+
+from tests.support.harness import Failed, Missing, expect, processor_time, run_tests
+from tests.support.room import Client, DEVICE, NOT_CONNECTED, ONLINE, Room, SOON, STATUS, VERSION, connected, has_ipv6, until
+
+
+class Tests:
+    def __init__(self, upsd, dummy, folder):
+        self.programs = (upsd, dummy)
+        self.folder = folder
+
+    def room(self, **texts):
+        return Room(self.programs, self.folder, **texts)
+
+    def run(self, *words):
+        done = subprocess.run(words, stdin=subprocess.DEVNULL, capture_output=True, timeout=60)
+        return done.returncode, done.stdout, done.stderr
+
+    # Each method from here on whose name begins with 'test_' is a test.
+
+    def test_values(self):
+        with self.room() as room:
+            room.dummy()
+            room.upsd()
+            room.until(STATUS, ONLINE)
+            with room.client() as client:
+                expect(client.ask(b"VER\n"), VERSION, "version")
+                expect(client.ask(b"GET VAR su700 battery.charge\n"), b'VAR su700 battery.charge "100"\n', "a value")
+                rows = [b'VAR su700 battery.charge "100"\n', b'VAR su700 ups.id "x"\n', ONLINE]
+                listed = [b"BEGIN LIST VAR su700\n", *rows, b"END LIST VAR su700\n"]
+                expect(client.list(b"LIST VAR su700\n"), listed, "all values")
+                # requests in flight are answered in turn
+                client.send(STATUS * 100 + b"VER\n")
+                expect([client.line() for _ in range(101)], [ONLINE] * 100 + [VERSION], "a hundred requests at once")
+                expect(client.ask(b"LOGOUT\n"), b"OK Goodbye\n", "farewell")
+                expect(client.line(), b"", "the end")
+
+    def test_set_and_command(self):
+        with self.room() as room:
+            room.dummy()
+            room.upsd()
+            room.until(STATUS, ONLINE)
+            with room.client() as client:
+                client.log_in()
+                expect(client.ask(b'SET VAR su700 ups.id "new"\n'), b"OK\n", "SET")
+                room.until(b"GET VAR su700 ups.id\n", b'VAR su700 ups.id "new"\n')
+                expect(client.ask(b"INSTCMD su700 load.off\n"), b"OK\n", "INSTCMD")
+                room.until(STATUS, b'VAR su700 ups.status "OFF"\n')
+                expect(client.ask(b"SET VAR su700 ups.status x\n"), b"ERR READONLY\n", "SET of the status")
+
+    def test_sequence(self):
+        with self.room() as room:
+            room.dummy(b"ups.status: OL\nTIMER 2\nups.status: OB LB\nTIMER 2\n", "seq")
+            room.upsd()
+            for _ in range(2):
+                room.until(STATUS, ONLINE)
+                room.until(STATUS, b'VAR su700 ups.status "OB LB"\n')
+
+    def test_silent_client(self):
+        with self.room() as room:
+            room.upsd()
+            with room.client(), room.client() as client:
+                expect(client.ask(b"VER\n"), VERSION, "beside a silent client")
+
+    def test_client_that_never_reads(self):
+        names = b"".join(b"ambient.%d.status: %s\n" % (i, b"x" * 100) for i in range(200))
+        with self.room() as room:
+            room.dummy(DEVICE + names)
+            upsd = room.upsd()
+            room.until(STATUS, ONLINE)
+            with room.client() as stuck, room.client() as client:
+                stuck.socket.setblocking(False)
+                request = b"LIST VAR su700\n" * 100
+                for _ in range(50_000):
+                    try:
+                        stuck.socket.send(request)
+                    except BlockingIOError:
+                        break
+                else:
+                    raise Failed("requests of a client that never reads are read without end")
+                begun = time.monotonic()
+                used = processor_time(upsd.pid)
+                for _ in range(200):
+                    expect(client.ask(STATUS), ONLINE, "beside a client that never reads")
+                took = time.monotonic() - begun
+                if took > SOON:
+                    raise Failed(f"200 requests took {took:.2f} s beside a client that never reads")
+                time.sleep(1)
+                used = processor_time(upsd.pid) - used
+                if used > 0.5:
+                    raise Failed(f"{used:.2f} s of processor time were used beside a client that never reads")
+                # once it reads, it is answered
+                stuck.socket.settimeout(SOON)
+                lists = 0
+                while lists < 3:
+                    lists += stuck.line() == b"END LIST VAR su700\n"
+
+    def test_client_byte_by_byte(self):
+        with self.room() as room:
+            room.dummy()
+            room.upsd()
+            room.until(STATUS, ONLINE)
+            with room.client() as slow, room.client() as client:
+                slow.socket.setsockopt(socket.IPPROTO_TCP, socket.TCP_NODELAY, 1)
+                for i in range(len(STATUS)):
+                    slow.send(STATUS[i : i + 1])
+                    expect(client.ask(b"VER\n"), VERSION, "beside a slow client")
+                expect(slow.line(), ONLINE, "a slow client")
+
+    def test_half_closed_client(self):
+        with self.room() as room:
+            room.upsd()
+            with room.client() as client:
+                client.send(b"VER\nVER\n")
+                client.socket.shutdown(socket.SHUT_WR)
+                expect(client.file.read(), VERSION * 2, "answers after the client's end")
+
+    def test_driver_that_stops_in_mid_line(self):
+        with self.room() as room, room.driver() as listener:
+            room.upsd()
+            first, _ = listener.accept()
+            with first:
+                expect(first.recv(100), b"DUMPALL\n", "a driver is asked")
+                first.sendall(b'SETINFO ups.status "OL"\nSETINFO ups.id "a')
+            second, _ = listener.accept()
+            with second:
+                expect(second.recv(100), b"DUMPALL\n", "a driver is asked again")
+                second.sendall(b'SETINFO ups.status "OL"\n')
+                second.sendall(b'b"\nDATAOK\nDUMPDONE\n')
+                room.until(STATUS, ONLINE)
+                expect(room.ask(b"GET VAR su700 ups.id\n"), b"ERR VAR-NOT-SUPPORTED\n", "half a line")
+                # a line that comes byte by byte
+                for byte in b'SETINFO ups.id "c"\n':
+                    second.sendall(bytes([byte]))
+                    time.sleep(0.005)
+                room.until(b"GET VAR su700 ups.id\n", b'VAR su700 ups.id "c"\n')
+
+    def test_driver_that_is_killed(self):
+        with self.room() as room:
+            driver = room.dummy()
+            room.upsd()
+            room.until(STATUS, ONLINE)
+            driver.kill()
+            room.until(STATUS, NOT_CONNECTED)
+            # its socket's file is left behind, and is no obstacle
+            room.dummy()
+            room.until(STATUS, ONLINE)
+
+    def test_driver_that_never_reads(self):
+        with self.room() as room, room.driver() as listener:
+            upsd = room.upsd()
+            driver, _ = listener.accept()
+            with driver, room.client() as client:
+                driver.sendall(b'SETINFO ups.id "x"\nSETFLAGS ups.id RW STRING\nSETAUX ups.id 128\nDATAOK\nDUMPDONE\n')
+                room.until(b"GET VAR su700 ups.id\n", b'VAR su700 ups.id "x"\n')
+                client.log_in()
+                request = b"SET VAR su700 ups.id " + b"y" * 128 + b"\n"
+                until(lambda: client.ask(request) == b"ERR SET-FAILED\n", "a full queue", 60)
+                used = processor_time(upsd.pid)
+                expect(room.ask(b"VER\n"), VERSION, "beside a driver that never reads")
+                time.sleep(1)
+                if processor_time(upsd.pid) - used > 0.5:
+                    raise Failed("processor time is used beside a driver that never reads")
+
+    def test_several_drivers(self):
+        ups = b"".join(b"[u%d]\n" % i for i in range(32))
+        with self.room(ups=ups) as room:
+            room.upsd()
+            for i in range(32):
+                room.dummy(b"ups.id: %d\nups.status: OL\n" % i, ups=f"u{i}")
+            for i in range(32):
+                room.until(b"GET VAR u%d ups.id\n" % i, b'VAR u%d ups.id "%d"\n' % (i, i))
+
+    def test_file_in_the_way_of_a_socket(self):
+        with self.room() as room:
+            with open(room.path("dummy-ups-su700"), "w") as file:
+                file.write("not a socket")
+            room.upsd()
+            expect(room.ask(STATUS), NOT_CONNECTED, "a file in place of a socket")
+            room.dummy()
+            room.until(STATUS, ONLINE)
+
+    def test_port_in_use(self):
+        with self.room() as room, socket.socket() as other:
+            other.bind(("127.0.0.1", room.port))
+            other.listen()
+            found = self.run(self.programs[0], "--conf", room.folder, "-s", room.folder)
+            said = f"upsd: cannot listen on 127.0.0.1:{room.port}\n".encode()
+            expect(found, (1, b"", said), "a port in use")
+
+    def test_host_that_is_not_here(self):
+        with self.room(conf=b"LISTEN 192.0.2.1 3493\n") as room:
+            found = self.run(self.programs[0], "--conf", room.folder, "-s", room.folder)
+            expect(found, (1, b"", b"upsd: cannot listen on 192.0.2.1:3493\n"), "an address of another machine")
+
+    def test_several_listeners(self):
+        with socket.socket() as free:
+            free.bind(("127.0.0.1", 0))
+            port = free.getsockname()[1]
+        with self.room(conf=b"") as room:
+            with open(room.path("upsd.conf"), "ab") as file:
+                file.write(b"LISTEN 127.0.0.2 %d\nLISTEN localhost %d\n" % (port, port))
+            room.upsd()
+            for host in ("127.0.0.2", "localhost"):
+                with Client((host, port)) as client:
+                    expect(client.ask(b"VER\n"), VERSION, host)
+
+    def listening(self, room, *lines):
+        """Starts upsd with these LISTEN lines, and gives it with the addresses at which it says that it listens."""
+        with open(room.path("upsd.conf"), "w") as file:
+            file.writelines(f"LISTEN {line}\n" for line in lines)
+        upsd = room.start([self.programs[0], "--conf", room.folder, "-s", room.folder])
+        said = [upsd.stderr.readline().decode() for _ in lines]
+        if upsd.poll() is not None or not all(it.startswith("upsd: listening on ") for it in said):
+            raise Failed(f"LISTEN {lines}: {said}")
+        return [it.split()[-1].rpartition(":")[0].strip("[]") for it in said]
+
+    def test_every_address_of_ipv4(self):
+        with self.room() as room:
+            expect(self.listening(room, f"0.0.0.0 {room.port}"), ["0.0.0.0"], "where it listens")
+            for host in ("127.0.0.1", "127.0.0.2"):
+                with Client((host, room.port)) as client:
+                    expect(client.ask(b"VER\n"), VERSION, host)
+
+    def test_loopback_of_both_kinds(self):
+        if not has_ipv6():
+            raise Missing("this machine has no IPv6")
+        with self.room() as room:
+            hosts = ["127.0.0.1", "::1"]
+            expect(self.listening(room, *(f"{host} {room.port}" for host in hosts)), hosts, "where it listens")
+            for host in hosts:
+                with Client((host, room.port)) as client:
+                    expect(client.ask(b"VER\n"), VERSION, host)
+
+    def test_host_by_its_name(self):
+        """A name stands for the first of its addresses."""
+        with self.room() as room:
+            found = self.listening(room, f"localhost {room.port}")
+            first = socket.getaddrinfo("localhost", room.port, type=socket.SOCK_STREAM)[0][4][0]
+            expect(found, [first], "where it listens")
+            with Client((first, room.port)) as client:
+                expect(client.ask(b"VER\n"), VERSION, first)
+
+    def test_every_address_twice(self):
+        """A listener at every address by IPv6 serves those by IPv4 too, so lines for these beside it change nothing."""
+        if not has_ipv6():
+            raise Missing("this machine has no IPv6")
+        for hosts in (("0.0.0.0", "::"), ("::", "0.0.0.0"), ("127.0.0.1", "::")):
+            with self.room() as room:
+                with open(room.path("upsd.conf"), "w") as file:
+                    file.writelines(f"LISTEN {host} {room.port}\n" for host in hosts)
+                upsd = room.start([self.programs[0], "--conf", room.folder, "-s", room.folder])
+                expect(upsd.stderr.readline(), f"upsd: listening on [::]:{room.port}\n".encode(), f"{hosts}")
+                for host in ("127.0.0.1", "::1"):
+                    with Client((host, room.port)) as client:
+                        expect(client.ask(b"VER\n"), VERSION, f"{host}, by {hosts}")
+
+    def test_every_address_once(self):
+        """The same line twice is a fault, with every address too."""
+        if not has_ipv6():
+            raise Missing("this machine has no IPv6")
+        with self.room() as room:
+            with open(room.path("upsd.conf"), "w") as file:
+                file.write(f"LISTEN :: {room.port}\n" * 2)
+            found = self.run(self.programs[0], "--conf", room.folder, "-s", room.folder)
+            expect(found, (1, b"", f"upsd: cannot listen on :::{room.port}\n".encode()), "the same address twice")
+
+    def test_addresses_of_clients(self):
+        for listen, hosts, rows in (
+            (b"127.0.0.1", ["127.0.0.1"], [b"127.0.0.1"]),
+            (b"::1", ["::1"], [b"::1"]),
+            # clients of either kind, each by its own address
+            (b"::", ["::1", "127.0.0.1"], [b"::1", b"127.0.0.1"]),
+        ):
+            if b":" in listen and not has_ipv6():
+                print("   this machine has no IPv6")
+                continue
+            with self.room() as room:
+                with open(room.path("upsd.conf"), "wb") as file:
+                    file.write(b"LISTEN %s %d\n" % (listen, room.port))
+                room.host = hosts[0]
+                room.dummy()
+                room.upsd()
+                room.until(STATUS, ONLINE)
+                clients = [Client((host, room.port)) for host in hosts]
+                for client in clients:
+                    client.log_in(b"mon", b"m1")
+                    expect(client.ask(b"LOGIN su700\n"), b"OK\n", "LOGIN")
+                found = clients[0].list(b"LIST CLIENT su700\n")[1:-1]
+                expect(found, [b"CLIENT su700 %s\n" % row for row in rows], f"addresses at {listen}")
+                for client in clients:
+                    client.close()
+
+    def test_too_many_connections(self):
+        with self.room(conf=b"MAXCONN 2\n") as room:
+            room.upsd()
+            until(room.serves, "the first connection has gone")
+            with room.client() as first:
+                expect(first.ask(b"VER\n"), VERSION, "the first")
+                with room.client() as second:
+                    expect(second.ask(b"VER\n"), VERSION, "the second")
+                    for _ in range(5):
+                        with room.client() as third:
+                            expect(third.is_closed(), True, "the third is closed")
+                until(room.serves, "a place that was left is taken again")
+                expect(first.ask(b"VER\n"), VERSION, "the first again")
+
+    def test_256_connections(self):
+        with self.room() as room:
+            room.upsd()
+            clients = []
+            try:
+                for _ in range(256):
+                    clients.append(room.client())
+                for client in clients:
+                    expect(client.ask(b"VER\n"), VERSION, "one of 256")
+                with room.client() as more:
+                    expect(more.is_closed(), True, "the 257th is closed")
+                for client in clients:
+                    client.send(b"VER\n" * 3)
+                for client in reversed(clients):
+                    expect([client.line() for _ in range(3)], [VERSION] * 3, "one of 256 again")
+            finally:
+                for client in clients:
+                    client.close()
+
+    def test_want_of_descriptors(self):
+        def few():
+            resource.setrlimit(resource.RLIMIT_NOFILE, (16, 16))
+
+        with self.room() as room:
+            upsd = room.upsd("-q", preexec_fn=few)
+            clients = [room.client() for _ in range(24)]
+            try:
+                expect(clients[0].ask(b"VER\n"), VERSION, "the first client")
+                used = processor_time(upsd.pid)
+                time.sleep(1.5)
+                expect(clients[0].ask(b"VER\n"), VERSION, "the first client later")
+                if processor_time(upsd.pid) - used > 0.5:
+                    raise Failed("processor time is used while descriptors are wanting")
+                for client in clients[:20]:
+                    client.close()
+                expect(clients[-1].ask(b"VER\n"), VERSION, "the last client, once others have gone")
+            finally:
+                for client in clients:
+                    client.close()
+
+    def test_clients_that_come_and_go(self):
+        with self.room() as room:
+            room.upsd()
+            for _ in range(2000):
+                expect(room.ask(b"VER\n"), VERSION, "one after the other")
+
+    def test_idle_server_sleeps(self):
+        with self.room() as room:
+            upsd = room.upsd()
+            with room.client() as client:
+                expect(client.ask(b"VER\n"), VERSION, "a client")
+                used = processor_time(upsd.pid)
+                time.sleep(2)
+                if processor_time(upsd.pid) - used > 0.1:
+                    raise Failed("an idle server uses processor time")
+
+    def test_notices(self):
+        with self.room() as room:
+            driver = room.dummy()
+            until(lambda: os.path.exists(room.path("dummy-ups-su700")), "a driver listens")
+            upsd = room.upsd()
+            room.until(STATUS, ONLINE)
+            driver.kill()
+            room.until(STATUS, NOT_CONNECTED)
+            time.sleep(1.5)
+            upsd.kill()
+            socket_path = room.path("dummy-ups-su700")
+            lines = [
+                f"upsd: listening on 127.0.0.1:{room.port}",
+                f"upsd: UPS su700, driver at {socket_path}",
+                "upsd: UPS su700: driver connected",
+                "upsd: UPS su700: driver lost",
+            ]
+            found = upsd.stderr.read().decode().splitlines()
+            expect(found[:4], lines, "notices")
+            expect(len(found), 5, "a driver that is missed is told once")
+            expect(found[4].startswith("upsd: UPS su700: no driver yet: "), True, "a driver that is missed")
+
+    def test_quiet(self):
+        with self.room() as room:
+            upsd = room.upsd("-q")
+            driver = room.dummy()
+            room.until(STATUS, ONLINE)
+            driver.kill()
+            room.until(STATUS, NOT_CONNECTED)
+            upsd.kill()
+            expect(upsd.stderr.read(), b"", "nothing is told")
+
+    def test_command_lines(self):
+        upsd, dummy = self.programs
+        conf = ["--conf", self.folder]
+        sockets = ["-s", self.folder]
+        for words in (
+            [upsd],
+            [upsd, *conf],
+            [upsd, *sockets],
+            [upsd, "--stdio", *sockets],
+            [upsd, "--stdio", *conf, *sockets],
+            [upsd, "--stdio", "-q"],
+            [upsd, *conf, *sockets, "--ups", "a=b"],
+            [upsd, *sockets, "--ups", "a=b"],
+            [upsd, *conf, *sockets, "-c", "reload"],
+            [dummy],
+            [dummy, "a.dev"],
+            [dummy, "a.dev", "b", "c"],
+        ):
+            status, out, err = self.run(*words)
+            expect((status, out, err != b""), (2, b"", True), f"{words}")
+        for program, word in ((upsd, b"SOCKDIR"), (dummy, b"SOCKET")):
+            status, out, err = self.run(program, "--help")
+            expect((status, word in out, err), (0, True, b""), "help")
+
+    def test_faults_of_files(self):
+        with self.room(ups=b"[a]\n[a]\n") as room:
+            found = self.run(self.programs[0], "--conf", room.folder, "-s", room.folder)
+            expect(found, (1, b"", b"upsd: ups.conf:2: Repeated\n"), "a fault of a file")
+
+    def test_faults_of_scripts(self):
+        dummy = self.programs[1]
+        at = os.path.join(self.folder, "a-socket")
+        for name, text, said in (
+            ("a.txt", None, "unknown kind"),
+            ("a", b"", "unknown kind"),
+            ("a.dev", None, "cannot read"),
+            ("a.dev", b"TIMER 5\n", "1: TimerInDev"),
+            ("a.dev", b"a: b\n\na b: c\n", "3: BadName"),
+            ("a.seq", b"a: b\n", "0: NoTimer"),
+            ("a.seq", b"a: b\nTIMER 0\n", "2: BadTimer"),
+        ):
+            path = os.path.join(self.folder, name)
+            if text is not None:
+                with open(path, "wb") as file:
+                    file.write(text)
+            between = ":" if said[0].isdigit() else ": "
+            found = self.run(dummy, path, at)
+            expect(found, (1, b"", f"dummy-ups: {path}{between}{said}\n".encode()), f"{name}: {text}")
+            if text is not None:
+                os.remove(path)
+        expect(os.path.exists(at), False, "no socket was made")
+        path = os.path.join(self.folder, "b.dev")
+        with open(path, "wb") as file:
+            file.write(DEVICE)
+        for at in (self.folder, os.path.join(self.folder, "none", "at"), "x" * 200, ""):
+            found = self.run(dummy, path, at)
+            expect(found, (1, b"", f"dummy-ups: cannot listen on {at}\n".encode()), f"socket {at!r}")
+
+    def test_dummy_and_its_servers(self):
+        with self.room() as room:
+            driver = room.dummy(b"ups.status: OL\n")
+            path = room.path("dummy-ups-su700")
+            with Client(path) as first, Client(path) as second:
+                expect(first.ask(b"DUMPALL\n"), b'SETINFO ups.status "OL"\n', "the first server")
+                while first.line() != b"DUMPDONE\n":
+                    pass
+                expect(first.ask(b"PING\n"), b"PONG\n", "a PING")
+                expect(first.ask(b"INSTCMD load.off\n"), b'SETINFO ups.status "OFF"\n', "a command")
+                # a second server waits until the first is gone
+                second.send(b"DUMPALL\n")
+                second.socket.settimeout(1.5)
+                try:
+                    raise Failed(f"a second server got {second.socket.recv(100)!r}")
+                except TimeoutError:
+                    second.socket.settimeout(SOON)
+                first.close()
+                expect(second.line(), b'SETINFO ups.status "OFF"\n', "the second server")
+                while second.line() != b"DUMPDONE\n":
+                    pass
+                used = processor_time(driver.pid)
+                time.sleep(1.5)
+                if processor_time(driver.pid) - used > 0.1:
+                    raise Failed("an idle driver uses processor time")
+
+    def test_dummy_and_a_server_that_never_reads(self):
+        with self.room() as room:
+            driver = room.dummy()
+            path = room.path("dummy-ups-su700")
+            with Client(path) as server:
+                server.socket.setblocking(False)
+                for _ in range(100_000):
+                    try:
+                        server.socket.send(b"DUMPALL\n" * 50)
+                    except BlockingIOError:
+                        break
+                else:
+                    raise Failed("requests of a server that never reads are read without end")
+                used = processor_time(driver.pid)
+                time.sleep(1.5)
+                if processor_time(driver.pid) - used > 0.1:
+                    raise Failed("a driver uses processor time while its server doesn't read")
+                server.socket.settimeout(SOON)
+                dumps = 0
+                while dumps < 100:
+                    dumps += server.line() == b"DUMPDONE\n"
+            with Client(path) as server:
+                expect(server.ask(b"PING\n"), b"PONG\n", "the next server")
+
+
+def main():
+    upsd, dummy, *names = sys.argv[1:]
+    # 256 clients and what else is open
+    resource.setrlimit(resource.RLIMIT_NOFILE, (1024, resource.getrlimit(resource.RLIMIT_NOFILE)[1]))
+    signal.signal(signal.SIGPIPE, signal.SIG_IGN)
+    with tempfile.TemporaryDirectory() as folder:
+        tests = Tests(os.path.abspath(upsd), os.path.abspath(dummy), folder)
+        return run_tests(tests, names, "a machine with IPv6 runs them")
+
+
+if __name__ == "__main__":
+    sys.exit(main())

@@ -1,0 +1,414 @@
+#!/usr/bin/env python3
+"""Runs the programs as their users do, and with each allocation, read and write of a run failing in turn.
+
+    python3 -m tests.programs.upsd_stdio UPSD
+
+The last line is 'N passed, M failed'."""
+
+import itertools
+import os
+import shutil
+import subprocess
+import sys
+import tempfile
+import time
+
+from tests.support.harness import build_shim, expect, Failed, refusals, refusing, ROOT, run_tests
+
+ROOM = ["--stdio", "--ups", "su700=Server room"]
+EXAMPLES = ["--stdio", "--conf", os.path.join(ROOT, "examples")]
+
+VERSION = b"Network UPS Tools upsd profile 1.2\n"
+LIST = b'BEGIN LIST UPS\nUPS su700 "Server room"\nEND LIST UPS\n'
+DESCRIPTION = b'UPSDESC su700 "Server room"\n'
+GOODBYE = b"OK Goodbye\n"
+
+
+def error(name):
+    return b"ERR " + name.encode() + b"\n"
+
+
+# requests and the answers due, in turn
+MIXED = [
+    (b"ver\n", VERSION),
+    (b"GET UPSDESC x\n", error("UNKNOWN-UPS")),
+    (b"FOO\n", error("UNKNOWN-COMMAND")),
+    (b'"a\n', error("INVALID-ARGUMENT")),
+    (b"\n", b""),
+    (b'get "upsdesc" su\\700\n', DESCRIPTION),
+    (b"LIST UPS # all of them\r\n", LIST),
+    (b"LOGOUT\n", GOODBYE),
+    (b"VER\n", b""),
+]
+
+
+# how a configuration file doesn't read: its name, its text, and what is said of it
+CONF_FAULTS = [
+    ("ups.conf", b"[a]\n[a]\n", "2: Repeated"),
+    ("ups.conf", b'[a]\ndesc = "x\n', "2: Unreadable"),
+    ("ups.conf", b"desc = x\n", "1: OutsideSection"),
+    ("ups.conf", b"[a]\ndesc =\n", "2: BadForm"),
+    ("ups.conf", b"[a]\nfoo = x\n", "2: UnknownDirective"),
+    ("ups.conf", b"\n# names\n[a/b]\n", "3: BadName"),
+    ("ups.conf", b"[a]\ndriver = a/b\n", "2: BadName"),
+    ("ups.conf", b"[" + b"a" * 33 + b"]\n", "1: PastLimit"),
+    ("ups.conf", b"[a]\ndesc = " + b"x" * 129 + b"\n", "2: PastLimit"),
+    ("ups.conf", b"".join(b"[u%d]\n" % i for i in range(33)), "33: PastLimit"),
+    ("ups.conf", b"# " + b"x" * 511 + b"\n", "1: PastLimit"),
+    ("ups.conf", b"\n" * 1_048_577, "0: PastLimit"),
+    ("ups.conf", b"[a]\ndesc = x\ndesc = y\n", "3: Repeated"),
+    ("upsd.users", b"[mon]\nupsmon tertiary\n", "2: UnknownWord"),
+    ("upsd.users", b"[mon]\nactions = ALL\n", "2: UnknownWord"),
+    ("upsd.users", b'[mon]\npassword = ""\n', "2: PastLimit"),
+    ("upsd.users", b"upsmon primary\n", "1: OutsideSection"),
+    ("upsd.users", b"[mon]\nupsmon = primary\n", "2: BadForm"),
+    ("upsd.conf", b"MAXAGE 15\nMAXAGE 0\n", "2: BadNumber"),
+    ("upsd.conf", b"MAXAGE 15\nMAXAGE 16\n", "2: Repeated"),
+    ("upsd.conf", b"MAXCONN 257\n", "1: BadNumber"),
+    ("upsd.conf", b"LISTEN a_b 0\n", "1: BadName"),
+    ("upsd.conf", b"CERTFILE x\n", "1: UnknownDirective"),
+    # bytes past ASCII, also in a comment
+    ("ups.conf", "[a]\ndesc = caf\u00e9\n".encode(), "2: Unreadable"),
+    ("upsd.conf", b"# \xff\n", "1: Unreadable"),
+    # carriage returns are blanks, and a last line needs no line feed
+    ("ups.conf", b"[a]\r\ndesc = x\r\n\r\n[a]\r\n", "4: Repeated"),
+    ("upsd.conf", b"MAXAGE 15\nMAXAGE 16", "2: Repeated"),
+    # the first faulty line is named
+    ("ups.conf", b"[a]\nfoo = x\n[a]\n", "2: UnknownDirective"),
+]
+
+
+class Tests:
+    def __init__(self, upsd, folder):
+        self.upsd = upsd
+        self.folder = folder
+        self.shim = build_shim(folder)
+
+    def run(self, args, data=b"", env=None, **streams):
+        streams = {"stdout": subprocess.PIPE, "stderr": subprocess.PIPE, **streams}
+        if "stdin" not in streams:
+            streams["input"] = data
+        done = subprocess.run([self.upsd, *args], env={**os.environ, **(env or {})}, timeout=60, **streams)
+        return done.returncode, done.stdout, done.stderr
+
+    def refused_in_turn(self, kind, args, asked, due):
+        """Runs with the first call of a kind failing, then with the second, and so on, and gives the number of each call
+        that failed with what that run gave. It ends at a call that isn't reached, where the answers due must come."""
+        for at, env, is_reached in refusals(self.shim, kind):
+            found = self.run(args, asked, env)
+            if not is_reached():
+                expect(found, (0, due, b""), f"{kind} {at}, which isn't reached")
+                break
+            yield at, found
+        if at < 2:
+            raise Failed(f"no {kind} was seen")
+
+    def conf(self, **texts):
+        """Writes a folder's files, each under its name with '_' for '.', where the text isn't None. It gives the
+        arguments of a run by them."""
+        folder = os.path.join(self.folder, "conf")
+        shutil.rmtree(folder, ignore_errors=True)
+        os.mkdir(folder)
+        for name in ("ups.conf", "upsd.users", "upsd.conf"):
+            text = texts.get(name.replace(".", "_"), b"")
+            if text is not None:
+                with open(os.path.join(folder, name), "wb") as file:
+                    file.write(text)
+        return ["--stdio", "--conf", folder]
+
+    def cut(self, data, at):
+        """Gives what a run prints whose input comes in two writes."""
+        process = subprocess.Popen([self.upsd, *ROOM], stdin=subprocess.PIPE, stdout=subprocess.PIPE, bufsize=0)
+        try:
+            process.stdin.write(data[:at])
+            time.sleep(0.002)
+            process.stdin.write(data[at:])
+        except BrokenPipeError:
+            pass
+        return process.communicate(timeout=60)[0]
+
+    # Each method from here on whose name begins with 'test_' is a test.
+
+    def test_first_run(self):
+        found = self.run(ROOM, b"LIST UPS\nLOGOUT\n")
+        expect(found, (0, LIST + GOODBYE, b""), "the first run")
+
+    def test_requests_in_turn(self):
+        asked = b"".join(it for it, _ in MIXED)
+        due = b"".join(it for _, it in MIXED)
+        expect(self.run(ROOM, asked), (0, due, b""), "requests in turn")
+
+    def test_requests_cut_anywhere(self):
+        asked = b"".join(it for it, _ in MIXED)
+        due = b"".join(it for _, it in MIXED)
+        for at in range(len(asked) + 1):
+            expect(self.cut(asked, at), due, f"cut at {at}")
+
+    def test_requests_byte_by_byte(self):
+        asked = b"".join(it for it, _ in MIXED)
+        due = b"".join(it for _, it in MIXED)
+        env, _ = refusing(self.shim, "short-read", 1)
+        expect(self.run(ROOM, asked, env), (0, due, b""), "read byte by byte")
+        env, _ = refusing(self.shim, "short-write", 1)
+        expect(self.run(ROOM, asked, env), (0, due, b""), "written byte by byte")
+
+    def test_unfinished_line(self):
+        expect(self.run(ROOM, b"VER"), (0, b"", b""), "a line without its line feed")
+        expect(self.run(ROOM, b"VER\nVER"), (0, VERSION, b""), "the line before is answered")
+        expect(self.run(ROOM, b""), (0, b"", b""), "no input")
+
+    def test_long_lines(self):
+        invalid = error("INVALID-ARGUMENT")
+        expect(self.run(ROOM, b"VER" + b" " * 509 + b"\n"), (0, VERSION, b""), "512 bytes")
+        expect(self.run(ROOM, b"VER" + b" " * 510 + b"\nVER\n"), (0, invalid + VERSION, b""), "513 bytes")
+        expect(self.run(ROOM, b"a" * 100_000 + b"\nVER\n"), (0, invalid + VERSION, b""), "100,000 bytes")
+
+    def test_bytes_without_sense(self):
+        found = self.run(ROOM, bytes(range(256)) + b"\n\xff\nVER\n")
+        invalid = error("INVALID-ARGUMENT")
+        expect(found, (0, invalid * 3 + VERSION, b""), "all bytes")
+
+    def test_many_lines(self):
+        count = 20_000
+        found = self.run(ROOM, b"GET UPSDESC su700\n" * count)
+        expect(found, (0, DESCRIPTION * count, b""), "many lines")
+
+    def test_no_ups(self):
+        expect(self.run(["--stdio"], b"LIST UPS\n"), (0, b"BEGIN LIST UPS\nEND LIST UPS\n", b""), "no UPS")
+
+    def test_several_ups(self):
+        args = ["--stdio", "--ups", "b=x", "--ups", 'A.b_c-1=a "b" \\ # = ~c', "--ups", "empty="]
+        rows = b'UPS b "x"\nUPS A.b_c-1 "a \\"b\\" \\\\ \\# = ~c"\nUPS empty ""\n'
+        found = self.run(args, b"LIST UPS\n")
+        expect(found, (0, b"BEGIN LIST UPS\n" + rows + b"END LIST UPS\n", b""), "in the order given")
+
+    def test_ups_faults(self):
+        many = list(itertools.chain.from_iterable(["--ups", f"u{i}=d"] for i in range(32)))
+        cases = [
+            (["--ups", "su700"], "BadForm"),
+            (["--ups", ""], "BadForm"),
+            (["--ups", "=d"], "BadName"),
+            (["--ups", "a b=d"], "BadName"),
+            (["--ups", "\u00e9=d"], "BadName"),
+            (["--ups", "a" * 33 + "=d"], "PastLimit"),
+            (["--ups", "a=" + "d" * 129], "PastLimit"),
+            ([*many, "--ups", "more=d"], "PastLimit"),
+            (["--ups", "a=d", "--ups", "a=e"], "Repeated"),
+            (["--ups", "a=\t"], "Unreadable"),
+            (["--ups", "a=\u00e9"], "Unreadable"),
+            (["--ups", "a=\x7f"], "Unreadable"),
+            # two faults: the first in the order of tests is named
+            (["--ups", " " * 40], "BadForm"),
+            (["--ups", "\u00e9" * 40 + "=\t"], "BadName"),
+            (["--ups", "a" * 33 + "=\t"], "PastLimit"),
+            (["--ups", "!" + "a" * 32 + "=d"], "BadName"),
+            ([*many, "--ups", "u1=d"], "PastLimit"),
+            ([*many, "--ups", "more=\t"], "PastLimit"),
+            ([*many, "--ups", "more!=d"], "BadName"),
+            ([*many, "--ups", "more"], "BadForm"),
+            (["--ups", "a=d", "--ups", "a=\t"], "Repeated"),
+            (["--ups", "a=\t", "--ups", "b"], "Unreadable"),
+        ]
+        for args, kind in cases:
+            found = self.run(["--stdio", *args], b"LIST UPS\n")
+            expect(found, (1, b"", f"upsd: --ups: {kind}\n".encode()), f"{args}")
+        for args in (["--ups", "a" * 32 + "=" + "d" * 128], many):
+            expect(self.run(["--stdio", *args], b"")[0], 0, f"{args} is within the limits")
+
+    def test_command_lines(self):
+        for args in ([], ["--ups", "a=b"], ["--stdio", "--nothing"], ["--stdio", "more"], ["--stdio", "--ups"], ["-c", "reload"], ["--stdio", "--conf"], [*EXAMPLES, "--ups", "a=b"], [*EXAMPLES, "--conf", "x"]):
+            status, out, err = self.run(args, b"VER\n")
+            expect((status, out, err != b""), (2, b"", True), f"{args}")
+        _, _, err = self.run(["--stdio", "-q"], b"VER\n")
+        expect(b"cannot be used with" in err, True, f"what --stdio -q gives: {err}")
+        invalid = b"error: invalid UTF-8 was detected in one or more arguments\n"
+        expect(self.run([b"--stdio", b"--ups", b"a=\xff"]), (2, b"", invalid), "words that are no text")
+        for args, word in ((["--help"], b"--ups"), (["--version"], b"upsd")):
+            status, out, err = self.run(args)
+            expect((status, word in out, err), (0, True, b""), f"{args}")
+
+    def test_conf_faults(self):
+        for name, text, fault in CONF_FAULTS:
+            args = self.conf(**{name.replace(".", "_"): text})
+            if "UnknownDirective" in fault:
+                word = text.splitlines()[int(fault.split(":")[0]) - 1].split()[0].decode()
+                fault += f"\nupsd: {word} isn't taken here: see from-nut(7)"
+            wanted = (1, b"", f"upsd: {name}:{fault}\n".encode())
+            expect(self.run(args, b"LIST UPS\n"), wanted, f"{name}: {text[:40]!r}")
+            expect(self.run(["--check", *args[1:]]), wanted, f"--check, {name}: {text[:40]!r}")
+
+    def test_conf_that_cannot_be_read(self):
+        for name in ("ups.conf", "upsd.users", "upsd.conf"):
+            cannot = (1, b"", f"upsd: {name}: cannot read\n".encode())
+            args = self.conf(**{name.replace(".", "_"): None})
+            expect(self.run(args, b"VER\n"), cannot, f"no {name}")
+            path = os.path.join(args[-1], name)
+            os.mkdir(path)
+            expect(self.run(args, b"VER\n"), cannot, f"{name} is a folder")
+            os.rmdir(path)
+            os.symlink(name, path)
+            expect(self.run(args, b"VER\n"), cannot, f"{name} is a link to itself")
+            os.remove(path)
+            if os.geteuid() != 0:
+                with open(path, "wb") as file:
+                    os.fchmod(file.fileno(), 0)
+                expect(self.run(args, b"VER\n"), cannot, f"{name} may not be read")
+        cannot = (1, b"", b"upsd: ups.conf: cannot read\n")
+        for folder in (os.path.join(self.folder, "no-such-folder"), self.shim, ""):
+            expect(self.run(["--stdio", "--conf", folder], b"VER\n"), cannot, f"the folder {folder!r}")
+
+    def test_conf_in_order(self):
+        bad = b"[a]\n[a]\n"
+        for texts, fault in (
+            ({"ups_conf": bad, "upsd_users": None, "upsd_conf": None}, b"upsd: ups.conf:2: Repeated\n"),
+            ({"upsd_users": bad, "upsd_conf": None}, b"upsd: upsd.users:2: Repeated\n"),
+            ({"upsd_users": None, "upsd_conf": bad}, b"upsd: upsd.users: cannot read\n"),
+            ({"upsd_conf": bad}, b"upsd: upsd.conf:1: UnknownDirective\nupsd: [a] isn't taken here: see from-nut(7)\n"),
+        ):
+            expect(self.run(self.conf(**texts), b"VER\n"), (1, b"", fault), f"{texts}")
+            expect(self.run(["--check", *self.conf(**texts)[1:]]), (1, b"", fault), f"--check {texts}")
+
+    def test_words_that_are_not_taken(self):
+        for name, text, line, word in (
+            # before the first section, where it would be unknown in one too
+            ("ups.conf", b"maxretry = 3\n[a]\n", "1: OutsideSection", "maxretry"),
+            ("ups.conf", b"# ours\n\n  pollinterval=2", "3: OutsideSection", "pollinterval"),
+            ("ups.conf", b"driver = x\n", "1: OutsideSection", None),
+            ("upsd.users", b"upsmon primary\n", "1: OutsideSection", None),
+            ("upsd.users", b"allowfrom = x\n", "1: OutsideSection", "allowfrom"),
+            # as the reader has it: out of quotes, without backslashes
+            ("ups.conf", b'[a]\n"a b" = 1\n', "2: UnknownDirective", "a b"),
+            ("ups.conf", b"[a]\nv\\en\\dor = 1\n", "2: UnknownDirective", "vendor"),
+            ("ups.conf", b'[a]\n"" = 1\n', "2: UnknownDirective", None),
+            ("upsd.users", b"[a]\r\nallowfrom = x\r\n", "2: UnknownDirective", "allowfrom"),
+            ("upsd.conf", b"w" * 500 + b" 1\n", "1: UnknownDirective", "w" * 500),
+        ):
+            said = f"upsd: {name}:{line}\n" + (f"upsd: {word} isn't taken here: see from-nut(7)\n" if word else "")
+            found = self.run(self.conf(**{name.replace(".", "_"): text}), b"")
+            expect(found, (1, b"", said.encode()), f"{text}")
+
+    def test_word_that_memory_is_refused_for(self):
+        """The fault is told, or that memory is refused for its file; and its word where there is memory for it."""
+        args = self.conf(ups_conf=b"maxretry = 3\n")
+        fault = b"upsd: ups.conf:1: OutsideSection\n"
+        word = b"upsd: maxretry isn't taken here: see from-nut(7)\n"
+        seen = set()
+        for at, env, is_reached in refusals(self.shim):
+            found = self.run(args, b"", env)
+            if not is_reached():
+                expect(found, (1, b"", fault + word), f"allocation {at}, which isn't reached")
+                break
+            seen.add(found)
+        # some memory is taken that the program can do without
+        seen.discard((1, b"", fault + word))
+        expect(seen, {(1, b"", b"upsd: out of memory\n"), (1, b"", fault)}, "what is told where memory is refused")
+
+    def test_check(self):
+        args = self.conf()[1:]
+        folder = args[-1]
+        os.chmod(os.path.join(folder, "upsd.users"), 0o600)
+        for words in (args, [*args, "-q"], [*args, "-s", "/nowhere"]):
+            expect(self.run(["--check", *words]), (0, b"", b""), f"--check {words}")
+        named = {"NUT_CONFPATH": folder}
+        expect(self.run(["--check"], env=named), (0, b"", b""), "NUT_CONFPATH")
+        cannot = (1, b"", b"upsd: ups.conf: cannot read\n")
+        expect(self.run(["--check", "--conf", "/nowhere"], env=named), cannot, "--conf comes first")
+        expect(self.run(["--check"], env={"NUT_CONFPATH": "/nowhere"}), cannot, "a folder that isn't there")
+        expect(self.run(["--check"], env={"NUT_CONFPATH": ""}), self.run(["--check", "--conf", "/etc/nut"]), "an empty NUT_CONFPATH")
+        os.chmod(os.path.join(folder, "upsd.users"), 0o604)
+        warning = b"upsd: warning: upsd.users holds passwords, and everybody can read it (mode 604)\n"
+        expect(self.run(["--check", *args]), (0, b"", warning), "a file that everybody can read")
+        for words in (["--check", "--stdio"], ["--check", "-s", folder], ["--check", *args, "--ups", "a=b"], ["--check", "more"]):
+            status, out, err = self.run(words)
+            expect((status, out, err != b""), (2, b"", True), f"{words}")
+
+    def test_conf_is_served(self):
+        asked = b"LIST UPS\nGET UPSDESC su700\nLOGOUT\n"
+        expect(self.run(EXAMPLES, asked), (0, LIST + DESCRIPTION + GOODBYE, b""), "examples")
+        expect(self.run(self.conf(), b"LIST UPS\n"), (0, b"BEGIN LIST UPS\nEND LIST UPS\n", b""), "empty files")
+        rows = b'UPS b "Unavailable"\nUPS a "say \\"hi\\""\nUPS c ""\n'
+        for text in (
+            b'[b]\n[a]\ndesc = "say \\"hi\\""\n[c]\ndesc=""\n',
+            b'[b]\r\n\r\n[a]\r\ndesc = "say \\"hi\\""\r\n[c]\r\ndesc=""',
+        ):
+            found = self.run(self.conf(ups_conf=text), b"LIST UPS\n")
+            expect(found, (0, b"BEGIN LIST UPS\n" + rows + b"END LIST UPS\n", b""), f"{text}")
+
+    def test_conf_of_the_greatest_length(self):
+        worst = 0.0
+        for line in (b"\n", b"actions = SET\n", b"# " + b"x" * 509 + b"\n"):
+            text = b"[a]\n" + line * (1_048_572 // len(line))
+            args = self.conf(upsd_users=text.ljust(1_048_576))
+            begun = time.monotonic()
+            expect(self.run(args, b"VER\n"), (0, VERSION, b""), f"lines {line[:20]!r}")
+            worst = max(worst, time.monotonic() - begun)
+        print(f"   1,048,576 bytes take at most {worst:.3f} s")
+        if worst > 1:
+            raise Failed(f"a file of 1,048,576 bytes took {worst:.3f} s")
+
+    def test_huge_conf_is_not_taken_into_memory(self):
+        args = self.conf()
+        with open(os.path.join(args[-1], "upsd.users"), "wb") as file:
+            file.truncate(1 << 40)
+        found = self.run(args, b"VER\n")
+        expect(found, (1, b"", b"upsd: upsd.users:0: PastLimit\n"), "a file of 1 TiB")
+
+    def test_conf_byte_by_byte(self):
+        env, _ = refusing(self.shim, "short-file-read", 1)
+        expect(self.run(EXAMPLES, b"LIST UPS\n", env), (0, LIST, b""), "files read byte by byte")
+
+    def test_each_read_of_a_file_refused(self):
+        told = set()
+        for at, (status, out, err) in self.refused_in_turn("file-read", EXAMPLES, b"LIST UPS\n", LIST):
+            expect((status, out, err.endswith(b": cannot read\n")), (1, b"", True), f"read {at}: {err!r}")
+            told.add(err)
+        expect(len(told), 3, "files of which a read failed")
+
+    def test_failing_devices(self):
+        with open("/dev/full", "wb") as full:
+            status, _, err = self.run(ROOM, b"VER\n", stdout=full)
+            expect((status, err), (1, b"upsd: output failed\n"), "an output that is full")
+        folder = os.open("/", os.O_RDONLY)
+        try:
+            status, out, err = self.run(ROOM, stdin=folder)
+            expect((status, err, out), (1, b"upsd: input failed\n", b""), "an input that is a folder")
+        finally:
+            os.close(folder)
+
+    def test_each_read_and_write_refused(self):
+        asked = b"".join(it for it, _ in MIXED)
+        due = b"".join(it for _, it in MIXED)
+        for kind, stream in (("read", b"input"), ("write", b"output")):
+            for at, (status, out, err) in self.refused_in_turn(kind, ROOM, asked, due):
+                expect((status, err), (1, b"upsd: " + stream + b" failed\n"), f"{kind} {at}")
+                if not due.startswith(out):
+                    raise Failed(f"{kind} {at}: {out!r} is no front of the answers due")
+
+    def test_each_allocation_refused(self):
+        self.refuse_allocations(ROOM)
+
+    def test_each_allocation_refused_with_files(self):
+        self.refuse_allocations(EXAMPLES)
+
+    def refuse_allocations(self, args):
+        """Refuses each allocation of a run in turn: it ends before it serves, or after a line."""
+        asked = b"".join(it for it, _ in MIXED)
+        fronts = list(itertools.accumulate((it for _, it in MIXED), initial=b""))
+        refused = served = 0
+        for at, (status, out, err) in self.refused_in_turn("allocation", args, asked, fronts[-1]):
+            refused += 1
+            if status == 0:
+                served += 1
+                expect((out in fronts, err), (True, b""), f"allocation {at}: {out!r}")
+            else:
+                expect((status, out, err), (1, b"", b"upsd: out of memory\n"), f"allocation {at}")
+        print(f"   {refused} allocations refused in turn, {served} of them while lines were answered")
+
+
+def main():
+    with tempfile.TemporaryDirectory() as folder:
+        return run_tests(Tests(os.path.abspath(sys.argv[1]), folder))
+
+
+if __name__ == "__main__":
+    sys.exit(main())

@@ -1,0 +1,510 @@
+#!/usr/bin/env python3
+"""Starts upsmon beside upsd and dummy-ups, and beside servers that the tests play.
+
+    python3 -m tests.programs.upsmon UPSD DUMMY_UPS UPSC UPSMON
+
+The last line is 'N passed, M failed'."""
+
+import itertools
+import os
+import signal
+import subprocess
+import sys
+import tempfile
+import time
+
+from tests.support.harness import Failed, build_shim, expect, refusals
+from tests.support.monitored import (
+    BATTERY_LOW,
+    ESTABLISHED,
+    FLAG,
+    FORCED,
+    LOST,
+    ON_BATTERY,
+    QUICK,
+    SHUTDOWN,
+    UNAVAILABLE,
+    USERS,
+    ByteByByte,
+    Closing,
+    Endless,
+    Rubbish,
+    Silent,
+    Upstream,
+    Watch,
+    children_of,
+    play,
+)
+from tests.support.room import SOON, Room, until
+
+
+class Driver:
+    """A driver of su700 that the test plays."""
+
+    def __init__(self, room):
+        self.listener = room.driver()
+        self.end = None
+
+    def __enter__(self):
+        return self
+
+    def __exit__(self, *_):
+        if self.end:
+            self.end.close()
+        self.listener.close()
+
+    def connect(self):
+        self.end, _ = self.listener.accept()
+        self.tell(b"OL")
+        self.end.sendall(b"DATAOK\nDUMPDONE\n")
+
+    def tell(self, status):
+        self.end.sendall(b'SETINFO ups.status "%s"\n' % status)
+
+
+def squeezed(lines):
+    """The lines, each but once where it comes again and again."""
+    return [line for line, _ in itertools.groupby(lines)]
+
+
+class Tests:
+    def __init__(self, programs, folder):
+        self.upsd, self.dummy, self.upsc, self.upsmon = programs
+        self.folder = folder
+
+    def room(self):
+        room = Room((self.upsd, self.dummy), self.folder)
+        with open(room.path("upsd.users"), "wb") as file:
+            file.write(USERS)
+        return room
+
+    def watch(self, conf, *words, **options):
+        return Watch(self.upsmon, self.folder, conf, *words, **options)
+
+    def expect_halt(self, watch, lines, status=0, within=SOON):
+        expect(watch.status(within), status, "status")
+        expect(watch.lines(), lines, "what upsmon prints")
+
+    # Each method from here on whose name begins with 'test_' is a test.
+
+    def test_power_fails(self):
+        with self.room() as room:
+            target = f"su700@127.0.0.1:{room.port}"
+            room.dummy(b"ups.status: OB LB\nTIMER 60\n", "seq")
+            room.upsd()
+            asks = [self.upsc, target, "ups.status"]
+            until(lambda: subprocess.run(asks, capture_output=True).stdout == b"OB LB\n", "upsc prints the status")
+            halts = "POWERDOWNFLAG FOLDER/flag\nSHUTDOWNCMD 'touch FOLDER/halted'\n".replace("'", '"')
+            conf = f"MONITOR {target} 1 mon m1 primary\n{QUICK}{halts}"
+            with self.watch(conf) as watch:
+                self.expect_halt(watch, [ON_BATTERY % target, BATTERY_LOW % target, SHUTDOWN])
+                expect(watch.read("flag"), FLAG, "POWERDOWNFLAG")
+                expect(watch.read("halted"), b"", "what SHUTDOWNCMD makes")
+                told = watch.lines("err")
+                expect(told[0], f"upsmon: UPS {target}: watched as primary, power value 1", "what is watched")
+
+    def test_two_machines(self):
+        with self.room() as room, Driver(room) as driver:
+            room.upsd()
+            driver.connect()
+            target = f"su700@127.0.0.1:{room.port}"
+            halts = 'POWERDOWNFLAG FOLDER/flag\nSHUTDOWNCMD "touch FOLDER/halted"\nPOLLFREQ 1\nHOSTSYNC 60\n'
+            # the delay leaves the secondary time to run its command, which comes after its logout
+            with self.watch(f"MONITOR {target} 1 guest g1 secondary\nFINALDELAY 0\n" + halts) as guest, self.watch(
+                f"MONITOR {target} 1 mon m1 primary\nFINALDELAY 2\n" + halts
+            ) as primary:
+                room.until(b"GET NUMLOGINS su700\n", b"NUMLOGINS su700 2\n")
+                driver.tell(b"OB LB")
+                self.expect_told_before_shutdown(guest, target, {ON_BATTERY % target, BATTERY_LOW % target, FORCED % target})
+                expect((guest.read("flag"), guest.read("halted")), (None, b""), "a secondary writes no POWERDOWNFLAG")
+                # the primary waits for the secondary, and for no longer
+                self.expect_halt(primary, [ON_BATTERY % target, BATTERY_LOW % target, SHUTDOWN])
+                expect((primary.read("flag"), primary.read("halted")), (FLAG, b""), "the primary writes it")
+                halted = [os.stat(it.path("halted")).st_mtime_ns for it in (guest, primary)]
+                expect(halted == sorted(halted), True, "the secondary halts first")
+
+    def expect_told_before_shutdown(self, watch, target, wanted):
+        """Expects it to halt after these notices, whose order depends on when it asked."""
+        expect(watch.status(), 0, "status")
+        lines = watch.lines()
+        expect((set(lines[:-1]), len(lines), lines[-1]), (wanted, len(wanted) + 1, SHUTDOWN), "what upsmon prints")
+
+    def test_primary_waits_for_hostsync(self):
+        with Upstream(status=b"OL") as server:
+            server.logins = 2
+            with self.watch(f"MONITOR {server.target} 1 mon m1 primary\n{QUICK}POWERDOWNFLAG FOLDER/flag\n") as watch:
+                until(lambda: b"GET VAR su700 ups.status\n" in server.asked, "the status is asked for")
+                server.statuses[b"su700"] = b"OB LB"
+                watch.until_printed(BATTERY_LOW % server.target)
+                begun = time.monotonic()
+                self.expect_halt(watch, [ON_BATTERY % server.target, BATTERY_LOW % server.target, SHUTDOWN])
+                # more than HOSTSYNC, by whole seconds
+                expect(time.monotonic() - begun > 0.9, True, "HOSTSYNC passes")
+                expect(watch.read("flag"), FLAG, "POWERDOWNFLAG")
+                asked = b"".join(server.asked).splitlines()
+                first = [b"USERNAME mon", b"PASSWORD m1", b"LOGIN su700", b"PRIMARY su700", b"GET VAR su700 ups.status"]
+                expect(asked[:5], first, "what a link is asked first")
+                expect(asked[asked.index(b"FSD su700") + 1], b"GET NUMLOGINS su700", "what follows the FSD")
+
+    def test_secondary_alone(self):
+        with Upstream(status=b"OB LB") as server:
+            conf = f"MONITOR {server.target} 1 guest g1 secondary\n{QUICK}POWERDOWNFLAG FOLDER/flag\n"
+            with self.watch(conf) as watch:
+                self.expect_halt(watch, [ON_BATTERY % server.target, BATTERY_LOW % server.target, SHUTDOWN])
+                expect(watch.read("flag"), None, "a secondary writes no POWERDOWNFLAG")
+
+    def test_final_delay(self):
+        with Upstream(status=b"FSD OL") as server:
+            conf = f'MONITOR {server.target} 1 mon m1 primary\nFINALDELAY 2\nSHUTDOWNCMD "touch FOLDER/halted"\n'
+            with self.watch(conf) as watch:
+                watch.until_printed(SHUTDOWN)
+                begun = time.monotonic()
+                expect(watch.read("halted"), None, "nothing is run before FINALDELAY")
+                self.expect_halt(watch, [FORCED % server.target, SHUTDOWN])
+                expect(time.monotonic() - begun > 1, True, "FINALDELAY passes")
+                expect(watch.read("halted"), b"", "what SHUTDOWNCMD makes")
+
+    def test_server_that_comes_and_goes(self):
+        server = Upstream()
+        port, target = server.port, server.target
+        server.close()
+        with self.watch(f"MONITOR {target} 1 mon m1 secondary\nPOLLFREQ 1\nNOCOMMWARNTIME 4\n") as watch:
+            watch.until_printed(UNAVAILABLE % target)
+            for round in (1, 2):
+                with Upstream(port) as server:
+                    # the first time it was never lost, so that nothing was established again
+                    until(lambda: b"GET VAR su700 ups.status\n" in server.asked, "it is dialled and asked")
+                    if round == 2:
+                        watch.until_printed(ESTABLISHED % target)
+                until(lambda: watch.lines().count(LOST % target) == round, "the loss is told")
+            wanted = [UNAVAILABLE % target, LOST % target, ESTABLISHED % target, LOST % target]
+            found = squeezed(watch.lines())
+            expect([line for line in found if line != UNAVAILABLE % target], wanted[1:], "what is told")
+            expect(found[0], wanted[0], "what is told first")
+            expect(watch.process.poll(), None, "it goes on")
+
+    def test_data_that_is_stale(self):
+        with Upstream() as server:
+            target = server.target
+            with self.watch(f"MONITOR {target} 1 mon m1 secondary\nPOLLFREQ 1\n") as watch:
+                for status, line in ((b"ERR DATA-STALE\n", LOST), (b"OL", ESTABLISHED), (b"ERR DATA-STALE\n", LOST)):
+                    until(lambda: b"GET VAR su700 ups.status\n" in server.asked, "the status is asked for")
+                    server.asked.clear()
+                    until(lambda: b"GET VAR su700 ups.status\n" in server.asked, "the status is asked for again")
+                    count = watch.lines().count(line % target)
+                    server.statuses[b"su700"] = status
+                    until(lambda: watch.lines().count(line % target) == count + 1, f"{line} is told")
+                expect(watch.lines(), [LOST % target, ESTABLISHED % target, LOST % target], "what is told")
+
+    def test_dead_time(self):
+        with Upstream(status=b"OB") as server:
+            conf = f"MONITOR {server.target} 1 mon m1 secondary\n{QUICK}DEADTIME 2\n"
+            with self.watch(conf) as watch:
+                watch.until_printed(ON_BATTERY % server.target)
+                server.close()
+                self.expect_halt(watch, [ON_BATTERY % server.target, LOST % server.target, SHUTDOWN])
+
+    def test_hostile_servers(self):
+        for kind, lines in ((Closing, [LOST]), (Rubbish, [LOST]), (Endless, []), (Silent, [])):
+            with kind() as hostile, Upstream() as server:
+                conf = f"MINSUPPLIES 1\nMONITOR {hostile.target} 0 mon m1 secondary\nMONITOR {server.target} 1 mon m1 secondary\n"
+                with self.watch(conf + QUICK) as watch:
+                    until(lambda: server.asked.count(b"GET VAR su700 ups.status\n") >= 3, f"{kind.__name__}: the other goes on")
+                    expect(watch.lines(), [line % hostile.target for line in lines], kind.__name__)
+                    expect(kind is Endless or watch.is_idle(), True, f"{kind.__name__}: processor time")
+                    server.statuses[b"su700"] = b"OB LB"
+                    expect(watch.status(), 0, f"{kind.__name__}: status")
+                    told = [ON_BATTERY % server.target, BATTERY_LOW % server.target, SHUTDOWN]
+                    expect(watch.lines()[-3:], told, f"{kind.__name__}: what is told of the other")
+
+    def test_server_byte_by_byte(self):
+        with ByteByByte(status=b"OB LB") as server:
+            with self.watch(f"MONITOR {server.target} 1 mon m1 primary\n{QUICK}") as watch:
+                self.expect_halt(watch, [ON_BATTERY % server.target, BATTERY_LOW % server.target, SHUTDOWN])
+
+    def test_silent_server_is_unavailable(self):
+        """Before it is given up, which takes longer (tests/programs/upsmon_links.py)."""
+        with Silent() as server:
+            with self.watch(f"MONITOR {server.target} 1 mon m1 primary\nNOCOMMWARNTIME 1\n") as watch:
+                watch.until_printed(UNAVAILABLE % server.target)
+                expect(set(watch.lines()), {UNAVAILABLE % server.target}, "what is told")
+
+    def test_one_of_two_supplies(self):
+        with Upstream() as server:
+            server.statuses = {b"a": b"OL", b"b": b"OL"}
+            a, b = (f"{ups}@127.0.0.1:{server.port}" for ups in "ab")
+            conf = f"MINSUPPLIES 1\nMONITOR {a} 1 mon m1 secondary\nMONITOR {b} 1 mon m1 secondary\n{QUICK}"
+            with self.watch(conf) as watch:
+                until(lambda: b"GET VAR b ups.status\n" in server.asked, "both are asked for")
+                server.statuses[b"a"] = b"OB LB"
+                watch.until_printed(BATTERY_LOW % a)
+                time.sleep(2.5)
+                expect(watch.process.poll(), None, "one supply is left")
+                expect(watch.lines(), [ON_BATTERY % a, BATTERY_LOW % a], "what is told")
+                server.statuses[b"b"] = b"OB LB"
+                self.expect_halt(watch, [it % ups for ups in (a, b) for it in (ON_BATTERY, BATTERY_LOW)] + [SHUTDOWN])
+
+    def test_flags(self):
+        for flags, is_printed, is_run in (
+            (None, True, False),
+            ("SYSLOG", True, False),
+            ("WALL", True, False),
+            ("SYSLOG+WALL+EXEC", True, True),
+            ("EXEC", False, True),
+            ("IGNORE", False, False),
+            ("IGNORE+SYSLOG+WALL+EXEC", False, False),
+        ):
+            set_flags = f"NOTIFYFLAG SHUTDOWN {flags}\n" if flags else ""
+            with Upstream(status=b"FSD") as server:
+                conf = f"MONITOR {server.target} 1 mon m1 secondary\n{QUICK}{set_flags}NOTIFYFLAG FSD IGNORE\n"
+                with self.watch(conf + 'NOTIFYCMD "touch FOLDER/run #"\nSHUTDOWNCMD "sleep 0.5"\n') as watch:
+                    self.expect_halt(watch, [SHUTDOWN] if is_printed else [])
+                    expect(watch.read("run"), b"" if is_run else None, f"NOTIFYCMD with {flags}")
+
+    def test_notify_command(self):
+        text = "%s `touch FOLDER/bad` $(touch FOLDER/bad) ; ' \\\" * \\\\ $HOME"
+        command = "sh -c 'printf \\\"%s|%s|%s\\\\n\\\" \\\"$NOTIFYTYPE\\\" \\\"$UPSNAME\\\" \\\"$1\\\" >> FOLDER/run' a"
+        conf = f'NOTIFYCMD "{command}"\nNOTIFYMSG ONBATT "{text}"\nNOTIFYMSG SHUTDOWN ""\n'
+        conf += "".join(f"NOTIFYFLAG {it} EXEC\n" for it in ("ONBATT", "SHUTDOWN"))
+        with Upstream(status=b"OB") as server:
+            with self.watch(f"MONITOR {server.target} 1 mon m1 secondary\n{QUICK}{conf}") as watch:
+                until(lambda: watch.read("run"), "NOTIFYCMD is run")
+                server.statuses[b"su700"] = b"FSD OB"
+                self.expect_halt(watch, [FORCED % server.target])
+                until(lambda: len(watch.lines("run")) == 2, "NOTIFYCMD is run again")
+                said = text.replace("\\\"", '"').replace("\\\\", "\\").replace("FOLDER", watch.folder)
+                wanted = [f"ONBATT|{server.target}|{said.replace('%s', server.target)}", "SHUTDOWN||"]
+                expect(watch.lines("run"), wanted, "what NOTIFYCMD is told")
+                expect(watch.read("bad"), None, "no text is read as a command")
+
+    def test_notify_command_that_lasts(self):
+        with Upstream(status=b"OB LB") as server:
+            execs = "".join(f"NOTIFYFLAG {it} EXEC\n" for it in ("ONBATT", "LOWBATT", "SHUTDOWN"))
+            conf = f'MONITOR {server.target} 1 mon m1 primary\n{QUICK}{execs}NOTIFYCMD "sleep 30 && true"\n'
+            begun = time.monotonic()
+            with self.watch(conf) as watch:
+                self.expect_halt(watch, [])
+                if time.monotonic() - begun > 15:
+                    raise Failed("NOTIFYCMD was waited for")
+
+    def test_notify_command_that_is_not_there(self):
+        with Upstream(status=b"OB LB") as server:
+            conf = f"MONITOR {server.target} 1 mon m1 primary\n{QUICK}NOTIFYFLAG ONBATT SYSLOG+EXEC\n"
+            with self.watch(conf + "NOTIFYCMD FOLDER/none\n") as watch:
+                self.expect_halt(watch, [it % server.target for it in (ON_BATTERY, BATTERY_LOW)] + [SHUTDOWN])
+            # without a shell nothing can be run at all
+            with self.watch(conf + "NOTIFYCMD true\n", "-q", env={"PATH": self.folder}) as watch:
+                self.expect_halt(watch, [it % server.target for it in (ON_BATTERY, BATTERY_LOW)] + [SHUTDOWN])
+                said = [line for line in watch.lines("err") if "warning" not in line]
+                expect(len(said), 1, "what is said of it")
+                expect(said[0].startswith("upsmon: NOTIFYCMD cannot be started: "), True, said[0])
+
+    def test_notify_commands_are_bounded(self):
+        with Upstream() as server:
+            conf = "MINSUPPLIES 0\nSHUTDOWNCMD true\nPOLLFREQ 1\nNOCOMMWARNTIME 1\nNOTIFYFLAG NOCOMM EXEC\nNOTIFYCMD \"echo . >> FOLDER/run; sleep 60 #\"\n"
+            dead = Silent()
+            with dead:
+                # 32 lines, each of which has something to say every other second
+                lines = "".join(f"MONITOR u{i}@127.0.0.1:{dead.port} 0 mon m1 secondary\n" for i in range(32))
+                with self.watch(conf + lines, "-q") as watch:
+                    said = "upsmon: NOTIFYCMD is not run: 64 of it are running"
+                    until(lambda: said in watch.lines("err"), "that there are too many", 30)
+                    expect(set(watch.lines("err")), {said}, "what is said")
+                    until(lambda: len(watch.lines("run")) == 64, "all of them started", 30)
+                    self.end_children(watch)
+                    # once they have ended others are run
+                    until(lambda: len(watch.lines("run")) > 64, "room for more", 30)
+                    self.end_children(watch)
+
+    def end_children(self, watch):
+        for pid in children_of(watch.process.pid):
+            os.kill(pid, signal.SIGKILL)
+
+    def test_ended_commands_leave_no_process(self):
+        with Upstream(status=b"OB") as server:
+            conf = f"MONITOR {server.target} 1 mon m1 secondary\nPOLLFREQ 1\nNOTIFYFLAG ONBATT EXEC\nNOTIFYCMD true\n"
+            with self.watch(conf) as watch:
+                until(lambda: server.asked.count(b"GET VAR su700 ups.status\n") >= 2, "the status is asked for")
+                until(lambda: not children_of(watch.process.pid), "the command is reaped")
+
+    def test_shutdown_command_that_fails(self):
+        for command, said in (
+            ("exit 3", "SHUTDOWNCMD ended with status 3"),
+            ("FOLDER/none 2> FOLDER/said", "SHUTDOWNCMD ended with status 127"),
+            ("kill -9 $$", "SHUTDOWNCMD ended by a signal: 9 (SIGKILL)"),
+        ):
+            with Upstream(status=b"FSD") as server:
+                conf = f"MONITOR {server.target} 1 mon m1 primary\n{QUICK}POWERDOWNFLAG FOLDER/flag\n"
+                with self.watch(f'{conf}SHUTDOWNCMD "{command}"\n', "-q") as watch:
+                    self.expect_halt(watch, [FORCED % server.target, SHUTDOWN], 1)
+                    expect(watch.lines("err"), [f"upsmon: {said}"], command)
+                    expect(watch.read("flag"), FLAG, "POWERDOWNFLAG")
+
+    def test_flag_that_cannot_be_written(self):
+        with Upstream(status=b"FSD") as server:
+            conf = f"MONITOR {server.target} 1 mon m1 primary\n{QUICK}POWERDOWNFLAG FOLDER/none/flag\n"
+            with self.watch(conf + 'SHUTDOWNCMD "touch FOLDER/halted"\n', "-q") as watch:
+                self.expect_halt(watch, [FORCED % server.target, SHUTDOWN])
+                said = f"upsmon: POWERDOWNFLAG {watch.folder}/none/flag cannot be written: "
+                expect([line.startswith(said) for line in watch.lines("err")], [True], "what is said of it")
+                expect(watch.read("halted"), b"", "SHUTDOWNCMD is run all the same")
+
+    def test_output_that_is_closed(self):
+        halts = 'POWERDOWNFLAG FOLDER/flag\nSHUTDOWNCMD "touch FOLDER/halted"\n'
+        reader, writer = os.pipe()
+        os.close(reader)
+        with Upstream(status=b"OB LB") as server:
+            conf = f"MONITOR {server.target} 1 mon m1 primary\n{QUICK}{halts}"
+            try:
+                with open("/dev/full", "wb") as full:
+                    for streams in (
+                        {"stdout": writer},
+                        {"stdout": writer, "stderr": writer},
+                        {"stdout": full, "stderr": full},
+                        # closed from the start: no socket may get their numbers, and be sent what is printed
+                        {"preexec_fn": lambda: (os.close(1), os.close(2))},
+                        {"preexec_fn": lambda: os.closerange(0, 3)},
+                    ):
+                        with self.watch(conf, **streams) as watch:
+                            expect(watch.status(), 0, f"status with {streams}")
+                            expect((watch.read("flag"), watch.read("halted")), (FLAG, b""), f"the halt with {streams}")
+                expect([line for line in server.asked if line.startswith((b"upsmon", b"UPS"))], [], "what the server gets of it")
+            finally:
+                os.close(writer)
+
+    def test_reports(self):
+        with Upstream() as server:
+            target = server.target
+            conf = f"MONITOR {target} 2 mon m1 secondary\n{QUICK}SHUTDOWNCMD true\n"
+            with self.watch(conf) as watch, self.watch(conf, "-q") as quiet:
+                until(lambda: server.asked.count(b"GET VAR su700 ups.status\n") >= 3, "the status is asked for")
+                server.close()
+                watch.until_printed(LOST % target)
+                quiet.until_printed(LOST % target)
+                wanted = [
+                    f"upsmon: UPS {target}: watched as secondary, power value 2",
+                    "upsmon: stops within 6 s of OB LB if each answer comes within 2 s",
+                    f"upsmon: UPS {target}: server connected",
+                    f"upsmon: UPS {target}: server lost",
+                ]
+                expect(watch.lines("err")[:4], wanted, "reports")
+                expect(quiet.read("err"), b"", "with -q nothing is reported")
+
+    def test_waiting_for_a_server_takes_nothing(self):
+        server = Upstream()
+        server.close()
+        with self.watch(f"MONITOR {server.target} 1 mon m1 secondary\n") as watch:
+            time.sleep(0.5)
+            expect(watch.is_idle(), True, "processor time without a server")
+
+    def test_command_lines(self):
+        conf = ["--conf", self.folder]
+        for words in (["--conf"], [*conf, "more"], [*conf, "-c", "fsd"], ["--none"], [*conf, "-K", "-q"], [*conf, "-K", "--check"]):
+            done = subprocess.run([self.upsmon, *words], capture_output=True, timeout=60)
+            expect((done.returncode, done.stdout, done.stderr != b""), (2, b"", True), f"{words}")
+        for word, shown in (("--help", b"upsmon.conf"), ("--version", b"upsmon profile 1.2\n")):
+            done = subprocess.run([self.upsmon, word], capture_output=True, timeout=60)
+            expect((done.returncode, shown in done.stdout, done.stderr), (0, True, b""), word)
+
+    def test_faults_of_files(self):
+        line = "MONITOR su700@h 1 mon m1 primary\n"
+        for text, said in (
+            (None, " cannot read"),
+            ("", "0: PastLimit"),
+            (line + "MINSUPPLIES 2\n", "0: PastLimit"),
+            ("MONITOR su700 1 mon m1 primary\n", "1: BadName"),
+            ("MONITOR su700@h 1 mon m1\n", "1: BadForm"),
+            ("MONITOR su700@h 1001 mon m1 primary\n", "1: BadNumber"),
+            ("MONITOR su700@h 1 mon m1 master\n", "1: UnknownWord"),
+            (line + "MONITOR su700@h:3493 1 mon m1 secondary\n", "2: Repeated"),
+            (line + "NOTIFYFLAG ONBATT PRINT\n", "2: UnknownWord"),
+            (line + "NOTIFYMSG NOPARENT x\n", "2: UnknownWord"),
+            (line + "\nPOLLFREQ 0\n", "3: BadNumber"),
+            (line + 'SHUTDOWNCMD ""\n', "2: PastLimit"),
+            (line + 'SHUTDOWNCMD "a\n', "2: Unreadable"),
+            (line + "CERTPATH x\n", "2: UnknownDirective"),
+        ):
+            with tempfile.TemporaryDirectory(dir=self.folder) as folder:
+                if text is not None:
+                    with open(os.path.join(folder, "upsmon.conf"), "w") as file:
+                        file.write(text)
+                if "UnknownDirective" in said:
+                    said += "\nupsmon: CERTPATH isn't taken here: see from-nut(7)"
+                for words in ([], ["--check"], ["-K"]):
+                    done = subprocess.run([self.upsmon, "--conf", folder, *words], capture_output=True, timeout=60)
+                    wanted = (1, b"", f"upsmon: upsmon.conf:{said}\n".encode())
+                    expect((done.returncode, done.stdout, done.stderr), wanted, f"{text!r} {words}")
+
+    def checked(self, conf, *words, env=None):
+        """What 'upsmon --check' gives of such a file, whose folder the words and the environment name by FOLDER."""
+        with tempfile.TemporaryDirectory(dir=self.folder) as folder:
+            with open(os.path.join(folder, "upsmon.conf"), "w", opener=lambda path, flags: os.open(path, flags, 0o600)) as file:
+                file.write(conf)
+            words = [it.replace("FOLDER", folder) for it in words or ("--conf", "FOLDER")]
+            env = {**os.environ, **{name: it.replace("FOLDER", folder) for name, it in (env or {}).items()}}
+            done = subprocess.run([self.upsmon, "--check", *words], stdin=subprocess.DEVNULL, capture_output=True, timeout=60, env=env)
+        return done.returncode, done.stdout.decode(), done.stderr.decode()
+
+    def test_check_tells_how_soon(self):
+        primary, secondary = ("MONITOR %s@h 1 mon m1 %s\nSHUTDOWNCMD true\n" % it for it in (("a", "primary"), ("a", "secondary")))
+        for conf, seconds in (
+            # POLLFREQ 5, an answer 2, HOSTSYNC 15 and 1, FINALDELAY 5
+            (primary, 28),
+            (secondary, 28),
+            (secondary + "HOSTSYNC 30\n", 43),
+            (primary + "HOSTSYNC 30\nFINALDELAY 9\n", 47),
+            # the status is asked for no sooner than it is answered
+            (primary + "POLLFREQ 1\n", 25),
+            (primary + "POLLFREQ 2\n", 25),
+            (primary + "POLLFREQ 3\nHOSTSYNC 3\nFINALDELAY 0\n", 9),
+            # a machine that waits for its primary, and is waited for
+            (primary + "MONITOR b@h 1 mon m1 secondary\n", 44),
+            # a UPS that feeds another machine alone
+            (primary + "MONITOR b@h 0 mon m1 secondary\n", 28),
+            ("MONITOR a@h 0 mon m1 primary\nMONITOR b@h 1 mon m1 secondary\nSHUTDOWNCMD true\n", 44),
+            (primary + "POLLFREQ 1000000\nDEADTIME 1000000\nHOSTSYNC 1000000\nFINALDELAY 1000000\n", 3000003),
+        ):
+            wanted = (0, f"upsmon: stops within {seconds} s of OB LB if each answer comes within 2 s\n", "")
+            expect(self.checked(conf), wanted, conf)
+        wanted = (0, "upsmon: never stops this machine: MINSUPPLIES is 0\n", "")
+        expect(self.checked(primary + "MINSUPPLIES 0\n"), wanted, "a machine that needs no UPS")
+        warning = "upsmon: warning: no SHUTDOWNCMD is set: nothing will stop this machine\n"
+        expect(self.checked("MONITOR a@h 1 mon m1 primary\n")[::2], (0, warning), "what should be set otherwise")
+
+    def test_folder_of_the_environment(self):
+        conf = "MONITOR a@h 1 mon m1 primary\nSHUTDOWNCMD true\n"
+        said = "upsmon: stops within 28 s of OB LB if each answer comes within 2 s\n"
+        expect(self.checked(conf, "-q", env={"NUT_CONFPATH": "FOLDER"}), (0, said, ""), "NUT_CONFPATH")
+        cannot = (1, "", "upsmon: upsmon.conf: cannot read\n")
+        expect(self.checked(conf, "--conf", "FOLDER/none", env={"NUT_CONFPATH": "FOLDER"}), cannot, "--conf comes first")
+        expect(self.checked(conf, "--conf", "FOLDER", env={"NUT_CONFPATH": "/nowhere"}), (0, said, ""), "--conf alone counts")
+        expect(self.checked(conf, "-q", env={"NUT_CONFPATH": "/nowhere"}), cannot, "a folder that isn't there")
+        # an empty variable names no folder: what is found is the machine's own
+        own = self.checked(conf, "-q", env={"NUT_CONFPATH": ""})
+        expect(own, self.checked(conf, "--conf", "/etc/nut"), "an empty NUT_CONFPATH")
+        with tempfile.TemporaryDirectory(dir=self.folder) as folder:
+            done = subprocess.run([self.upsmon], capture_output=True, timeout=60, env={**os.environ, "NUT_CONFPATH": folder})
+            expect((done.returncode, done.stdout, done.stderr.decode()), cannot[:1] + (b"",) + cannot[2:], "a start without --conf")
+
+    def test_memory_refused(self):
+        """Each allocation of a whole run is refused in turn: it ends for want of memory before anything is watched, or
+        goes on and halts."""
+        shim = build_shim(self.folder)
+        with Upstream(status=b"FSD") as server:
+            conf = f"MONITOR {server.target} 1 mon m1 primary\n{QUICK}POWERDOWNFLAG FOLDER/flag\nSHUTDOWNCMD true\n"
+            for at, env, is_reached in refusals(shim):
+                with self.watch(conf, "-q", env={**os.environ, **env}) as watch:
+                    status = watch.status()
+                    if status == 1:
+                        expect((watch.lines(), watch.lines("err")), ([], ["upsmon: out of memory"]), f"allocation {at}")
+                        expect(watch.read("flag"), None, f"allocation {at}")
+                    else:
+                        expect((status, watch.lines()[-1], watch.read("flag")), (0, SHUTDOWN, FLAG), f"allocation {at}")
+                if not is_reached():
+                    break
+            if at < 10:
+                raise Failed(f"{at - 1} allocations were seen")
+
+
+if __name__ == "__main__":
+    sys.exit(play(Tests))

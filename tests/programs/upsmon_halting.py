@@ -1,0 +1,362 @@
+#!/usr/bin/env python3
+"""Starts upsmon, upsd and dummy-ups where what they need is wanting: readers of what they print, memory, a shell. The halt
+comes all the same.
+
+    python3 -m tests.programs.upsmon_halting UPSD DUMMY_UPS UPSC UPSMON
+
+The last line is 'N passed, M failed'."""
+
+import contextlib
+import itertools
+import os
+import signal
+import stat
+import subprocess
+import sys
+import tempfile
+
+from tests.support.harness import build_shim, expect
+from tests.support.monitored import FLAG, ON_BATTERY, QUICK, SHUTDOWN, Upstream, Watch, children_of, play, state_of
+from tests.support.room import ONLINE, STATUS, Room, until
+
+WORD = FLAG.strip()
+HALTED = 'SHUTDOWNCMD "touch FOLDER/halted"\n'
+FOREIGN = "is not a flag of upsmon, and is left as it is"
+NO_SHELL = "upsmon: warning: the shell that is to run SHUTDOWNCMD cannot be started yet: "
+NOT_YET = "upsmon: SHUTDOWNCMD cannot be started yet: "
+NOT_STARTED = "upsmon: SHUTDOWNCMD cannot be started: "
+
+
+def fronts(lines, wanted):
+    """The lines, each as the beginning of it that is wanted where it has that."""
+    return [front if line.startswith(front) else line for line, front in itertools.zip_longest(lines, wanted, fillvalue="")]
+
+
+def is_running(pid):
+    """Whether a process is there and hasn't ended."""
+    return state_of(pid) not in ("", "Z", "X")
+
+
+@contextlib.contextmanager
+def masked(bits):
+    """Files that are made meanwhile haven't these bits of a mode."""
+    before = os.umask(bits)
+    try:
+        yield
+    finally:
+        os.umask(before)
+
+
+class FullPipe:
+    """A pipe that takes nothing more until it is read."""
+
+    def __init__(self):
+        self.reader, self.writer = os.pipe()
+        os.set_blocking(self.writer, False)
+        with contextlib.suppress(BlockingIOError):
+            while True:
+                os.write(self.writer, b"x" * 4096)
+        # the mode belongs to the pipe's end, which the program is to find as any other
+        os.set_blocking(self.writer, True)
+
+    def __enter__(self):
+        return self
+
+    def __exit__(self, *_):
+        os.close(self.reader)
+        os.close(self.writer)
+
+    def read(self):
+        """What the pipe holds."""
+        os.set_blocking(self.reader, False)
+        found = b""
+        with contextlib.suppress(BlockingIOError):
+            while True:
+                found += os.read(self.reader, 65536)
+        return found.lstrip(b"x")
+
+
+class Tests:
+    def __init__(self, programs, folder):
+        self.upsd, self.dummy, self.upsc, self.upsmon = programs
+        self.folder = folder
+        self.shim = build_shim(folder)
+
+    def room(self):
+        return Room((self.upsd, self.dummy), self.folder)
+
+    def watch(self, conf, *words, **options):
+        return Watch(self.upsmon, self.folder, conf, *words, **options)
+
+    @contextlib.contextmanager
+    def halting(self, conf, *words, delay=0, **options):
+        """An upsmon that halts soon, as the primary of a UPS with a forced shutdown."""
+        with Upstream(status=b"FSD") as server:
+            times = f"POLLFREQ 1\nHOSTSYNC 1\nFINALDELAY {delay}\n"
+            with self.watch(f"MONITOR {server.target} 1 mon m1 primary\n{times}{conf}", *words, **options) as watch:
+                yield server, watch
+
+    def key(self, folder, conf=None, **options):
+        """What 'upsmon -K' gives, and what it says."""
+        if conf is not None:
+            with open(os.path.join(folder, "upsmon.conf"), "w") as file:
+                file.write(f"MONITOR su700@localhost 1 mon m1 primary\n{conf}")
+        words = [self.upsmon, "-K", *options.pop("words", ["--conf", folder])]
+        done = subprocess.run(words, stdin=subprocess.DEVNULL, capture_output=True, timeout=60, **options)
+        return done.returncode, done.stdout, done.stderr
+
+    # Each method from here on whose name begins with 'test_' is a test.
+
+    def test_full_output_holds_up_no_halt(self):
+        notices = "".join(f"NOTIFYFLAG {it} SYSLOG+EXEC\n" for it in ("ONBATT", "LOWBATT", "SHUTDOWN"))
+        for names in (("stdout",), ("stderr",), ("stdout", "stderr")):
+            with FullPipe() as pipe, Upstream(status=b"OB LB") as server:
+                conf = f"MONITOR {server.target} 1 mon m1 primary\n{QUICK}{notices}NOTIFYCMD FOLDER/none\n"
+                streams = {name: pipe.writer for name in names}
+                with self.watch(f"{conf}POWERDOWNFLAG FOLDER/flag\n{HALTED}", **streams) as watch:
+                    expect(watch.status(), 0, f"status with a full pipe as {names}")
+                    expect((watch.read("flag"), watch.read("halted")), (FLAG, b""), f"the halt with a full pipe as {names}")
+
+    def test_full_output_holds_up_no_failed_halt(self):
+        with FullPipe() as pipe, self.halting('SHUTDOWNCMD "exit 3"\n', stdout=pipe.writer, stderr=pipe.writer) as (_, watch):
+            expect(watch.status(), 1, "status")
+        with FullPipe() as pipe:
+            done = subprocess.run([self.upsmon, "--conf", self.folder], stderr=pipe.writer, timeout=60)
+            expect(done.returncode, 1, "status without a configuration")
+
+    def test_lines_that_were_let_go_are_counted(self):
+        with FullPipe() as pipe, Upstream() as server:
+            target = server.target
+            with self.watch(f"MONITOR {target} 1 mon m1 secondary\nPOLLFREQ 1\n", stdout=pipe.writer) as watch:
+                for status in (b"OB", b"OL", b"OB"):
+                    server.statuses[b"su700"] = status
+                    seen = server.asked.count(STATUS)
+                    # the next answer has it, and was heard once another question comes
+                    until(lambda: server.asked.count(STATUS) >= seen + 2, "the status is asked for")
+                expect(pipe.read(), b"", "nothing is printed where there is no room")
+                server.statuses[b"su700"] = b"OL"
+                told = f"upsmon: lines let go: 3\nUPS {target} on line power\n".encode()
+                until(lambda: told == pipe.read() or watch.process.poll(), "what was let go is told")
+                server.statuses[b"su700"] = b"OB"
+                until(lambda: (ON_BATTERY % target + "\n").encode() == pipe.read(), "the next line comes alone")
+
+    def test_full_error_output_of_the_server(self):
+        with FullPipe() as pipe, self.room() as room:
+            room.upsd(stderr=pipe.writer)
+            with room.client() as client:
+                for _ in range(2):
+                    driver = room.dummy()
+                    until(lambda: client.ask(STATUS) == ONLINE, "the driver is heard")
+                    driver.kill()
+                    until(lambda: client.ask(STATUS) == b"ERR DRIVER-NOT-CONNECTED\n", "the driver is gone")
+
+    def test_full_error_output_at_the_end(self):
+        with FullPipe() as pipe:
+            for words in ([self.upsd, "--conf", self.folder, "-s", self.folder], [self.dummy, "none.dev", "none"], [self.upsd, "-x"]):
+                done = subprocess.run(words, stdin=subprocess.DEVNULL, stderr=pipe.writer, timeout=60)
+                expect(done.returncode in (1, 2), True, f"{words}")
+
+    def test_stale_flag(self):
+        for held in (FLAG, WORD):
+            with Upstream() as server, tempfile.TemporaryDirectory(dir=self.folder) as folder:
+                flag = os.path.join(folder, "flag")
+                with open(flag, "wb") as file:
+                    file.write(held)
+                conf = f"MONITOR {server.target} 1 mon m1 primary\nPOWERDOWNFLAG {flag}\n{HALTED}"
+                with self.watch(conf) as watch:
+                    until(lambda: STATUS in server.asked, "the status is asked for")
+                    expect(os.path.exists(flag), False, "a flag of an earlier shutdown")
+                    said = f"upsmon: POWERDOWNFLAG {flag} of an earlier shutdown is removed"
+                    expect(said in watch.lines("err"), True, "that it is removed")
+
+    def test_foreign_flag(self):
+        for lay in (self.file_of(b"mine\n"), os.mkfifo, os.mkdir, self.link):
+            with tempfile.TemporaryDirectory(dir=self.folder) as folder:
+                flag = os.path.join(folder, "flag")
+                lay(flag)
+                before = self.look(folder)
+                with self.halting(f"POWERDOWNFLAG {flag}\n{HALTED}", "-q") as (server, watch):
+                    expect(watch.status(), 0, "status")
+                    expect(watch.read("halted"), b"", "SHUTDOWNCMD is run all the same")
+                    told = [f"upsmon: warning: POWERDOWNFLAG {flag} {FOREIGN}", f"upsmon: POWERDOWNFLAG {flag} {FOREIGN}"]
+                    expect(watch.lines("err"), told, "what is told")
+                expect(self.look(folder), before, f"what lies there: {lay}")
+
+    def file_of(self, held):
+        def lay(path):
+            with open(path, "wb") as file:
+                file.write(held)
+
+        return lay
+
+    def link(self, path):
+        """A link to a flag: what it leads to isn't upsmon's to remove."""
+        self.file_of(FLAG)(path + ".other")
+        os.symlink(path + ".other", path)
+
+    def look(self, folder):
+        """What there is to see of each file of a folder."""
+        seen = {}
+        for name in os.listdir(folder):
+            at = os.lstat(os.path.join(folder, name))
+            seen[name] = (at.st_mode, at.st_ino, at.st_mtime_ns, at.st_size)
+        return seen
+
+    def test_flag_is_its_owners(self):
+        with self.halting(f"POWERDOWNFLAG FOLDER/flag\n{HALTED}", preexec_fn=lambda: os.umask(0)) as (_, watch):
+            # left behind by one that was killed while it wrote
+            self.file_of(b"upsm")(watch.path("flag.new"))
+            expect(watch.status(), 0, "status")
+            expect(watch.read("flag"), FLAG, "what the flag holds")
+            expect(oct(stat.S_IMODE(os.stat(watch.path("flag")).st_mode)), "0o600", "the flag's mode")
+            expect(os.path.exists(watch.path("flag.new")), False, "the new file")
+
+    def test_is_the_flag_set(self):
+        with tempfile.TemporaryDirectory(dir=self.folder) as folder:
+            flag = os.path.join(folder, "flag")
+            conf = f"POWERDOWNFLAG {flag}\n"
+            expect(self.key(folder, ""), (1, b"", b""), "no POWERDOWNFLAG")
+            expect(self.key(folder, conf), (1, b"", b""), "no flag")
+            for held, status in ((FLAG, 0), (WORD, 0), (b"upsmon-shutdown-files", 1), (b"", 1), (b"mine\n", 1)):
+                self.file_of(held)(flag)
+                expect(self.key(folder, conf), (status, b"", b""), f"{held!r}")
+            self.file_of(FLAG)(flag)
+            named = {**os.environ, "NUT_CONFPATH": folder}
+            expect(self.key(folder, env=named, words=[]), (0, b"", b""), "NUT_CONFPATH")
+            expect(self.key(folder, "POLLFREQ x\n", env=named, words=[]), (1, b"", b"upsmon: upsmon.conf:2: BadNumber\n"), "a fault")
+            expect(self.key(folder, words=["--conf", folder + "/none"]), (1, b"", b"upsmon: upsmon.conf: cannot read\n"), "no file")
+            os.remove(flag)
+            os.mkfifo(flag)
+            expect(self.key(folder, conf), (1, b"", b""), "a pipe")
+
+    def test_warnings(self):
+        asks = "is above"
+        for conf, mode, wanted in (
+            (HALTED, 0o600, []),
+            (HALTED, 0o640, []),
+            (HALTED, 0o644, ["upsmon.conf holds passwords, and everybody can read it (mode 644)"]),
+            ("", 0o600, ["no SHUTDOWNCMD is set: nothing will stop this machine"]),
+            (HALTED + "POLLFREQ 15\n", 0o600, []),
+            (HALTED + "POLLFREQ 16\n", 0o600, [f"POLLFREQ 16 {asks} DEADTIME 15", f"POLLFREQ 16 {asks} HOSTSYNC 15"]),
+            (HALTED + "HOSTSYNC 4\n", 0o600, [f"POLLFREQ 5 {asks} HOSTSYNC 4"]),
+            (HALTED + "DEADTIME 4\n", 0o600, [f"POLLFREQ 5 {asks} DEADTIME 4"]),
+        ):
+            with Upstream() as server, masked(0o666 & ~mode):
+                with self.watch(f"MONITOR {server.target} 1 mon m1 primary\n{conf}", "-q") as watch:
+                    until(lambda: STATUS in server.asked, "the status is asked for")
+                    said = watch.lines("err")
+                    expect(len(said), len(wanted), f"{conf} {mode:o}: {said}")
+                    for line, front in zip(said, wanted):
+                        expect(line.startswith(f"upsmon: warning: {front}"), True, line)
+
+    def test_readable_users(self):
+        for mode, wanted in ((0o640, []), (0o604, ["upsd: warning: upsd.users holds passwords, and everybody can read it (mode 604)"])):
+            with self.room() as room:
+                os.chmod(room.path("upsd.users"), mode)
+                with open(room.path("err"), "wb") as err:
+                    room.upsd("-q", stderr=err)
+                with open(room.path("err")) as file:
+                    expect(file.read().splitlines(), wanted, f"mode {mode:o}")
+
+    def test_shell_that_comes_late(self):
+        shells = os.path.join(self.folder, "shells")
+        os.mkdir(shells)
+        with self.halting('SHUTDOWNCMD ": > FOLDER/halted"\n', "-q", env={"PATH": shells}) as (_, watch):
+            until(lambda: any(it.startswith(NOT_YET) for it in watch.lines("err")), "that it can't be started")
+            os.symlink("/bin/sh", os.path.join(shells, "sh"))
+            expect(watch.status(), 0, "status")
+            wanted = [NO_SHELL, NOT_YET]
+            expect(fronts(watch.lines("err"), wanted), wanted, "it is tried again, and told once")
+            expect(watch.read("halted"), b"", "the halt")
+
+    def test_shell_that_never_comes(self):
+        env = {"PATH": self.folder, "LD_PRELOAD": self.shim, "REFUSE": "sleep", "REFUSE_COUNT": self.shim + ".naps"}
+        with self.halting("POWERDOWNFLAG FOLDER/flag\nSHUTDOWNCMD true\n", "-q", env=env) as (_, watch):
+            expect(watch.status(), 1, "status")
+            expect(watch.read("flag"), FLAG, "POWERDOWNFLAG")
+            wanted = [NO_SHELL, NOT_YET, NOT_STARTED]
+            expect(fronts(watch.lines("err"), wanted), wanted, "what is told")
+            with open(self.shim + ".naps") as file:
+                expect(file.read(), "30\n", "how often it waits for a second")
+
+    @contextlib.contextmanager
+    def halting_without_memory(self, before=lambda watch: None):
+        """An upsmon whose shutdown has begun, and for which no allocation succeeds any more, not even the C library's. It
+        gives the file that stands for that."""
+        gone = os.path.join(self.folder, "gone")
+        env = {**os.environ, "LD_PRELOAD": self.shim, "REFUSE": "memory", "REFUSE_ONCE": gone}
+        with self.halting(f"POWERDOWNFLAG FOLDER/flag\n{HALTED}", "-q", delay=3, env=env) as (_, watch):
+            watch.until_printed(SHUTDOWN)
+            before(watch)
+            self.file_of(b"")(gone)
+            try:
+                yield watch, gone
+            finally:
+                with contextlib.suppress(FileNotFoundError):
+                    os.remove(gone)
+
+    def test_halt_without_memory(self):
+        with self.halting_without_memory() as (watch, _):
+            expect(watch.status(), 0, "status")
+            expect((watch.read("flag"), watch.read("halted"), watch.lines("err")), (FLAG, b"", []), "the halt")
+
+    def test_halt_without_memory_and_shell(self):
+        """Where the shell that waits was ended, the machine is halted as soon as there is memory again."""
+        with self.halting_without_memory(self.end_shell) as (watch, gone):
+            until(lambda: any(it.startswith(NOT_YET) for it in watch.lines("err")), "the start is tried again", 20)
+            expect((watch.read("flag"), watch.read("halted")), (FLAG, None), "what is done without memory")
+            os.remove(gone)
+            expect(watch.status(), 0, f"status: {watch.lines('err')}")
+            expect(watch.read("halted"), b"", "the halt")
+
+    def test_shell_that_was_ended(self):
+        with self.halting(HALTED, "-q", delay=3) as (_, watch):
+            watch.until_printed(SHUTDOWN)
+            self.end_shell(watch)
+            expect(watch.status(), 0, "status")
+            expect((watch.read("halted"), watch.lines("err")), (b"", []), "another one runs SHUTDOWNCMD")
+
+    def end_shell(self, watch):
+        """Ends the shell that waits for the halt."""
+        (shell,) = children_of(watch.process.pid)
+        os.kill(shell, signal.SIGKILL)
+        until(lambda: not is_running(shell), "the shell ends")
+
+    def test_shell_that_waits_ends_with_its_monitor(self):
+        """However upsmon ends, its shell does too and runs nothing, whether it is sent the signal itself or not."""
+        for number, at_all in ((signal.SIGTERM, False), (signal.SIGTERM, True), (signal.SIGKILL, False)):
+            with Upstream() as server, self.watch(f"MONITOR {server.target} 1 mon m1 primary\n{HALTED}") as watch:
+                until(lambda: STATUS in server.asked, "the status is asked for")
+                (shell,) = children_of(watch.process.pid)
+                if at_all:
+                    watch.signal(number)
+                else:
+                    watch.process.send_signal(number)
+                expect(watch.process.wait(10), -number, "how it ends")
+                until(lambda: not is_running(shell), "the shell ends")
+                expect(watch.read("halted"), None, "the machine goes on")
+
+    def test_shutdown_command_is_alone(self):
+        """It has no input, no argument and no descriptor of upsmon's."""
+        conf = 'SHUTDOWNCMD "cat > FOLDER/input; echo $# > FOLDER/count; ls /proc/self/fd > FOLDER/open"\n'
+        with self.halting(conf, "-q") as (_, watch):
+            expect(watch.status(), 0, "status")
+            expect((watch.read("input"), watch.read("count")), (b"", b"0\n"), "its input and arguments")
+            # the three standard streams, and the folder that ls reads
+            expect(watch.lines("open"), ["0", "1", "2", "3"], "its descriptors")
+
+    def test_terminated(self):
+        with self.room() as room, Upstream() as server:
+            programs = [room.upsd(), room.dummy()]
+            room.until(STATUS, ONLINE)
+            with self.watch(f"MONITOR {server.target} 1 mon m1 primary\n{HALTED}") as watch, room.client() as client:
+                until(lambda: STATUS in server.asked, "the status is asked for")
+                for program in (*programs, watch.process):
+                    program.terminate()
+                    expect(program.wait(10), -signal.SIGTERM, "how it ends")
+                expect(client.is_closed(), True, "a client of the server")
+                expect(watch.read("halted"), None, "the machine goes on")
+
+
+if __name__ == "__main__":
+    sys.exit(play(Tests))

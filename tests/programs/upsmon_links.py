@@ -1,0 +1,360 @@
+#!/usr/bin/env python3
+"""Starts upsmon beside servers that are silent, refuse, close or stand still, beside a name server that never answers, and
+stops it for a while.
+
+    python3 -m tests.programs.upsmon_links UPSD DUMMY_UPS UPSC UPSMON
+
+The last line is 'N passed, M failed'."""
+
+import contextlib
+import fcntl
+import os
+import signal
+import socket
+import struct
+import subprocess
+import sys
+import threading
+import time
+
+from tests.support.harness import Failed, Missing, build_library, ensure, expect
+from tests.support.monitored import (
+    BATTERY_LOW,
+    ESTABLISHED,
+    LOST,
+    ON_BATTERY,
+    QUICK,
+    SHUTDOWN,
+    USERS,
+    Closing,
+    Nonsense,
+    Rubbish,
+    Upstream,
+    Urgent,
+    Watch,
+    children_of,
+    play,
+)
+from tests.support.room import Room, until
+
+STATUS = b"GET VAR su700 ups.status\n"
+# how long a server may take for an answer, where a UPS is on battery and where none is, in seconds
+SHORT, LONG = 5, 10
+# how many hosts the dead name server is asked for, and one that is found without it
+HOSTS = 30
+KNOWN = "ups.example"
+
+
+class Moody(Upstream):
+    """A server that falls silent, and refuses, when the test says so."""
+
+    def __init__(self, **options):
+        self.is_silent = False
+        self.refused = {}
+        super().__init__(**options)
+
+    def answer(self, line):
+        if self.is_silent:
+            return b""
+        return self.refused.get(line.split()[0]) or super().answer(line)
+
+    def drop(self):
+        """Ends its connections, and goes on listening."""
+        for end in self.ends:
+            with contextlib.suppress(OSError):
+                end.shutdown(socket.SHUT_RDWR)
+        self.ends.clear()
+
+
+def reports_of(watch, target):
+    """What upsmon told of a UPS on standard error, but for what it told at its start."""
+    front = f"upsmon: UPS {target}: "
+    found = [line[len(front) :] for line in watch.lines("err") if line.startswith(front)]
+    return [line for line in found if not line.startswith("watched as ")]
+
+
+class Tests:
+    def __init__(self, programs, folder):
+        self.programs = programs
+        self.upsd, self.dummy, self.upsc, self.upsmon = programs
+        self.folder = folder
+
+    def watch(self, conf, *words, **options):
+        return Watch(self.upsmon, self.folder, conf, *words, **options)
+
+    def room(self):
+        room = Room((self.upsd, self.dummy), self.folder)
+        with open(room.path("upsd.users"), "wb") as file:
+            file.write(USERS)
+        return room
+
+    # Each method from here on whose name begins with 'test_' is a test.
+
+    def test_silent_server_is_given_up(self):
+        """Two servers fall silent, one of them with its UPS on battery, before two monitors."""
+        with Moody() as calm, Moody(status=b"OB") as failing:
+            with self.watch(f"MONITOR {calm.target} 1 mon m1 primary\nPOLLFREQ 1\n") as first, self.watch(
+                f"MONITOR {failing.target} 1 mon m1 primary\nPOLLFREQ 1\nDEADTIME 60\n"
+            ) as second:
+                begun = {}
+                for server in (calm, failing):
+                    until(lambda: server.asked.count(STATUS) >= 2, "the status is asked for")
+                    server.is_silent = True
+                    begun[server] = time.monotonic()
+                # the one on battery is given up sooner
+                for server, watch, limit in ((failing, second, SHORT), (calm, first, LONG)):
+                    self.expect_given_up(server, watch, limit, begun[server])
+
+    def expect_given_up(self, server, watch, limit, begun):
+        watch.until_printed(LOST % server.target, limit + 10)
+        passed = time.monotonic() - begun
+        ensure(passed >= limit, f"{limit} s are waited for, not {passed:.1f}")
+        wanted = ["server connected", f"server lost: no answer for {limit} s"]
+        expect(reports_of(watch, server.target), wanted, "reports")
+        until(lambda: len(server.ends) >= 2, "it is called again")
+        server.is_silent = False
+        # the link that was made meanwhile may still be waited for
+        server.drop()
+        watch.until_printed(ESTABLISHED % server.target, limit + 10)
+        expect(reports_of(watch, server.target)[-1], "server connected", "the last report")
+        expect(watch.lines().count(LOST % server.target), 1, "how often the loss is told")
+
+    def test_server_that_stands_still(self):
+        with self.room() as room:
+            target = f"su700@127.0.0.1:{room.port}"
+            room.dummy(b"ups.status: OB\n", "dev")
+            server = room.upsd()
+            room.until(STATUS, b'VAR su700 ups.status "OB"\n')
+            with self.watch(f"MONITOR {target} 1 mon m1 primary\nPOLLFREQ 1\nDEADTIME 60\n") as watch:
+                watch.until_printed(ON_BATTERY % target)
+                server.send_signal(signal.SIGSTOP)
+                try:
+                    watch.until_printed(LOST % target, 20)
+                    lost = f"server lost: no answer for {SHORT} s"
+                    ensure(lost in reports_of(watch, target), f"it is reported: {reports_of(watch, target)}")
+                finally:
+                    server.send_signal(signal.SIGCONT)
+                watch.until_printed(ESTABLISHED % target, 20)
+                until(lambda: reports_of(watch, target)[-1] == "server connected", "that it is back is reported")
+
+    def test_refusals(self):
+        """A wrong password: upsd refuses what needs a user, and each refusal is told once a link."""
+        with self.room() as room:
+            target = f"su700@127.0.0.1:{room.port}"
+            room.dummy(b"ups.status: OL\n", "dev")
+            server = room.upsd()
+            with self.watch(f"MONITOR {target} 1 mon wrong primary\nPOLLFREQ 1\n") as watch:
+                until(lambda: "PRIMARY refused: ACCESS-DENIED" in reports_of(watch, target), "the refusals are told")
+                time.sleep(2.5)
+                refused = [line for line in reports_of(watch, target) if "refused: ACCESS" in line]
+                expect(refused, [f"{word} refused: ACCESS-DENIED" for word in ("LOGIN", "PRIMARY")], "what is told once")
+                server.kill()
+                server.wait()
+                room.upsd()
+                until(lambda: "".join(reports_of(watch, target)).count("LOGIN refused") == 2, "it is told of the new link")
+
+    def test_refusals_of_a_status_and_of_fsd(self):
+        with Moody() as server:
+            stale, unknown = "status refused: DATA-STALE", "status refused: UNKNOWN-UPS"
+            conf = f"MONITOR {server.target} 1 mon m1 primary\nPOLLFREQ 1\nHOSTSYNC 2\nFINALDELAY 0\n"
+            with self.watch(conf) as watch:
+                wanted = ["server connected"]
+                for error, line in ((b"DATA-STALE", stale), (b"UNKNOWN-UPS", unknown), (None, None), (b"DATA-STALE", stale)):
+                    server.statuses[b"su700"] = b"ERR " + error + b"\n" if error else b"OL"
+                    server.asked.clear()
+                    until(lambda: server.asked.count(STATUS) >= 3, "the status is asked for again")
+                    wanted += [line] if line else []
+                    expect(reports_of(watch, server.target), wanted, "what is told")
+                server.refused[b"FSD"] = b"ERR ACCESS-DENIED\n"
+                server.statuses[b"su700"] = b"OB LB"
+                expect(watch.status(), 0, "status")
+                ensure(server.asked.count(b"FSD su700\n") >= 2, "FSD is asked for again")
+                expect(reports_of(watch, server.target), [*wanted, "FSD refused: ACCESS-DENIED"], "what is told at the end")
+
+    def test_servers_that_never_serve(self):
+        """One that closes each call, one that says what it isn't asked, and one that answers with what is no answer."""
+        unread = "what it says is not understood"
+        for kind, why in ((Closing, "it closes the connection"), (Rubbish, unread), (Nonsense, unread)):
+            with kind() as server, Upstream() as other:
+                conf = f"MINSUPPLIES 1\nMONITOR {server.target} 0 mon m1 secondary\nMONITOR {other.target} 1 mon m1 secondary\n"
+                with self.watch(conf + QUICK) as watch:
+                    begun = time.monotonic()
+                    until(lambda: len(server.ends) >= 4, "it is called again", 20)
+                    # after pauses of 1, 2 and 4 seconds
+                    ensure(time.monotonic() - begun > 5, f"the pauses grow: {kind.__name__}")
+                    expect(reports_of(watch, server.target), [f"no server yet: {why}"], f"what is told once: {kind.__name__}")
+                    expect(reports_of(watch, other.target), ["server connected"], "what is told of the other")
+
+    def test_server_that_is_no_longer_understood(self):
+        with Moody() as server, self.watch(f"MONITOR {server.target} 1 mon m1 secondary\n{QUICK}") as watch:
+            until(lambda: server.asked.count(STATUS) >= 2, "the status is asked for")
+            server.refused[b"GET"] = b"VAR other ups.status OL\n"
+            lost = "server lost: what it says is not understood"
+            until(lambda: lost in reports_of(watch, server.target), "that is reported")
+            watch.until_printed(LOST % server.target)
+            server.refused.clear()
+            watch.until_printed(ESTABLISHED % server.target)
+            until(lambda: reports_of(watch, server.target)[-1] == "server connected", "that it is back is reported")
+            expect(reports_of(watch, server.target)[:2], ["server connected", lost], "reports")
+
+    def test_urgent_data(self):
+        """A second of the monitor's clock lasts a minute here: what stands behind urgent data is read without waiting for the
+        next one, which is when each link is looked at again."""
+        library = build_library("hasten", self.folder)
+        if not os.path.exists(library):
+            raise Missing("a C compiler")
+        env = {**os.environ, "LD_PRELOAD": library, "HASTE": str(1 / 60)}
+        with Urgent() as server, self.watch(f"MONITOR {server.target} 1 mon m1 primary\n{QUICK}", env=env) as watch:
+            server.watch = watch
+            until(lambda: "server connected" in reports_of(watch, server.target), "each of its lines is read", 20)
+            ensure(watch.is_idle(), "urgent data keep the monitor busy")
+            for _ in range(1000):
+                server.ends[0].send(b"!", socket.MSG_OOB)
+            ensure(watch.is_idle(), "urgent data that nothing follows keep the monitor busy")
+            expect(reports_of(watch, server.target), ["server connected"], "reports")
+
+    def test_monitor_that_stands_still(self):
+        """A UPS on battery that answers again halts nobody, though DEADTIME passed while the monitor stood still: neither
+        where its server kept the link, nor where it closed it meanwhile, nor where it is late to come back."""
+        with Moody(status=b"OB") as kept, Moody(status=b"OB") as closed, Moody(status=b"OB") as late:
+            conf = "MONITOR {} 1 mon m1 primary\nPOLLFREQ 1\nDEADTIME 5\nFINALDELAY 0\n"
+            with contextlib.ExitStack() as stack:
+                watches = [stack.enter_context(self.watch(conf.format(it.target))) for it in (kept, closed, late)]
+                for watch, server in zip(watches, (kept, closed, late)):
+                    watch.until_printed(ON_BATTERY % server.target)
+                    until(lambda: server.asked.count(STATUS) >= 2, "the status is asked for")
+                for watch in watches:
+                    watch.signal(signal.SIGSTOP)
+                time.sleep(1)
+                closed.drop()
+                late.is_silent = True
+                time.sleep(7)
+                for server in (kept, closed, late):
+                    server.asked.clear()
+                for watch in watches:
+                    watch.signal(signal.SIGCONT)
+                time.sleep(0.5)
+                late.is_silent = False
+                late.drop()
+                time.sleep(3)
+                for watch, server in zip(watches, (kept, closed, late)):
+                    expect((watch.process.poll(), SHUTDOWN in watch.lines()), (None, False), "it goes on")
+                    ensure(server.asked.count(STATUS) >= 2, "the status is asked for again")
+                # it still halts where there is a reason
+                kept.statuses[b"su700"] = b"OB LB"
+                closed.is_silent = late.is_silent = True
+                for watch, server in zip(watches, (kept, closed, late)):
+                    expect(watch.status(30), 0, "status")
+                    expect(watch.lines()[-1], SHUTDOWN, "what upsmon prints last")
+                ensure(BATTERY_LOW % kept.target in watches[0].lines(), "the low battery is told")
+
+    def test_shutdown_after_a_stall(self):
+        """The seconds that a monitor missed don't shorten the time that it gives the others to stop."""
+        with Moody() as server:
+            server.logins = 2
+            conf = f"MONITOR {server.target} 1 mon m1 primary\nPOLLFREQ 1\nHOSTSYNC 3\nFINALDELAY 1\n"
+            with self.watch(conf) as watch:
+                until(lambda: server.asked.count(STATUS) >= 2, "the status is asked for")
+                watch.signal(signal.SIGSTOP)
+                time.sleep(7)
+                server.statuses[b"su700"] = b"OB LB"
+                server.asked.clear()
+                watch.signal(signal.SIGCONT)
+                until(lambda: b"FSD su700\n" in server.asked, "FSD is asked for")
+                begun = time.monotonic()
+                expect(watch.status(20), 0, "status")
+                ensure(time.monotonic() - begun > 3, "HOSTSYNC and FINALDELAY pass")
+
+    def test_dead_name_server(self):
+        """The same program plays this in a network of its own, whose name server never answers."""
+        owner = ["--map-root-user"] if os.geteuid() else []
+        command = ["unshare", *owner, "--mount", "--net"]
+        try:
+            probe = subprocess.run([*command, "true"], capture_output=True, timeout=60)
+        except FileNotFoundError:
+            raise Missing("unshare isn't there") from None
+        if probe.returncode:
+            raise Missing(f"no namespaces here: {probe.stderr.decode().strip()}")
+        inside = [sys.executable, "-m", "tests.programs.upsmon_links", "--inside", self.folder, *self.programs]
+        run = subprocess.run([*command, *inside], stdin=subprocess.DEVNULL, capture_output=True, timeout=120)
+        if run.returncode:
+            raise Failed((run.stdout + run.stderr).decode().strip())
+
+
+class NameServer:
+    """A name server of this namespace that hears queries and answers none."""
+
+    def __init__(self, folder):
+        raise_loopback()
+        self.hosts = os.path.join(folder, "hosts")
+        files = {"resolv.conf": "nameserver 127.0.0.1\n", "nsswitch.conf": "hosts: files dns\n", "hosts": f"127.0.0.1 {KNOWN}\n"}
+        for name, text in files.items():
+            own = os.path.join(folder, name)
+            with open(own, "w") as file:
+                file.write(text)
+            subprocess.run(["mount", "--bind", own, os.path.join("/etc", name)], check=True)
+        self.socket = socket.socket(socket.AF_INET, socket.SOCK_DGRAM)
+        self.socket.bind(("127.0.0.1", 53))
+        self.heard = 0
+        threading.Thread(target=self.hear, daemon=True).start()
+
+    def hear(self):
+        while True:
+            self.socket.recv(4096)
+            self.heard += 1
+
+    def forget_hosts(self):
+        """From now on no name is known by itself."""
+        with open(self.hosts, "w"):
+            pass
+
+
+def raise_loopback():
+    """Brings the loopback of this namespace up."""
+    get_flags, set_flags, up = 0x8913, 0x8914, 1
+    with socket.socket(socket.AF_INET, socket.SOCK_DGRAM) as any_socket:
+        request = struct.pack("16sh14x", b"lo", 0)
+        flags = struct.unpack("16sh14x", fcntl.ioctl(any_socket, get_flags, request))[1]
+        fcntl.ioctl(any_socket, set_flags, struct.pack("16sh14x", b"lo", flags | up))
+
+
+class Inside(Tests):
+    """What is played in a namespace with a name server that never answers."""
+
+    def play(self):
+        names = NameServer(self.folder)
+        with Moody() as server:
+            lost = "".join(f"MONITOR u{i}@h{i}.example 0 mon m1 secondary\n" for i in range(HOSTS))
+            target = f"su700@{KNOWN}:{server.port}"
+            conf = f"MONITOR {target} 1 mon m1 primary\n{lost}POLLFREQ 1\nFINALDELAY 1\n"
+            with self.watch(conf + 'SHUTDOWNCMD "touch FOLDER/halted"\n') as watch:
+                until(lambda: server.asked.count(STATUS) >= 2, "a name is found, and the status asked for")
+                names.forget_hosts()
+                server.drop()
+                watch.until_printed(ESTABLISHED % target)
+                until(lambda: "not looked up in time" in watch.read("err").decode(), "a look-up is given up", 20)
+                ensure(names.heard > 0, "the name server is asked")
+                # one is the shell that waits for the halt
+                most = len(children_of(watch.process.pid)) - 1
+                ensure(0 < most <= 8, f"look-ups are few: {most}")
+                server.statuses[b"su700"] = b"OB LB"
+                begun = time.monotonic()
+                expect(watch.status(30), 0, "status")
+                passed = time.monotonic() - begun
+                ensure(passed <= 1 + 5, f"it halts within FINALDELAY and 5 s: {passed:.1f} s")
+                expect(watch.read("halted"), b"", "what SHUTDOWNCMD makes")
+                told = reports_of(watch, "u0@h0.example")
+                expect(told, ["no server yet: its name is not looked up in time"], "what is told of a name")
+
+
+def main():
+    if sys.argv[1] == "--inside":
+        folder, *programs = sys.argv[2:]
+        Inside(programs, folder).play()
+        return 0
+    # they wait most of the time, so they are run side by side
+    return play(Tests, "they need Linux's namespaces and a C compiler", at_once=8)
+
+
+if __name__ == "__main__":
+    sys.exit(main())

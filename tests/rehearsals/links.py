@@ -1,0 +1,153 @@
+#!/usr/bin/env python3
+"""Plays links of a client on the program `rehearse`, and compares them with worked rows.
+
+    python3 -m tests.rehearsals.links REHEARSE
+
+The last line is 'N passed, M failed'."""
+
+import os
+import random
+import sys
+import tempfile
+
+from tests.support.harness import Failed, ensure, expect, run_tests
+from tests.support.link_rows import ROWS
+from tests.support.model import LINE_MAX, words_of
+from tests.support.player import escaped
+from tests.support.stage import Stage
+
+# the queries whose first two words are commands
+LONG_FORMS = (b"GET", b"LIST", b"SET")
+
+
+def written(query):
+    """A query as a link writes it: its commands in capitals."""
+    words = query.split(b" ")
+    commands = 2 if words[0].upper() in LONG_FORMS else 1
+    return b" ".join([word.upper() for word in words[:commands]] + words[commands:]) + b"\n"
+
+
+def asking(query):
+    """A new link asks a query, whose bytes are taken. It takes three steps."""
+    return [("link new",), ("link ask", query), ("link take",)]
+
+
+def heard(lines, fault):
+    """Whether pieces were answered by `ok`, and from some piece on by this fault, if there is one."""
+    answers = [line.decode().split(" ")[0] for line in lines]
+    first = answers.index(fault) if fault in answers else len(answers)
+    ensure(fault is None or first < len(answers), f"{fault} never came: {answers}")
+    expect(answers, ["ok"] * first + [fault] * (len(answers) - first), "the answers to pieces")
+
+
+def pieces_of(data, size):
+    return [data[at : at + size] for at in range(0, len(data), size)]
+
+
+class Row:
+    """The steps of a row whose lines come in these pieces, and what is to be printed of them."""
+
+    def __init__(self, row, pieces):
+        self.query, _, self.outcome, self.fault = row
+        self.steps = [*asking(self.query), *(("link bytes", piece) for piece in pieces), ("link answer",)]
+
+    def check(self, lines):
+        asked, taken = written(self.query), lines[2]
+        expect(lines[:2], [b"ok waits=0", b"ok waits=%d" % len(asked)], f"{self.query}")
+        expect(taken, escaped(asked), f"{self.query}, as it is written")
+        heard(lines[3:-1], self.fault)
+        expect(lines[-1].decode(), self.outcome, f"the answer to {self.query}")
+
+
+class Tests:
+    def __init__(self, program, folder):
+        self.stage = Stage(program, folder)
+
+    def play_rows(self, rows):
+        """Plays many rows in one run."""
+        lines = self.stage.play([step for row in rows for step in row.steps])
+        for row in rows:
+            row.check(lines[: len(row.steps)])
+            lines = lines[len(row.steps) :]
+
+    def test_rows_in_pieces_of_any_size(self):
+        self.play_rows([Row(row, pieces_of(row[1], size)) for row in ROWS for size in (1, 2, 3, 7, 512)])
+
+    def test_rows_cut_at_each_place(self):
+        self.play_rows([Row(row, [row[1][:at], row[1][at:]]) for row in ROWS for at in range(len(row[1]) + 1)])
+
+    def test_rows_with_each_allocation_refused(self):
+        seen = 0
+        for row in ROWS:
+            it = Row(row, [row[1]])
+            whole = self.stage.play(it.steps)
+            for at, lines, is_whole in self.stage.refused_in_turn(it.steps):
+                if not is_whole:
+                    expect(lines, whole[: len(lines)], f"allocation {at} of {it.query}")
+                    continue
+                # the link fails at the line for which memory is refused, and what was complete before it can be taken out
+                expect(lines[:3], whole[:3], f"allocation {at} of {it.query}")
+                expect(lines[3], b"Memory waits=0", f"allocation {at} of {it.query}")
+                ensure(lines[4] in (b"none", whole[4]), f"allocation {at} of {it.query}: {lines[4]!r}")
+                ensure(it.outcome != "done", f"allocation {at}: an answer without words takes no memory")
+                seen += 1
+        ensure(seen > len(ROWS) // 2, f"only {seen} refusals were answered")
+        print(f"   {seen} refusals were answered")
+
+    def test_queries_that_are_not_asked(self):
+        lines = self.stage.play(
+            [
+                *(("link new",), ("link ask", b"LOGIN " + b"a" * 506), ("link new",), ("link ask", b"LOGIN " + b"a" * 507)),
+                *(("link ask", b'LOGIN "\\\\\\""'), ("link ask", b"VER"), ("link took", 11), ("link take",)),
+                *(("link ask", b"VER"), ("link bytes", b"OK\n"), ("link ask", b"VER"), ("link took", 0), ("link took", 1)),
+            ]
+        )
+        wanted = ["ok waits=0", "ok waits=513", "ok waits=0", "BadQuery waits=0", "ok waits=13", "OutOfOrder waits=13"]
+        wanted += ["ok waits=2", escaped(b'"\n').decode(), "OutOfOrder waits=0", "ok waits=0", "OutOfOrder waits=0"]
+        wanted += ["ok waits=0", "TooMuchTaken waits=0"]
+        expect([line.decode() for line in lines], wanted, "queries that aren't asked")
+
+    def test_limits_of_answers(self):
+        for length, fault in ((512, None), (513, "BadLine")):
+            lines = self.stage.play([*asking(b"VER"), ("link bytes", b"a" * length), ("link bytes", b"\n")])
+            heard(lines[3:], fault)
+        rows = [("link bytes", b"CMD u k\n")] * 513
+        lines = self.stage.play([*asking(b"LIST CMD u"), ("link bytes", b"BEGIN LIST CMD u\n"), *rows])
+        heard(lines[3:-1], None)
+        expect(lines[-1], b"BadLine waits=0", "a 513th row")
+
+    def test_an_answer_before_its_query_was_taken(self):
+        lines = self.stage.play([("link new",), ("link ask", b"VER"), ("link took", 3), ("link bytes", b"1.2\n"), ("link answer",)])
+        expect((lines[2], lines[3].split(b" ")[0], lines[4]), (b"ok waits=1", b"OutOfOrder", b"none"), "an early answer")
+
+    def test_10000_pieces_without_sense(self):
+        """What is no answer fails the link at the end of its line; a new link asks anew."""
+        chance = random.Random(11)
+        steps, wanted, kept = asking(b"GET VAR su700 ups.status"), [None] * 3, b""
+        for _ in range(10_000):
+            piece = bytes(chance.choices(range(256), k=chance.randrange(513)))
+            steps.append(("link bytes", piece))
+            line, feed, _ = (kept + piece).partition(b"\n")
+            if not feed:
+                kept = line[: LINE_MAX + 1]
+                wanted.append("ok")
+                continue
+            words = words_of(line) if len(line) <= LINE_MAX else None
+            wanted.append("NotMine" if words else "BadLine")
+            steps += asking(b"GET VAR su700 ups.status")
+            wanted += [None] * 3
+            kept = b""
+        lines = self.stage.play(steps)
+        expect(len(lines), len(wanted), "lines")
+        for at, (line, due) in enumerate(zip(lines, wanted)):
+            if due is not None and line.decode().split(" ")[0] != due:
+                raise Failed(f"step {at}: {line!r}, wanted {due}")
+
+
+def main():
+    with tempfile.TemporaryDirectory() as folder:
+        return run_tests(Tests(os.path.abspath(sys.argv[1]), folder))
+
+
+if __name__ == "__main__":
+    sys.exit(main())

@@ -1,0 +1,325 @@
+#!/usr/bin/env python3
+"""Plays schedules of arrivals on the server, and compares each answer with that of the plain model in model.py.
+
+    python3 -m tests.rehearsals.server REHEARSE
+
+The schedules are made from fixed seeds, so that each run of this test plays the same. The last line is
+'N passed, M failed'."""
+
+import array
+import contextlib
+import fcntl
+import itertools
+import os
+import random
+import re
+import shutil
+import subprocess
+import sys
+import tempfile
+import termios
+import time
+import urllib.parse
+
+from tests.support.harness import Failed, ensure, expect, refusals, run_tests
+from tests.support.model import Config
+from tests.support.player import Player, conf_steps, escaped, line_of
+from tests.support.server_rows import PROBE, ROOM, ROWS, told
+from tests.support.schedules import UPSES, USERS, ScheduleMaker, shifted
+from tests.support.stage import Stage
+from tests.support.table_rows import TABLES
+
+# how much more memory a schedule may take that is played ten times over: far less than a record of it
+GROWTH_MAX_KIB = 256
+# how many steps make a server
+HEAD = 4
+# a row of more steps repeats one request until a queue is full
+LONG_ROW = 200
+ERRORS = """ACCESS-DENIED UNKNOWN-UPS VAR-NOT-SUPPORTED CMD-NOT-SUPPORTED INVALID-ARGUMENT INSTCMD-FAILED SET-FAILED READONLY
+    TOO-LONG INVALID-VALUE FEATURE-NOT-CONFIGURED DRIVER-NOT-CONNECTED DATA-STALE ALREADY-LOGGED-IN ALREADY-SET-PASSWORD
+    ALREADY-SET-USERNAME USERNAME-REQUIRED PASSWORD-REQUIRED UNKNOWN-COMMAND""".split()
+REFUSALS = "NoSuchConnection NotConnected PieceTooLong Busy TooMuchTaken BadAddress Full".split()
+
+
+def places(piece):
+    """Where a piece can be cut within its lines."""
+    return [at for at in range(1, len(piece)) if piece[at - 1 : at] != b"\n"]
+
+
+def halves(step, place):
+    """A piece in two parts; what a client is answered to the first is taken."""
+    verb, peer, piece = step
+    took = [("take", peer)] if verb == "bytes" else []
+    return [(verb, peer, piece[:place]), *took, (verb, peer, piece[place:])]
+
+
+class Schedule:
+    """A schedule in its file, behind the steps that make the server, and what the program is to print of it."""
+
+    def __init__(self, path, config, steps):
+        self.path = path
+        self.player = Player(config)
+        self.due = []
+        self.most_open = 0
+        self.ends = [0]
+        with open(path, "wb") as file:
+            for step in itertools.chain(conf_steps(config), steps):
+                file.write(line_of(step))
+                self.ends.append(file.tell())
+                self.due.append(self.player.play(step))
+                self.most_open = max(self.most_open, len(self.player.model.connections))
+
+    def line(self, number):
+        with open(self.path, "rb") as file:
+            file.seek(self.ends[number])
+            return file.read(self.ends[number + 1] - self.ends[number])
+
+    def compare(self, found):
+        found = found.splitlines(keepends=True)
+        for number, (it, due) in enumerate(zip(found, self.due)):
+            if it != due:
+                raise Failed(f"line {number + 1}: {self.line(number)!r} gives {it!r}, wanted {due!r}")
+        expect(len(found), len(self.due), "lines")
+
+
+def answered(name, config, steps, out):
+    """Compares a run in which the server answered one refusal of memory with a model to which it is told: so nothing
+    differs but what it says of one connection or driver. It gives the answer, if there is one."""
+    player = Player(config)
+    told = None
+    found = out.splitlines(keepends=True)
+    expect(len(found), len(steps), f"{name}: lines")
+    for step, line in zip(steps, found):
+        refused = re.match(rb"Memory\((?:Line|Report)\(\d+, (\d+)\)\)", line)
+        lost = int(refused[1]) if refused else None
+        if refused:
+            expect(told, None, f"{name}: a refusal before this one")
+            told = refused[0]
+            if lost not in player.may_lack(step):
+                raise Failed(f"{name}: {line!r} of {step}, which takes no memory there")
+        expect(line, player.play(step, lost), f"{name}: {step}")
+    return told
+
+
+def greatest_memory(process):
+    """The greatest memory, in KiB, of a process that has read all of its input, which is still open. (What the system
+    says of it once it has ended would count the memory of this test too, from which it was forked.)"""
+    while process.poll() is None:
+        unread = array.array("i", [0])
+        fcntl.ioctl(process.stdin, termios.FIONREAD, unread)
+        with open(f"/proc/{process.pid}/status") as file:
+            status = dict(line.split(":", 1) for line in file if ":" in line)
+        if unread[0] == 0 and status["State"].split()[0] == "S":
+            return int(status["VmHWM"].split()[0])
+        time.sleep(0.001)
+    return 0
+
+
+class Tests:
+    def __init__(self, program, folder):
+        self.program = program
+        self.folder = folder
+        self.stage = Stage(program, folder)
+        self.shim = self.stage.shim
+
+    def run(self, path, env=None):
+        """Plays a schedule: the status, what is printed, what is said of a failure, and the greatest memory in KiB."""
+        out_path, err_path = (os.path.join(self.folder, it) for it in ("out", "err"))
+        with open(path, "rb") as schedule, open(out_path, "wb") as out, open(err_path, "wb") as err:
+            streams = {"stdin": subprocess.PIPE, "stdout": out, "stderr": err}
+            process = subprocess.Popen([self.program], env={**os.environ, **(env or {})}, **streams)
+            memory = 0
+            # it may end before its schedule does
+            with contextlib.suppress(BrokenPipeError):
+                shutil.copyfileobj(schedule, process.stdin)
+                process.stdin.flush()
+                memory = greatest_memory(process)
+            with contextlib.suppress(BrokenPipeError):
+                process.stdin.close()
+            status = process.wait(timeout=60)
+        with open(out_path, "rb") as out, open(err_path, "rb") as err:
+            return status, out.read(), err.read(), memory
+
+    def refuse_in_turn(self, name, config, steps):
+        """Plays a schedule with the first allocation refused, then with the second, and so on. It gives the refusals
+        that were answered, and counts the runs that ended before their schedule."""
+        path = os.path.join(self.folder, "schedule")
+        steps = [*conf_steps(config), *steps]
+        with open(path, "wb") as file:
+            file.writelines(map(line_of, steps))
+        player = Player(config)
+        due = b"".join(player.play(step) for step in steps)
+        told, ended = [], 0
+        for at, env, is_reached in refusals(self.shim):
+            status, out, err, _ = self.run(path, env)
+            if not is_reached():
+                expect((status, out, err), (0, due, b""), f"{name}, without a refusal")
+                return told, ended
+            if status == 0:
+                told += filter(None, [answered(f"{name}, allocation {at}", config, steps, out)])
+                continue
+            ended += 1
+            expect((status, err), (1, b"rehearse: out of memory\n"), f"{name}, allocation {at}")
+            expect(out, due[: len(out)], f"{name}, allocation {at}, up to the refusal")
+
+    def rehearse(self, config, steps):
+        """Plays a schedule, and compares it with the model. It gives the schedule, and the memory taken."""
+        schedule = Schedule(os.path.join(self.folder, "schedule"), config, steps)
+        status, out, err, memory = self.run(schedule.path)
+        if (status, err) != (0, b""):
+            raise Failed(f"status {status}: {err!r}, after {out.count(10)} lines")
+        schedule.compare(out)
+        return schedule, memory
+
+    def play_row(self, row):
+        """Plays a worked row, and compares what is printed with the model, and both with the row's answers."""
+        schedule, _ = self.rehearse(row.config, row.steps)
+        for step, printed, due in zip(row.steps, schedule.due[HEAD:], row.due):
+            if due is not None:
+                expect(printed, escaped(due) + b"\n", f"{row.name}: {step}")
+
+    # Each method from here on whose name begins with 'test_' is a test.
+
+    def test_256_connections_and_100000_arrivals(self):
+        begun = time.monotonic()
+        config = Config(UPSES, USERS)
+        schedule, memory = self.rehearse(config, ScheduleMaker(1, config).steps(100_000))
+        expect(schedule.most_open, 256, "connections that were open at once")
+        due = b"".join(schedule.due)
+        for it in [f"ERR {it}%0A" for it in ERRORS] + [f"\n{it} " for it in REFUSALS]:
+            if it.encode() not in due:
+                raise Failed(f"{it!r} isn't in the schedule")
+        print(f"   {schedule.player.model.opened} connections, 256 at once, in {memory} KiB; {time.monotonic() - begun:.1f} s")
+
+    def test_memory_does_not_grow(self):
+        config = Config(UPSES, USERS)
+        maker = ScheduleMaker(9, config)
+        steps = [*maker.steps(10_000), *(("close", c) for c in maker.server.connections)]
+        opened, now = maker.server.opened, maker.server.now
+        _, once = self.rehearse(config, steps)
+        again = (shifted(step, turn * opened, turn * now) for turn in range(10) for step in steps)
+        _, ten_times = self.rehearse(config, again)
+        print(f"   {once} KiB for {len(steps)} arrivals, {ten_times} KiB for ten times as many")
+        if not 0 < ten_times <= once + GROWTH_MAX_KIB:
+            raise Failed(f"{once} KiB for {len(steps)} arrivals, {ten_times} KiB for ten times as many")
+
+    def test_other_configurations(self):
+        for seed, upses, max_age, max_conn in (
+            (2, UPSES[:1], 15, 2),
+            (3, UPSES, 1, 5),
+            (4, [], 15, 3),
+            (5, UPSES[:2], 86_400, 40),
+            (6, [(b"u%d" % it, b"") for it in range(32)], 2, 8),
+        ):
+            config = Config(upses, USERS, max_age, max_conn)
+            self.rehearse(config, ScheduleMaker(seed, config, forced=0.02).steps(6_000))
+
+    def test_lines_that_are_no_steps(self):
+        path = os.path.join(self.folder, "schedule")
+        head = b"".join(map(line_of, conf_steps(Config(UPSES, USERS))))
+        for line in ("wait 5", "moment", "moment -1", "bytes x VER", "dummy link", "monitor moment 0", "link took", "watch", "carry 1", "took 1", "took 1 x", "up 18446744073709551616"):
+            with open(path, "wb") as file:
+                file.write(head + f"# a comment\n\nopen a\n{line}\nopen b\n".encode())
+            status, out, err, _ = self.run(path)
+            wanted = (1, b"ok\n" * HEAD + b"# a comment\n\nok opened=1\n", b"rehearse: line 8 isn't a step\n")
+            expect((status, out, err), wanted, line)
+
+    def test_endless_line(self):
+        steps = [("open", b"a"), *[("bytes", 1, b"a" * 500)] * 4000, ("bytes", 1, b"\n"), ("take", 1)]
+        schedule, _ = self.rehearse(Config(UPSES, USERS), steps)
+        kept = [b"ok waits=0 kept=%d reads=true leaves=false\n" % it for it in [500] + [0] * 3999]
+        expect(schedule.due[HEAD + 1 : HEAD + 4001], kept, "pieces of a line of 2,000,000 bytes")
+        expect(schedule.due[HEAD + 4002], b"ERR INVALID-ARGUMENT%0A\n", "the answer to it")
+
+    def test_bytes_without_sense(self):
+        chance = random.Random(10)
+        steps = [("open", b"a"), ("open", b"b"), ("up", 0), ("up", 1)]
+        for _ in range(10_000):
+            piece = bytes(chance.choices(range(256), k=chance.randrange(513)))
+            number = chance.randrange(2)
+            if chance.random() < 0.5:
+                steps.append(("driver", number, piece))
+            else:
+                steps += [("bytes", 1 + number, piece), ("take", 1 + number)]
+        self.rehearse(Config(UPSES, USERS), steps)
+
+    def test_tables(self):
+        """What a driver told is listed: each answer is the model's, and together they are what the table's row says."""
+        for table in TABLES:
+            names = [row.split()[1] for row in table.listed if row.startswith("VAR ")]
+            asked = ["LIST VAR", "LIST RW", "LIST CMD"]
+            asked += [f"{what} {name}" for name in names for what in ("GET TYPE", "LIST ENUM", "LIST RANGE")]
+            steps = [("up", 0), *told(*(line.encode() for line in table.told), b"DATAOK", b"DUMPDONE"), ("open", b"client")]
+            for line in asked:
+                what, subject, *name = line.split()
+                steps += [("bytes", 1, " ".join([what, subject, "su700", *name, "\n"]).encode()), ("take", 1)]
+            schedule, _ = self.rehearse(ROOM, steps)
+            taken = b"".join(schedule.due[-2 * len(asked) :][1::2])
+            rows = [row.replace(" su700", "", 1) for row in urllib.parse.unquote(taken.decode()).splitlines()]
+            found = sorted(row for row in rows if row and not row.startswith(("BEGIN ", "END ")))
+            expect(found, table.listed, table.title)
+
+    def test_worked_rows(self):
+        for row in ROWS:
+            self.play_row(row)
+
+    def test_worked_rows_cut_at_each_place(self):
+        """Wherever a line is cut, what comes of it and of all that follows is the same. What the first part is answered is
+        taken before the second comes. Rows that fill a queue have no lines of their own."""
+        cuts = 0
+        for row in ROWS:
+            if len(row.steps) > LONG_ROW:
+                continue
+            schedule, _ = self.rehearse(row.config, row.steps)
+            head, due = conf_steps(row.config), schedule.due[HEAD:]
+            script, wanted, seen = [], [], set()
+            for at, step in enumerate(row.steps):
+                if step in seen or step[0] not in ("bytes", "driver") or not due[at].startswith(b"ok"):
+                    continue
+                seen.add(step)
+                for place in places(step[2]):
+                    script += [*head, *row.steps[:at], *halves(step, place), *row.steps[at + 1 :]]
+                    wanted.append((at, step[0] == "bytes"))
+            lines = iter(self.stage.play(script))
+            for at, is_client in wanted:
+                self.compare_cut(row, due, at, [next(lines) for _ in range(HEAD + len(due) + 1 + is_client)][HEAD:], is_client)
+            cuts += len(wanted)
+        print(f"   {cuts} cuts")
+
+    def compare_cut(self, row, due, at, found, is_client):
+        """Compares a row whose step at this place came in two parts with the row as it is."""
+        what = f"{row.name}: {row.steps[at]}, cut"
+        expect(found[0 : at], [line.rstrip(b"\n") for line in due[:at]], what)
+        ensure(found[at].startswith(b"ok "), f"{what}: {found[at]!r}")
+        taken, behind = (found[at + 1], found[at + 2 :]) if is_client else (b"", found[at + 1 :])
+        later = [line.rstrip(b"\n") for line in due[at + 1 :]]
+        if taken and later and row.steps[at + 1][0] == "take":
+            expect(taken + behind[1], later[0], what)
+            behind[1], taken = later[0], b""
+        expect((taken, behind[1:]), (b"", later), what)
+
+    def test_worked_rows_with_each_allocation_refused(self):
+        answers = ends = 0
+        for row in ROWS:
+            told, ended = self.refuse_in_turn(row.name, row.config, row.steps + PROBE)
+            for it in row.wanted:
+                if it not in told:
+                    raise Failed(f"{row.name}: {it!r} isn't among {sorted(set(told))}")
+            answers, ends = answers + len(told), ends + ended
+        print(f"   {answers} refusals were answered, {ends} ended the program")
+
+    def test_random_schedules_with_each_allocation_refused(self):
+        for seed in (7, 8):
+            config = Config(UPSES[:2], USERS, 15, 4)
+            steps = list(ScheduleMaker(seed, config, forced=0.02).steps(400))
+            told, ended = self.refuse_in_turn(f"seed {seed}", config, steps)
+            print(f"   {len(told)} refusals were answered, {ended} ended the program")
+
+
+def main():
+    with tempfile.TemporaryDirectory() as folder:
+        return run_tests(Tests(os.path.abspath(sys.argv[1]), folder))
+
+
+if __name__ == "__main__":
+    sys.exit(main())

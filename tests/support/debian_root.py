@@ -1,0 +1,147 @@
+"""A fresh Debian 12 in a folder, for tests of packages: made by debootstrap, entered by chroot, or started by systemd-nspawn."""
+
+import os
+import shutil
+import signal
+import subprocess
+import time
+
+from tests.support.harness import Failed, Missing, ensure, needed
+
+SUITE = "bookworm"
+
+
+def run(words, **options):
+    """A command's status and all that it printed. It is run at the root, so that no folder of the outside is in its way."""
+    options.setdefault("cwd", "/")
+    options.setdefault("timeout", 600)
+    done = subprocess.run(words, stdin=subprocess.DEVNULL, stdout=subprocess.PIPE, stderr=subprocess.STDOUT, text=True, errors="replace", **options)
+    return done.returncode, done.stdout
+
+
+def fresh_root(folder, saved=None):
+    """A root with systemd in this folder, or a copy of one that was saved."""
+    if os.geteuid() != 0:
+        raise Missing("a root of its own can be made by root alone")
+    if saved is not None:
+        subprocess.run(["cp", "-a", "--reflink=auto", saved, folder], check=True, timeout=600)
+        return Root(folder)
+    debootstrap = needed("debootstrap", "debootstrap")
+    status, said = run([debootstrap, "--variant=minbase", "--include=systemd,systemd-sysv,dbus", SUITE, folder], timeout=1800)
+    if status != 0:
+        raise Missing(f"debootstrap made no root: {said.splitlines()[-1:]}")
+    return Root(folder)
+
+
+class Root:
+    """A Debian in a folder, whose services don't run."""
+
+    def __init__(self, folder):
+        self.folder = folder
+        # a shell of the outside may name folders that aren't here
+        self.env = {"PATH": "/usr/sbin:/usr/bin:/sbin:/bin", "DEBIAN_FRONTEND": "noninteractive", "LC_ALL": "C.UTF-8"}
+
+    def path(self, name):
+        return os.path.join(self.folder, name.lstrip("/"))
+
+    def read(self, name):
+        with open(self.path(name), errors="replace") as file:
+            return file.read()
+
+    def write(self, name, text, mode=0o640):
+        with open(self.path(name), "w") as file:
+            file.write(text)
+        os.chmod(self.path(name), mode)
+
+    def words(self, command):
+        return ["chroot", self.folder, "sh", "-c", f"cd /root\n{command}"]
+
+    def run(self, command):
+        """A shell command's status and all that it printed."""
+        return run(self.words(command), env=self.env)
+
+    def do(self, command):
+        """The same for one that has to end with status 0: what it printed."""
+        status, said = self.run(command)
+        ensure(status == 0, f"'{command}' ends with status {status}: {said[-3000:]}")
+        return said
+
+    def journal(self):
+        """What the services said last."""
+        return ""
+
+    def wait_for(self, command, said, seconds=30):
+        """Runs a program until it prints this."""
+        end = time.monotonic() + seconds
+        while True:
+            status, found = self.run(f"timeout 10 {command}")
+            if found.strip() == said:
+                return
+            if time.monotonic() > end:
+                raise Failed(f"'{command}' says {found!r}, and not {said!r}, after {seconds} s {self.journal()}")
+            time.sleep(0.5)
+
+
+class Booted(Root):
+    """A Debian in a folder whose services run, on a network of its own."""
+
+    def __init__(self, folder):
+        super().__init__(folder)
+        nspawn = needed("systemd-nspawn", "systemd-container")
+        words = [nspawn, "--quiet", "--boot", "--register=no", "--keep-unit", "--private-network", "--directory", folder]
+        self.log = open(folder + ".console", "w")
+        self.init = None
+        self.process = subprocess.Popen(words, stdin=subprocess.DEVNULL, stdout=self.log, stderr=self.log, start_new_session=True)
+        try:
+            self.init = self.find_init()
+            self.wait_for_start()
+        except BaseException:
+            self.stop()
+            raise
+
+    def find_init(self):
+        """The process that is the first one there."""
+        end = time.monotonic() + 30
+        while time.monotonic() < end:
+            if self.process.poll() is not None:
+                break
+            try:
+                with open(f"/proc/{self.process.pid}/task/{self.process.pid}/children") as file:
+                    for pid in file.read().split():
+                        with open(f"/proc/{pid}/status") as status:
+                            numbers = [it.split()[1:] for it in status if it.startswith("NSpid:")][0]
+                        if numbers[-1] == "1":
+                            return pid
+            except (OSError, IndexError):
+                pass
+            time.sleep(0.1)
+        with open(self.folder + ".console", errors="replace") as file:
+            raise Missing(f"systemd-nspawn starts no system here: {file.read()[-200:]!r}")
+
+    def wait_for_start(self):
+        end = time.monotonic() + 120
+        while time.monotonic() < end:
+            status, said = self.run("systemctl is-system-running")
+            if said.strip() in ("running", "degraded"):
+                return
+            time.sleep(0.5)
+        raise Missing(f"the system in systemd-nspawn doesn't come up: {said}")
+
+    def words(self, command):
+        return ["nsenter", "--target", self.init, "--all", "--root", "sh", "-c", f"cd /root\n{command}"]
+
+    def journal(self):
+        return self.run("journalctl --no-pager --lines 40")[1]
+
+    def stop(self):
+        if self.process.poll() is None and self.init:
+            self.run("systemctl poweroff")
+            try:
+                self.process.wait(30)
+            except subprocess.TimeoutExpired:
+                # the end of its first process is the end of all of them
+                os.kill(int(self.init), signal.SIGKILL)
+        if self.process.poll() is None:
+            self.process.kill()
+            self.process.wait(10)
+        self.log.close()

@@ -1,0 +1,118 @@
+"""What the tests of built programs share: how a check fails, how calls of a program are made to fail, how tests are run
+and counted, and what a program takes of the processor, which the benches ask too."""
+
+import collections
+import functools
+import itertools
+import os
+import shutil
+import subprocess
+from concurrent import futures
+
+HERE = os.path.dirname(os.path.abspath(__file__))
+# the root of the repository
+ROOT = os.path.dirname(os.path.dirname(HERE))
+
+# the files that tests make hold passwords, and a program warns where everybody can read such a file
+os.umask(0o077)
+
+
+def processor_time(pid):
+    """How many seconds of processor time a process has used."""
+    with open(f"/proc/{pid}/stat") as file:
+        fields = file.read().rsplit(")", 1)[1].split()
+    return (int(fields[11]) + int(fields[12])) / os.sysconf("SC_CLK_TCK")
+
+
+class Failed(Exception):
+    """A program does something else than it has to."""
+
+
+class Missing(Exception):
+    """What a test needs isn't installed here."""
+
+
+def needed(name, package, folders=()):
+    """The path of a program of one of Debian's packages, which is looked for in these folders first."""
+    path = shutil.which(name, path=os.pathsep.join([*folders, os.environ.get("PATH", os.defpath)]))
+    if path is None:
+        raise Missing(f"{name} isn't installed (Debian's package {package})")
+    return path
+
+
+def expect(found, wanted, what):
+    if found != wanted:
+        raise Failed(f"{what}: found {found!r}, wanted {wanted!r}")
+
+
+def ensure(holds, what):
+    if not holds:
+        raise Failed(what)
+
+
+def build_library(name, folder):
+    """Builds a library that is preloaded into programs, out of its file in C here, and gives its path."""
+    library = os.path.join(folder, f"{name}.so")
+    compiler = shutil.which("cc") or shutil.which("clang")
+    if compiler is None:
+        print(f"a C compiler is missing: the tests that need {name}.c need one (cc or clang)")
+    else:
+        subprocess.run([compiler, "-shared", "-fPIC", "-o", library, os.path.join(HERE, f"{name}.c"), "-ldl"], check=True)
+    return library
+
+
+def build_shim(folder):
+    """Builds the library that makes a program's calls fail, and gives its path."""
+    return build_library("refuse", folder)
+
+
+def was_reached(count, at):
+    """Whether a run, which left the number of its calls in this file, came to the call with this number."""
+    if not os.path.exists(count):
+        return False
+    with open(count) as file:
+        return int(file.read()) >= at
+
+
+def refusing(shim, kind, at):
+    """The environment of a run in which a call fails, by its kind and its number from 1 on, and a function that says after
+    that run whether the run came to it."""
+    count = shim + ".count"
+    if os.path.exists(count):
+        os.remove(count)
+    env = {"LD_PRELOAD": shim, "REFUSE": kind, "REFUSE_AT": str(at), "REFUSE_COUNT": count}
+    return env, functools.partial(was_reached, count, at)
+
+
+def refusals(shim, kind="allocation"):
+    """The number of each call of a kind in turn, with what `refusing` gives of it."""
+    for at in itertools.count(1):
+        yield at, *refusing(shim, kind, at)
+
+
+def run_test(tests, name):
+    """Runs one test, and gives what became of it, with a line that says so."""
+    shown = name[5:].replace("_", " ")
+    try:
+        getattr(tests, name)()
+    except Missing as missing:
+        return "skipped", f"skipped {shown}: {missing}"
+    except (Failed, OSError, subprocess.SubprocessError, ValueError, LookupError, AttributeError) as found:
+        return "failed", f"FAILED {shown}: {found}"
+    return "passed", f"ok {shown}"
+
+
+def run_tests(tests, names=(), install="", at_once=1):
+    """Runs each test_.. method, or those with one of these names in theirs, so many at once, and prints a line for each, and
+    last 'N passed, M failed'. It gives the exit status."""
+    chosen = [it for it in dir(tests) if it.startswith("test_") and (not names or any(name in it for name in names))]
+    counts = collections.Counter()
+    with futures.ThreadPoolExecutor(at_once) as pool:
+        run_all = pool.map if at_once > 1 else map
+        for what, line in run_all(functools.partial(run_test, tests), chosen):
+            counts[what] += 1
+            print(line, flush=True)
+    if counts["skipped"]:
+        print(f"{counts['skipped']} skipped: {install}")
+    print(f"{counts['passed']} passed, {counts['failed']} failed")
+    return 1 if counts["failed"] else 0

@@ -1,0 +1,239 @@
+"""A running upsmon, and servers for it that the tests play."""
+
+import contextlib
+import os
+import shutil
+import signal
+import socket
+import subprocess
+import sys
+import tempfile
+import threading
+import time
+
+from tests.support.harness import Failed, expect, processor_time, run_tests
+from tests.support.room import SOON, until
+
+FLAG = b"upsmon-shutdown-file\n"
+ON_BATTERY = "UPS %s on battery"
+BATTERY_LOW = "UPS %s battery is low"
+FORCED = "UPS %s: forced shutdown in progress"
+LOST = "Communications with UPS %s lost"
+ESTABLISHED = "Communications with UPS %s established"
+UNAVAILABLE = "UPS %s is unavailable"
+SHUTDOWN = "Auto logout and shutdown proceeding"
+# so that each run is short: the status is asked for each second, and nothing is waited for
+QUICK = "POLLFREQ 1\nHOSTSYNC 1\nFINALDELAY 0\n"
+USERS = b"[mon]\npassword = m1\nupsmon primary\n[guest]\npassword = g1\nupsmon secondary\n"
+
+
+def play(tests, install="", at_once=1):
+    """Runs tests of this class by the words of the command line, UPSD DUMMY_UPS UPSC UPSMON and then parts of the names of
+    those that are wanted, as `run_tests` does."""
+    programs, names = sys.argv[1:5], sys.argv[5:]
+    with tempfile.TemporaryDirectory() as folder:
+        return run_tests(tests([os.path.abspath(it) for it in programs], folder), names, install, at_once)
+
+
+def children_of(pid):
+    """The numbers of the processes that a process started and that weren't waited for."""
+    with open(f"/proc/{pid}/task/{pid}/children") as file:
+        return [int(it) for it in file.read().split()]
+
+
+def state_of(pid):
+    """The letter that the system has for what a process does: T where it stands still, Z where it has ended. It is empty
+    where there is none."""
+    try:
+        with open(f"/proc/{pid}/stat") as file:
+            return file.read().rsplit(")", 1)[1].split()[0]
+    except FileNotFoundError:
+        return ""
+
+
+class Watch:
+    """A running upsmon, with a folder of its own for its configuration and what it writes."""
+
+    def __init__(self, program, folder, conf, *words, **options):
+        self.folder = tempfile.mkdtemp(dir=folder)
+        with open(self.path("upsmon.conf"), "w") as file:
+            file.write(conf.replace("FOLDER", self.folder))
+        streams = {"stdout": self.open("out"), "stderr": self.open("err"), **options}
+        # a session of its own, so that what it started is ended with it
+        self.process = subprocess.Popen(
+            [program, "--conf", self.folder, *words], stdin=subprocess.DEVNULL, start_new_session=True, **streams
+        )
+
+    def __enter__(self):
+        return self
+
+    def __exit__(self, *_):
+        self.signal(signal.SIGKILL)
+        self.process.wait()
+        shutil.rmtree(self.folder, ignore_errors=True)
+
+    def signal(self, number):
+        """Sends a signal to it and to all that it has started."""
+        try:
+            os.killpg(self.process.pid, number)
+        except ProcessLookupError:
+            pass
+
+    @contextlib.contextmanager
+    def stopped(self):
+        """It and all that it has started stand still."""
+        self.signal(signal.SIGSTOP)
+        until(lambda: state_of(self.process.pid) == "T", "upsmon stands still")
+        try:
+            yield
+        finally:
+            self.signal(signal.SIGCONT)
+
+    def path(self, name):
+        return os.path.join(self.folder, name)
+
+    def open(self, name):
+        return open(self.path(name), "wb")
+
+    def read(self, name):
+        """What a file of the folder holds, or None where it isn't there."""
+        try:
+            with open(self.path(name), "rb") as file:
+                return file.read()
+        except FileNotFoundError:
+            return None
+
+    def lines(self, name="out"):
+        return self.read(name).decode().splitlines()
+
+    def until_printed(self, line, within=SOON):
+        until(lambda: line in self.lines() or self.process.poll() is not None, f"upsmon prints {line!r}", within)
+        expect(line in self.lines(), True, f"upsmon prints {line!r} before it ends")
+
+    def status(self, within=SOON):
+        """Its exit status, once it ended."""
+        try:
+            return self.process.wait(within)
+        except subprocess.TimeoutExpired:
+            raise Failed(f"upsmon hasn't ended within {within} s; it printed {self.lines()}, {self.lines('err')}") from None
+
+    def is_idle(self, seconds=1.5, most=0.3):
+        used = processor_time(self.process.pid)
+        time.sleep(seconds)
+        return processor_time(self.process.pid) - used <= most
+
+
+class Upstream:
+    """A server that the test plays, on a thread for each connection. It answers each line by `answer`, and keeps the lines."""
+
+    def __init__(self, port=0, status=b"OL"):
+        self.listener = socket.create_server(("127.0.0.1", port))
+        self.port = self.listener.getsockname()[1]
+        self.target = f"su700@127.0.0.1:{self.port}"
+        self.statuses = {b"su700": status}
+        self.logins = 1
+        self.asked = []
+        self.ends = []
+        threading.Thread(target=self.let_in, daemon=True).start()
+
+    def __enter__(self):
+        return self
+
+    def __exit__(self, *_):
+        self.close()
+
+    def close(self):
+        # a thread waits in accept, which closing alone doesn't end
+        for end in (self.listener, *self.ends):
+            try:
+                end.shutdown(socket.SHUT_RDWR)
+            except OSError:
+                pass
+            end.close()
+
+    def let_in(self):
+        while True:
+            try:
+                end, _ = self.listener.accept()
+            except OSError:
+                return
+            self.ends.append(end)
+            threading.Thread(target=self.converse, args=(end,), daemon=True).start()
+
+    def converse(self, end):
+        try:
+            with end, end.makefile("rb") as file:
+                self.greet(end)
+                for line in file:
+                    self.asked.append(line)
+                    self.send(end, self.answer(line))
+        except (OSError, ValueError):
+            pass
+
+    def greet(self, end):
+        """What it says before it is asked."""
+
+    def send(self, end, data):
+        end.sendall(data)
+
+    def answer(self, line):
+        words = line.split()
+        if words[:2] == [b"GET", b"VAR"]:
+            status = self.statuses[words[2]]
+            return status if status.startswith(b"ERR") else b'VAR %s ups.status "%s"\n' % (words[2], status)
+        if words[:2] == [b"GET", b"NUMLOGINS"]:
+            return b"NUMLOGINS %s %d\n" % (words[2], self.logins)
+        return b"OK FSD-SET\n" if words[0] == b"FSD" else b"OK\n"
+
+
+class ByteByByte(Upstream):
+    def greet(self, end):
+        end.setsockopt(socket.IPPROTO_TCP, socket.TCP_NODELAY, 1)
+
+    def send(self, end, data):
+        for byte in data:
+            end.sendall(bytes([byte]))
+            time.sleep(0.002)
+
+
+class Closing(Upstream):
+    def greet(self, end):
+        end.shutdown(socket.SHUT_RDWR)
+
+
+class Rubbish(Upstream):
+    def greet(self, end):
+        end.sendall(b'BEGIN LIST UPS\n\xff\x00 "')
+
+
+class Nonsense(Upstream):
+    """It answers the query for a status with what is no answer."""
+
+    def answer(self, line):
+        return b"HTTP/1.0 400 Bad Request\n" if line.startswith(b"GET VAR") else super().answer(line)
+
+
+class Urgent(Upstream):
+    """It parts each line by urgent data. Its monitor stands still meanwhile, so that all of the line is there at once."""
+
+    watch = None
+
+    def send(self, end, data):
+        until(lambda: self.watch is not None, "the monitor is known")
+        with self.watch.stopped():
+            end.sendall(data[:2])
+            end.send(b"!", socket.MSG_OOB)
+            end.sendall(data[2:])
+
+
+class Endless(Upstream):
+    """It sends one line that never ends."""
+
+    def greet(self, end):
+        while True:
+            end.sendall(b"x" * 4096)
+
+
+class Silent(Upstream):
+    def answer(self, line):
+        return b""

@@ -1,0 +1,124 @@
+"""Schedules of arrivals: their lines, as the program `rehearse` reads them, and what it is to print of each, as the plain
+model of model.py says."""
+
+import re
+
+from tests.support import model
+
+
+def escaped(data):
+    return re.sub(rb"[\x00-\x1f%\x7f-\xff]", lambda byte: b"%%%02X" % byte[0][0], data)
+
+
+def line_of(step):
+    """A step as the program reads it."""
+    parts = (escaped(it) if isinstance(it, bytes) else str(it).encode() for it in step[1:])
+    return b" ".join([step[0].encode(), *parts]) + b"\n"
+
+
+class Player:
+    """The model, and what the program is to print of each step."""
+
+    def __init__(self, config):
+        self.model = model.Server(config)
+
+    def play(self, step, lost=None):
+        """With `lost`, a growth is refused behind so many lines of the step's piece."""
+        verb, *words = step
+        return (getattr(self, verb.replace("-", "_"))(*words, *([] if lost is None else [lost])) + "\n").encode("latin-1")
+
+    def may_lack(self, step):
+        """The lines of a step's piece, as their numbers from 0, at which memory may be lacking."""
+        if step[0] == "bytes":
+            return self.model.may_lack(*step[1:])
+        if step[0] == "driver":
+            return self.model.driver_may_lack(*step[1:])
+        return set()
+
+    def ups(self, text):
+        """The configuration that these steps set is the one with which the model was made."""
+        return "ok"
+
+    def server(self):
+        return "ok"
+
+    users = upsd = ups
+
+    def of_connection(self, answer, c):
+        it = self.model
+        reads, leaves = (str(said).lower() for said in (it.may_read(c), it.leaves(c)))
+        return f"{answer or 'ok'} waits={len(it.waits(c))} kept={it.kept(c)} reads={reads} leaves={leaves}"
+
+    def of_driver(self, answer, u):
+        connected = str(self.model.connected(u) is not None).lower()
+        return f"{answer or 'ok'} waits={len(self.model.waits_for_driver(u))} connected={connected}"
+
+    def moment(self, at):
+        answer = self.model.moment(at)
+        return " ".join([answer or "ok", *(str(len(it.asks)) for it in self.model.upses)])
+
+    def open(self, address):
+        answer = self.model.open(address)
+        return f"{answer or 'ok'} opened={self.model.opened}"
+
+    def bytes(self, c, piece, lost=None):
+        answer = self.model.bytes(c, piece, lost)
+        return self.of_connection(answer if lost is None else f"Memory(Line({c}, {lost}))", c)
+
+    def took(self, c, count):
+        return self.of_connection(self.model.took(c, count), c)
+
+    def close(self, c):
+        return self.of_connection(self.model.close(c), c)
+
+    fail = close
+
+    def up(self, u):
+        return self.of_driver(self.model.driver_up(u), u)
+
+    def driver(self, u, piece, lost=None):
+        answer = self.model.driver_bytes(u, piece, lost)
+        return self.of_driver(answer if lost is None else f"Memory(Report({u}, {lost}))", u)
+
+    def driver_took(self, u, count):
+        return self.of_driver(self.model.driver_took(u, count), u)
+
+    def down(self, u):
+        return self.of_driver(self.model.driver_down(u), u)
+
+    def take(self, c, most=None):
+        taken = self.model.waits(c)[:most]
+        if taken:
+            self.model.took(c, len(taken))
+        return escaped(taken).decode()
+
+    def driver_take(self, u, most=None):
+        taken = self.model.waits_for_driver(u)[:most]
+        if taken:
+            self.model.driver_took(u, len(taken))
+        return escaped(taken).decode()
+
+    def next(self, least):
+        found = [c for c in self.model.connections if c >= least and (self.model.waits(c) or self.model.leaves(c))]
+        return f"connection {min(found)}" if found else "none"
+
+    def next_driver(self, least):
+        found = [u for u, ups in enumerate(self.model.upses) if u >= least and ups.asks]
+        return f"driver {min(found)}" if found else "none"
+
+
+def conf_steps(config):
+    """The steps that make a server by this configuration."""
+    ups, users = [], []
+    for name, description in config.upses:
+        ups.append(b"[%s]\ndesc = %s\n" % (name, model.quoted(description)))
+    for name, user in config.users.items():
+        users.append(b"[%s]\n" % name)
+        if user.password is not None:
+            users.append(b"password = %s\n" % model.quoted(user.password))
+        users += [b"actions = %s\n" % action.encode() for action in user.actions]
+        users += [b"instcmds = %s\n" % command for command in user.commands]
+        if user.upsmon is not None:
+            users.append(b"upsmon %s\n" % user.upsmon.encode())
+    upsd = b"MAXAGE %d\nMAXCONN %d\n" % (config.max_age, config.max_conn)
+    return [("ups", b"".join(ups)), ("users", b"".join(users)), ("upsd", upsd), ("server",)]

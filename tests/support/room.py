@@ -1,0 +1,188 @@
+"""A room of built programs: upsd and dummy drivers in a folder of their own, and clients that speak to them."""
+
+import os
+import shutil
+import socket
+import subprocess
+import tempfile
+import time
+
+from tests.support.harness import Failed, expect
+
+DEVICE = b"ups.status: OL\nups.id: x\nbattery.charge: 100\n"
+USERS = b'[admin]\npassword = pw\nactions = SET\ninstcmds = ALL\n[mon]\npassword = m1\nupsmon primary\n'
+VERSION = b"Network UPS Tools upsd profile 1.2\n"
+STATUS = b"GET VAR su700 ups.status\n"
+ONLINE = b'VAR su700 ups.status "OL"\n'
+NOT_CONNECTED = b"ERR DRIVER-NOT-CONNECTED\n"
+# how long a thing may take that is to come soon, in seconds: a driver is dialled once a second
+SOON = 10.0
+
+
+def until(test, what, within=SOON):
+    """Asks again until the answer is true, and gives it."""
+    end = time.monotonic() + within
+    while True:
+        found = test()
+        if found:
+            return found
+        if time.monotonic() > end:
+            raise Failed(f"{what}: not within {within} s")
+        time.sleep(0.02)
+
+
+def has_ipv6():
+    """Whether this machine has the IPv6 loopback address."""
+    try:
+        with socket.socket(socket.AF_INET6) as it:
+            it.bind(("::1", 0))
+        return True
+    except OSError:
+        return False
+
+
+def connected(address):
+    """A socket that is connected there, or None where nobody listens, be its file there already or not."""
+    family = socket.AF_UNIX if isinstance(address, str) else socket.AF_INET6 if ":" in address[0] else socket.AF_INET
+    found = socket.socket(family, socket.SOCK_STREAM)
+    found.settimeout(SOON)
+    try:
+        found.connect(address)
+    except (ConnectionRefusedError, FileNotFoundError):
+        found.close()
+        return None
+    return found
+
+
+class Client:
+    """A client of a server, or a server of a driver."""
+
+    def __init__(self, address):
+        self.socket = until(lambda: connected(address), f"{address} takes a connection")
+        self.file = self.socket.makefile("rb")
+
+    def __enter__(self):
+        return self
+
+    def __exit__(self, *_):
+        self.close()
+
+    def close(self):
+        self.file.close()
+        self.socket.close()
+
+    def send(self, data):
+        self.socket.sendall(data)
+
+    def line(self):
+        return self.file.readline()
+
+    def ask(self, data):
+        """The line that answers one request."""
+        self.send(data)
+        return self.line()
+
+    def list(self, data):
+        """The lines of a list, or the one line of a refusal."""
+        lines = [self.ask(data)]
+        while lines[0].startswith(b"BEGIN") and not lines[-1].startswith(b"END"):
+            lines.append(self.line())
+        return lines
+
+    def is_closed(self):
+        """Whether the other end closes without a word."""
+        try:
+            return self.socket.recv(1) == b""
+        except ConnectionResetError:
+            return True
+
+    def log_in(self, user=b"admin", password=b"pw"):
+        expect(self.ask(b"USERNAME " + user + b"\n"), b"OK\n", "user")
+        expect(self.ask(b"PASSWORD " + password + b"\n"), b"OK\n", "password")
+
+
+class Room:
+    """A folder with a configuration, and the programs that run by it."""
+
+    def __init__(self, programs, folder, conf=b"", ups=b'[su700]\ndesc = "Server room"\n'):
+        self.upsd_program, self.dummy_program = programs
+        self.folder = tempfile.mkdtemp(dir=folder)
+        with socket.socket() as free:
+            free.bind(("127.0.0.1", 0))
+            self.port = free.getsockname()[1]
+        self.host = "127.0.0.1"
+        self.running = []
+        listen = b"" if b"LISTEN" in conf else b"LISTEN 127.0.0.1 %d\n" % self.port
+        for name, text in (("ups.conf", ups), ("upsd.users", USERS), ("upsd.conf", listen + conf)):
+            with open(self.path(name), "wb") as file:
+                file.write(text)
+
+    def __enter__(self):
+        return self
+
+    def __exit__(self, *_):
+        for process in self.running:
+            process.kill()
+            process.wait()
+            if process.stderr is not None:
+                process.stderr.close()
+        shutil.rmtree(self.folder)
+
+    def path(self, name):
+        return os.path.join(self.folder, name)
+
+    def start(self, words, **options):
+        streams = {"stdin": subprocess.DEVNULL, "stdout": subprocess.DEVNULL, "stderr": subprocess.PIPE, **options}
+        process = subprocess.Popen(words, **streams)
+        self.running.append(process)
+        return process
+
+    def upsd(self, *words, **options):
+        """Starts upsd, and waits until it serves."""
+        process = self.start([self.upsd_program, "--conf", self.folder, "-s", self.folder, *words], **options)
+        until(lambda: self.can_connect(process), "upsd listens")
+        return process
+
+    def can_connect(self, process):
+        if process.poll() is not None:
+            raise Failed(f"upsd ended with status {process.returncode}: {process.stderr.read()!r}")
+        try:
+            self.client().close()
+            return True
+        except ConnectionRefusedError:
+            return False
+
+    def dummy(self, text=DEVICE, ending="dev", ups="su700"):
+        """Starts a dummy driver."""
+        script = self.path(f"{ups}.{ending}")
+        with open(script, "wb") as file:
+            file.write(text)
+        return self.start([self.dummy_program, script, self.path(f"dummy-ups-{ups}")])
+
+    def client(self):
+        return Client((self.host, self.port))
+
+    def ask(self, request):
+        """What a new client's one request is answered."""
+        with self.client() as client:
+            return client.ask(request)
+
+    def serves(self):
+        """Whether a new client is let in and answered."""
+        try:
+            return self.ask(b"VER\n") == VERSION
+        except ConnectionError:
+            return False
+
+    def until(self, request, wanted, within=SOON):
+        """Asks on one connection until this is the answer."""
+        with self.client() as client:
+            until(lambda: client.ask(request) == wanted, f"{request!r} gives {wanted!r}", within)
+
+    def driver(self):
+        """A listener where upsd looks for the driver of su700."""
+        listener = socket.socket(socket.AF_UNIX, socket.SOCK_STREAM)
+        listener.settimeout(SOON)
+        listener.bind(self.path("dummy-ups-su700"))
+        listener.listen()
+        return listener

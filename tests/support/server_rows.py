@@ -1,0 +1,340 @@
+"""Worked rows: what a server is told, and what a client or a driver then takes. The answers are written by hand."""
+
+from tests.support.model import Config, User
+
+LIVE = b'SETINFO ups.status "OL"\nDATAOK\nDUMPDONE\n'
+UPS = [(b"su700", b"Server room")]
+USERS = {b"admin": User(b"pw", ("SET",), (b"all",)), b"mon": User(b"m1", (), (), "primary")}
+ROOM = Config(UPS, USERS)
+
+
+def told(*lines):
+    return [("driver", 0, line + b"\n") for line in lines]
+
+
+def live(*lines):
+    """The driver is connected, tells its state, and these lines."""
+    return [("up", 0), ("driver", 0, LIVE), *told(*lines)]
+
+
+def ask(c, *lines_and_replies):
+    """A client asks, line by line, and takes each reply."""
+    steps = []
+    for line, reply in zip(lines_and_replies[::2], lines_and_replies[1::2]):
+        steps += [("bytes", c, line + b"\n"), (("take", c), reply + b"\n")]
+    return steps
+
+
+def err(name):
+    return b"ERR " + name.encode()
+
+
+def listed(query, *rows):
+    return b"\n".join([b"BEGIN LIST " + query, *rows, b"END LIST " + query])
+
+
+class Row:
+    """A row's steps, those that take with the bytes that are due, and the refusals of memory that there must be among
+    those of its allocations."""
+
+    def __init__(self, name, steps, wanted=(), config=ROOM):
+        self.name = name
+        self.config = config
+        self.steps = [it[0] if isinstance(it[0], tuple) else it for it in steps]
+        self.due = [it[1] if isinstance(it[0], tuple) else None for it in steps]
+        self.wanted = wanted
+
+
+OPEN = [("open", b"10.0.0.1")]
+GUEST = [("open", b"10.0.0.2")]
+VERSION = b"Network UPS Tools upsd profile 1.2"
+HELP = b"Commands: GET LIST SET INSTCMD USERNAME PASSWORD LOGIN PRIMARY FSD LOGOUT VER NETVER HELP STARTTLS"
+STATUS = b"GET VAR su700 ups.status"
+ONLINE = b'VAR su700 ups.status "OL"'
+FORCED = b'VAR su700 ups.status "FSD OL"'
+NUMLOGINS = b"GET NUMLOGINS su700"
+CLIENTS = b"LIST CLIENT su700"
+ROOMS = listed(b"UPS", b'UPS su700 "Server room"')
+ADMIN = ask(1, b"USERNAME admin", b"OK", b"PASSWORD pw", b"OK")
+MONITOR = ask(1, b"USERNAME mon", b"OK", b"PASSWORD m1", b"OK")
+LOGIN = MONITOR + ask(1, b"LOGIN su700", b"OK")
+ID = [b'SETINFO ups.id "x"', b"SETFLAGS ups.id RW STRING", b"SETAUX ups.id 3"]
+SENSITIVITY = [
+    b'SETINFO input.sensitivity "low"',
+    b"SETFLAGS input.sensitivity RW",
+    b'ADDENUM input.sensitivity "low"',
+]
+KINDS = [b"SETINFO battery.charge 50", b"ADDRANGE battery.charge -5 100", b'SETINFO input.sensitivity ""']
+KINDS += [b'ADDENUM input.sensitivity ""', b"SETINFO a 1"]
+SET_ID = b'SET VAR su700 ups.id "abc"'
+ASKED_ID = b'SET ups.id "abc"\n'
+SET_CHARGE = b'SET VAR su700 battery.charge "50"'
+# 8 bytes of DUMPALL, and 240 times 17
+FULL_QUEUE = live(*ID) + OPEN + ADMIN + ask(1, SET_ID, b"OK") * 240
+
+ROWS = [
+    Row(
+        "a quoted value",
+        live(b'SETINFO ups.mfr "a \\"b\\" \\\\c"')
+        + OPEN
+        + ask(1, b"GET VAR su700 ups.mfr", b'VAR su700 ups.mfr "a \\"b\\" \\\\c"'),
+        [b"Memory(Report(0, 0))", b"Memory(Line(1, 0))"],
+    ),
+    Row(
+        "who one is",
+        OPEN * 3
+        + ask(1, SET_CHARGE, err("USERNAME-REQUIRED"))
+        + ask(2, b"USERNAME admin", b"OK", SET_CHARGE, err("PASSWORD-REQUIRED"))
+        + ask(3, b"USERNAME admin", b"OK", b"PASSWORD x", b"OK", SET_CHARGE, err("ACCESS-DENIED")),
+        [b"Memory(Line(1, 0))", b"Memory(Line(2, 0))", b"Memory(Line(3, 0))"],
+    ),
+    Row(
+        "logins are counted",
+        live()
+        + OPEN
+        + LOGIN
+        + ask(1, b"LOGIN su700", err("ALREADY-LOGGED-IN"))
+        + GUEST
+        + ask(2, NUMLOGINS, b"NUMLOGINS su700 1")
+        + [("close", 1)]
+        + ask(2, NUMLOGINS, b"NUMLOGINS su700 0"),
+        [b"Memory(Line(1, 0))", b"Memory(Line(2, 0))"],
+    ),
+    Row(
+        "logins of two, and no more",
+        live()
+        + [("open", b"a"), ("open", b"b"), ("open", b"c")]
+        + LOGIN
+        + [("bytes", 2, b"USERNAME mon\nPASSWORD m1\nLOGIN su700\n"), (("take", 2), b"OK\nOK\nOK\n")]
+        + ask(2, CLIENTS, listed(b"CLIENT su700", b"CLIENT su700 a", b"CLIENT su700 b"))
+        + [("close", 1), ("open", b"c"), ("bytes", 1, b"VER\n")]
+        + ask(3, CLIENTS, listed(b"CLIENT su700", b"CLIENT su700 b")),
+        config=Config(UPS, USERS, max_conn=2),
+    ),
+    Row(
+        "settings",
+        live(*ID, *SENSITIVITY, b'SETINFO ups.mfr "m"')
+        + OPEN
+        + ADMIN
+        + [(("driver-take", 0), b"DUMPALL\n")]
+        + ask(1, b"GET TYPE su700 ups.id", b"TYPE su700 ups.id RW STRING:3", SET_ID, b"OK")
+        + [(("driver-take", 0), ASKED_ID)]
+        + ask(
+            1,
+            *(b"GET VAR su700 ups.id", b'VAR su700 ups.id "x"'),
+            *(b'SET VAR su700 ups.id "abcd"', err("TOO-LONG")),
+            *(b'SET VAR su700 input.sensitivity "mid"', err("INVALID-VALUE")),
+            *(b'SET VAR su700 ups.mfr "n"', err("READONLY")),
+            *(b"get type su700 input.sensitivity", b"TYPE su700 input.sensitivity RW ENUM"),
+            *(b"LIST RW su700", listed(b"RW su700", b'RW su700 input.sensitivity "low"', b'RW su700 ups.id "x"')),
+            *(b"SET VAR su700 ups.id", err("INVALID-ARGUMENT")),
+            *(b"LIST LOG", err("INVALID-ARGUMENT")),
+            *(b"GET CMDDESC su700 load.off", err("CMD-NOT-SUPPORTED")),
+        ),
+        [b"Memory(Report(0, 0))", b"Memory(Line(1, 0))"],
+    ),
+    Row(
+        "forms of replies",
+        live(*KINDS)
+        + OPEN
+        + ask(
+            1,
+            *(b"HELP", HELP, b"NETVER", b"1.2", b"STARTTLS", err("FEATURE-NOT-CONFIGURED"), b"FOO", err("UNKNOWN-COMMAND")),
+            *(b"GET UPSDESC x", err("UNKNOWN-UPS"), b"GET VAR su700 x", err("VAR-NOT-SUPPORTED")),
+            *(b"GET TYPE su700 battery.charge", b"TYPE su700 battery.charge RANGE", b"GET TYPE su700 a", b"TYPE su700 a NUMBER"),
+            *(b"GET DESC su700 battery.charge", b'DESC su700 battery.charge "Battery charge (percent)"'),
+            *(b"GET DESC su700 a", b'DESC su700 a "Description unavailable"'),
+            *(b"LIST RANGE su700 battery.charge", listed(b"RANGE su700 battery.charge", b'RANGE su700 battery.charge "-5" "100"')),
+            *(b"LIST ENUM su700 input.sensitivity", listed(b"ENUM su700 input.sensitivity", b'ENUM su700 input.sensitivity ""')),
+        ),
+    ),
+    Row(
+        "a variable that went, and came again",
+        live(SENSITIVITY[0], SENSITIVITY[2], b"DELINFO input.sensitivity", SENSITIVITY[0])
+        + OPEN
+        + ask(1, b"LIST ENUM su700 input.sensitivity", listed(b"ENUM su700 input.sensitivity")),
+        [b"Memory(Report(0, 0))"],
+    ),
+    Row(
+        "a silent driver",
+        live()
+        + OPEN
+        + [(("driver-take", 0), b"DUMPALL\n"), ("moment", 5), (("driver-take", 0), b"")]
+        + [("moment", 6), (("driver-take", 0), b"PING\n"), ("moment", 7), (("driver-take", 0), b"")]
+        + [("moment", 12), (("driver-take", 0), b"PING\n"), ("moment", 15)]
+        + ask(1, STATUS, ONLINE)
+        + [("moment", 16)]
+        + ask(1, STATUS, err("DATA-STALE")),
+    ),
+    Row(
+        "a full queue",
+        FULL_QUEUE
+        + ask(1, SET_ID, err("SET-FAILED"))
+        + [("driver-took", 0, 17)]
+        + ask(1, SET_ID, b"OK")
+        + [("driver-took", 0, 4089), ("driver-took", 0, 4088), ("driver-took", 0, 1)],
+        [b"Memory(Line(1, 0))"],
+    ),
+    Row(
+        "a queue that goes round",
+        FULL_QUEUE
+        + [("driver-took", 0, 4000)]
+        + ask(1, SET_ID, b"OK") * 235
+        + ask(1, SET_ID, err("SET-FAILED"))
+        # of the 88 bytes left the first 3 end a line
+        + [(("driver-take", 0), ASKED_ID[-3:] + ASKED_ID * 240)],
+    ),
+    Row(
+        "PING and a full queue",
+        FULL_QUEUE
+        + [("moment", 6), ("moment", 12), ("driver-took", 0, 8), ("moment", 13)]
+        + [(("driver-take", 0), ASKED_ID * 240 + b"PING\nPING\n")],
+    ),
+    Row(
+        "a write that failed",
+        live()
+        + OPEN
+        + LOGIN
+        + [("bytes", 1, b"FOO\n"), (("take", 1, 7), b"ERR UNK"), ("fail", 1), ("bytes", 1, b"VER\n")]
+        + GUEST
+        + ask(2, NUMLOGINS, b"NUMLOGINS su700 0"),
+    ),
+    Row(
+        "a forced shutdown",
+        live()
+        + OPEN
+        + MONITOR
+        + ask(1, b"FSD su700", b"OK FSD-SET", STATUS, FORCED)
+        + GUEST
+        + ask(2, STATUS, FORCED),
+        [b"Memory(Line(1, 0))"],
+    ),
+    Row(
+        "a list between two lines",
+        OPEN
+        + GUEST
+        + [("bytes", 1, b"VER\nLIST UPS\nVER\n"), (("take", 1), b"\n".join([VERSION, ROOMS, VERSION, b""]))]
+        + ask(1, b"VER", VERSION),
+        [b"Memory(Line(1, 1))"],
+    ),
+    Row(
+        "a command behind a variable",
+        live()
+        + [("driver", 0, b'SETINFO a "1"\nADDCMD k\n')]
+        + OPEN
+        + ask(1, b"GET VAR su700 a", b'VAR su700 a "1"')
+        + [("up", 0)],
+        [b"Memory(Report(0, 1))"],
+    ),
+    Row("an end", OPEN + [("bytes", 1, b"LOGOUT\nVER\n"), (("take", 1), b"OK Goodbye\n"), ("took", 1, 0)]),
+    Row(
+        "long lines",
+        OPEN
+        + [("bytes", 1, b"VER".ljust(512)), ("bytes", 1, b"\n"), (("take", 1), VERSION + b"\n")]
+        + [("bytes", 1, b"VER".ljust(512)), ("bytes", 1, b" \nVER\n")]
+        + [(("take", 1), err("INVALID-ARGUMENT") + b"\n" + VERSION + b"\n")],
+    ),
+    Row(
+        "dumps",
+        OPEN
+        + [("up", 0), (("driver-take", 0), b"DUMPALL\n")]
+        + told(b'SETINFO ups.status "OL"', b"DATAOK")
+        + ask(1, STATUS, err("DATA-STALE"))
+        + told(b"DUMPDONE")
+        + ask(1, STATUS, ONLINE)
+        + [("up", 0)]
+        + ask(1, STATUS, err("DATA-STALE"))
+        + [(("driver-take", 0), b"DUMPALL\n")],
+    ),
+    Row(
+        "pieces",
+        OPEN
+        + [("bytes", 1, b"GE"), ("bytes", 1, b"T VAR su700 ups.sta"), ("bytes", 1, b"tus\n")]
+        + [(("take", 1), err("DRIVER-NOT-CONNECTED") + b"\n")]
+        + ask(1, b"GET UPSDESC su700", b'UPSDESC su700 "Server room"', b"LIST UPS", ROOMS),
+    ),
+    Row(
+        "one who may do little",
+        live()
+        + OPEN
+        + ADMIN
+        + ask(
+            1,
+            *(b"USERNAME mon", err("ALREADY-SET-USERNAME"), b"PASSWORD m1", err("ALREADY-SET-PASSWORD")),
+            *(b"FSD su700", err("ACCESS-DENIED"), b"LOGIN su700", err("ACCESS-DENIED"), b"PRIMARY su700", err("ACCESS-DENIED")),
+        )
+        + GUEST
+        + ask(2, b"USERNAME mon", b"OK", b"PASSWORD m1", b"OK", b"PRIMARY su700", b"OK", SET_CHARGE, err("ACCESS-DENIED")),
+    ),
+    Row(
+        "a forced shutdown in lists",
+        live(b"SETFLAGS ups.status RW")
+        + OPEN
+        + MONITOR
+        + ask(1, b"FSD su700", b"OK FSD-SET", b"LIST VAR su700", listed(b"VAR su700", FORCED))
+        + ask(1, b"LIST RW su700", listed(b"RW su700", b'RW su700 ups.status "FSD OL"')),
+    ),
+    Row(
+        "commands",
+        live(b"ADDCMD load.off")
+        + OPEN
+        + ADMIN
+        + [(("driver-take", 0), b"DUMPALL\n")]
+        + ask(1, b"INSTCMD su700 load.off", b"OK", b"INSTCMD su700 load.on", err("CMD-NOT-SUPPORTED"))
+        + [(("driver-take", 0), b"INSTCMD load.off\n")]
+        + ask(1, b"LIST CMD su700", listed(b"CMD su700", b"CMD su700 load.off"))
+        + ask(1, b"GET CMDDESC su700 load.off", b'CMDDESC su700 load.off "Turn off the load"'),
+    ),
+    Row(
+        "a driver that answers a PING, and one whose data is stale",
+        live()
+        + OPEN
+        + [("moment", 15), *told(b"PONG"), ("moment", 30)]
+        + ask(1, STATUS, ONLINE)
+        + [("moment", 31), ("moment", 0)]
+        + ask(1, STATUS, err("DATA-STALE"))
+        + told(b"DATAOK")
+        + ask(1, STATUS, ONLINE)
+        + told(b"DATASTALE")
+        + ask(1, STATUS, err("DATA-STALE"))
+        + [("down", 0), (("driver", 0, b"DATAOK\n"), b"NotConnected waits=0 connected=false")]
+        + ask(1, STATUS, err("DRIVER-NOT-CONNECTED")),
+    ),
+    Row(
+        "addresses, and numbers that nobody has",
+        [(("open", b"a b"), b"BadAddress opened=0"), (("open", b""), b"BadAddress opened=0")]
+        + [(("open", b"a"), b"ok opened=1"), (("open", b"b"), b"ok opened=2"), (("open", b"c"), b"Full opened=2")]
+        + [(("close", 1), b"ok waits=0 kept=0 reads=false leaves=false")]
+        + [(("close", 1), b"NoSuchConnection waits=0 kept=0 reads=false leaves=false")]
+        + [(("bytes", 1, b"VER\n"), b"NoSuchConnection waits=0 kept=0 reads=false leaves=false")]
+        + [(("up", 1), b"NotConnected waits=0 connected=false"), (("open", b"c"), b"ok opened=3")],
+        config=Config(UPS, USERS, max_conn=2),
+    ),
+    # 8 bytes of DUMPALL, 239 times 17, and 10: to a setting of 16 bytes one is lacking, and one of 15 fits
+    Row(
+        "4,096 bytes to the byte",
+        live(*ID, b"ADDCMD k")
+        + OPEN
+        + ADMIN
+        + ask(1, SET_ID, b"OK") * 239
+        + ask(1, b"INSTCMD su700 k", b"OK")
+        + ask(1, b'SET VAR su700 ups.id "ab"', err("SET-FAILED"), b'SET VAR su700 ups.id "a"', b"OK")
+        + ask(1, b'SET VAR su700 ups.id "a"', err("SET-FAILED"), b"INSTCMD su700 k", err("INSTCMD-FAILED"))
+        + [(("driver-took", 0, 4097), b"TooMuchTaken waits=4096 connected=true")]
+        + [(("driver-took", 0, 4096), b"ok waits=0 connected=true")],
+    ),
+    Row("no UPS", OPEN + ask(1, b"LIST UPS", listed(b"UPS")), config=Config([], {})),
+    Row(
+        "an answer that isn't taken",
+        OPEN
+        + [("bytes", 1, b"VER\n"), ("bytes", 1, b"VER\n"), ("took", 1, 36), ("took", 1, 35)]
+        + ask(1, b"VER", VERSION),
+    ),
+]
+
+# what is asked behind each row, so that every client and driver is looked at, before and after the driver comes again
+LOOK = []
+for number in range(1, 5):
+    LOOK += [("took", number, 0), ("bytes", number, STATUS + b"\nLIST VAR su700\n" + CLIENTS + b"\n" + NUMLOGINS + b"\n")]
+    LOOK += [("next", 0), ("take", number)]
+PROBE = [("open", b"10.0.0.9"), *LOOK, ("driver-take", 0), *live(), *LOOK, ("next-driver", 0)]

@@ -1,0 +1,48 @@
+"""The program `rehearse`, which plays scripts on the engines of this repository, and what it prints of them."""
+
+import os
+import subprocess
+
+from tests.support.harness import build_shim, expect, refusals
+from tests.support.player import line_of
+
+# what ends a run in which memory was refused where no engine answers for it
+OUT_OF_MEMORY = b"rehearse: out of memory\n"
+
+
+class Stage:
+    """The program, and the library that makes its calls fail."""
+
+    def __init__(self, program, folder):
+        self.program = program
+        self.shim = build_shim(folder)
+
+    def run(self, steps, env=None):
+        """Plays steps, each a tuple of a verb and its words: the status, the output, and what is said of a failure."""
+        script = b"".join(map(line_of, steps))
+        env = {**os.environ, **(env or {})}
+        done = subprocess.run([self.program], input=script, env=env, capture_output=True, timeout=60)
+        return done.returncode, done.stdout, done.stderr
+
+    def play(self, steps):
+        """Plays steps with nothing refused, and gives the lines that are printed."""
+        status, out, err = self.run(steps)
+        expect((status, err), (0, b""), "a script's end")
+        return out.splitlines()
+
+    def refused_in_turn(self, steps):
+        """Plays steps with the first allocation refused, then with the second, and so on, up to one that isn't reached. It
+        gives the number of each with the lines of its run, and whether the run came to its end."""
+        whole = self.run(steps)
+        expect((whole[0], whole[2]), (0, b""), "a script's end")
+        for at, env, is_reached in refusals(self.shim):
+            status, out, err = self.run(steps, env)
+            if not is_reached():
+                expect((status, out, err), whole, "a run without a refusal")
+                return
+            expect((status, err) in ((0, b""), (1, OUT_OF_MEMORY)), True, f"allocation {at}: status {status}, {err!r}")
+            yield at, out.splitlines(), status == 0
+
+    def allocations(self, steps):
+        """How many allocations these steps take."""
+        return sum(1 for _ in self.refused_in_turn(steps))
