@@ -52,7 +52,8 @@ class Count:
 
     def run(self, command):
         """Runs a command, shows what it prints, and adds the counts of its last line."""
-        run = subprocess.Popen(command, cwd=ROOT, stdout=subprocess.PIPE, stderr=subprocess.STDOUT, text=True, errors="replace")
+        # run as root, the toolchain runs tests as the user 'nobody', who has to reach the folders that it makes for them
+        run = subprocess.Popen(command, cwd=ROOT, stdout=subprocess.PIPE, stderr=subprocess.STDOUT, text=True, errors="replace", umask=0o022)
         last = ""
         for line in run.stdout:
             print(line, end="", flush=True)

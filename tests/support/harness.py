@@ -13,9 +13,6 @@ HERE = os.path.dirname(os.path.abspath(__file__))
 # the root of the repository
 ROOT = os.path.dirname(os.path.dirname(HERE))
 
-# the files that tests make hold passwords, and a program warns where everybody can read such a file
-os.umask(0o077)
-
 
 def processor_time(pid):
     """How many seconds of processor time a process has used."""
@@ -105,6 +102,8 @@ def run_test(tests, name):
 def run_tests(tests, names=(), install="", at_once=1):
     """Runs each test_.. method, or those with one of these names in theirs, so many at once, and prints a line for each, and
     last 'N passed, M failed'. It gives the exit status."""
+    # the files that tests make hold passwords, and a program warns where everybody can read such a file
+    os.umask(0o077)
     chosen = [it for it in dir(tests) if it.startswith("test_") and (not names or any(name in it for name in names))]
     counts = collections.Counter()
     with futures.ThreadPoolExecutor(at_once) as pool:
