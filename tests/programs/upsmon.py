@@ -13,7 +13,7 @@ import sys
 import tempfile
 import time
 
-from tests.support.harness import Failed, build_shim, expect, refusals
+from tests.support.harness import Failed, build_library, build_shim, ensure, expect, refusals
 from tests.support.monitored import (
     BATTERY_LOW,
     ESTABLISHED,
@@ -60,6 +60,22 @@ class Driver:
 
     def tell(self, status):
         self.end.sendall(b'SETINFO ups.status "%s"\n' % status)
+
+
+# an upsc whose every battery lasts longer than any machine needs
+LASTS_LONG = "echo 9999999"
+
+
+def put_upsc(folder, script):
+    """Makes an upsc out of such a script in a new folder of this one, or none, and gives the PATH on which it comes first."""
+    path = os.path.join(folder, "bin")
+    os.mkdir(path)
+    if script is None:
+        return path
+    with open(os.path.join(path, "upsc"), "w") as file:
+        file.write(f"#!/bin/sh\n{script}\n")
+    os.chmod(file.name, 0o755)
+    return f"{path}:/usr/bin:/bin"
 
 
 def squeezed(lines):
@@ -435,13 +451,15 @@ class Tests:
                     wanted = (1, b"", f"upsmon: upsmon.conf:{said}\n".encode())
                     expect((done.returncode, done.stdout, done.stderr), wanted, f"{text!r} {words}")
 
-    def checked(self, conf, *words, env=None):
-        """What 'upsmon --check' gives of such a file, whose folder the words and the environment name by FOLDER."""
+    def checked(self, conf, *words, env=None, upsc=LASTS_LONG):
+        """What 'upsmon --check' gives of such a file, whose folder the words and the environment name by FOLDER, where upsc
+        is such a script."""
         with tempfile.TemporaryDirectory(dir=self.folder) as folder:
+            env = {"PATH": put_upsc(folder, upsc), **(env or {})}
             with open(os.path.join(folder, "upsmon.conf"), "w", opener=lambda path, flags: os.open(path, flags, 0o600)) as file:
                 file.write(conf)
             words = [it.replace("FOLDER", folder) for it in words or ("--conf", "FOLDER")]
-            env = {**os.environ, **{name: it.replace("FOLDER", folder) for name, it in (env or {}).items()}}
+            env = {**os.environ, **{name: it.replace("FOLDER", folder) for name, it in env.items()}}
             done = subprocess.run([self.upsmon, "--check", *words], stdin=subprocess.DEVNULL, capture_output=True, timeout=60, env=env)
         return done.returncode, done.stdout.decode(), done.stderr.decode()
 
@@ -470,6 +488,46 @@ class Tests:
         expect(self.checked(primary + "MINSUPPLIES 0\n"), wanted, "a machine that needs no UPS")
         warning = "upsmon: warning: no SHUTDOWNCMD is set: nothing will stop this machine\n"
         expect(self.checked("MONITOR a@h 1 mon m1 primary\n")[::2], (0, warning), "what should be set otherwise")
+
+    def test_check_asks_how_early_lb_is_said(self):
+        conf = "MONITOR a@h 1 mon m1 primary\nMONITOR b@h:9 1 mon m1 primary\nMONITOR c@h 0 mon m1 primary\nSHUTDOWNCMD true\n"
+        unknown = "upsmon: UPS %s: battery.runtime.low isn't known\n"
+        late = "upsmon: warning: UPS %s: battery.runtime.low is %d, and this machine stops within 28 s of OB LB\n"
+        for upsc, told in (
+            ("echo 28", ""),
+            ("echo 28.9", ""),
+            ("echo 27", late % ("a@h", 27) + late % ("b@h:9", 27)),
+            ("echo 27.9", late % ("a@h", 27) + late % ("b@h:9", 27)),
+            ('[ "$1" = b@h:9 ] && echo 0 || echo 300', late % ("b@h:9", 0)),
+            ('[ "$*" = "a@h battery.runtime.low" ] && echo 1 || echo 300', late % ("a@h", 1)),
+            ("exit 1", unknown % "a@h" + unknown % "b@h:9"),
+            ("echo 20; exit 1", unknown % "a@h" + unknown % "b@h:9"),
+            ("echo", unknown % "a@h" + unknown % "b@h:9"),
+            ("echo 1e3", unknown % "a@h" + unknown % "b@h:9"),
+            ("exec sleep 60", unknown % "a@h" + unknown % "b@h:9"),
+            (None, unknown % "a@h" + unknown % "b@h:9"),
+        ):
+            begun = time.monotonic()
+            status, _, err = self.checked(conf, upsc=upsc)
+            expect((status, sorted(err.splitlines())), (0, sorted(told.splitlines())), upsc)
+            ensure(time.monotonic() - begun < 15, f"{upsc}: it took too long")
+        expect(self.checked(conf + "MINSUPPLIES 0\n", upsc="echo 1")[2], "", "a machine that needs no UPS")
+
+    def test_start_asks_how_early_lb_is_said(self):
+        """A server that can be asked only after some time: its answer is told once, and a shutdown ends the asking."""
+        library = build_library("hasten", self.folder)
+        late = "upsmon: warning: UPS %s: battery.runtime.low is 12, and this machine stops within 28 s of OB LB"
+        with tempfile.TemporaryDirectory(dir=self.folder) as folder, Upstream() as server:
+            asked = os.path.join(folder, "asked")
+            path = put_upsc(folder, f'echo >> {asked}; [ "$(wc -l < {asked})" = 1 ] && exit 1; echo 12')
+            conf = f"MONITOR {server.target} 1 mon m1 primary\nSHUTDOWNCMD true\n"
+            env = {**os.environ, "PATH": path, "LD_PRELOAD": library, "HASTE": "20"}
+            with self.watch(conf, "-q", env=env) as watch:
+                until(lambda: watch.lines("err"), "a warning", 15)
+                time.sleep(3)
+                expect(watch.lines("err"), [late % server.target], "what is told")
+                with open(asked) as file:
+                    expect(len(file.readlines()), 2, "how often it was asked")
 
     def test_folder_of_the_environment(self):
         conf = "MONITOR a@h 1 mon m1 primary\nSHUTDOWNCMD true\n"

@@ -1,5 +1,6 @@
 //! Who prints a monitor's notices, and runs NOTIFYCMD with them.
 
+use crate::low_runtime::LowRuntimes;
 use crate::notify_command::{Call, NotifyCommand};
 use nut_conf::UpsmonConf;
 use nut_monitor::{Monitor, Notice};
@@ -14,13 +15,15 @@ const TEXT_MAX: usize = 233;
 /// Prints each notice whose flags have SYSLOG or WALL as one line, and runs NOTIFYCMD with each whose flags have EXEC. With
 /// IGNORE neither is done, whatever stands beside it.
 ///
-/// A run of the command that can't be started is let go, which is told on `err`.
+/// A run of the command that can't be started is let go, which is told on `err`, as is a UPS that says LB later than this
+/// machine needs to stop. From the notice of the shutdown on no UPS is asked for that any more.
 #[derive(Drop)]
 pub struct Crier<'a, R: Processes, O, E> {
     out: O,
     err: E,
     text: Vec<u8>,
     command: NotifyCommand<'a, R>,
+    runtimes: LowRuntimes<'a, R>,
 }
 
 impl<'a, R: Processes, O: Write + Drop, E: Write + Drop> Crier<'a, R, O, E> {
@@ -37,6 +40,7 @@ impl<'a, R: Processes, O: Write + Drop, E: Write + Drop> Crier<'a, R, O, E> {
             err,
             text: Vec::with_capacity(alloc, TEXT_MAX)?,
             command: NotifyCommand::new(processes, alloc, config)?,
+            runtimes: LowRuntimes::watched(processes, alloc, config)?,
         })
     }
 
@@ -61,6 +65,10 @@ impl<'a, R: Processes, O: Write + Drop, E: Write + Drop> Crier<'a, R, O, E> {
 
 impl<'a, R: Processes, O: Write + Drop, E: Write + Drop> Herald for Crier<'a, R, O, E> {
     fn announce(&mut self, monitor: &Monitor, notice: Notice) {
+        if notice.line.is_none() {
+            // that of the shutdown
+            self.runtimes.end();
+        }
         let config = monitor.config();
         let flags = config.flags(notice.kind);
         if flags.ignore {
@@ -80,6 +88,7 @@ impl<'a, R: Processes, O: Write + Drop, E: Write + Drop> Herald for Crier<'a, R,
 
     fn second(&mut self) {
         self.command.reap();
+        let _ = self.runtimes.step(&mut self.err);
     }
 }
 

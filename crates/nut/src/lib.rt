@@ -13,6 +13,7 @@ mod failure;
 mod folder;
 mod halt;
 mod listeners;
+mod low_runtime;
 mod monitor;
 mod notify_command;
 mod power_down_flag;

@@ -10,6 +10,7 @@ use crate::crier::Crier;
 use crate::failure::Failure;
 use crate::folder::conf_folder;
 use crate::halt::{Halt, halt_heap};
+use crate::low_runtime::check_low_runtimes;
 use crate::power_down_flag::{FlagState, PowerDownFlag};
 use crate::stopping::Stopping;
 use crate::streams::hold_closed_streams;
@@ -52,7 +53,7 @@ struct Streams<O, E> {
 ///
 /// With `-K` nothing is watched: the status is 0 where POWERDOWNFLAG is set, else 1. With `--check` nothing is watched either:
 /// upsmon.conf is read as a start does, what a start says of it is said, and how soon this machine stops goes to `out`. The
-/// status is 0 where the file has no fault.
+/// servers are asked whether their UPSes say LB early enough for that. The status is 0 where the file has no fault.
 ///
 /// What upsmon.conf should set otherwise is told on `err`, and so are how soon this machine stops and the UPSes that are
 /// watched, a line each; with `-q` only what should be set otherwise is. A line that `out` or `err` doesn't take at once is
@@ -126,7 +127,8 @@ fn look_for_flag<R: Files + Env + Alloc>(
     Ok(u8::from(!is_flag_set(rt, alloc, folder.as_str())?))
 }
 
-/// Reads upsmon.conf, says of it what a start does, writes how soon this machine stops, and gives the exit status.
+/// Reads upsmon.conf, says of it what a start does, writes how soon this machine stops, asks the servers whether their UPSes
+/// say LB early enough for that, and gives the exit status.
 fn check_file<R, O, E>(
     rt: &R,
     alloc: Global,
@@ -135,7 +137,7 @@ fn check_file<R, O, E>(
     told: &mut LossyLines<E>,
 ) -> Result<u8, Failure<UpsmonFault>>
 where
-    R: Files + Env + Alloc,
+    R: Files + Clock + Processes + Env + Alloc,
     O: Write + AsRawFd + Copy,
     E: Write + AsRawFd + Copy,
 {
@@ -144,6 +146,7 @@ where
     let config = read_conf(rt, alloc, folder)?;
     tell_warnings(rt, alloc, folder, &config, told)?;
     Stopping::of(&config).tell(&mut out)?;
+    check_low_runtimes(rt, alloc, &config, told)?;
     Ok(0)
 }
 

@@ -1,0 +1,276 @@
+//! Whether the UPSes of a machine say LB early enough for it to stop.
+
+use crate::stopping::Stopping;
+use nut_conf::{Monitored, UpsmonConf};
+use nut_sockets::text_of;
+use std::alloc::{AllocError, Global};
+use std::io::{Read, Write};
+use std::process::{Child, Command, OpenProcess, Processes, Stdio};
+use std::time::{Clock, Duration};
+use std::{io, str, thread};
+
+/// How many questions may go on at a time.
+const QUESTIONS_MAX: usize = 8;
+
+/// How much of an answer is read: more digits than any number of seconds has.
+const ANSWER_MAX: usize = 64;
+
+/// How many steps of 100 ms a check may take.
+const CHECK_STEPS: u8 = 100;
+
+/// How many milliseconds pass between two steps of a check.
+const CHECK_STEP: u64 = 100;
+
+/// How patiently servers are asked. Times are counted in steps.
+#[derive(Clone, Copy)]
+struct Patience {
+    /// How long a question may take.
+    question: u8,
+    /// How long to wait before each question.
+    pause: u8,
+    /// How often a server is asked that doesn't answer.
+    tries: u8,
+    /// Whether it is told that a server doesn't answer.
+    is_told: bool,
+}
+
+/// For a check that somebody waits for, with steps of 100 ms.
+const CHECK: Patience = Patience {
+    question: 50,
+    pause: 0,
+    tries: 1,
+    is_told: true,
+};
+
+/// For a monitor that goes on meanwhile, with steps of a second: its server may start later than it does.
+const WATCH: Patience = Patience {
+    question: 5,
+    pause: 30,
+    tries: 10,
+    is_told: false,
+};
+
+/// A UPS whose server is to be asked.
+#[derive(Drop)]
+struct Ups {
+    name: String,
+    tries: u8,
+}
+
+/// A question that goes on.
+#[derive(Drop)]
+struct Question<P: OpenProcess> {
+    ups: Ups,
+    child: Child<P>,
+    age: u8,
+}
+
+/// Asks for `battery.runtime.low` of each UPS that feeds this machine, and warns where a UPS says LB later than this machine
+/// needs to stop. Each question is a process of its own, `upsc UPS battery.runtime.low`, which is killed after five seconds:
+/// nobody waits for a server.
+#[derive(Drop)]
+pub struct LowRuntimes<'r, R: Processes> {
+    processes: &'r R,
+    alloc: Global,
+    /// How many seconds this machine needs.
+    needed: u64,
+    patience: Patience,
+    /// How many steps pass before the next question.
+    pause: u8,
+    left: Vec<Ups>,
+    asked: Vec<Question<R::Started>>,
+}
+
+impl<'r, R: Processes> LowRuntimes<'r, R> {
+    /// Those that a monitor with this configuration asks for while it watches.
+    pub fn watched(
+        processes: &'r R,
+        alloc: Global,
+        config: &UpsmonConf,
+    ) -> Result<LowRuntimes<'r, R>, AllocError> {
+        LowRuntimes::new(processes, alloc, config, WATCH)
+    }
+
+    /// None is asked for that doesn't feed this machine, and none at all where it needs no UPS.
+    fn new(
+        processes: &'r R,
+        alloc: Global,
+        config: &UpsmonConf,
+        patience: Patience,
+    ) -> Result<LowRuntimes<'r, R>, AllocError> {
+        let (needed, lines) = match Stopping::of(config) {
+            Stopping::Within(seconds) => (seconds, config.monitors.lines.as_slice()),
+            Stopping::Never => (0, &[]),
+        };
+        Ok(LowRuntimes {
+            processes,
+            alloc,
+            needed,
+            patience,
+            pause: patience.pause,
+            left: upses_of(alloc, lines, patience.tries)?,
+            asked: Vec::with_capacity(alloc, QUESTIONS_MAX)?,
+        })
+    }
+
+    /// Takes a step: tells an answer that came, ends questions that take too long, and asks the next. Gives whether another
+    /// step is needed.
+    pub fn step<E: Write>(&mut self, err: &mut E) -> bool {
+        if let Some(question) = take_ended(&mut self.asked) {
+            self.hear(question, err);
+        }
+        grow_older(&mut self.asked, self.patience.question);
+        self.ask_next(err);
+        !self.left.is_empty() || !self.asked.is_empty()
+    }
+
+    /// Asks no more.
+    pub fn end(&mut self) {
+        self.left.clear();
+        grow_older(&mut self.asked, 0);
+    }
+
+    /// Tells what a question was answered that has ended.
+    fn hear<E: Write>(&mut self, mut question: Question<R::Started>, err: &mut E) {
+        match answer_of(&mut question.child) {
+            Some(seconds) => self.compare(&question.ups, seconds, err),
+            None => self.ask_again(question.ups, err),
+        }
+    }
+
+    /// Warns where a UPS says LB too late.
+    fn compare<E: Write>(&self, ups: &Ups, seconds: u64, err: &mut E) {
+        if seconds < self.needed {
+            let _ = writeln!(
+                err,
+                "upsmon: warning: UPS {}: battery.runtime.low is {seconds}, and this machine stops within {} s of OB LB",
+                ups.name, self.needed
+            );
+        }
+    }
+
+    /// Has a server asked again, unless it was asked often enough.
+    fn ask_again<E: Write>(&mut self, mut ups: Ups, err: &mut E) {
+        ups.tries = ups.tries.saturating_sub(1);
+        if ups.tries > 0 {
+            let _ = self.left.push(ups);
+        } else if self.patience.is_told {
+            let _ = writeln!(
+                err,
+                "upsmon: UPS {}: battery.runtime.low isn't known",
+                ups.name
+            );
+        }
+    }
+
+    /// Asks for the next one, where it is time.
+    fn ask_next<E: Write>(&mut self, err: &mut E) {
+        if self.pause > 0 {
+            self.pause -= 1;
+            return;
+        }
+        if self.left.is_empty() || self.asked.len() >= QUESTIONS_MAX {
+            return;
+        }
+        self.pause = self.patience.pause;
+        let ups = self.left.remove(0);
+        match ask(self.processes, self.alloc, ups.name.as_str()) {
+            Ok(child) => {
+                let _ = self.asked.push(Question { ups, child, age: 0 });
+            }
+            Err(_) => self.ask_again(ups, err),
+        }
+    }
+}
+
+/// Asks for each UPS of a configuration once, waits for the answers, at most ten seconds in all, and tells them.
+///
+/// # Errors
+/// Where the memory for their names isn't to be had.
+pub fn check_low_runtimes<R: Processes + Clock, E: Write>(
+    rt: &R,
+    alloc: Global,
+    config: &UpsmonConf,
+    err: &mut E,
+) -> Result<(), AllocError> {
+    let mut runtimes = LowRuntimes::new(rt, alloc, config, CHECK)?;
+    for _ in 0..CHECK_STEPS {
+        if !runtimes.step(err) {
+            break;
+        }
+        thread::sleep(rt, Duration::from_millis(CHECK_STEP));
+    }
+    runtimes.end();
+    Ok(())
+}
+
+/// The UPSes of the lines that feed this machine.
+fn upses_of(alloc: Global, lines: &[Monitored], tries: u8) -> Result<Vec<Ups>, AllocError> {
+    let mut upses = Vec::with_capacity(alloc, lines.len())?;
+    for line in lines {
+        if line.power.value > 0 {
+            let name = String::from_str(alloc, text_of(&line.written))?;
+            upses.push(Ups { name, tries })?;
+        }
+    }
+    Ok(upses)
+}
+
+/// A question that has ended, if one has.
+fn take_ended<P: OpenProcess + Drop>(asked: &mut Vec<Question<P>>) -> Option<Question<P>> {
+    let at = asked
+        .iter_mut()
+        .position(|question| !matches!(question.child.try_wait(), Ok(None)))?;
+    if asked.len() <= at {
+        return None;
+    }
+    Some(asked.remove(at))
+}
+
+/// A step passed: questions that go on for more steps than these are ended.
+fn grow_older<P: OpenProcess>(asked: &mut [Question<P>], most: u8) {
+    for question in asked.iter_mut() {
+        question.age = question.age.saturating_add(1);
+        if question.age > most {
+            let _ = question.child.kill();
+        }
+    }
+}
+
+/// Starts the process that asks, with a pipe for what it prints.
+fn ask<R: Processes>(processes: &R, alloc: Global, name: &str) -> io::Result<Child<R::Started>> {
+    let mut command = Command::new(alloc, "upsc")?;
+    put_question(&mut command, name)?;
+    command.spawn(processes)
+}
+
+fn put_question(command: &mut Command<Global>, name: &str) -> Result<(), AllocError> {
+    command.arg(name)?.arg("battery.runtime.low")?;
+    command
+        .stdin(Stdio::null())
+        .stdout(Stdio::piped())
+        .stderr(Stdio::null());
+    Ok(())
+}
+
+/// The seconds that a process printed which has ended well.
+fn answer_of<P: OpenProcess>(child: &mut Child<P>) -> Option<u64> {
+    let Ok(Some(status)) = child.try_wait() else {
+        return None;
+    };
+    if !status.success() {
+        return None;
+    }
+    let Some(output) = &mut child.stdout else {
+        return None;
+    };
+    let mut text = [0; ANSWER_MAX];
+    let length = output.read(&mut text).ok()?;
+    seconds_in(text.get(..length)?)
+}
+
+/// The whole seconds of a number such as `120` or `120.5`, with a line feed behind it.
+fn seconds_in(answer: &[u8]) -> Option<u64> {
+    let digits = answer.split(|byte| matches!(*byte, b'.' | b'\n')).next()?;
+    str::from_utf8(digits).ok()?.parse().ok()
+}
