@@ -98,9 +98,12 @@ impl<'r, R: Processes> LowRuntimes<'r, R> {
         config: &UpsmonConf,
         patience: Patience,
     ) -> Result<LowRuntimes<'r, R>, AllocError> {
-        let (needed, lines) = match Stopping::of(config) {
-            Stopping::Within(seconds) => (seconds, config.monitors.lines.as_slice()),
-            Stopping::Never => (0, &[]),
+        let (needed, left) = match Stopping::of(config) {
+            Stopping::Within(needed) => (
+                needed,
+                upses_of(alloc, &config.monitors.lines, patience.tries)?,
+            ),
+            Stopping::Never => (0, Vec::new(alloc)),
         };
         Ok(LowRuntimes {
             processes,
@@ -108,7 +111,7 @@ impl<'r, R: Processes> LowRuntimes<'r, R> {
             needed,
             patience,
             pause: patience.pause,
-            left: upses_of(alloc, lines, patience.tries)?,
+            left,
             asked: Vec::with_capacity(alloc, QUESTIONS_MAX)?,
         })
     }
