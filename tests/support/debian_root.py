@@ -27,7 +27,10 @@ def fresh_root(folder, saved=None):
         subprocess.run(["cp", "-a", "--reflink=auto", saved, folder], check=True, timeout=600)
         return Root(folder)
     debootstrap = needed("debootstrap", "debootstrap")
-    status, said = run([debootstrap, "--variant=minbase", "--include=systemd,systemd-sysv,dbus", SUITE, folder], timeout=1800)
+    try:
+        status, said = run([debootstrap, "--variant=minbase", "--include=systemd,systemd-sysv,dbus", SUITE, folder], timeout=1200)
+    except subprocess.TimeoutExpired:
+        raise Missing("debootstrap made no root within 20 minutes") from None
     if status != 0:
         raise Missing(f"debootstrap made no root: {said.splitlines()[-1:]}")
     return Root(folder)
