@@ -12,7 +12,8 @@ use Rattle.nut_decision.specs.Trace.{Asked, Entry, earliest, clock, moment_of, l
 use Rattle.nut_decision.specs.Content.{Content, stage_in, watch, content}
 use Rattle.nut_decision.specs.Acceptance.{Accepts, Tells, is_linked, waiting_on, waits_on}
 use Rattle.nut_decision.specs.Machine.{advance}
-use Rattle.nut_decision.specs.Outcome.{IsRefusal, after, content_after}
+use Rattle.nut_decision.specs.Outcome.{IsRefusal, after}
+use Rattle.nut_decision.specs.MachineOutcome.{content_after}
 use Rattle.nut_decision.specs.Laws.{AnswersKeepContent, LinkedIsMade, WaitingIsLeft, SentAndWaitingIsDue, ShutdownStays}
 use Rattle.nut_decision.proofs.Lists.{get_at, earliest-moment, number-none, number-head}
 use Rattle.nut_decision.proofs.Settled.{IsTidy}

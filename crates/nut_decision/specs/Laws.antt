@@ -14,7 +14,8 @@ use Rattle.nut_decision.specs.Trace.{Asked, Entry, linked, input, queries, answe
 use Rattle.nut_decision.specs.Content.{Watch, Content, content}
 use Rattle.nut_decision.specs.Handing.{notices_handed}
 use Rattle.nut_decision.specs.Acceptance.{IsAccepted, Tells, watch_at, is_linked, waiting_on}
-use Rattle.nut_decision.specs.Outcome.{IsAnswer, after, content_after}
+use Rattle.nut_decision.specs.Outcome.{IsAnswer, after}
+use Rattle.nut_decision.specs.MachineOutcome.{content_after}
 
 -- these are all queries, or all but the newest
 abbrev pub IsInTurn : List Asked → List Asked → Type 0

@@ -9,4 +9,5 @@ pub mod Acceptance
 pub mod Machine
 pub mod Examples
 pub mod Outcome
+pub mod MachineOutcome
 pub mod Laws

@@ -9,7 +9,6 @@ use Rattle.nut_decision.specs.declared.MonitorFault.TheVariants.{NoSuchLink, Wro
 use Rattle.nut_decision.specs.Event.{Event, LinkBytes, OutOfMemory}
 use Rattle.nut_decision.specs.Content.{Watch, Content}
 use Rattle.nut_decision.specs.Acceptance.{refusal, Accepts, watch_at}
-use Rattle.nut_decision.specs.Machine.{advance}
 
 -- Memory may run out on a link behind the first k of the lines that a piece completes.
 abbrev pub MayRunOut : ℕ → List ℕ → Option LinkValue → Type 0
@@ -56,13 +55,3 @@ after_refusal fault event events = events
 abbrev pub after : {U : Type 0} → Result U MonitorFault → Event → List Event → List Event
 after (Ok u) event events = event ∷ events
 after (Err fault) event events = after_refusal fault event events
-
--- the content after a refusal
-abbrev pub content_after_refusal : MonitorFault → Content → Event → Content
-content_after_refusal (Memory link k) s event = advance s (cut_short k event)
-content_after_refusal fault s event = s
-
--- the content after an event and the answer to it: that of the history after it
-abbrev pub content_after : {U : Type 0} → Result U MonitorFault → Content → Event → Content
-content_after (Ok u) s event = advance s event
-content_after (Err fault) s event = content_after_refusal fault s event

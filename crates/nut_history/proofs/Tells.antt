@@ -1,6 +1,8 @@
 -- What a server holds after an event and its answer is the content of the history after it.
 use Rattle.std.proofs.Common.{◌≡◌, ℕ, zero, suc, ◌≤◌, true, false, eqb, ltb, List, [], ◌∷◌, length, refl, sym, ◌∙◌, ap, arith, inl, inr, Option, Some, None, subst}
-use Rattle.std.specs.Prelude.{Result, Ok, Err, option_map}
+use Rattle.std.specs.Prelude.{Result, Ok, Err, IsTrue, option_map, slice_get}
+use Rattle.std.specs.Option.{option_map_or}
+use Rattle.nut_words.specs.Lines.{LineText, lines_after}
 use Rattle.std.proofs.lemmas.Bool.{cases_Bool, ltb-false, le-ltb}
 use Rattle.nut_history.specs.declared.Place.{Place}
 use Rattle.nut_history.specs.declared.Place.TheVariants.{Line, Report}
@@ -11,7 +13,8 @@ use Rattle.nut_history.specs.Event.{Event, Moment, Open, Bytes, Took, Close, Wri
 use Rattle.nut_history.specs.Content.{Session, Supply, Content, content}
 use Rattle.nut_history.specs.Acceptance.{refusal, IsAccepted, Tells, front, lost, lost_report, session_of, supply_of, bytes_refusal, close_refusal, report_refusal, down_refusal}
 use Rattle.nut_history.specs.Machine.{advance, bytes_reported, with_supplies}
-use Rattle.nut_history.specs.Outcome.{IsAnswer, IsRefusal, MayLack, after, after_refusal, after_lack, content_after, content_after_refusal, content_after_lack, content_lost, content_lost_report}
+use Rattle.nut_history.specs.Outcome.{IsAnswer, IsRefusal, MayLack, MayRunOut, MayRunOutOf, after, after_refusal, after_lack, line_takes, report_takes, unfinished_of, unfinished_report}
+use Rattle.nut_history.specs.MachineOutcome.{Answers, Refuses, Lacks, RunsOut, RunsOutOf, supply_after, content_after, content_after_refusal, content_after_lack, content_lost, content_lost_report}
 use Rattle.nut_history.proofs.Kept.{keeps-content}
 use Rattle.nut_history.proofs.Places.{update_at-none}
 use Rattle.nut_history.proofs.Sessions.{bytes_heard-open, IsOpen}
@@ -114,7 +117,7 @@ tells-lost_report first h s u piece (suc k) told accepted =
 
 -- ---- all answers
 
-lack : (first : Configuration) (h : List Event) (s : Content) (e : Event) (place : Place) → Tells first h s → refusal s e ≡ None → MayLack s place e
+lack : (first : Configuration) (h : List Event) (s : Content) (e : Event) (place : Place) → Tells first h s → refusal s e ≡ None → Lacks s place e
     → Tells first (after_lack place e h) (content_after_lack place e s)
 lack first h s (Bytes d piece) (Line c k) told accepted may = tells-lost first h s d piece k told accepted
 lack first h s (DriverBytes v piece) (Report u k) told accepted may = tells-lost_report first h s v piece k told accepted
@@ -137,7 +140,7 @@ lack first h s (DriverTook v n) (Report u k) told accepted may = absurd may
 lack first h s (DriverDown v) (Line c k) told accepted may = absurd may
 lack first h s (DriverDown v) (Report u k) told accepted may = absurd may
 
-refused : (first : Configuration) (h : List Event) (s : Content) (e : Event) (r : Refused) → Tells first h s → IsRefusal s e r
+refused : (first : Configuration) (h : List Event) (s : Content) (e : Event) (r : Refused) → Tells first h s → Refuses s e r
     → Tells first (after_refusal r e h) (content_after_refusal r e s)
 refused first h s e (Memory place) told is = lack first h s e place told is.0 is.1
 refused first h s e NoSuchConnection told is = told
@@ -149,7 +152,92 @@ refused first h s e BadAddress told is = told
 refused first h s e Full told is = told
 
 -- What a server holds after any answer that it may give is the content of the history after it.
-pub tells-after : {U : Type 0} (first : Configuration) (h : List Event) (s : Content) (e : Event) (r : Result U Refused) → Tells first h s → IsAnswer s e r
+pub tells-after : {U : Type 0} (first : Configuration) (h : List Event) (s : Content) (e : Event) (r : Result U Refused) → Tells first h s → Answers s e r
     → Tells first (after r e h) (content_after r s e)
 tells-after first h s e (Ok u) told is = tells-step first h s e told is
 tells-after first h s e (Err r) told is = refused first h s e r told is
+
+-- ---- the machine's answers are those that histories allow
+
+-- The line with the number k may take memory, behind a history of the content x, where the lines before it lead to y.
+abbrev LineTakes : ℕ → List ℕ → ℕ → Content → Content → Type 0
+LineTakes c piece k x y =
+    let lines : List LineText = lines_after (unfinished_of (session_of c x.sessions)) piece in
+    IsTrue (option_map_or (λ line. line_takes line (session_of c y.sessions)) (slice_get lines k) false)
+
+runs_out : (first : Configuration) (h : List Event) (s : Content) (c : ℕ) (piece : List ℕ) (k : ℕ) → Tells first h s → refusal s (Bytes c piece) ≡ None
+    → RunsOut c piece k s → MayRunOut first h c piece k
+runs_out first h s c piece zero told accepted may = subst (λ x. LineTakes c piece zero x x) told.1 may
+runs_out first h s c piece (suc k) told accepted may =
+    let part = front (suc k) piece in
+    let mid : Tells first (Bytes c part ∷ h) (advance s (Bytes c part)) = tells-step first h s (Bytes c part) told (shorter (suc k) piece (session_of c s.sessions) accepted) in
+    subst (λ x. LineTakes c piece (suc k) x (content first (Bytes c part ∷ h))) told.1
+    (subst (λ y. LineTakes c piece (suc k) s y) mid.1 may)
+
+-- the same of a driver's line, and of its UPS before and behind the lines before it
+abbrev ReportTakes : List ℕ → ℕ → Option Supply → Option Supply → Type 0
+ReportTakes piece k before behind =
+    let lines : List LineText = lines_after (unfinished_report before) piece in
+    IsTrue (option_map_or (λ line. report_takes line behind) (slice_get lines k) false)
+
+-- no line changes nothing
+supply_first : (time : ℕ) (piece : List ℕ) (o : Option Supply) → supply_after time piece zero o ≡ o
+supply_first time piece None = refl
+supply_first time piece (Some d) = refl
+
+supply_later : (time : ℕ) (piece : List ℕ) (k : ℕ) (o : Option Supply) → supply_after time piece k o ≡ option_map (bytes_reported time (front k piece)) o
+supply_later time piece k None = refl
+supply_later time piece k (Some d) = refl
+
+runs_out_of : (first : Configuration) (h : List Event) (s : Content) (u : ℕ) (piece : List ℕ) (k : ℕ) → Tells first h s → refusal s (DriverBytes u piece) ≡ None
+    → RunsOutOf s.clock piece k (supply_of u s.supplies) → MayRunOutOf first h u piece k
+runs_out_of first h s u piece zero told accepted may =
+    subst (λ x. ReportTakes piece zero (supply_of u x.supplies) (supply_of u x.supplies)) told.1
+    (subst (λ o. ReportTakes piece zero (supply_of u s.supplies) o) (supply_first s.clock piece (supply_of u s.supplies)) may)
+runs_out_of first h s u piece (suc k) told accepted may =
+    let part = front (suc k) piece in
+    let mid : Tells first (DriverBytes u part ∷ h) (advance s (DriverBytes u part)) =
+    tells-step first h s (DriverBytes u part) told (shorter_report (suc k) piece (supply_of u s.supplies) accepted) in
+    let later : supply_after s.clock piece (suc k) (supply_of u s.supplies) ≡ supply_of u (content first (DriverBytes u part ∷ h)).supplies =
+    supply_later s.clock piece (suc k) (supply_of u s.supplies)
+    ∙ sym (supply_of-update u (bytes_reported s.clock part) s.supplies)
+    ∙ ap (λ x. supply_of u x.supplies) mid.1 in
+    subst (λ x. ReportTakes piece (suc k) (supply_of u x.supplies) (supply_of u (content first (DriverBytes u part ∷ h)).supplies)) told.1
+    (subst (λ o. ReportTakes piece (suc k) (supply_of u s.supplies) o) later may)
+
+lacks : (first : Configuration) (h : List Event) (s : Content) (e : Event) (place : Place) → Tells first h s → refusal s e ≡ None → Lacks s place e → MayLack first h place e
+lacks first h s (Moment t) (Line c k) told accepted may = absurd may
+lacks first h s (Moment t) (Report u k) told accepted may = absurd may
+lacks first h s (Open address) (Line c k) told accepted may = absurd may
+lacks first h s (Open address) (Report u k) told accepted may = absurd may
+lacks first h s (Bytes d piece) (Line c k) told accepted may = (may.0, runs_out first h s d piece k told accepted may.1)
+lacks first h s (Bytes d piece) (Report u k) told accepted may = absurd may
+lacks first h s (Took d n) (Line c k) told accepted may = absurd may
+lacks first h s (Took d n) (Report u k) told accepted may = absurd may
+lacks first h s (Close d) (Line c k) told accepted may = absurd may
+lacks first h s (Close d) (Report u k) told accepted may = absurd may
+lacks first h s (WriteFailed d) (Line c k) told accepted may = absurd may
+lacks first h s (WriteFailed d) (Report u k) told accepted may = absurd may
+lacks first h s (DriverUp v) (Line c k) told accepted may = absurd may
+lacks first h s (DriverUp v) (Report u k) told accepted may = absurd may
+lacks first h s (DriverBytes v piece) (Line c k) told accepted may = absurd may
+lacks first h s (DriverBytes v piece) (Report u k) told accepted may = (may.0, runs_out_of first h s v piece k told accepted may.1)
+lacks first h s (DriverTook v n) (Line c k) told accepted may = absurd may
+lacks first h s (DriverTook v n) (Report u k) told accepted may = absurd may
+lacks first h s (DriverDown v) (Line c k) told accepted may = absurd may
+lacks first h s (DriverDown v) (Report u k) told accepted may = absurd may
+
+refuses : (first : Configuration) (h : List Event) (s : Content) (e : Event) (r : Refused) → Tells first h s → Refuses s e r → IsRefusal first h e r
+refuses first h s e (Memory place) told is = (subst (λ x. refusal x e ≡ None) told.1 is.0, lacks first h s e place told is.0 is.1)
+refuses first h s e NoSuchConnection told is = subst (λ x. refusal x e ≡ Some NoSuchConnection) told.1 is
+refuses first h s e NotConnected told is = subst (λ x. refusal x e ≡ Some NotConnected) told.1 is
+refuses first h s e PieceTooLong told is = subst (λ x. refusal x e ≡ Some PieceTooLong) told.1 is
+refuses first h s e Busy told is = subst (λ x. refusal x e ≡ Some Busy) told.1 is
+refuses first h s e TooMuchTaken told is = subst (λ x. refusal x e ≡ Some TooMuchTaken) told.1 is
+refuses first h s e BadAddress told is = subst (λ x. refusal x e ≡ Some BadAddress) told.1 is
+refuses first h s e Full told is = subst (λ x. refusal x e ≡ Some Full) told.1 is
+
+-- What the machine answers is what a server may answer that was told the history.
+pub answers-told : {U : Type 0} (first : Configuration) (h : List Event) (s : Content) (e : Event) (r : Result U Refused) → Tells first h s → Answers s e r → IsAnswer first h e r
+answers-told first h s e (Ok u) told is = subst (λ x. refusal x e ≡ None) told.1 is
+answers-told first h s e (Err r) told is = refuses first h s e r told is

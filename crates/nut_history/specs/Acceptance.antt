@@ -96,15 +96,22 @@ front zero piece = []
 front (suc k) [] = []
 front (suc k) (b ∷ piece) = b ∷ (if b == 10 then front k piece else front (suc k) piece)
 
--- what stands in a history for a piece of c of which k lines were done when memory ran out
-abbrev pub lost : ℕ → List ℕ → ℕ → List Event → List Event
-lost c piece zero h = Close c ∷ h
-lost c piece (suc k) h = Close c ∷ Bytes c (front (suc k) piece) ∷ h
+-- the history behind k lines of a piece of c, and behind k lines of a piece of the driver of u
+abbrev pub behind : ℕ → List ℕ → ℕ → List Event → List Event
+behind c piece zero h = h
+behind c piece (suc k) h = Bytes c (front (suc k) piece) ∷ h
 
--- the same for a piece of the driver of u
+abbrev pub behind_report : ℕ → List ℕ → ℕ → List Event → List Event
+behind_report u piece zero h = h
+behind_report u piece (suc k) h = DriverBytes u (front (suc k) piece) ∷ h
+
+-- The history after memory ran out behind k lines of a piece of c: the connection is closed. Behind k lines of a piece of the
+-- driver of u: it is gone.
+abbrev pub lost : ℕ → List ℕ → ℕ → List Event → List Event
+lost c piece k h = Close c ∷ behind c piece k h
+
 abbrev pub lost_report : ℕ → List ℕ → ℕ → List Event → List Event
-lost_report u piece zero h = DriverDown u ∷ h
-lost_report u piece (suc k) h = DriverDown u ∷ DriverBytes u (front (suc k) piece) ∷ h
+lost_report u piece k h = DriverDown u ∷ behind_report u piece k h
 
 -- how many lines a piece completes
 abbrev pub line_feeds : List ℕ → ℕ

@@ -11,7 +11,8 @@ use Rattle.nut_history.specs.Content.{Session, Supply, Content, content, past, s
 use Rattle.nut_history.specs.declared.Refused.{Refused}
 use Rattle.nut_history.specs.Acceptance.{IsAccepted, Tells, session_of, waiting_of, supply_of, asks_of}
 use Rattle.nut_history.specs.Machine.{fresh}
-use Rattle.nut_history.specs.Outcome.{IsAnswer, after, content_after}
+use Rattle.nut_history.specs.Outcome.{IsAnswer, after}
+use Rattle.nut_history.specs.MachineOutcome.{Answers, content_after}
 
 -- However a connection's bytes are cut into pieces, the content is the same.
 abbrev pub CutsDoNotMatter : Type 0
@@ -168,11 +169,12 @@ NumbersRise =
 
 -- ---- answers and contents
 
--- What a server has after any answer that it may give to an event is the content of the history after it.
+-- What the machine answers to an event is what a server may answer that was told the history, and what the machine has after it
+-- is the content of the history after it.
 abbrev pub AnswersKeepContent : Type 0
 AnswersKeepContent =
     (first : Configuration) (h : List Event) (s : Content) (e : Event) (r : Result (Unit {0}) Refused) →
-    Tells first h s → IsAnswer s e r → Tells first (after r e h) (content_after r s e)
+    Tells first h s → Answers s e r → IsAnswer first h e r × Tells first (after r e h) (content_after r s e)
 
 -- the connection that an event is of; an Open is of the one that it opens
 abbrev pub connection_of : Content → Event → Option ℕ

@@ -9,6 +9,7 @@ pub mod Content
 pub mod Acceptance
 pub mod Machine
 pub mod Outcome
+pub mod MachineOutcome
 pub mod Laws
 pub mod Examples
 pub mod DriverExamples

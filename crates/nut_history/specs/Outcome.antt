@@ -10,10 +10,10 @@ use Rattle.nut_history.specs.declared.Place.TheVariants.{Line, Report}
 use Rattle.nut_history.specs.declared.Refused.{Refused}
 use Rattle.nut_history.specs.declared.Refused.TheVariants.{NoSuchConnection, NotConnected, PieceTooLong, Busy, TooMuchTaken, BadAddress, Full, Memory}
 use Rattle.nut_history.specs.Command.{Command, Blank, Malformed, Asks, command_of}
-use Rattle.nut_history.specs.Event.{Event, Bytes, Close, DriverBytes, DriverDown}
-use Rattle.nut_history.specs.Content.{Session, Supply, Content}
-use Rattle.nut_history.specs.Acceptance.{refusal, front, lost, lost_report, session_of, supply_of}
-use Rattle.nut_history.specs.Machine.{advance, bytes_heard, bytes_reported}
+use Rattle.nut_history.specs.Event.{Event, Bytes, DriverBytes}
+use Rattle.nut_history.specs.Configuration.{Configuration}
+use Rattle.nut_history.specs.Content.{Session, Supply, content}
+use Rattle.nut_history.specs.Acceptance.{refusal, behind, behind_report, lost, lost_report, session_of, supply_of}
 
 -- ---- where memory may be lacking
 
@@ -48,48 +48,48 @@ abbrev pub unfinished_report : Option Supply → LineText
 unfinished_report None = Text []
 unfinished_report (Some d) = d.rest
 
--- the session of c, and a UPS, after the first k lines that a piece completes
-abbrev pub session_after : ℕ → List ℕ → ℕ → Content → Option Session
-session_after c piece k s = session_of c (bytes_heard c (front k piece) s).sessions
+-- the session of c, and the UPS u, as the history h says them
+abbrev pub session_in : Configuration → List Event → ℕ → Option Session
+session_in first h c = session_of c (content first h).sessions
 
-abbrev pub supply_after : ℕ → List ℕ → ℕ → Option Supply → Option Supply
-supply_after time piece k None = None
-supply_after time piece k (Some d) = Some (bytes_reported time (front k piece) d)
+abbrev pub supply_in : Configuration → List Event → ℕ → Option Supply
+supply_in first h u = supply_of u (content first h).supplies
 
--- The line with the number k, counted from 0, of those that a piece completes may take memory.
-abbrev pub MayRunOut : ℕ → List ℕ → ℕ → Content → Type 0
-MayRunOut c piece k s =
-    let lines : List LineText = lines_after (unfinished_of (session_of c s.sessions)) piece in
-    IsTrue (option_map_or (λ line. line_takes line (session_after c piece k s)) (slice_get lines k) false)
+-- The line with the number k, counted from 0, of those that a piece completes may take memory, behind the lines before it:
+-- a piece of c, and one of the driver of u.
+abbrev pub MayRunOut : Configuration → List Event → ℕ → List ℕ → ℕ → Type 0
+MayRunOut first h c piece k =
+    let lines : List LineText = lines_after (unfinished_of (session_in first h c)) piece in
+    IsTrue (option_map_or (λ line. line_takes line (session_in first (behind c piece k h) c)) (slice_get lines k) false)
 
-abbrev pub MayRunOutOf : ℕ → List ℕ → ℕ → Option Supply → Type 0
-MayRunOutOf time piece k o =
-    let lines : List LineText = lines_after (unfinished_report o) piece in
-    IsTrue (option_map_or (λ line. report_takes line (supply_after time piece k o)) (slice_get lines k) false)
+abbrev pub MayRunOutOf : Configuration → List Event → ℕ → List ℕ → ℕ → Type 0
+MayRunOutOf first h u piece k =
+    let lines : List LineText = lines_after (unfinished_report (supply_in first h u)) piece in
+    IsTrue (option_map_or (λ line. report_takes line (supply_in first (behind_report u piece k h) u)) (slice_get lines k) false)
 
 -- Memory may run out in a piece alone, behind k lines of it that were done, at one that it completes and that may take
 -- memory. All other events take none.
-abbrev pub MayLack : Content → Place → Event → Type 0
-MayLack s (Line c k) (Bytes d piece) = (c ≡ d) × MayRunOut d piece k s
-MayLack s (Report u k) (DriverBytes v piece) = (u ≡ v) × MayRunOutOf s.clock piece k (supply_of v s.supplies)
-MayLack s place e = ⊥
+abbrev pub MayLack : Configuration → List Event → Place → Event → Type 0
+MayLack first h (Line c k) (Bytes d piece) = (c ≡ d) × MayRunOut first h d piece k
+MayLack first h (Report u k) (DriverBytes v piece) = (u ≡ v) × MayRunOutOf first h v piece k
+MayLack first h place e = ⊥
 
--- A server with this content may answer so: a refusal names the first test that refuses the event, and memory
+-- A server that was told the history h may answer so: a refusal names the first test that refuses the event, and memory
 -- is lacking only where no test does.
-abbrev pub IsRefusal : Content → Event → Refused → Type 0
-IsRefusal s e (Memory place) = (refusal s e ≡ None) × MayLack s place e
-IsRefusal s e NoSuchConnection = refusal s e ≡ Some NoSuchConnection
-IsRefusal s e NotConnected = refusal s e ≡ Some NotConnected
-IsRefusal s e PieceTooLong = refusal s e ≡ Some PieceTooLong
-IsRefusal s e Busy = refusal s e ≡ Some Busy
-IsRefusal s e TooMuchTaken = refusal s e ≡ Some TooMuchTaken
-IsRefusal s e BadAddress = refusal s e ≡ Some BadAddress
-IsRefusal s e Full = refusal s e ≡ Some Full
+abbrev pub IsRefusal : Configuration → List Event → Event → Refused → Type 0
+IsRefusal first h e (Memory place) = (refusal (content first h) e ≡ None) × MayLack first h place e
+IsRefusal first h e NoSuchConnection = refusal (content first h) e ≡ Some NoSuchConnection
+IsRefusal first h e NotConnected = refusal (content first h) e ≡ Some NotConnected
+IsRefusal first h e PieceTooLong = refusal (content first h) e ≡ Some PieceTooLong
+IsRefusal first h e Busy = refusal (content first h) e ≡ Some Busy
+IsRefusal first h e TooMuchTaken = refusal (content first h) e ≡ Some TooMuchTaken
+IsRefusal first h e BadAddress = refusal (content first h) e ≡ Some BadAddress
+IsRefusal first h e Full = refusal (content first h) e ≡ Some Full
 
--- A server with this content may answer the event by this result.
-abbrev pub IsAnswer : {U : Type 0} → Content → Event → Result U Refused → Type 0
-IsAnswer s e (Ok u) = refusal s e ≡ None
-IsAnswer s e (Err r) = IsRefusal s e r
+-- A server that was told the history h may answer the event by this result.
+abbrev pub IsAnswer : {U : Type 0} → Configuration → List Event → Event → Result U Refused → Type 0
+IsAnswer first h e (Ok u) = refusal (content first h) e ≡ None
+IsAnswer first h e (Err r) = IsRefusal first h e r
 
 -- ---- what stands after an answer
 
@@ -109,27 +109,3 @@ after_refusal r e h = h
 abbrev pub after : {U : Type 0} → Result U Refused → Event → List Event → List Event
 after (Ok u) e h = e ∷ h
 after (Err r) e h = after_refusal r e h
-
--- the content after k lines of a piece of c were done and it was closed, or after k lines of a piece of the driver of u
--- were done and it went
-abbrev pub content_lost : ℕ → List ℕ → ℕ → Content → Content
-content_lost c piece k s = advance (bytes_heard c (front k piece) s) (Close c)
-
-abbrev pub content_lost_report : ℕ → List ℕ → ℕ → Content → Content
-content_lost_report u piece k s = advance (advance s (DriverBytes u (front k piece))) (DriverDown u)
-
--- the content after a lack of memory
-abbrev pub content_after_lack : Place → Event → Content → Content
-content_after_lack (Line c k) (Bytes d piece) s = content_lost d piece k s
-content_after_lack (Report u k) (DriverBytes v piece) s = content_lost_report v piece k s
-content_after_lack place e s = s
-
--- the content after a refusal
-abbrev pub content_after_refusal : Refused → Event → Content → Content
-content_after_refusal (Memory place) e s = content_after_lack place e s
-content_after_refusal r e s = s
-
--- the content after an event and the answer to it: that of the history after it
-abbrev pub content_after : {U : Type 0} → Result U Refused → Content → Event → Content
-content_after (Ok u) s e = advance s e
-content_after (Err r) s e = content_after_refusal r e s

@@ -6,7 +6,8 @@ use Rattle.nut_decision.specs.Configuration.{Configuration}
 use Rattle.nut_decision.specs.Content.{Content}
 use Rattle.nut_decision.specs.Event.{Event, NoticeTaken}
 use Rattle.nut_decision.specs.Handing.{after_asking}
-use Rattle.nut_decision.specs.Outcome.{IsAnswer, after, content_after}
+use Rattle.nut_decision.specs.Outcome.{IsAnswer, after}
+use Rattle.nut_decision.specs.MachineOutcome.{content_after}
 use Rattle.nut_decision.specs.Trace.{linked, trace, waits}
 use Rattle.nut_decision.specs.declared.MonitorFault.{MonitorFault}
 use Rattle.nut_decision.specs.declared.Notice.{Notice}

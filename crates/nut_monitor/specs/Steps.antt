@@ -6,7 +6,8 @@ use Rattle.nut_decision.specs.Configuration.{Configuration}
 use Rattle.nut_decision.specs.Content.{Watch, Content}
 use Rattle.nut_decision.specs.Event.{Event}
 use Rattle.nut_monitor.specs.declared.state.State.{State}
-use Rattle.nut_decision.specs.Outcome.{IsAnswer, content_after}
+use Rattle.nut_decision.specs.Outcome.{IsAnswer}
+use Rattle.nut_decision.specs.MachineOutcome.{content_after}
 use Rattle.nut_monitor.specs.Inside.{IsOrderly}
 
 -- the content of a monitor with this configuration and state

@@ -7,7 +7,8 @@ ghost use Rattle.nut_decision.specs.Configuration.{Configuration, configuration_
 ghost use Rattle.nut_decision.specs.Content.{content, phase_of};
 ghost use Rattle.nut_decision.specs.Event.{Event as Events};
 ghost use Rattle.nut_decision.specs.Handing.{after_asking};
-ghost use Rattle.nut_decision.specs.Outcome.{IsAnswer, after, content_after};
+ghost use Rattle.nut_decision.specs.Outcome.{IsAnswer, after};
+ghost use Rattle.nut_decision.specs.MachineOutcome.{content_after};
 ghost use Rattle.nut_decision.specs.Trace.{linked as is_there, trace, waits};
 ghost use Rattle.nut_monitor.specs.Answers.{beginning};
 ghost use Rattle.nut_monitor.specs.Events.{event_of};
@@ -175,8 +176,12 @@ impl Monitor {
         put_text(&self.config, notice, out)
     }
 
-    /// Takes one event.
-    fn step(&mut self, event: Event<'_>) -> Result<(), MonitorFault>
+    /// Takes one event: `arrive` with its contract in terms of the machine, for proofs that have no history at hand.
+    ///
+    /// # Errors
+    ///
+    /// Those of `arrive`.
+    pub fn step(&mut self, event: Event<'_>) -> Result<(), MonitorFault>
         ensures answered { IsAnswer self.old.content (event_of event.entry) result }
         ensures content { self.new ≡ record { config = self.old.config; content = content_after result self.old.content (event_of event.entry) } }
     {
@@ -206,8 +211,8 @@ impl Monitor {
         ensures stands { (configuration : Configuration) (events : List Events) → Tells configuration events self.old.content
             → Tells configuration (after result (event_of event.entry) events) self.new.content }
 
-        // The same as one step from the content before, for proofs that have no history at hand.
-        ensures content { self.new ≡ record { config = self.old.config; content = content_after result self.old.content (event_of event.entry) } }
+        // It goes on with the configuration that it was made with.
+        ensures config { self.new.config ≡ self.old.config }
 
         // A refused event changes nothing.
         ensures unchanged { (fault : AnyFault) → refusal self.old.content (event_of event.entry) ≡ Some fault

@@ -5,7 +5,7 @@ use Rattle.nut_history.specs.declared.Place.{Place}
 use Rattle.nut_history.specs.declared.Place.TheVariants.{Line, Report}
 use Rattle.nut_history.specs.Event as arrivals
 use Rattle.nut_history.specs.Content as server
-use Rattle.nut_history.specs.Outcome as server_outcome
+use Rattle.nut_history.specs.MachineOutcome as server_outcome
 use Rattle.nut_decision.specs.declared.Notice.{Notice}
 use Rattle.nut_decision.specs.declared.Phase.{Phase}
 use Rattle.nut_decision.specs.Event as events
@@ -22,7 +22,7 @@ use Rattle.nut_play.specs.Lack.{is_piece, is_link_piece, is_told, brings_bytes, 
 use Rattle.nut_play.specs.Kept.{inform_by, told_news}
 use Rattle.nut_play.specs.Play.{told_if}
 
-pub server_lacks : (s : server.Content) (place : Place) (e : arrivals.Event) → server_outcome.MayLack s place e → is_piece e ≡ true
+pub server_lacks : (s : server.Content) (place : Place) (e : arrivals.Event) → server_outcome.Lacks s place e → is_piece e ≡ true
 server_lacks s place (arrivals.Bytes c piece) may = refl
 server_lacks s place (arrivals.DriverBytes u piece) may = refl
 server_lacks s (Line d k) (arrivals.Moment t) may = absurd may

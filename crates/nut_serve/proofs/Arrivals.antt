@@ -10,9 +10,9 @@ use Rattle.nut_history.specs.Configuration.{Configuration}
 use Rattle.nut_history.specs.Event.{Event}
 use Rattle.nut_history.specs.Event as event
 use Rattle.nut_history.specs.Trace.{driver_sent}
-use Rattle.nut_history.specs.Content.{Supply, Content, past}
+use Rattle.nut_history.specs.Content.{Supply, Content, content, past}
 use Rattle.nut_history.specs.Acceptance.{refusal, up_refusal, IsAccepted, Tells, supply_of}
-use Rattle.nut_history.specs.Outcome.{IsAnswer, IsRefusal, after_refusal}
+use Rattle.nut_history.specs.Outcome.{IsRefusal, after_refusal}
 use Rattle.nut_history.proofs.Sent.{taken_by, sent-refused}
 use Rattle.nut_history.proofs.DriverSent.{driver_sent-step, driver_sent-refused}
 use Rattle.nut_server.specs.declared.arrival.Arrival.{Arrival}
@@ -21,7 +21,7 @@ use Rattle.nut_serve.specs.Record.{Entry, Gave, tells, tells_next, tells_arrival
 use Rattle.nut_serve.specs.declared.types.Next.{Next}
 use Rattle.nut_serve.specs.declared.types.Next.TheVariants as next
 use Rattle.nut_serve.specs.Served.{Served, ServedBefore, ended_in, ended_by, ended_by_refusal}
-use Rattle.nut_serve.proofs.Steps.{Leads, goes_on, same_sent, same_asked}
+use Rattle.nut_serve.proofs.Steps.{Answered, Leads, goes_on, same_sent, same_asked}
 use Rattle.nut_serve.proofs.Unconnected.{none_sent}
 
 -- what `next` gives: nothing of what was taken, or of a failed write
@@ -102,18 +102,18 @@ no_supply None r is = refl
 no_supply (Some d) r is = cc
 
 -- a driver is refused only where there is no such UPS
-refused_up : (s : Content) (v : ℕ) (r : Refused) → IsRefusal s (event.DriverUp v) r → supply_of v s.supplies ≡ None
-refused_up s v (Memory (Line c k)) is = absurd is.1
-refused_up s v (Memory (Report u k)) is = absurd is.1
-refused_up s v NoSuchConnection is = no_supply (supply_of v s.supplies) NoSuchConnection is
-refused_up s v NotConnected is = no_supply (supply_of v s.supplies) NotConnected is
-refused_up s v PieceTooLong is = no_supply (supply_of v s.supplies) PieceTooLong is
-refused_up s v Busy is = no_supply (supply_of v s.supplies) Busy is
-refused_up s v TooMuchTaken is = no_supply (supply_of v s.supplies) TooMuchTaken is
-refused_up s v BadAddress is = no_supply (supply_of v s.supplies) BadAddress is
-refused_up s v Full is = no_supply (supply_of v s.supplies) Full is
+refused_up : (first : Configuration) (h : List Event) (v : ℕ) (r : Refused) → IsRefusal first h (event.DriverUp v) r → supply_of v (content first h).supplies ≡ None
+refused_up first h v (Memory (Line c k)) is = absurd is.1
+refused_up first h v (Memory (Report u k)) is = absurd is.1
+refused_up first h v NoSuchConnection is = no_supply (supply_of v (content first h).supplies) NoSuchConnection is
+refused_up first h v NotConnected is = no_supply (supply_of v (content first h).supplies) NotConnected is
+refused_up first h v PieceTooLong is = no_supply (supply_of v (content first h).supplies) PieceTooLong is
+refused_up first h v Busy is = no_supply (supply_of v (content first h).supplies) Busy is
+refused_up first h v TooMuchTaken is = no_supply (supply_of v (content first h).supplies) TooMuchTaken is
+refused_up first h v BadAddress is = no_supply (supply_of v (content first h).supplies) BadAddress is
+refused_up first h v Full is = no_supply (supply_of v (content first h).supplies) Full is
 
-refused_asked : (first : Configuration) (h : List Event) (s : Content) (e : Event) (r : Refused) (u : ℕ) (before : List ℕ) → Tells first h s → IsRefusal s e r → before ≡ driver_sent u (past first h)
+refused_asked : (first : Configuration) (h : List Event) (s : Content) (e : Event) (r : Refused) (u : ℕ) (before : List ℕ) → Tells first h s → IsRefusal first h e r → before ≡ driver_sent u (past first h)
     → since_up u e before ≡ driver_sent u (past first (after_refusal r e h))
 refused_asked first h s (event.Moment t) r u before told is same = same ∙ sym (driver_sent-refused first h u r (event.Moment t) told.0)
 refused_asked first h s (event.Open address) r u before told is same = same ∙ sym (driver_sent-refused first h u r (event.Open address) told.0)
@@ -127,7 +127,8 @@ refused_asked first h s (event.DriverDown v) r u before told is same = same ∙ 
 refused_asked first h s (event.DriverUp v) r u before told is same =
     elim (cases_Bool (eqb v u)) [
       | inl e ↦
-          let none : supply_of u s.supplies ≡ None = subst (λ x. supply_of x s.supplies ≡ None) (eqb-true v u e) (refused_up s v r is) in
+          let there : supply_of u (content first h).supplies ≡ None = subst (λ x. supply_of x (content first h).supplies ≡ None) (eqb-true v u e) (refused_up first h v r is) in
+          let none : supply_of u s.supplies ≡ None = subst (λ x. supply_of u x.supplies ≡ None) (sym told.1) there in
           ap (λ b. if b then [] else before) e ∙ sym (none_sent first h s u told none) ∙ sym (driver_sent-refused first h u r (event.DriverUp v) told.0)
       | inr e ↦ ap (λ b. if b then [] else before) e ∙ same ∙ sym (driver_sent-refused first h u r (event.DriverUp v) told.0)
     ]
@@ -135,12 +136,12 @@ refused_asked first h s (event.DriverUp v) r u before told is same =
 -- ---- an arrival came, and was answered
 
 gave_event : {U : Type 0} (first : Configuration) (o o' : Option (List Entry)) (s s' : Content) (e : Event) (r : Result U Refused)
-    → Served first o s [] → o' ≡ tells (Gave e) o → IsGiven e → IsAnswer s e r → Leads s e r s' → Served first o' s' (ended_by r)
+    → Served first o s [] → o' ≡ tells (Gave e) o → IsGiven e → Answered s e r → Leads s e r s' → Served first o' s' (ended_by r)
 gave_event first o o' s s' e (Ok u) served more given answer leads =
     let h = served.history in
     let holds = leads first h served.holds in
     goes_on first o o' s s' [] [] (Gave e) served (e ∷ h) more
-    (Ok tt, refl, subst (λ t. refusal t e ≡ None) served.holds.1 answer, refl, refl)
+    (Ok tt, refl, answer first h served.holds, refl, refl)
     holds
     (λ c. same_sent first h e c _ served.holds.0 (takes_none e c given) (served.sent_is c))
     (λ v. accepted_asked first h e v _ given holds.0 (served.asked_is v))
@@ -148,15 +149,15 @@ gave_event first o o' s s' e (Err r) served more given answer leads =
     let h = served.history in
     let holds = leads first h served.holds in
     goes_on first o o' s s' [] (ended_by_refusal r) (Gave e) served (after_refusal r e h) more
-    (Err r, refl, subst (λ t. IsRefusal t e r) served.holds.1 answer, refl, refl)
+    (Err r, refl, answer first h served.holds, refl, refl)
     holds
     (λ c. served.sent_is c ∙ sym (sent-refused first h c r e served.holds.0))
-    (λ v. refused_asked first h s e r v _ served.holds answer (served.asked_is v))
+    (λ v. refused_asked first h s e r v _ served.holds (answer first h served.holds) (served.asked_is v))
 
 -- what `next` gave was handed to the server as the arrival that it stands for
 gave : {U : Type 0} (first : Configuration) (o o' : Option (List Entry)) (s s' : Content) (n : Next) (items : List ℕ) (found : Option Arrival) (arrival : Arrival) (r : Result U Refused)
     → Served first o s [] → o' ≡ tells_next n items o → option_map event_of found ≡ arrival_of n items → found ≡ Some arrival
-    → IsAnswer s (event_of arrival) r → Leads s (event_of arrival) r s' → Served first o' s' (ended_by r)
+    → Answered s (event_of arrival) r → Leads s (event_of arrival) r s' → Served first o' s' (ended_by r)
 gave first o o' s s' n items found arrival r served more stands is answer leads =
     let e : Event = event_of arrival in
     let same : arrival_of n items ≡ Some e = sym stands ∙ ap (λ a. option_map event_of a) is in
@@ -165,7 +166,7 @@ gave first o o' s s' n items found arrival r served more stands is answer leads 
 -- the same, where the answer is known to have ended this
 pub gave_ending : {U : Type 0} (first : Configuration) (o' : Option (List Entry)) (s s' : Content) (n : Next) (items : List ℕ) (found : Option Arrival) (arrival : Arrival) (r : Result U Refused) (lack known : Option Place)
     → ServedBefore first o' s n items → option_map event_of found ≡ arrival_of n items → found ≡ Some arrival
-    → IsAnswer s (event_of arrival) r → Leads s (event_of arrival) r s' → ended_by r ≡ ended_in lack → lack ≡ known → Served first o' s' (ended_in known)
+    → Answered s (event_of arrival) r → Leads s (event_of arrival) r s' → ended_by r ≡ ended_in lack → lack ≡ known → Served first o' s' (ended_in known)
 gave_ending first o' s s' n items found arrival r lack known before stands is answer leads ended same =
     subst (λ w. Served first o' s' w) (ended ∙ ap ended_in same) (gave first before.0 o' s s' n items found arrival r before.1 before.2 stands is answer leads)
 

@@ -11,14 +11,13 @@ use Rattle.nut_history.specs.Trace.{connected, driver_due, driver_sent}
 use Rattle.nut_history.specs.Trace as trace
 use Rattle.nut_history.specs.Content.{Supply, Content, content, past}
 use Rattle.nut_history.specs.Acceptance.{refusal, drain_refusal, down_refusal, IsAccepted, Tells, supply_of, asks_in, asks_of}
-use Rattle.nut_history.specs.Outcome.{IsAnswer}
 use Rattle.nut_history.proofs.Kept.{supply_is}
 use Rattle.nut_history.proofs.DriverSent.{driver_sent-took_told, driver_sent-other}
 use Rattle.nut_serve.specs.Record.{Entry, TookRequests, DriverWasLate, DriverBroke, DriverWasClosed, tells, tells_request, IsWithin, driver_taken}
 use Rattle.nut_serve.specs.declared.types.Written.{Written}
 use Rattle.nut_serve.specs.declared.types.Written.TheVariants.{Took, Later, Failed}
 use Rattle.nut_serve.specs.Served.{Served, Ended, Driver}
-use Rattle.nut_serve.proofs.Steps.{Leads, goes_on, holds_on, same_sent, same_asked, length_of_front, take_of_front, no_memory_drained, no_memory_down}
+use Rattle.nut_serve.proofs.Steps.{Answered, Leads, goes_on, holds_on, same_sent, same_asked, length_of_front, take_of_front, no_memory_drained, no_memory_down}
 
 -- a driver for which bytes wait is connected
 waits_up : (is : Bool) (all : List ℕ) → 0 < length (if is then all else []) → is ≡ true
@@ -84,7 +83,7 @@ took_requests first o o' s s' u bytes served more front free holds =
 -- some of what was offered was taken
 pub request_took : {U : Type 0} (first : Configuration) (o o' : Option (List Entry)) (s s' : Content) (u : ℕ) (part : List ℕ) (w : Written) (n : ℕ) (r : Result U Refused)
     → Served first o s [] → w ≡ Took n → o' ≡ tells_request w u part o → IsWithin w (length part) → IsFrontPart part (asks_of u s.supplies)
-    → IsAnswer s (event.DriverTook u n) r → Leads s (event.DriverTook u n) r s' → Served first o' s' []
+    → Answered s (event.DriverTook u n) r → Leads s (event.DriverTook u n) r s' → Served first o' s' []
 request_took first o o' s s' u part w n r served is more within front answer leads =
     let inside : IsWithin (Took n) (length part) = subst (λ v. IsWithin v (length part)) is within in
     let some : 0 < n = inside.0 in
@@ -106,7 +105,7 @@ request_late first o o' s u part w served is more =
 -- a write failed
 pub request_broke : {U : Type 0} (first : Configuration) (o o' : Option (List Entry)) (s s' : Content) (u : ℕ) (part : List ℕ) (w : Written) (r : Result U Refused)
     → Served first o s [] → w ≡ Failed → o' ≡ tells_request w u part o → 0 < length (asks_of u s.supplies)
-    → IsAnswer s (event.DriverDown u) r → Leads s (event.DriverDown u) r s' → Served first o' s' (Driver u ∷ [])
+    → Answered s (event.DriverDown u) r → Leads s (event.DriverDown u) r s' → Served first o' s' (Driver u ∷ [])
 request_broke first o o' s s' u part w r served is more some answer leads =
     let h = served.history in
     let free = may_go first h s u served.holds some in

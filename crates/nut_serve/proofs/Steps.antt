@@ -13,10 +13,10 @@ use Rattle.nut_history.specs.Trace.{driver_sent}
 use Rattle.nut_history.specs.Content.{Content, content, past, sent}
 use Rattle.nut_history.specs.Acceptance.{refusal, IsAccepted, Tells}
 use Rattle.nut_history.specs.Machine.{advance}
-use Rattle.nut_history.specs.Outcome.{IsAnswer, IsRefusal, MayLack, after, content_after}
+use Rattle.nut_history.specs.Outcome.{IsAnswer, IsRefusal, MayLack, after}
 use Rattle.nut_history.proofs.Sent.{taken_by, sent-other}
 use Rattle.nut_history.proofs.DriverSent.{drained_by, begins_anew, driver_sent-other}
-use Rattle.nut_history.proofs.Tells.{tells-after}
+use Rattle.nut_history.proofs.Tells.{tells-step}
 use Rattle.nut_serve.specs.Record.{Entry, tells, taken, driver_taken}
 use Rattle.nut_serve.specs.Served.{Served, Stands, Ended}
 
@@ -65,61 +65,62 @@ faulted (Err _) first o o' s owed served same = (owed, stays first o o' s owed s
 
 -- ---- events that take no memory
 
+-- The server answered so, whatever it had been told.
+abbrev pub Answered : {U : Type 0} → Content → Event → Result U Refused → Type 0
+Answered s e r = (first : Configuration) (h : List Event) → Tells first h s → IsAnswer first h e r
+
 -- no memory is lacking at an event that brings no bytes
 abbrev pub TakesNoMemory : Event → Type 0
-TakesNoMemory e = (s : Content) (p : Place) → MayLack s p e → ⊥
+TakesNoMemory e = (first : Configuration) (h : List Event) (p : Place) → MayLack first h p e → ⊥
 
 pub no_memory_took : (c n : ℕ) → TakesNoMemory (event.Took c n)
-no_memory_took c n s (Line d k) lacks = lacks
-no_memory_took c n s (Report v k) lacks = lacks
+no_memory_took c n first h (Line d k) lacks = lacks
+no_memory_took c n first h (Report v k) lacks = lacks
 
 pub no_memory_close : (c : ℕ) → TakesNoMemory (event.Close c)
-no_memory_close c s (Line d k) lacks = lacks
-no_memory_close c s (Report v k) lacks = lacks
+no_memory_close c first h (Line d k) lacks = lacks
+no_memory_close c first h (Report v k) lacks = lacks
 
 pub no_memory_failed : (c : ℕ) → TakesNoMemory (event.WriteFailed c)
-no_memory_failed c s (Line d k) lacks = lacks
-no_memory_failed c s (Report v k) lacks = lacks
+no_memory_failed c first h (Line d k) lacks = lacks
+no_memory_failed c first h (Report v k) lacks = lacks
 
 pub no_memory_drained : (u n : ℕ) → TakesNoMemory (event.DriverTook u n)
-no_memory_drained u n s (Line d k) lacks = lacks
-no_memory_drained u n s (Report v k) lacks = lacks
+no_memory_drained u n first h (Line d k) lacks = lacks
+no_memory_drained u n first h (Report v k) lacks = lacks
 
 pub no_memory_down : (u : ℕ) → TakesNoMemory (event.DriverDown u)
-no_memory_down u s (Line d k) lacks = lacks
-no_memory_down u s (Report v k) lacks = lacks
+no_memory_down u first h (Line d k) lacks = lacks
+no_memory_down u first h (Report v k) lacks = lacks
 
-refused_not : (s : Content) (e : Event) (r : Refused) → refusal s e ≡ None → TakesNoMemory e → IsRefusal s e r → ⊥
-refused_not s e (Memory p) free small is = small s p is.1
-refused_not s e NoSuchConnection free small is = cc
-refused_not s e NotConnected free small is = cc
-refused_not s e PieceTooLong free small is = cc
-refused_not s e Busy free small is = cc
-refused_not s e TooMuchTaken free small is = cc
-refused_not s e BadAddress free small is = cc
-refused_not s e Full free small is = cc
+refused_not : (first : Configuration) (h : List Event) (e : Event) (r : Refused) → refusal (content first h) e ≡ None → TakesNoMemory e → IsRefusal first h e r → ⊥
+refused_not first h e (Memory p) free small is = small first h p is.1
+refused_not first h e NoSuchConnection free small is = cc
+refused_not first h e NotConnected free small is = cc
+refused_not first h e PieceTooLong free small is = cc
+refused_not first h e Busy free small is = cc
+refused_not first h e TooMuchTaken free small is = cc
+refused_not first h e BadAddress free small is = cc
+refused_not first h e Full free small is = cc
 
 -- an event that takes no memory and that no test refuses is accepted
-accepted : {U : Type 0} (s : Content) (e : Event) (r : Result U Refused) (h : List Event) → refusal s e ≡ None → TakesNoMemory e → IsAnswer s e r → after r e h ≡ e ∷ h
-accepted s e (Ok _) h free small answer = refl
-accepted s e (Err r) h free small answer = absurd (refused_not s e r free small answer)
-
-advanced : {U : Type 0} (s : Content) (e : Event) (r : Result U Refused) → refusal s e ≡ None → TakesNoMemory e → IsAnswer s e r → content_after r s e ≡ advance s e
-advanced s e (Ok _) free small answer = refl
-advanced s e (Err r) free small answer = absurd (refused_not s e r free small answer)
-
--- the content after such an event
-pub moved : {U : Type 0} (first : Configuration) (o : Option (List Entry)) (s s' : Content) (e : Event) (r : Result U Refused) (owed : List Ended)
-    → Served first o s owed → refusal s e ≡ None → TakesNoMemory e → IsAnswer s e r → Leads s e r s' → s' ≡ advance s e
-moved first o s s' e r owed served free small answer leads =
-    let h = served.history in
-    (leads first h served.holds).1 ∙ sym (tells-after first h s e r served.holds answer).1 ∙ advanced s e r free small answer
+accepted : {U : Type 0} (first : Configuration) (h : List Event) (e : Event) (r : Result U Refused) → refusal (content first h) e ≡ None → TakesNoMemory e → IsAnswer first h e r
+    → after r e h ≡ e ∷ h
+accepted first h e (Ok _) free small answer = refl
+accepted first h e (Err r) free small answer = absurd (refused_not first h e r free small answer)
 
 -- what stands for such an event
 pub holds_on : {U : Type 0} (first : Configuration) (h : List Event) (s s' : Content) (e : Event) (r : Result U Refused)
-    → Tells first h s → refusal s e ≡ None → TakesNoMemory e → IsAnswer s e r → Leads s e r s' → Tells first (e ∷ h) s'
+    → Tells first h s → refusal s e ≡ None → TakesNoMemory e → Answered s e r → Leads s e r s' → Tells first (e ∷ h) s'
 holds_on first h s s' e r told free small answer leads =
-    subst (λ g. Tells first g s') (accepted s e r h free small answer) (leads first h told)
+    subst (λ g. Tells first g s') (accepted first h e r (subst (λ x. refusal x e ≡ None) told.1 free) small (answer first h told)) (leads first h told)
+
+-- the content after such an event
+pub moved : {U : Type 0} (first : Configuration) (o : Option (List Entry)) (s s' : Content) (e : Event) (r : Result U Refused) (owed : List Ended)
+    → Served first o s owed → refusal s e ≡ None → TakesNoMemory e → Answered s e r → Leads s e r s' → s' ≡ advance s e
+moved first o s s' e r owed served free small answer leads =
+    let h = served.history in
+    (holds_on first h s s' e r served.holds free small answer leads).1 ∙ sym (tells-step first h s e served.holds free).1
 
 -- ---- what was sent
 

@@ -9,13 +9,12 @@ use Rattle.nut_history.specs.Event.{Event}
 use Rattle.nut_history.specs.Event as event
 use Rattle.nut_history.specs.Content.{Session, Content, sent}
 use Rattle.nut_history.specs.Acceptance.{refusal, took_refusal, close_refusal, Tells, session_of, waiting_in, waiting_of, leaves}
-use Rattle.nut_history.specs.Outcome.{IsAnswer}
 use Rattle.nut_history.proofs.Sent.{sent-took_told, sent-took_other}
 use Rattle.nut_serve.specs.Record.{Entry, TookBytes, WasLate, WriteBroke, WasClosed, tells, tells_write, IsWithin, taken}
 use Rattle.nut_serve.specs.declared.types.Written.{Written}
 use Rattle.nut_serve.specs.declared.types.Written.TheVariants.{Took, Later, Failed}
 use Rattle.nut_serve.specs.Served.{Served, Ended, Connection}
-use Rattle.nut_serve.proofs.Steps.{Leads, goes_on, holds_on, same_sent, same_asked, length_of_front, take_of_front, no_memory_took, no_memory_close, no_memory_failed}
+use Rattle.nut_serve.proofs.Steps.{Answered, Leads, goes_on, holds_on, same_sent, same_asked, length_of_front, take_of_front, no_memory_took, no_memory_close, no_memory_failed}
 
 -- a connection for which bytes wait is open, as is one that leaves
 took_free : (n : ℕ) (o : Option Session) → 0 < n → n ≤ length (waiting_in o) → took_refusal n o ≡ None
@@ -67,7 +66,7 @@ took_bytes first o o' s s' c bytes served more front free holds =
 -- some of what was offered was taken
 pub write_took : {U : Type 0} (first : Configuration) (o o' : Option (List Entry)) (s s' : Content) (c : ℕ) (part : List ℕ) (w : Written) (n : ℕ) (r : Result U Refused)
     → Served first o s [] → w ≡ Took n → o' ≡ tells_write w c part o → IsWithin w (length part) → IsFrontPart part (waiting_of c s.sessions)
-    → IsAnswer s (event.Took c n) r → Leads s (event.Took c n) r s' → Served first o' s' []
+    → Answered s (event.Took c n) r → Leads s (event.Took c n) r s' → Served first o' s' []
 write_took first o o' s s' c part w n r served is more within front answer leads =
     let inside : IsWithin (Took n) (length part) = subst (λ v. IsWithin v (length part)) is within in
     let some : 0 < n = inside.0 in
@@ -89,7 +88,7 @@ write_late first o o' s c part w served is more =
 -- a write failed
 pub write_broke : {U : Type 0} (first : Configuration) (o o' : Option (List Entry)) (s s' : Content) (c : ℕ) (part : List ℕ) (w : Written) (r : Result U Refused)
     → Served first o s [] → w ≡ Failed → o' ≡ tells_write w c part o → 0 < length (waiting_of c s.sessions)
-    → IsAnswer s (event.WriteFailed c) r → Leads s (event.WriteFailed c) r s' → Served first o' s' (Connection c ∷ [])
+    → Answered s (event.WriteFailed c) r → Leads s (event.WriteFailed c) r s' → Served first o' s' (Connection c ∷ [])
 write_broke first o o' s s' c part w r served is more some answer leads =
     let h = served.history in
     let free = may_fail s c some in
@@ -112,7 +111,7 @@ closes_ended (Err _) first o o' s c served more = tt
 -- one that leaves is closed
 pub closed_left : {U : Type 0} (first : Configuration) (o o' : Option (List Entry)) (s s' : Content) (c : ℕ) (r : Result U Refused)
     → Served first o s [] → o' ≡ tells (WasClosed c) o → leaves (session_of c s.sessions) ≡ true
-    → IsAnswer s (event.Close c) r → Leads s (event.Close c) r s' → Served first o' s' []
+    → Answered s (event.Close c) r → Leads s (event.Close c) r s' → Served first o' s' []
 closed_left first o o' s s' c r served more left answer leads =
     let h = served.history in
     let holds = holds_on first h s s' (event.Close c) r served.holds (may_close s c left) (no_memory_close c) answer leads in

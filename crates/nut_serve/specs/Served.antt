@@ -44,7 +44,7 @@ abbrev pub Stands : Configuration → List Event → List Ended → Entry → Li
 -- an arrival comes once all that is ended is closed. What stands for it goes by the server's answer: itself, nothing
 -- where it is refused, and where memory ran out the lines that were done and the end of the connection or the driver
 Stands first h owed (Gave e) h' owed' =
-    (answer : Result (Unit {0}) Refused) × (owed ≡ []) × IsAnswer (content first h) e answer × (h' ≡ after answer e h) × (owed' ≡ ended_by answer)
+    (answer : Result (Unit {0}) Refused) × (owed ≡ []) × IsAnswer first h e answer × (h' ≡ after answer e h) × (owed' ≡ ended_by answer)
 -- bytes that were taken stand as such, a write that failed ends its connection, and one that is late says nothing
 Stands first h owed (TookBytes c bytes) h' owed' =
     (refusal (content first h) (Took c (length bytes)) ≡ None) × (h' ≡ Took c (length bytes) ∷ h) × (owed' ≡ owed)

@@ -13,8 +13,9 @@ use Rattle.nut_history.specs.Content.{Session, Supply, Content}
 use Rattle.nut_history.specs.Acceptance.{Tells, refusal, session_of, bytes_refusal, took_refusal, close_refusal, asks_of}
 use Rattle.nut_history.specs.Machine.{without, down, update_at}
 use Rattle.nut_history.specs.Laws.{IsUpTo}
-use Rattle.nut_history.specs.Outcome.{IsAnswer, after, content_after}
-use Rattle.nut_history.proofs.Tells.{tells-after}
+use Rattle.nut_history.specs.Outcome.{IsAnswer, after}
+use Rattle.nut_history.specs.MachineOutcome.{Answers, content_after}
+use Rattle.nut_history.proofs.Tells.{answers-told, tells-after}
 use Rattle.nut_server.specs.Inside.{numbers_of}
 use Rattle.nut_server.specs.Settling.{is_unsettled, IsNextUnsettled}
 
@@ -66,14 +67,18 @@ gone_after zero change (x ∷ ds) d d' lt is new = ap (λ y. y ∷ ds) (new ∙ 
 gone_after (suc u) change (x ∷ ds) d d' lt is new = ap (λ ys. x ∷ ys) (gone_after u change ds d d' (omega arith) is new)
 
 -- the history goes on by the answer
-pub stands_after : (old new : Content) (e : Event) (r : Result (Unit {0}) Refused) → IsAnswer old e r → new ≡ content_after r old e
+pub stands_after : (old new : Content) (e : Event) (r : Result (Unit {0}) Refused) → Answers old e r → new ≡ content_after r old e
     → (first : Configuration) (h : List Event) → Tells first h old → Tells first (after r e h) new
 stands_after old new e r answered is first h told =
     let P : Content → Type 0 = Tells first (after r e h) in
     subst P (sym is) (tells-after first h old e r told answered)
 
+-- the machine's answer is one that the history allows
+pub answer_told : (old : Content) (e : Event) (r : Result (Unit {0}) Refused) → Answers old e r → (first : Configuration) (h : List Event) → Tells first h old → IsAnswer first h e r
+answer_told old e r answered first h told = answers-told first h old e r told answered
+
 -- a refused event changes nothing
-pub refused_is : (old new : Content) (e : Event) (r : Result (Unit {0}) Refused) → IsAnswer old e r → new ≡ content_after r old e
+pub refused_is : (old new : Content) (e : Event) (r : Result (Unit {0}) Refused) → Answers old e r → new ≡ content_after r old e
     → (x : Refused) → refusal old e ≡ Some x → (r ≡ Err x) × (new ≡ old)
 refused_is old new e (Ok u) answered is x refused = absurd (cc)
 refused_is old new e (Err (Memory place)) answered is x refused = absurd (let none = answered.0 in cc)

@@ -11,7 +11,8 @@ use Rattle.nut_history.specs.Acceptance.{front, line_feeds, session_of}
 use Rattle.nut_history.specs.Content.{Session, Supply, Content}
 use Rattle.nut_history.specs.Machine.{after_answer, answered, answer_in, byte_heard, bytes_heard, byte_reported, bytes_reported, line_heard, reported_by, update, with_rest}
 use Rattle.nut_history.specs.Command.{command_of}
-use Rattle.nut_history.specs.Outcome.{line_takes, report_takes, unfinished_of, MayRunOut, MayRunOutOf}
+use Rattle.nut_history.specs.Outcome.{line_takes, report_takes, unfinished_of}
+use Rattle.nut_history.specs.MachineOutcome.{RunsOut, RunsOutOf}
 use Rattle.nut_history.proofs.Hearing.{first_line, until_feed, with_unfinished}
 use Rattle.nut_history.proofs.Sessions.{session_of-update}
 use Rattle.nut_server.proofs.Feeds.{behind}
@@ -122,7 +123,7 @@ same_rest o k j one other =
 -- at a line of a client that may take some
 pub may_run_out : (c done : ℕ) (r line : LineText) (piece : List ℕ) (s started : Content) (k first : Session) → session_of c started.sessions ≡ Some first → done < line_feeds piece
     → with_unfinished c r s ≡ bytes_heard c (front done piece) started → session_of c s.sessions ≡ Some k → line ≡ first_line r (behind done piece)
-    → IsTrue (line_takes line (Some k)) → MayRunOut c piece done started
+    → IsTrue (line_takes line (Some k)) → RunsOut c piece done started
 may_run_out c done r line piece s started k first began few is found here takes =
     let h = bytes_heard c (front done piece) started in
     let there : session_of c h.sessions ≡ Some (with_rest r k) =
@@ -138,7 +139,7 @@ may_run_out c done r line piece s started k first began few is found here takes 
 -- and of a driver
 pub report_may_run_out : (time done : ℕ) (r line : LineText) (piece : List ℕ) (d started : Supply) → done < line_feeds piece
     → with_report r d ≡ bytes_reported time (front done piece) started → line ≡ first_line r (behind done piece)
-    → IsTrue (report_takes line (Some d)) → MayRunOutOf time piece done (Some started)
+    → IsTrue (report_takes line (Some d)) → RunsOutOf time piece done (Some started)
 report_may_run_out time done r line piece d started few is here takes =
     let same : r ≡ grown started.rest (front done piece) = ap (λ (d : Supply). d.rest) is ∙ supply_grown time (front done piece) started in
     let nth : Some line ≡ slice_get (lines_after started.rest piece) done =

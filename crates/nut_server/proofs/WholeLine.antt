@@ -7,7 +7,8 @@ use Rattle.nut_history.specs.Acceptance.{front, line_feeds, session_of}
 use Rattle.nut_history.specs.Command.{command_of}
 use Rattle.nut_history.specs.Content.{Session, Content}
 use Rattle.nut_history.specs.Machine.{after_answer, answer_in, answered, bytes_heard}
-use Rattle.nut_history.specs.Outcome.{line_takes, MayRunOut}
+use Rattle.nut_history.specs.Outcome.{line_takes}
+use Rattle.nut_history.specs.MachineOutcome.{RunsOut}
 use Rattle.nut_history.proofs.Hearing.{with_unfinished-same, line_heard_front}
 use Rattle.nut_history.proofs.Sessions.{session_of-update}
 use Rattle.nut_server.specs.Effects.{answered_by}
@@ -59,6 +60,6 @@ module _ (c : ℕ) (text piece : List ℕ) (s : Content) (k : Session) (found : 
       ∙ ap (λ p. bytes_heard c p s) ends_piece
 
   -- memory may run out at it where the line may take some
-  pub whole_runs_out : IsTrue (line_takes (Text text) (Some k)) → MayRunOut c piece 0 s
+  pub whole_runs_out : IsTrue (line_takes (Text text) (Some k)) → RunsOut c piece 0 s
   whole_runs_out takes =
       may_run_out c 0 (Text []) (Text text) piece s s k k found has_line (with_unfinished-same c (Text []) s k found start) found (handed_is [] (length piece) piece (Text text) brought) takes

@@ -8,7 +8,8 @@ ghost use Rattle.nut_words.specs.Cutter.{line_of};
 ghost use Rattle.nut_history.specs.Acceptance.{front, line_feeds};
 ghost use Rattle.nut_history.specs.Device.{absent, fits, is_past, needs_ping, trouble};
 ghost use Rattle.nut_history.specs.Machine.{up, down, drained, ticked, reported_by, bytes_reported};
-ghost use Rattle.nut_history.specs.Outcome.{report_takes, MayRunOutOf};
+ghost use Rattle.nut_history.specs.Outcome.{report_takes};
+ghost use Rattle.nut_history.specs.MachineOutcome.{RunsOutOf};
 
 use nut_proto::Refusal;
 use nut_queue::AskRing;
@@ -242,7 +243,7 @@ impl Device {
         ensures ok { OnOk result (self.new ≡ bytes_reported time piece.now self.old) }
         ensures lost { IfErr result (λ done. self.new ≡ down (bytes_reported time (front done piece.now) self.old)) }
         ensures few { IfErr result (λ done. done < line_feeds piece.now) }
-        ensures memory { IfErr result (λ done. MayRunOutOf time piece.now done (Some self.old)) }
+        ensures memory { IfErr result (λ done. RunsOutOf time piece.now done (Some self.old)) }
     {
         let mut cutter = mem::take(&mut self.cutter);
         let mut left = piece;

@@ -10,7 +10,8 @@ ghost use Rattle.nut_server.specs.Server.{unheard};
 ghost use Rattle.nut_history.specs.Acceptance.{Tells, refusal, session_of, supply_of, waiting_of, asks_of, may_read, leaves, kept, is_connected};
 ghost use Rattle.nut_history.specs.Laws.{HasFewConnections};
 ghost use Rattle.nut_history.specs.Limits.{IsWithin, most_waits};
-ghost use Rattle.nut_history.specs.Outcome.{IsAnswer, after, content_after};
+ghost use Rattle.nut_history.specs.Outcome.{IsAnswer, after};
+ghost use Rattle.nut_history.specs.MachineOutcome.{Answers, content_after};
 ghost use Rattle.nut_server.specs.Arrival.{event_of};
 ghost use Rattle.nut_server.specs.Login.{has_login};
 ghost use Rattle.nut_server.specs.Settling.{IsNextUnsettled, IsNextWaiting};
@@ -113,9 +114,13 @@ impl Server {
         })
     }
 
-    /// Takes one arrival as the machine does.
-    fn step(&mut self, arrival: Arrival<'_>) -> Result<(), Refused>
-        ensures answered { IsAnswer self.old (event_of arrival.entry) result }
+    /// Takes one arrival: `arrive` with its contract in terms of the machine, for proofs that have no history at hand.
+    ///
+    /// # Errors
+    ///
+    /// Those of `arrive`.
+    pub fn step(&mut self, arrival: Arrival<'_>) -> Result<(), Refused>
+        ensures answered { Answers self.old (event_of arrival.entry) result }
         ensures content { self.new ≡ content_after result self.old (event_of arrival.entry) }
     {
         match arrival {
@@ -150,14 +155,12 @@ impl Server {
     /// connection is closed, or the driver counts as gone.
     pub fn arrive(&mut self, arrival: Arrival<'_>) -> Result<(), Refused>
         // The answer is the one of the first test that refuses; memory may be lacking where none does.
-        ensures answered { IsAnswer self.old (event_of arrival.entry) result }
+        ensures answered { (first : Configuration) (h : List Event) → Tells first h self.old
+            → IsAnswer first h (event_of arrival.entry) result }
 
         // What stands after it is what the history says, which goes on by the answer.
         ensures stands { (first : Configuration) (h : List Event) → Tells first h self.old
             → Tells first (after result (event_of arrival.entry) h) self.new }
-
-        // The same as one step from the content before, for proofs that have no history at hand.
-        ensures content { self.new ≡ content_after result self.old (event_of arrival.entry) }
 
         // A refused arrival changes nothing.
         ensures unchanged { (r : Refused) → refusal self.old (event_of arrival.entry) ≡ Some r

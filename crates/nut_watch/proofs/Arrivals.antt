@@ -8,7 +8,8 @@ use Rattle.nut_decision.specs.Event.{Event}
 use Rattle.nut_decision.specs.Event as event
 use Rattle.nut_decision.specs.Content.{Content, content}
 use Rattle.nut_decision.specs.Acceptance.{Tells}
-use Rattle.nut_decision.specs.Outcome.{IsAnswer, cut_short, after, content_after}
+use Rattle.nut_decision.specs.Outcome.{IsAnswer, cut_short, after}
+use Rattle.nut_decision.specs.MachineOutcome.{content_after}
 use Rattle.nut_decision.proofs.Answering.{answers-keep}
 use Rattle.nut_monitor.specs.declared.event.Event.{Event as Told}
 use Rattle.nut_monitor.specs.Events.{event_of}

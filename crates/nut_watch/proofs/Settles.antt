@@ -13,7 +13,8 @@ use Rattle.nut_decision.specs.Trace.{linked, trace}
 use Rattle.nut_decision.specs.Content.{Watch, Content, content, watch, link_at}
 use Rattle.nut_decision.specs.Acceptance.{waits_on, waiting_on, watch_at}
 use Rattle.nut_decision.specs.Machine.{advance, update, took, link_took}
-use Rattle.nut_decision.specs.Outcome.{IsAnswer, content_after}
+use Rattle.nut_decision.specs.Outcome.{IsAnswer}
+use Rattle.nut_decision.specs.MachineOutcome.{content_after}
 use Rattle.nut_serve.specs.declared.types.Written.{Written}
 use Rattle.nut_serve.specs.declared.types.Written.TheVariants.{Took}
 use Rattle.nut_watch.specs.Record.{Entry, IsWithin, waiting_of}

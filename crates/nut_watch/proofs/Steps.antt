@@ -8,7 +8,8 @@ use Rattle.nut_decision.specs.Trace.{trace, sent, notices, taken_after, taken_no
 use Rattle.nut_decision.specs.Content.{Content}
 use Rattle.nut_decision.specs.Acceptance.{refusal, IsAccepted, Tells}
 use Rattle.nut_decision.specs.Machine.{advance}
-use Rattle.nut_decision.specs.Outcome.{IsAnswer, IsRefusal, MayLack, content_after}
+use Rattle.nut_decision.specs.Outcome.{IsAnswer, IsRefusal, MayLack}
+use Rattle.nut_decision.specs.MachineOutcome.{content_after}
 use Rattle.nut_decision.proofs.Answering.{answers-keep}
 use Rattle.nut_watch.specs.Record.{Entry, tells}
 use Rattle.nut_watch.specs.Watched.{entries_of, history_of, with_event, Stands, taken, since_made, handed, Watched}

@@ -11,7 +11,8 @@ use Rattle.nut_decision.specs.Trace.{trace, sent, notices}
 use Rattle.nut_decision.specs.Content.{Watch, Content, content}
 use Rattle.nut_decision.specs.Acceptance.{refusal, took_refusal, lost_refusal, waits_on, waiting_on, watch_at, is_busy, IsAccepted, Accepts, Tells}
 use Rattle.nut_decision.specs.Machine.{advance}
-use Rattle.nut_decision.specs.Outcome.{IsAnswer, content_after}
+use Rattle.nut_decision.specs.Outcome.{IsAnswer}
+use Rattle.nut_decision.specs.MachineOutcome.{content_after}
 use Rattle.nut_decision.proofs.Answering.{answers-keep}
 use Rattle.nut_monitor.specs.Sound.{first_of}
 use Rattle.nut_watch.specs.Record.{Entry, TookBytes, WasLate, WriteBroke, WasTold, tells, tells_write, IsWithin, waiting_of}

@@ -131,7 +131,7 @@ fn hand_on<W: MonWorld>(
         return Ok(());
     };
     let sender = sender_of(monitor, event);
-    let _ = monitor.arrive(event);
+    let _ = monitor.step(event);
     match lost_link(monitor, sender) {
         None => Ok(()),
         Some(i) => world.close(i),
@@ -235,12 +235,12 @@ fn write_once<W: MonWorld>(monitor: &mut Monitor, world: &mut W, i: usize) -> Re
 {
     match world.write(i, monitor.waiting(i))? {
         Written::Took(n) => {
-            let _ = monitor.arrive(Event::LinkTook(i, n));
+            let _ = monitor.step(Event::LinkTook(i, n));
             Ok(Written::Took(n))
         }
         Written::Later => Ok(Written::Later),
         Written::Failed => {
-            let _ = monitor.arrive(Event::LinkLost(i));
+            let _ = monitor.step(Event::LinkLost(i));
             world.close(i)?;
             Ok(Written::Failed)
         }

@@ -1,5 +1,5 @@
-use Rattle.nut_history.proofs.Tells.{tells-after}
+use Rattle.nut_history.proofs.Tells.{answers-told, tells-after}
 use Rattle.nut_history.proofs.answers_keep_content.Goals as goal
 
 pub returns : goal.returns
-returns c = tells-after
+returns c = λ first h s e r told is. (answers-told first h s e r told is, tells-after first h s e r told is)

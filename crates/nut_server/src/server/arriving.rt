@@ -4,7 +4,7 @@ ghost use Rattle.std.specs.Prelude.{◌≡◌, ◌<◌, ◌≤◌, map, length, 
 ghost use Rattle.nut_history.specs.Event.{Moment, Open, Bytes, Took, Close, DriverUp, DriverBytes, DriverTook, DriverDown};
 ghost use Rattle.nut_history.specs.Acceptance.{line_feeds};
 ghost use Rattle.nut_history.specs.Machine.{advance, ticked};
-ghost use Rattle.nut_history.specs.Outcome.{IsAnswer, content_after};
+ghost use Rattle.nut_history.specs.MachineOutcome.{Answers, content_after};
 
 use crate::address::address_of;
 use crate::arrival::PIECE_MAX;
@@ -37,7 +37,7 @@ impl Server {
 
     /// A client connects, which takes no memory.
     pub(super) fn open(&mut self, address: &[u8]) -> Result<(), Refused>
-        ensures answered { IsAnswer self.old (Open address.now) result }
+        ensures answered { Answers self.old (Open address.now) result }
         ensures content { self.new ≡ content_after result self.old (Open address.now) }
     {
         let Some(address) = address_of(address) else {
@@ -55,7 +55,7 @@ impl Server {
 
     /// A connection sends a piece. Where memory runs out in it, the connection is closed.
     pub(super) fn bytes(&mut self, c: u64, piece: &[u8]) -> Result<(), Refused>
-        ensures answered { IsAnswer self.old (Bytes c piece.now) result }
+        ensures answered { Answers self.old (Bytes c piece.now) result }
         ensures content { self.new ≡ content_after result self.old (Bytes c piece.now) }
     {
         let Some(at) = self.connections.place_of(c) else {
@@ -75,7 +75,7 @@ impl Server {
 
     /// A connection took the first `n` of the bytes that wait for it.
     pub(super) fn took(&mut self, c: u64, n: usize) -> Result<(), Refused>
-        ensures answered { IsAnswer self.old (Took c n) result }
+        ensures answered { Answers self.old (Took c n) result }
         ensures content { self.new ≡ content_after result self.old (Took c n) }
     {
         let Some(at) = self.connections.place_of(c) else {
@@ -90,7 +90,7 @@ impl Server {
 
     /// A connection is closed.
     pub(super) fn close(&mut self, c: u64) -> Result<(), Refused>
-        ensures answered { IsAnswer self.old (Close c) result }
+        ensures answered { Answers self.old (Close c) result }
         ensures content { self.new ≡ content_after result self.old (Close c) }
     {
         let Some(_) = self.connections.place_of(c) else {
@@ -102,7 +102,7 @@ impl Server {
 
     /// A driver is connected, which takes no memory.
     pub(super) fn driver_up(&mut self, u: usize) -> Result<(), Refused>
-        ensures answered { IsAnswer self.old (DriverUp u) result }
+        ensures answered { Answers self.old (DriverUp u) result }
         ensures content { self.new ≡ content_after result self.old (DriverUp u) }
     {
         if u >= self.devices.len() {
@@ -114,7 +114,7 @@ impl Server {
 
     /// A driver sends a piece. Where memory runs out in it, the driver counts as gone.
     pub(super) fn driver_bytes(&mut self, u: usize, piece: &[u8]) -> Result<(), Refused>
-        ensures answered { IsAnswer self.old (DriverBytes u piece.now) result }
+        ensures answered { Answers self.old (DriverBytes u piece.now) result }
         ensures content { self.new ≡ content_after result self.old (DriverBytes u piece.now) }
     {
         if u >= self.devices.len() || !self.devices[u].is_connected() {
@@ -131,7 +131,7 @@ impl Server {
 
     /// A driver took the first `n` of the bytes that wait for it.
     pub(super) fn driver_took(&mut self, u: usize, n: usize) -> Result<(), Refused>
-        ensures answered { IsAnswer self.old (DriverTook u n) result }
+        ensures answered { Answers self.old (DriverTook u n) result }
         ensures content { self.new ≡ content_after result self.old (DriverTook u n) }
     {
         if u >= self.devices.len() || !self.devices[u].is_connected() {
@@ -146,7 +146,7 @@ impl Server {
 
     /// A driver is gone.
     pub(super) fn driver_down(&mut self, u: usize) -> Result<(), Refused>
-        ensures answered { IsAnswer self.old (DriverDown u) result }
+        ensures answered { Answers self.old (DriverDown u) result }
         ensures content { self.new ≡ content_after result self.old (DriverDown u) }
     {
         if u >= self.devices.len() || !self.devices[u].is_connected() {

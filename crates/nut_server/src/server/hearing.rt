@@ -8,7 +8,8 @@ ghost use Rattle.nut_history.specs.Answer.{answer};
 ghost use Rattle.nut_history.specs.Command.{asked, command_in, command_of};
 ghost use Rattle.nut_history.specs.Content.{Session};
 ghost use Rattle.nut_history.specs.Machine.{answer_in, bytes_heard, caller_of, scene_of};
-ghost use Rattle.nut_history.specs.Outcome.{content_lost, is_blank, line_takes, with_backslash, MayRunOut};
+ghost use Rattle.nut_history.specs.Outcome.{is_blank, line_takes, with_backslash};
+ghost use Rattle.nut_history.specs.MachineOutcome.{content_lost, RunsOut};
 ghost use Rattle.nut_server.specs.Effects.{HasShortNames, answered_by};
 ghost use Rattle.nut_server.specs.Place.{Stands};
 
@@ -108,7 +109,7 @@ impl Server {
         ensures ok { OnOk result (self.new ≡ bytes_heard c piece.now self.old) }
         ensures lost { IfErr result (λ done. self.new ≡ content_lost c piece.now done self.old) }
         ensures few { IfErr result (λ done. done < line_feeds piece.now) }
-        ensures memory { IfErr result (λ done. MayRunOut c piece.now done self.old) }
+        ensures memory { IfErr result (λ done. RunsOut c piece.now done self.old) }
     {
         // Most pieces are one line. It is read where it lies.
         let Some(text) = self.connections.at(at).whole_line(piece) else {
@@ -127,7 +128,7 @@ impl Server {
         ensures ok { OnOk result (self.new ≡ bytes_heard c piece.now self.old) }
         ensures lost { IfErr result (λ done. self.new ≡ content_lost c piece.now done self.old) }
         ensures few { IfErr result (λ done. done < line_feeds piece.now) }
-        ensures memory { IfErr result (λ done. MayRunOut c piece.now done self.old) }
+        ensures memory { IfErr result (λ done. RunsOut c piece.now done self.old) }
     {
         let mut cutter = self.connections.take_cutter(at);
         let mut left = piece;
