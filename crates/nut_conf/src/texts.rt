@@ -48,7 +48,7 @@ impl FromValues for Described {
 }
 
 impl Texts {
-    ghost use Rattle.std.specs.Prelude.{◌≡◌, ◌==◌, [], IfSome, IsTrue, map};
+    ghost use Rattle.std.specs.Prelude.{◌≡◌, [], IfSome, IsTrue, map};
     ghost use Rattle.std.specs.Map.{lookup};
     ghost use Rattle.std.specs.Option.{option_copied, option_map};
     ghost use Rattle.std.specs.Str.{bytes_eq};
@@ -81,21 +81,6 @@ impl Texts {
         }
         self.by_name.insert(name, text)?;
         Ok(())
-    }
-
-    /// How many names have a text.
-    pub fn len(&self) -> usize
-        ensures len { result ≡ length (rows_of self.now) }
-        ensures few { result ≤ 1024 }
-    {
-        self.by_name.len()
-    }
-
-    /// Whether no name has a text.
-    pub fn is_empty(&self) -> bool
-        ensures { result ≡ (length (rows_of self.now) == 0) }
-    {
-        self.by_name.len() == 0
     }
 
     fn entry(&self, name: &[u8]) -> Option<&Text<0, 128>>

@@ -2,11 +2,7 @@
 use nut_proto::{command_description, variable_description};
 
 /// A name, and its text as a variable and as a command.
-type Row = (
-    &'static [u8],
-    Option<&'static [u8]>,
-    Option<&'static [u8]>,
-);
+type Row = (&'static [u8], Option<&'static [u8]>, Option<&'static [u8]>);
 
 const DESCRIPTIONS: [Row; 4] = [
     (b"battery.charge", Some(b"Battery charge (percent)"), None),
