@@ -207,7 +207,7 @@ impl Config {
         ensures { result.now ≡ variable_description self.now.variable_texts name.now }
     {
         match variable_description(name) {
-            Some(own) => own,
+            Some(ours) => ours,
             None => match &self.descriptions {
                 Some(others) => or_unavailable(others.variables.find(name)),
                 None => UNAVAILABLE,
