@@ -3,7 +3,7 @@
 ghost use Rattle.std.specs.Prelude.{◌≡◌, ◌<◌, ◌≤◌, IfSome, None, length, slice_get};
 ghost use Rattle.std.specs.Option.{option_map};
 ghost use Rattle.nut_conf.specs.Descriptions.{rows_of};
-ghost use Rattle.nut_proto.specs.Descriptions.{command_description, told, variable_description};
+ghost use Rattle.nut_proto.specs.Descriptions.{beside, command_description, told, variable_description};
 ghost use Rattle.nut_history.specs.Configuration.{number_of_ups, ups_named, user_named, has_password, may_act, may_command};
 ghost use Rattle.nut_server.specs.Configured.{configuration_of, upses_of, users_of};
 
@@ -199,6 +199,26 @@ impl Config {
         }
     }
 
+    /// The text of cmdvartab for a variable, if it has one.
+    fn variable_text(&self, name: &[u8]) -> Option<&[u8]>
+        ensures { option_map (λ t. t.now) result ≡ beside name.now self.now.variable_texts }
+    {
+        match &self.descriptions {
+            Some(others) => others.variables.find(name),
+            None => None,
+        }
+    }
+
+    /// The text of cmdvartab for a command, if it has one.
+    fn command_text(&self, name: &[u8]) -> Option<&[u8]>
+        ensures { option_map (λ t. t.now) result ≡ beside name.now self.now.command_texts }
+    {
+        match &self.descriptions {
+            Some(others) => others.commands.find(name),
+            None => None,
+        }
+    }
+
     /// What a variable tells, for people to read: this project's own text for its name; where there is none, that of
     /// cmdvartab; where there is none either, `Description unavailable`.
     ///
@@ -208,10 +228,7 @@ impl Config {
     {
         match variable_description(name) {
             Some(ours) => ours,
-            None => match &self.descriptions {
-                Some(others) => or_unavailable(others.variables.find(name)),
-                None => UNAVAILABLE,
-            },
+            None => or_unavailable(self.variable_text(name)),
         }
     }
 
@@ -224,10 +241,7 @@ impl Config {
     {
         match command_description(name) {
             Some(own) => own,
-            None => match &self.descriptions {
-                Some(others) => or_unavailable(others.commands.find(name)),
-                None => UNAVAILABLE,
-            },
+            None => or_unavailable(self.command_text(name)),
         }
     }
 
