@@ -25,8 +25,8 @@ PROMISES = (
         ("nut_monitor", "monitor.rt", ("Monitor.new", "Monitor.arrive", "Monitor.take_notice", "Monitor.notice_text")),)),
     ("The monitor's loop", "`watch`: what a world gives and takes is what a monitor is told and asks", (
         ("nut_watch", "watching.rt", ("watch",)), ("nut_watch", "world.rt", ("MonWorld.*",)))),
-    ("Configuration files", "`read_ups`, `read_users`, `read_upsd`, `read_upsmon`: what a file means", (
-        ("nut_conf", None, ("read_ups", "read_users", "read_upsd", "read_upsmon")),)),
+    ("Configuration files", "`read_ups`, `read_users`, `read_upsd`, `read_descriptions`, `read_upsmon`: what a file means", (
+        ("nut_conf", None, ("read_ups", "read_users", "read_upsd", "read_descriptions", "read_upsmon")),)),
     ("The tools", "`run_upsc`, `run_upsrw`, `run_upscmd` and their targets: what is asked, printed and dialed", (
         ("nut_client", None, ("run_upsc", "run_upsrw", "run_upscmd", "upsc_target", "upsrw_target", "upscmd_target")),
         ("nut_client", "output.rt", ("Output.*",)), ("nut_client", "stream.rt", ("Stream.*",)))),

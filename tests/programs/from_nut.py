@@ -137,7 +137,7 @@ def heads(page):
 
 
 # A directive in a line that is right but for its first word, and in front of it a file that has a section where one is wanted.
-LINES = {"ups.conf": "[u]\n{} = 1\n", "upsd.users": "[u]\n{} = 1\n", "upsd.conf": "{} 1\n", "upsmon.conf": "MINSUPPLIES 0\n{} 1\n"}
+LINES = {"ups.conf": "[u]\n{} = 1\n", "upsd.users": "[u]\n{} = 1\n", "upsd.conf": "{} 1\n", "cmdvartab": "{} a 1\n", "upsmon.conf": "MINSUPPLIES 0\n{} 1\n"}
 
 
 class Tests:
@@ -221,7 +221,7 @@ class Tests:
     def test_taken_directives_are_those_of_the_readers(self):
         """What is called taken here stands in docs/configuration.md, and what isn't doesn't."""
         for section, found in self.sections().items():
-            if section not in ("ups.conf", "upsd.conf", "upsd.users", "upsmon.conf"):
+            if section not in LINES:
                 continue
             table = re.search(rf"^## {section}\n(.*?)(?=^## )", text_of(os.path.join(ROOT, "docs/configuration.md")), re.MULTILINE | re.DOTALL)[1]
             ours = set(re.findall(r"^\| `([A-Za-z]+)", table, re.MULTILINE)) - {"ONLINE", "ONBATT", "LOWBATT", "FSD", "COMMOK", "COMMBAD", "SHUTDOWN", "REPLBATT", "NOCOMM"}

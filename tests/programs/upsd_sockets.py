@@ -431,6 +431,28 @@ class Tests:
             status, out, err = self.run(program, "--help")
             expect((status, word in out, err), (0, True, b""), "help")
 
+    def test_descriptions(self):
+        status, off = b"GET DESC su700 ups.status\n", b"GET CMDDESC su700 load.off\n"
+        model, maker = b"GET DESC su700 ups.model\n", b"GET DESC su700 ups.mfr\n"
+        own = {status: b'DESC su700 ups.status "Status of the UPS"\n', off: b'CMDDESC su700 load.off "Turn off the load"\n'}
+        none = {
+            model: b'DESC su700 ups.model "Description unavailable"\n',
+            maker: b'DESC su700 ups.mfr "Description unavailable"\n',
+        }
+        # a text for a name that has one of upsd's own, one for the model, and some for names that only look like the maker's
+        file = (
+            b'# texts\nVARDESC ups.status "UPS status"\nVARDESC ups.model "the \\"model\\""\n'
+            b"CMDDESC ups.mfr x\nVARDESC UPS.MFR x\nCMDDESC load.off x\n"
+        )
+        told = {model: b'DESC su700 ups.model "the \\"model\\""\n'}
+        for descriptions, texts in ((None, {**own, **none}), (b"", {**own, **none}), (file, {**own, **none, **told})):
+            with self.room(descriptions=descriptions) as room:
+                room.dummy(DEVICE + b"ups.model: S\nups.mfr: M\n")
+                room.upsd()
+                room.until(STATUS, ONLINE)
+                for asked, answer in texts.items():
+                    expect(room.ask(asked), answer, f"{asked} with {descriptions}")
+
     def test_faults_of_files(self):
         with self.room(ups=b"[a]\n[a]\n") as room:
             found = self.run(self.programs[0], "--conf", room.folder, "-s", room.folder)

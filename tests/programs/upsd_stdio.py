@@ -13,13 +13,15 @@ import sys
 import tempfile
 import time
 
-from tests.support.harness import build_shim, expect, Failed, refusals, refusing, ROOT, run_tests
+from tests.support.harness import build_shim, expect, Failed, Missing, refusals, refusing, ROOT, run_tests
 
 ROOM = ["--stdio", "--ups", "su700=Server room"]
 EXAMPLES = ["--stdio", "--conf", os.path.join(ROOT, "examples")]
 
 VERSION = b"Network UPS Tools upsd profile 1.2\n"
 LIST = b'BEGIN LIST UPS\nUPS su700 "Server room"\nEND LIST UPS\n'
+# the descriptions that NUT has, where Debian's package puts them
+NUT_DESCRIPTIONS = "/usr/share/nut/cmdvartab"
 DESCRIPTION = b'UPSDESC su700 "Server room"\n'
 GOODBYE = b"OK Goodbye\n"
 
@@ -67,6 +69,15 @@ CONF_FAULTS = [
     ("upsd.conf", b"MAXCONN 257\n", "1: BadNumber"),
     ("upsd.conf", b"LISTEN a_b 0\n", "1: BadName"),
     ("upsd.conf", b"CERTFILE x\n", "1: UnknownDirective"),
+    ("cmdvartab", b"# names\n\nVARDESC a x\nCMDDESC a x\nVARDESC b x\nVARDESC a\n", "6: BadForm"),
+    ("cmdvartab", b"VARDESC a UPS model\n", "1: BadForm"),
+    ("cmdvartab", b"VARDESC a x\nCMDDESC a x\nVARDESC a y\n", "3: Repeated"),
+    ("cmdvartab", b"VARDESC a/b x\n", "1: BadName"),
+    ("cmdvartab", b"CMDDESC " + b"a" * 65 + b" x\n", "1: PastLimit"),
+    ("cmdvartab", b"CMDDESC a " + b"x" * 129 + b"\n", "1: PastLimit"),
+    ("cmdvartab", b"".join(b"VARDESC v%d x\n" % i for i in range(1025)), "1025: PastLimit"),
+    ("cmdvartab", b'VARDESC a "x\n', "1: Unreadable"),
+    ("cmdvartab", b"\nvardesc a x\n", "2: UnknownDirective"),
     # bytes past ASCII, also in a comment
     ("ups.conf", "[a]\ndesc = caf\u00e9\n".encode(), "2: Unreadable"),
     ("upsd.conf", b"# \xff\n", "1: Unreadable"),
@@ -104,13 +115,13 @@ class Tests:
             raise Failed(f"no {kind} was seen")
 
     def conf(self, **texts):
-        """Writes a folder's files, each under its name with '_' for '.', where the text isn't None. It gives the
-        arguments of a run by them."""
+        """Writes a folder's files, each under its name with '_' for '.', where the text isn't None; without a text three are
+        empty, and cmdvartab isn't there. It gives the arguments of a run by them."""
         folder = os.path.join(self.folder, "conf")
         shutil.rmtree(folder, ignore_errors=True)
         os.mkdir(folder)
-        for name in ("ups.conf", "upsd.users", "upsd.conf"):
-            text = texts.get(name.replace(".", "_"), b"")
+        for name, usual in (("ups.conf", b""), ("upsd.users", b""), ("upsd.conf", b""), ("cmdvartab", None)):
+            text = texts.get(name.replace(".", "_"), usual)
             if text is not None:
                 with open(os.path.join(folder, name), "wb") as file:
                     file.write(text)
@@ -238,10 +249,12 @@ class Tests:
             expect(self.run(["--check", *args[1:]]), wanted, f"--check, {name}: {text[:40]!r}")
 
     def test_conf_that_cannot_be_read(self):
-        for name in ("ups.conf", "upsd.users", "upsd.conf"):
+        for name in ("ups.conf", "upsd.users", "upsd.conf", "cmdvartab"):
             cannot = (1, b"", f"upsd: {name}: cannot read\n".encode())
             args = self.conf(**{name.replace(".", "_"): None})
-            expect(self.run(args, b"VER\n"), cannot, f"no {name}")
+            # only cmdvartab may be left out
+            without = (0, VERSION, b"") if name == "cmdvartab" else cannot
+            expect(self.run(args, b"VER\n"), without, f"no {name}")
             path = os.path.join(args[-1], name)
             os.mkdir(path)
             expect(self.run(args, b"VER\n"), cannot, f"{name} is a folder")
@@ -257,13 +270,20 @@ class Tests:
         for folder in (os.path.join(self.folder, "no-such-folder"), self.shim, ""):
             expect(self.run(["--stdio", "--conf", folder], b"VER\n"), cannot, f"the folder {folder!r}")
 
+    def test_descriptions_of_nut(self):
+        if not os.path.exists(NUT_DESCRIPTIONS):
+            raise Missing(f"{NUT_DESCRIPTIONS} isn't installed (Debian's package nut-server)")
+        with open(NUT_DESCRIPTIONS, "rb") as file:
+            args = self.conf(cmdvartab=file.read())
+        expect(self.run(args, b"VER\n"), (0, VERSION, b""), "NUT's descriptions")
+
     def test_conf_in_order(self):
         bad = b"[a]\n[a]\n"
         for texts, fault in (
             ({"ups_conf": bad, "upsd_users": None, "upsd_conf": None}, b"upsd: ups.conf:2: Repeated\n"),
             ({"upsd_users": bad, "upsd_conf": None}, b"upsd: upsd.users:2: Repeated\n"),
             ({"upsd_users": None, "upsd_conf": bad}, b"upsd: upsd.users: cannot read\n"),
-            ({"upsd_conf": bad}, b"upsd: upsd.conf:1: UnknownDirective\nupsd: [a] isn't taken here: see from-nut(7)\n"),
+            ({"upsd_conf": bad, "cmdvartab": b"VARDESC a"}, b"upsd: upsd.conf:1: UnknownDirective\nupsd: [a] isn't taken here: see from-nut(7)\n"),
         ):
             expect(self.run(self.conf(**texts), b"VER\n"), (1, b"", fault), f"{texts}")
             expect(self.run(["--check", *self.conf(**texts)[1:]]), (1, b"", fault), f"--check {texts}")
@@ -389,6 +409,10 @@ class Tests:
 
     def test_each_allocation_refused_with_files(self):
         self.refuse_allocations(EXAMPLES)
+
+    def test_each_allocation_refused_with_descriptions(self):
+        many = b"".join(b"VARDESC v%d x\n" % i for i in range(40))
+        self.refuse_allocations(self.conf(ups_conf=b'[su700]\ndesc = "Server room"\n', cmdvartab=b'VARDESC a "\\"x\\""\nCMDDESC b y\n' + many))
 
     def refuse_allocations(self, args):
         """Refuses each allocation of a run in turn: it ends before it serves, or after a line."""

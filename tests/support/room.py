@@ -104,7 +104,7 @@ class Client:
 class Room:
     """A folder with a configuration, and the programs that run by it."""
 
-    def __init__(self, programs, folder, conf=b"", ups=b'[su700]\ndesc = "Server room"\n'):
+    def __init__(self, programs, folder, conf=b"", ups=b'[su700]\ndesc = "Server room"\n', descriptions=None):
         self.upsd_program, self.dummy_program = programs
         self.folder = tempfile.mkdtemp(dir=folder)
         with socket.socket() as free:
@@ -113,9 +113,10 @@ class Room:
         self.host = "127.0.0.1"
         self.running = []
         listen = b"" if b"LISTEN" in conf else b"LISTEN 127.0.0.1 %d\n" % self.port
-        for name, text in (("ups.conf", ups), ("upsd.users", USERS), ("upsd.conf", listen + conf)):
-            with open(self.path(name), "wb") as file:
-                file.write(text)
+        for name, text in (("ups.conf", ups), ("upsd.users", USERS), ("upsd.conf", listen + conf), ("cmdvartab", descriptions)):
+            if text is not None:
+                with open(self.path(name), "wb") as file:
+                    file.write(text)
 
     def __enter__(self):
         return self

@@ -53,7 +53,7 @@ fn conf<'a>(alloc: Global) -> Result<Arg<'a>, AllocError> {
     Arg::new(alloc, "conf")
         .long("conf")
         .value_name("DIR")
-        .help("The folder of ups.conf, upsd.users and upsd.conf")
+        .help("The folder of ups.conf, upsd.users, upsd.conf and cmdvartab")
         .conflicts_with("ups")
 }
 

@@ -2,8 +2,8 @@
 
 use crate::unknown::unknown_word;
 use nut_conf::{
-    ConfFault, FILE_MAX, FaultKind, UpsConf, UpsdConf, UpsmonConf, UsersConf, read_ups, read_upsd,
-    read_upsmon, read_users,
+    ConfFault, Descriptions, FILE_MAX, FaultKind, UpsConf, UpsdConf, UpsmonConf, UsersConf,
+    read_descriptions, read_ups, read_upsd, read_upsmon, read_users,
 };
 use std::alloc::Global;
 use std::fs::File;
@@ -61,6 +61,16 @@ impl ConfFile for UpsmonConf {
     }
 }
 
+impl ConfFile for Descriptions {
+    fn file_name() -> &'static str {
+        "cmdvartab"
+    }
+
+    fn read(alloc: Global, bytes: &[u8]) -> Result<Self, ConfFault> {
+        read_descriptions(alloc, bytes)
+    }
+}
+
 /// Why a file gives no configuration. It is shown as `ups.conf: cannot read` or `ups.conf:2: Repeated`.
 #[derive(Debug, Drop)]
 pub enum FileFault<'a> {
@@ -106,6 +116,23 @@ pub fn read_conf<C: ConfFile>(
     }
 }
 
+/// Reads a configuration from its file in a folder, if the file is there.
+pub fn read_conf_if_there<C: ConfFile>(
+    files: &impl Files,
+    alloc: Global,
+    folder: &str,
+) -> Result<Option<C>, FileFault<'static>> {
+    let name = C::file_name();
+    let Ok(path) = Path::new(folder).join(alloc, name) else {
+        return Err(FileFault::Memory);
+    };
+    match read_file(files, alloc, path, READ_MAX) {
+        Ok(bytes) => Ok(Some(conf_of(alloc, bytes.as_slice(), name)?)),
+        Err(error) if error.kind() == ErrorKind::NotFound => Ok(None),
+        Err(error) => Err(unread(error, name)),
+    }
+}
+
 /// Reads a configuration from a file, which a fault calls by this name.
 pub fn read_conf_at<'a, C: ConfFile, P: AsPath>(
     files: &impl Files,
@@ -113,17 +140,35 @@ pub fn read_conf_at<'a, C: ConfFile, P: AsPath>(
     path: P,
     name: &'a str,
 ) -> Result<C, FileFault<'a>> {
-    // of a file that is too long no more than show that
-    let bytes = match read_file(files, alloc, path, FILE_MAX as u64 + 1) {
-        Ok(bytes) => bytes,
-        Err(error) if error.kind() == ErrorKind::OutOfMemory => return Err(FileFault::Memory),
-        Err(_) => return Err(FileFault::CannotRead(name)),
-    };
-    match C::read(alloc, bytes.as_slice()) {
+    match read_file(files, alloc, path, READ_MAX) {
+        Ok(bytes) => conf_of(alloc, bytes.as_slice(), name),
+        Err(error) => Err(unread(error, name)),
+    }
+}
+
+/// Of a file that is too long no more bytes are read than show that.
+const READ_MAX: u64 = FILE_MAX as u64 + 1;
+
+/// Why a file can't be read.
+fn unread(error: io::Error, name: &str) -> FileFault<'_> {
+    if error.kind() == ErrorKind::OutOfMemory {
+        FileFault::Memory
+    } else {
+        FileFault::CannotRead(name)
+    }
+}
+
+/// Reads a configuration from the bytes of its file.
+fn conf_of<'a, C: ConfFile>(
+    alloc: Global,
+    bytes: &[u8],
+    name: &'a str,
+) -> Result<C, FileFault<'a>> {
+    match C::read(alloc, bytes) {
         Ok(conf) => Ok(conf),
         Err(fault) if fault.kind == FaultKind::Memory => Err(FileFault::Memory),
         Err(fault) => {
-            let word = unknown_word::<C>(alloc, bytes.as_slice(), fault);
+            let word = unknown_word::<C>(alloc, bytes, fault);
             Err(FileFault::Conf(name, fault, word))
         }
     }

@@ -1,28 +1,38 @@
 //! What the command line of upsd configures.
 
-use crate::conf_file::{FileFault, read_conf};
+use crate::conf_file::{FileFault, read_conf, read_conf_if_there};
 use crate::failure::Failure;
 use crate::read_ups_options;
 use crate::upsd_fault::UpsdFault;
 use clap::ArgMatches;
-use nut_conf::{UpsConf, UpsdConf, UsersConf};
+use nut_conf::{Descriptions, UpsConf, UpsdConf, UsersConf};
 use nut_server::Config;
 use std::alloc::Global;
 use std::rt::Files;
 
-/// What ups.conf, upsd.users and upsd.conf set.
+/// What ups.conf, upsd.users and upsd.conf set, and cmdvartab, if it is there.
 #[derive(Drop)]
 pub struct Settings {
     pub ups: UpsConf,
     pub users: UsersConf,
     pub upsd: UpsdConf,
+    pub descriptions: Option<Descriptions>,
 }
 
 impl Settings {
     /// The configuration of a server.
     pub fn into_config(self) -> Config {
-        let Settings { ups, users, upsd } = self;
-        Config::new(ups, users, upsd)
+        let Settings {
+            ups,
+            users,
+            upsd,
+            descriptions,
+        } = self;
+        let config = Config::new(ups, users, upsd);
+        match descriptions {
+            Some(descriptions) => config.with_descriptions(descriptions),
+            None => config,
+        }
     }
 }
 
@@ -39,6 +49,7 @@ pub fn read_options(
         ups: read_ups_options(alloc, matches.get_strs("ups").unwrap_or(&[]))?,
         users: UsersConf::new(alloc),
         upsd: UpsdConf::new(alloc),
+        descriptions: None,
     })
 }
 
@@ -52,5 +63,6 @@ pub fn read_settings(
         ups: read_conf(files, alloc, folder)?,
         users: read_conf(files, alloc, folder)?,
         upsd: read_conf(files, alloc, folder)?,
+        descriptions: read_conf_if_there(files, alloc, folder)?,
     })
 }

@@ -19,8 +19,8 @@ use std::sync::Wait;
 /// first. Where they don't read, clap's text says so on `err`, and the status is 2; the help and the version go to
 /// `out`, with status 0.
 ///
-/// With `--conf` the files ups.conf, upsd.users and upsd.conf of the folder are read, in this order. The first fault is
-/// told as `upsd: ups.conf:2: Repeated`, and a file that can't be read as `upsd: ups.conf: cannot read`. The values of
+/// With `--conf` the files ups.conf, upsd.users and upsd.conf of the folder are read, in this order, and then cmdvartab, if
+/// it is there. The first fault is told as `upsd: ups.conf:2: Repeated`, and a file that can't be read as `upsd: ups.conf: cannot read`. The values of
 /// `--ups` are read in the order given, and the first fault is told as `upsd: --ups: <fault>`. Nothing is served then.
 /// A failed read is told as `upsd: input failed`, a failed write as `upsd: output failed`, and a refused growth as
 /// `upsd: out of memory`.

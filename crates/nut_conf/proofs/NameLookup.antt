@@ -21,11 +21,14 @@ reads_named : (most : ℕ) (bytes : List ℕ) → is_name most bytes ≡ true �
 reads_named most bytes h = grind (arith, nat_tests)
 
 -- a word that doesn't read as a name isn't that of a name
-pub is_named-no : (bytes : List ℕ) (e : FaultKind) → name 32 bytes ≡ Err e → (n : Name 32) → is_named bytes n ≡ false
-is_named-no bytes e fault n = false-from_not_true (is_named bytes n) (λ same.
+pub is_no_name : (most : ℕ) (bytes : List ℕ) (e : FaultKind) → name most bytes ≡ Err e → (n : Name most) → bytes_eq bytes n.bytes.items ≡ false
+is_no_name most bytes e fault n = false-from_not_true (bytes_eq bytes n.bytes.items) (λ same.
     let is : bytes ≡ n.bytes.items = (bytes_eq-Decides bytes n.bytes.items).0 same in
-    let reads : name 32 bytes ≡ Ok bytes = reads_named 32 bytes (subst (λ b. is_name 32 b ≡ true) (sym is) n.named) in
+    let reads : name most bytes ≡ Ok bytes = reads_named most bytes (subst (λ b. is_name most b ≡ true) (sym is) n.named) in
     absurd (cc))
+
+pub is_named-no : (bytes : List ℕ) (e : FaultKind) → name 32 bytes ≡ Err e → (n : Name 32) → is_named bytes n ≡ false
+is_named-no bytes e fault n = is_no_name 32 bytes e fault n
 
 no_prefix : {X : Type 0} (p : X → Bool) (xs : List X) → ((x : X) → p x ≡ false) → prefix_len (λ x. not (p x)) xs ≡ length xs
 no_prefix p [] none = refl

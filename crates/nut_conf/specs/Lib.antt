@@ -12,6 +12,7 @@ pub mod Upsd
 pub mod Target
 pub mod Notices
 pub mod Upsmon
+pub mod Descriptions
 pub mod Spares
 pub mod FirstFault
 pub mod Laws

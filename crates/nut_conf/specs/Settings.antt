@@ -33,6 +33,8 @@ pub data Setting : Type 0 where
   Message : List ℕ → List ℕ → Setting
   -- a type of notice, and its flags
   Flags : List ℕ → NoticeFlags → Setting
+  -- a variable or a command, and its text
+  Description : List ℕ → List ℕ → Setting
 
 -- how the lines of a directive are read
 pub record Rule : Type 0 where

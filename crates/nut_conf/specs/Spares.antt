@@ -12,6 +12,7 @@ use Rattle.nut_conf.specs.Target.{or_fault, target}
 use Rattle.nut_conf.specs.Users.{commands_value}
 use Rattle.nut_conf.specs.Upsd.{address, listen_value}
 use Rattle.nut_conf.specs.Upsmon.{monitored_target, monitor_value}
+use Rattle.nut_conf.specs.Descriptions.{description_value}
 use Rattle.nut_conf.specs.Notices.{notice_words, message_value, flags_value, flags, plus_parts, is_flag}
 use Rattle.nut_conf.specs.declared.values.Form.{Form}
 use Rattle.nut_conf.specs.declared.values.Form.TheVariants as forms
@@ -94,6 +95,11 @@ pub flags_value_spares : (vs : Words) → Spares (flags_value vs)
 flags_value_spares vs =
     spares_test (length vs == 2) _ _
     (spares_then (one_of notice_words (nth vs 0)) _ (word_spares notice_words (nth vs 0)) (λ n. spares_then (flags (nth vs 1)) _ (flags_spare (nth vs 1)) (λ f. tt))) tt
+
+pub description_value_spares : (vs : Words) → Spares (description_value vs)
+description_value_spares vs =
+    spares_test (length vs == 2) _ _
+    (spares_then (name 64 (nth vs 0)) _ (name_spares 64 (nth vs 0)) (λ n. spares_then (text 0 128 (nth vs 1)) _ (text_spares 0 128 (nth vs 1)) (λ t. tt))) tt
 
 pub monitor_value_spares : (vs : Words) → Spares (monitor_value vs)
 monitor_value_spares vs =

@@ -6,10 +6,12 @@ ghost use Rattle.nut_conf.specs.Files.{LineFault, read_file, read_lines};
 ghost use Rattle.nut_conf.specs.Laws.{BlankChangesNothing, EachKeepsRule, HasDistinctNames, KeepRule};
 ghost use Rattle.nut_conf.specs.Sections.{sections};
 ghost use Rattle.nut_conf.specs.Settings.{settings};
+ghost use Rattle.nut_conf.specs.Descriptions.{description_directive, descriptions_fault};
 ghost use Rattle.nut_conf.specs.Ups.{ups_directive, ups_fault};
 ghost use Rattle.nut_conf.specs.Upsd.{upsd_directive, upsd_fault};
 ghost use Rattle.nut_conf.specs.Upsmon.{upsmon_directive, upsmon_fault};
 ghost use Rattle.nut_conf.specs.Users.{user_directive, users_fault};
+ghost use Rattle.nut_conf.specs.declared.descriptions.DescriptionDirective.{DescriptionDirective};
 ghost use Rattle.nut_conf.specs.declared.ups.UpsDirective.{UpsDirective};
 ghost use Rattle.nut_conf.specs.declared.upsd.UpsdDirective.{UpsdDirective};
 ghost use Rattle.nut_conf.specs.declared.upsmon.UpsmonDirective.{UpsmonDirective};
@@ -34,8 +36,8 @@ pub fn names_are_distinct()
 {}
 
 /// In a file that reads, what its lines set for a directive is as often as it may be, and no two settings are alike that
-/// may not be: at most 16 endpoints, 128 `instcmds` of a user and 32 targets, no target twice, and no type of notice with
-/// two texts or two lines of flags.
+/// may not be: at most 16 endpoints, 128 `instcmds` of a user and 32 targets, no target twice, no type of notice with two
+/// texts or two lines of flags, and at most 1,024 variables and 1,024 commands with a description, none with two.
 pub fn rules_are_kept()
     ensures ups { (file : List ℕ) (lines : List Words) → read_file ups_fault file ≡ Ok lines
         → (d : UpsDirective) → EachKeepsRule (ups_directive d) (sections lines) }
@@ -45,4 +47,6 @@ pub fn rules_are_kept()
         → (d : UpsdDirective) → KeepRule (upsd_directive d).rule (settings (upsd_directive d) lines) }
     ensures upsmon { (file : List ℕ) (lines : List Words) → read_file upsmon_fault file ≡ Ok lines
         → (d : UpsmonDirective) → KeepRule (upsmon_directive d).rule (settings (upsmon_directive d) lines) }
+    ensures descriptions { (file : List ℕ) (lines : List Words) → read_file descriptions_fault file ≡ Ok lines
+        → (d : DescriptionDirective) → KeepRule (description_directive d).rule (settings (description_directive d) lines) }
 {}

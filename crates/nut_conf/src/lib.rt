@@ -1,8 +1,9 @@
-//! The configuration files of Network UPS Tools: ups.conf, upsd.users, upsd.conf and upsmon.conf.
+//! The configuration files of Network UPS Tools: ups.conf, upsd.users, upsd.conf, upsmon.conf and cmdvartab.
 //!
 //! Each reader takes a whole file. It gives the configuration that the file's lines set, or the first fault with its line.
 #![tactic(auto)]
 
+mod descriptions;
 mod draft;
 mod fault;
 mod file;
@@ -16,12 +17,14 @@ mod sections;
 mod slot;
 mod target;
 mod text;
+mod texts;
 mod ups;
 mod upsd;
 mod upsmon;
 mod users;
 mod values;
 
+pub use descriptions::{DescriptionDirective, Descriptions, read_descriptions};
 pub use fault::{ConfFault, FaultKind};
 pub use file::FILE_MAX;
 pub use host::{Address, Host};
@@ -32,6 +35,7 @@ pub use notice::{Notice, NoticeFlags, NoticeHandling, NoticeText};
 pub use sections::Sections;
 pub use target::{NameFault, Target, split_name};
 pub use text::{Name, Number, Port, Text};
+pub use texts::Texts;
 pub use ups::{Ups, UpsConf, UpsDirective, read_ups};
 pub use upsd::{Endpoint, UpsdConf, UpsdDirective, read_upsd};
 pub use upsmon::{UpsmonConf, UpsmonDirective, read_upsmon};

@@ -260,9 +260,13 @@ module _ (s : Scene) (short : IsShortScene s) where
       let within = variable_within d.table name v table there in
       fit_line (type_reply ups v) (L.length-type ups v.name v.flags.writable (kind_of v) (ups_short ups named) (name_within 64 v.name within.name).1 (λ m is. kind_few v m within.aux is))))
   request_fit k (requests.GetDesc ups name) = fit_device s short ups _ (λ d named table. fit_variable name d _ (λ v there.
-      fit_line (replies.Desc ups name (variable_description name)) (L.length-desc ups name (ups_short ups named) (variable_named d.table name v table there).1)))
+      let text = variable_description s.configuration.variable_texts name in
+      let few = L.length-variable_text s.configuration.variable_texts name short.configured.variable_texts in
+      fit_line (replies.Desc ups name text) (L.length-desc ups name text (ups_short ups named) (variable_named d.table name v table there).1 few)))
   request_fit k (requests.GetCmdDesc ups name) = fit_device s short ups _ (λ d named table. fit_command name d _ (λ there.
-      fit_line (replies.CmdDesc ups name (command_description name)) (L.length-cmd_desc ups name (ups_short ups named) (command_named d.table name table there).1)))
+      let text = command_description s.configuration.command_texts name in
+      let few = L.length-command_text s.configuration.command_texts name short.configured.command_texts in
+      fit_line (replies.CmdDesc ups name text) (L.length-cmd_desc ups name text (ups_short ups named) (command_named d.table name table there).1 few)))
   request_fit k (requests.List query) = list_fit query
   request_fit k (requests.SetVar ups name value) = with_right-case IsFit s k may_set ups _ fit_refused (λ u found. fit_data s short u (λ d. set_answer d name value) (λ table.
       let d = device_at s u in

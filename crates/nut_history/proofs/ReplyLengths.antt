@@ -1,6 +1,6 @@
 -- How long the lines of answers are, where names and values are within their limits.
-use Rattle.std.proofs.Common.{◌≡◌, ℕ, ◌+◌, ◌<◌, ◌≤◌, ◌^◌, Bool, true, false, List, [], ◌∷◌, ◌++◌, length, refl, arith, length-append, codes, decimal}
-use Rattle.std.specs.Prelude.{ℤ, if◌then◌else◌}
+use Rattle.std.proofs.Common.{◌≡◌, ℕ, ◌+◌, ◌<◌, ◌≤◌, ◌^◌, Bool, true, false, List, [], ◌∷◌, ◌++◌, length, Option, None, Some, refl, arith, length-append, codes, decimal}
+use Rattle.std.specs.Prelude.{ℤ, IfSome, if◌then◌else◌}
 use Rattle.std.specs.Fmt.{signed_decimal}
 use Rattle.std.specs.Int.Signed.{mag}
 use Rattle.std.specs.List.{AllByRecursion}
@@ -15,11 +15,12 @@ use Rattle.nut_proto.specs.declared.reply.VariableKind.{VariableKind}
 use Rattle.nut_proto.specs.declared.reply.VariableKind.TheVariants as kinds
 use Rattle.nut_proto.specs.declared.request.ListQuery.TheVariants as queries
 use Rattle.nut_proto.specs.Bounds.{IsName}
-use Rattle.nut_proto.specs.Descriptions.{described_variables, described_commands, description_in, variable_description, command_description}
+use Rattle.nut_proto.specs.Descriptions.{described_variables, described_commands, beside, told, variable_description, command_description}
 use Rattle.nut_proto.specs.Lines.{line, part_text}
 use Rattle.nut_proto.specs.Refusals.{refusal_name}
 use Rattle.nut_proto.specs.Replies.{reply_line, kind_part}
 use Rattle.nut_proto.specs.Requests.{begin_line, end_line}
+use Rattle.nut_history.specs.Limits.{IsTextWithin}
 use Rattle.nut_history.proofs.Lengths.{length-line, length-quoted, length-word, length-name}
 
 -- ---- lines that are always the same
@@ -102,47 +103,47 @@ length-type ups name true kind u n few =
 length-type ups name false kind u n few =
     omega (arith, length-line (Word (codes "TYPE")) (Word ups ∷ Word name ∷ kind_part kind ∷ []), length-word ups, length-word name, length-kind kind few)
 
-length-either : (b : Bool) (x y : List ℕ) (n : ℕ) → length x ≤ n → length y ≤ n → length (if b then x else y) ≤ n
-length-either true x y n first second = first
-length-either false x y n first second = second
+abbrev IsShortText : Option (List ℕ) → Type 0
+IsShortText o = IfSome o (λ (t : List ℕ). length t ≤ 128)
 
-length-described : (rows : List (List ℕ × List ℕ)) (name : List ℕ) → AllByRecursion (λ row. length row.1 ≤ 40) rows → length (description_in rows name) ≤ 40
-length-described [] name short = omega arith
-length-described (row ∷ rows) name short = length-either (bytes_eq name row.0) row.1 (description_in rows name) 40 short.0 (length-described rows name short.1)
+short-either : (b : Bool) (t : List ℕ) (o : Option (List ℕ)) → length t ≤ 128 → IsShortText o → IsShortText (if b then Some t else o)
+short-either true t o first second = first
+short-either false t o first second = second
 
-length-variable_text : (name : List ℕ) → length (variable_description name) ≤ 40
+short-beside : (name : List ℕ) (rows : List (List ℕ × List ℕ)) → AllByRecursion IsTextWithin rows → IsShortText (beside name rows)
+short-beside name [] short = tt
+short-beside name (row ∷ rows) short = short-either (bytes_eq name row.0) row.1 (beside name rows) short.0 (short-beside name rows short.1)
+
+length-told : (own other : Option (List ℕ)) → IsShortText own → IsShortText other → length (told own other) ≤ 128
+length-told (Some t) other first second = first
+length-told None (Some t) first second = second
+length-told None None first second = omega arith
+
+short-variables : AllByRecursion IsTextWithin described_variables
+short-variables = (omega arith, (omega arith, (omega arith, (omega arith, (omega arith, (omega arith, (omega arith, (omega arith, (omega arith, tt)))))))))
+
+short-commands : AllByRecursion IsTextWithin described_commands
+short-commands = (omega arith, (omega arith, (omega arith, (omega arith, (omega arith, (omega arith, (omega arith, (omega arith, tt))))))))
+
+pub length-variable_text : (rows : List (List ℕ × List ℕ)) (name : List ℕ) → AllByRecursion IsTextWithin rows → length (variable_description rows name) ≤ 128
 unfolding variable_description
-length-variable_text name =
-    length-described described_variables name (omega arith, (omega arith, (omega arith, (omega arith, (omega arith, (omega arith, (omega arith, (omega arith, (omega arith, tt)))))))))
+length-variable_text rows name short =
+    length-told (beside name described_variables) (beside name rows) (short-beside name described_variables short-variables) (short-beside name rows short)
 
-length-command_text : (name : List ℕ) → length (command_description name) ≤ 40
+pub length-command_text : (rows : List (List ℕ × List ℕ)) (name : List ℕ) → AllByRecursion IsTextWithin rows → length (command_description rows name) ≤ 128
 unfolding command_description
-length-command_text name =
-    length-described described_commands name (omega arith, (omega arith, (omega arith, (omega arith, (omega arith, (omega arith, (omega arith, (omega arith, tt))))))))
+length-command_text rows name short =
+    length-told (beside name described_commands) (beside name rows) (short-beside name described_commands short-commands) (short-beside name rows short)
 
-pub length-desc : (ups name : List ℕ) → length ups ≤ 32 → length name ≤ 64 → length (reply_line (replies.Desc ups name (variable_description name))) ≤ 1000
+pub length-desc : (ups name text : List ℕ) → length ups ≤ 32 → length name ≤ 64 → length text ≤ 128 → length (reply_line (replies.Desc ups name text)) ≤ 1000
 unfolding reply_line
-length-desc ups name u n =
-    omega (
-      arith,
-      length-line (Word (codes "DESC")) (Word ups ∷ Word name ∷ Quoted (variable_description name) ∷ []),
-      length-word ups,
-      length-word name,
-      length-quoted (variable_description name),
-      length-variable_text name,
-    )
+length-desc ups name text u n t =
+    omega (arith, length-line (Word (codes "DESC")) (Word ups ∷ Word name ∷ Quoted text ∷ []), length-word ups, length-word name, length-quoted text)
 
-pub length-cmd_desc : (ups name : List ℕ) → length ups ≤ 32 → length name ≤ 64 → length (reply_line (replies.CmdDesc ups name (command_description name))) ≤ 1000
+pub length-cmd_desc : (ups name text : List ℕ) → length ups ≤ 32 → length name ≤ 64 → length text ≤ 128 → length (reply_line (replies.CmdDesc ups name text)) ≤ 1000
 unfolding reply_line
-length-cmd_desc ups name u n =
-    omega (
-      arith,
-      length-line (Word (codes "CMDDESC")) (Word ups ∷ Word name ∷ Quoted (command_description name) ∷ []),
-      length-word ups,
-      length-word name,
-      length-quoted (command_description name),
-      length-command_text name,
-    )
+length-cmd_desc ups name text u n t =
+    omega (arith, length-line (Word (codes "CMDDESC")) (Word ups ∷ Word name ∷ Quoted text ∷ []), length-word ups, length-word name, length-quoted text)
 
 -- ---- rows of lists
 

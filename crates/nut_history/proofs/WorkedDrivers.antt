@@ -6,6 +6,7 @@ use Rattle.nut_state.specs.Change.{asked, heard}
 use Rattle.nut_state.specs.Sorted.{named, put}
 use Rattle.nut_state.specs.Step.{accepts, changed, after, applied}
 use Rattle.nut_state.specs.Verb.{verb_of}
+use Rattle.nut_proto.specs.Descriptions.{variable_description, command_description}
 use Rattle.nut_proto.specs.DriverAsks.{ask_line}
 use Rattle.nut_proto.specs.Forms.{meaning}
 use Rattle.nut_proto.specs.Keywords.{command_of, subject_of}
@@ -17,7 +18,7 @@ use Rattle.nut_history.specs.Answer.{text_of}
 use Rattle.nut_history.specs.DriverExamples.{DriverExamples, EdgeExamples, UserExamples}
 
 pub drivers : DriverExamples
-unfolding digits read named put asked heard accepts changed after applied verb_of ask_line meaning command_of subject_of line refusal_name reply_line begin_line end_line text_of
+unfolding digits read named put asked heard accepts changed after applied verb_of variable_description command_description ask_line meaning command_of subject_of line refusal_name reply_line begin_line end_line text_of
 drivers = record {
   dump_first = refl;
   dump_sent = refl;
@@ -36,6 +37,12 @@ drivers = record {
   list_ranges = refl;
   type_of_writable = refl;
   type_of_other = refl;
+  own_text = refl;
+  other_text = refl;
+  no_text = refl;
+  own_command_text = refl;
+  other_command_text = refl;
+  no_command_text = refl;
   old_enough = refl;
   too_old = refl;
   heard_again = refl;

@@ -1,4 +1,4 @@
--- What a server is made with (ups.conf(5), upsd.users(5), upsd.conf(5)).
+-- What a server is made with (ups.conf(5), upsd.users(5), upsd.conf(5), cmdvartab).
 use Rattle.std.specs.Prelude.{ℕ, Bool, true, false, List, Option, Some, None, find, position}
 use Rattle.std.specs.List.{list_any}
 use Rattle.std.specs.Option.{option_map_or}
@@ -22,12 +22,15 @@ pub record User : Type 0 where
   pub role : Option Role
 
 -- The UPSes and the users in the order of their files, after how many seconds without a word from its driver the
--- data of a UPS are stale, and how many connections may be open at once.
+-- data of a UPS are stale, how many connections may be open at once, and what variables tell and commands do, by their
+-- names.
 pub record Configuration : Type 0 where
   pub upses : List Ups
   pub users : List User
   pub max_age : ℕ
   pub most_connections : ℕ
+  pub variable_texts : List (List ℕ × List ℕ)
+  pub command_texts : List (List ℕ × List ℕ)
 
 -- the first UPS of this name; the case of letters counts
 abbrev pub ups_named : List ℕ → List Ups → Option Ups

@@ -25,6 +25,8 @@ room = record {
       ∷ [];
   max_age = 15;
   most_connections = 3;
+  variable_texts = (codes "ups.status", codes "UPS status") ∷ (codes "ups.model", codes "UPS model") ∷ [];
+  command_texts = (codes "load.off", codes "Off") ∷ (codes "load.cycle", codes "Turn off the load, and on again") ∷ [];
 }
 
 -- what the driver tells: a status, a number that may be set, a text that may be set, and a command
@@ -44,6 +46,10 @@ live = DriverBytes 0 told ∷ joined_up
 -- what the first connection is answered where it sends this text behind a history
 abbrev pub answers_to : List ℕ → List Event → List ℕ
 answers_to text h = due 1 (past room (Bytes 1 text ∷ h))
+
+-- then the driver tells of two variables and two commands more
+abbrev pub with_more : List Event
+with_more = DriverBytes 0 (codes "SETINFO ups.model S\nSETINFO load.cycle 1\nADDCMD load.cycle\nADDCMD ups.model\n") ∷ live
 
 -- what waits for the driver behind a history
 abbrev pub asked : List Event → List ℕ
@@ -75,6 +81,13 @@ pub record DriverExamples : Type 0 where
       ≡ codes "BEGIN LIST RANGE su700 battery.charge.low\nRANGE su700 battery.charge.low \"10\" \"90\"\nEND LIST RANGE su700 battery.charge.low\n"
   pub type_of_writable : answers_to (codes "GET TYPE su700 battery.charge.low\n") live ≡ codes "TYPE su700 battery.charge.low RW RANGE\n"
   pub type_of_other : answers_to (codes "GET TYPE su700 ups.status\n") live ≡ codes "TYPE su700 ups.status NUMBER\n"
+  pub own_text : answers_to (codes "GET DESC su700 ups.status\n") live ≡ codes "DESC su700 ups.status \"Status of the UPS\"\n"
+  pub other_text : answers_to (codes "GET DESC su700 ups.model\n") with_more ≡ codes "DESC su700 ups.model \"UPS model\"\n"
+  pub no_text : answers_to (codes "GET DESC su700 load.cycle\n") with_more ≡ codes "DESC su700 load.cycle \"Description unavailable\"\n"
+  pub own_command_text : answers_to (codes "GET CMDDESC su700 load.off\n") live ≡ codes "CMDDESC su700 load.off \"Turn off the load\"\n"
+  pub other_command_text :
+      answers_to (codes "GET CMDDESC su700 load.cycle\n") with_more ≡ codes "CMDDESC su700 load.cycle \"Turn off the load, and on again\"\n"
+  pub no_command_text : answers_to (codes "GET CMDDESC su700 ups.model\n") with_more ≡ codes "CMDDESC su700 ups.model \"Description unavailable\"\n"
   pub old_enough : answers_to get_status (Moment 15 ∷ live) ≡ codes "VAR su700 ups.status \"OL\"\n"
   pub too_old : answers_to get_status (Moment 16 ∷ live) ≡ codes "ERR DATA-STALE\n"
   pub heard_again : answers_to get_status (DriverBytes 0 (codes "PONG\n") ∷ Moment 16 ∷ live) ≡ codes "VAR su700 ups.status \"OL\"\n"

@@ -14,6 +14,8 @@ su700 = record {
   users = [];
   max_age = 15;
   most_connections = 1;
+  variable_texts = [];
+  command_texts = [];
 }
 
 -- the first connection is open

@@ -15,11 +15,17 @@ pub record IsUpsWithin (ups : Ups) : Type 0 where
   pub name : is_name 32 ups.name ≡ true
   pub description : length ups.description ≤ 128
 
+-- a name's text has at most 128 bytes
+abbrev pub IsTextWithin : List ℕ × List ℕ → Type 0
+IsTextWithin row = length row.1 ≤ 128
+
 -- At most 32 UPSes, and at most 256 connections at once: so much the files may hold.
 pub record IsWithin (configuration : Configuration) : Type 0 where
   pub upses : length configuration.upses ≤ 32
   pub each_ups : AllByRecursion IsUpsWithin configuration.upses
   pub connections : configuration.most_connections ≤ 256
+  pub variable_texts : AllByRecursion IsTextWithin configuration.variable_texts
+  pub command_texts : AllByRecursion IsTextWithin configuration.command_texts
 
 -- the longest answer to one line, a LIST VAR of 512 variables
 abbrev pub longest_answer : ℕ

@@ -7,6 +7,8 @@ use Rattle.std.proofs.lemmas.Bool.{leb-true}
 use Rattle.std.proofs.lemmas.List.{length-map}
 use Rattle.nut_words.specs.Spelling.{is_printing}
 use Rattle.nut_conf.specs.Ups.{shown, desc_of}
+use Rattle.nut_conf.specs.Descriptions.{row_of}
+use Rattle.nut_conf.specs.declared.descriptions.Descriptions.{Descriptions}
 use Rattle.nut_conf.specs.declared.text.Name.{Name}
 use Rattle.nut_conf.specs.declared.text.Text.{Text}
 use Rattle.nut_conf.specs.declared.ups.Ups as the_ups
@@ -17,9 +19,9 @@ use Rattle.nut_history.specs.Content.{Session, Content, past}
 use Rattle.nut_history.specs.Configuration.{Configuration}
 use Rattle.nut_history.specs.Event.{Event}
 use Rattle.nut_history.specs.Acceptance.{Tells, session_of}
-use Rattle.nut_history.specs.Limits.{IsUpsWithin, IsWithin, WaitsAreBounded, most_waits}
+use Rattle.nut_history.specs.Limits.{IsTextWithin, IsUpsWithin, IsWithin, WaitsAreBounded, most_waits}
 use Rattle.nut_history.proofs.Waiting.{configuration_stays}
-use Rattle.nut_server.specs.Configured.{configuration_of, ups_of}
+use Rattle.nut_server.specs.Configured.{command_texts_of, configuration_of, ups_of, variable_texts_of}
 use Rattle.nut_server.proofs.Arrives.{most_few}
 
 both : (a b : Bool) → (a && b) ≡ true → (a ≡ true) × (b ≡ true)
@@ -41,11 +43,25 @@ each_within : (es : List (Name 32 × the_ups.Ups)) → AllByRecursion IsUpsWithi
 each_within [] = tt
 each_within (e ∷ es) = (record { name = e.0.named; description = description_short e.1 }, each_within es)
 
-pub config_within : (ups : UpsConf) (users : UsersConf) (upsd : UpsdConf) → IsWithin (configuration_of ups users upsd)
-config_within ups users upsd = record {
+texts_within : (es : List (Name 64 × Text 0 128)) → AllByRecursion IsTextWithin (map row_of es)
+texts_within [] = tt
+texts_within (e ∷ es) = (text_short e.1, texts_within es)
+
+variables_within : (o : Option Descriptions) → AllByRecursion IsTextWithin (variable_texts_of o)
+variables_within (Some d) = texts_within d.variables.by_name.entries
+variables_within None = tt
+
+commands_within : (o : Option Descriptions) → AllByRecursion IsTextWithin (command_texts_of o)
+commands_within (Some d) = texts_within d.commands.by_name.entries
+commands_within None = tt
+
+pub config_within : (ups : UpsConf) (users : UsersConf) (upsd : UpsdConf) (descriptions : Option Descriptions) → IsWithin (configuration_of ups users upsd descriptions)
+config_within ups users upsd descriptions = record {
   upses = omega (arith, length-map (map shown ups.ups.by_name.entries) ups_of, length-map ups.ups.by_name.entries shown, ups.ups.few);
   each_ups = each_within ups.ups.by_name.entries;
   connections = most_few upsd.max_conn;
+  variable_texts = variables_within descriptions;
+  command_texts = commands_within descriptions;
 }
 
 -- what waits for c in a content that a history has

@@ -1,8 +1,10 @@
--- The configuration of a server, as the files ups.conf, upsd.users and upsd.conf set it.
-use Rattle.std.specs.Prelude.{ℕ, List, map, Option, Some, None}
+-- The configuration of a server, as the files ups.conf, upsd.users, upsd.conf and cmdvartab set it.
+use Rattle.std.specs.Prelude.{ℕ, List, [], map, Option, Some, None}
 use Rattle.std.specs.Option.{option_map}
+use Rattle.nut_conf.specs.Descriptions.{rows_of}
 use Rattle.nut_conf.specs.Ups.{Shown, shown_in}
 use Rattle.nut_conf.specs.Upsd.{max_age_of, max_conn_of}
+use Rattle.nut_conf.specs.declared.descriptions.Descriptions.{Descriptions}
 use Rattle.nut_conf.specs.declared.text.Name.{Name}
 use Rattle.nut_conf.specs.declared.ups.UpsConf.{UpsConf}
 use Rattle.nut_conf.specs.declared.upsd.UpsdConf.{UpsdConf}
@@ -43,11 +45,23 @@ user_in e = user_of e.0.bytes.items e.1
 abbrev pub users_of : UsersConf → List User
 users_of c = map user_in c.users.by_name.entries
 
--- what the three files set
-abbrev pub configuration_of : UpsConf → UsersConf → UpsdConf → Configuration
-configuration_of ups users upsd = record {
+-- what variables tell, in the order of cmdvartab, if there is that file
+abbrev pub variable_texts_of : Option Descriptions → List (List ℕ × List ℕ)
+variable_texts_of (Some d) = rows_of d.variables
+variable_texts_of None = []
+
+-- what commands do, in the order of cmdvartab, if there is that file
+abbrev pub command_texts_of : Option Descriptions → List (List ℕ × List ℕ)
+command_texts_of (Some d) = rows_of d.commands
+command_texts_of None = []
+
+-- what three files set, and the fourth, if it is there
+abbrev pub configuration_of : UpsConf → UsersConf → UpsdConf → Option Descriptions → Configuration
+configuration_of ups users upsd descriptions = record {
   upses = upses_of ups;
   users = users_of users;
   max_age = max_age_of upsd;
   most_connections = max_conn_of upsd;
+  variable_texts = variable_texts_of descriptions;
+  command_texts = command_texts_of descriptions;
 }

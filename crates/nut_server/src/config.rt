@@ -1,10 +1,14 @@
 //! What a server is made with.
 
-ghost use Rattle.std.specs.Prelude.{◌≡◌, ◌<◌, ◌≤◌, IfSome, length, slice_get};
+ghost use Rattle.std.specs.Prelude.{◌≡◌, ◌<◌, ◌≤◌, IfSome, None, length, slice_get};
+ghost use Rattle.std.specs.Option.{option_map};
+ghost use Rattle.nut_conf.specs.Descriptions.{rows_of};
+ghost use Rattle.nut_proto.specs.Descriptions.{beside, command_description, told, variable_description};
 ghost use Rattle.nut_history.specs.Configuration.{number_of_ups, ups_named, user_named, has_password, may_act, may_command};
 ghost use Rattle.nut_server.specs.Configured.{configuration_of, upses_of, users_of};
 
-use nut_conf::{Action, Role, UpsConf, UpsdConf, UsersConf};
+use nut_conf::{Action, Descriptions, Role, UpsConf, UpsdConf, UsersConf};
+use nut_proto::{command_description, variable_description};
 use std::marker::Model;
 
 /// A UPS, lent from the configuration.
@@ -72,12 +76,26 @@ impl<'a> User<'a> {
     }
 }
 
-/// The configuration of a server: ups.conf(5), upsd.users(5) and upsd.conf(5).
+/// The text of a name that has none.
+const UNAVAILABLE: &[u8] = b"Description unavailable";
+
+/// The text of a name that has none of this project's own.
+fn or_unavailable(text: Option<&[u8]>) -> &[u8]
+    ensures { result.now ≡ told None (option_map (λ t. t.now) text.entry) }
+{
+    match text {
+        Some(text) => text,
+        None => UNAVAILABLE,
+    }
+}
+
+/// The configuration of a server: ups.conf(5), upsd.users(5), upsd.conf(5), and cmdvartab where there is that file.
 #[derive(Drop)]
 pub struct Config {
     ups: UpsConf,
     users: UsersConf,
     upsd: UpsdConf,
+    descriptions: Option<Descriptions>,
 }
 
 impl Model for Config {
@@ -86,15 +104,29 @@ impl Model for Config {
 
     ghost Value = { Configuration };
 
-    ghost view = { λ c. configuration_of c.ups c.users c.upsd };
+    ghost view = { λ c. configuration_of c.ups c.users c.upsd c.descriptions };
 }
 
 impl Config {
-    /// What these three files set.
+    /// What these three files set, without descriptions.
     pub fn new(ups: UpsConf, users: UsersConf, upsd: UpsdConf) -> Config
-        ensures { result ≡ configuration_of ups users upsd }
+        ensures { result ≡ configuration_of ups users upsd None }
     {
-        Config { ups, users, upsd }
+        Config {
+            ups,
+            users,
+            upsd,
+            descriptions: None,
+        }
+    }
+
+    /// The same with these descriptions, in place of those before.
+    pub fn with_descriptions(self, descriptions: Descriptions) -> Config
+        ensures { result ≡ record self { variable_texts = rows_of descriptions.variables; command_texts = rows_of descriptions.commands } }
+    {
+        let mut config = self;
+        config.descriptions = Some(descriptions);
+        config
     }
 
     /// What ups.conf sets.
@@ -164,6 +196,52 @@ impl Config {
         match self.users.find(name) {
             Some(entry) => Some(User { name, entry }),
             None => None,
+        }
+    }
+
+    /// The text of cmdvartab for a variable, if it has one.
+    fn variable_text(&self, name: &[u8]) -> Option<&[u8]>
+        ensures { option_map (λ t. t.now) result ≡ beside name.now self.now.variable_texts }
+    {
+        match &self.descriptions {
+            Some(others) => others.variables.find(name),
+            None => None,
+        }
+    }
+
+    /// The text of cmdvartab for a command, if it has one.
+    fn command_text(&self, name: &[u8]) -> Option<&[u8]>
+        ensures { option_map (λ t. t.now) result ≡ beside name.now self.now.command_texts }
+    {
+        match &self.descriptions {
+            Some(others) => others.commands.find(name),
+            None => None,
+        }
+    }
+
+    /// What a variable tells, for people to read: this project's own text for its name; where there is none, that of
+    /// cmdvartab; where there is none either, `Description unavailable`.
+    ///
+    /// Takes no memory, and no longer for many descriptions.
+    pub fn describe_variable(&self, name: &[u8]) -> &[u8]
+        ensures { result.now ≡ variable_description self.now.variable_texts name.now }
+    {
+        match variable_description(name) {
+            Some(ours) => ours,
+            None => or_unavailable(self.variable_text(name)),
+        }
+    }
+
+    /// What a command does, for people to read: this project's own text for its name; where there is none, that of
+    /// cmdvartab; where there is none either, `Description unavailable`.
+    ///
+    /// Takes no memory, and no longer for many descriptions.
+    pub fn describe_command(&self, name: &[u8]) -> &[u8]
+        ensures { result.now ≡ command_description self.now.command_texts name.now }
+    {
+        match command_description(name) {
+            Some(own) => own,
+            None => or_unavailable(self.command_text(name)),
         }
     }
 

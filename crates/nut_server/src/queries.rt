@@ -14,7 +14,7 @@ use crate::answer::{Answer, Rows};
 use crate::device::Device;
 use crate::scene::Scene;
 use crate::setting::kind_of;
-use nut_proto::{ListQuery, Refusal, Reply, Word, command_description, variable_description};
+use nut_proto::{ListQuery, Refusal, Reply, Word};
 use nut_state::Variable;
 
 /// The variable of this name, where the UPS has it.
@@ -91,14 +91,14 @@ pub fn describe_variable<'a>(
     ups: &'a [u8],
     name: &'a [u8],
 ) -> Result<Answer<'a>, Refusal>
-    ensures { outcome result ≡ on_device scene.now ups.now (λ d. on_variable name.now d (λ v. Line (replies.Desc ups.now name.now (variable_description name.now)))) }
+    ensures { outcome result ≡ on_device scene.now ups.now (λ d. on_variable name.now d (λ v. Line (replies.Desc ups.now name.now (variable_description scene.now.configuration.variable_texts name.now)))) }
 {
     let device = scene.data_of(scene.number_of(ups)?)?;
     variable_of(device, name)?;
     Ok(Answer::Line(Reply::Desc {
         ups: Word::new(ups),
         variable: Word::new(name),
-        description: Word::new(variable_description(name)),
+        description: Word::new(scene.config.describe_variable(name)),
     }))
 }
 
@@ -108,7 +108,7 @@ pub fn describe_command<'a>(
     ups: &'a [u8],
     name: &'a [u8],
 ) -> Result<Answer<'a>, Refusal>
-    ensures { outcome result ≡ on_device scene.now ups.now (λ d. on_command name.now d (Line (replies.CmdDesc ups.now name.now (command_description name.now)))) }
+    ensures { outcome result ≡ on_device scene.now ups.now (λ d. on_command name.now d (Line (replies.CmdDesc ups.now name.now (command_description scene.now.configuration.command_texts name.now)))) }
 {
     let device = scene.data_of(scene.number_of(ups)?)?;
     if !device.table().has_cmd(name) {
@@ -117,6 +117,6 @@ pub fn describe_command<'a>(
     Ok(Answer::Line(Reply::CmdDesc {
         ups: Word::new(ups),
         command: Word::new(name),
-        description: Word::new(command_description(name)),
+        description: Word::new(scene.config.describe_command(name)),
     }))
 }

@@ -40,13 +40,13 @@ pub returns-in-GetDesc : goal.returns-in-GetDesc
 returns-in-GetDesc c =
     rw (c.in-GetDesc.is, ← c.as_bytes-in-GetDesc.ensures, ← c.as_bytes-in-GetDesc-2.ensures)
     (tells c.args.scene.now c.tell-in-GetDesc.result _ c.args.line.now.items (c.tell-in-GetDesc.ensures.answer ∙ c.describe_variable.ensures) c.tell-in-GetDesc.ensures.effect
-    (of_variable c.args.scene.now c.as_bytes-in-GetDesc.result.now c.as_bytes-in-GetDesc-2.result.now (λ d v. Line (replies.Desc c.as_bytes-in-GetDesc.result.now c.as_bytes-in-GetDesc-2.result.now (variable_description c.as_bytes-in-GetDesc-2.result.now))) (λ d v. (λ b. refl, λ configuration b. refl))))
+    (of_variable c.args.scene.now c.as_bytes-in-GetDesc.result.now c.as_bytes-in-GetDesc-2.result.now (λ d v. Line (replies.Desc c.as_bytes-in-GetDesc.result.now c.as_bytes-in-GetDesc-2.result.now (variable_description c.args.scene.now.configuration.variable_texts c.as_bytes-in-GetDesc-2.result.now))) (λ d v. (λ b. refl, λ configuration b. refl))))
 
 pub returns-in-GetCmdDesc : goal.returns-in-GetCmdDesc
 returns-in-GetCmdDesc c =
     rw (c.in-GetCmdDesc.is, ← c.as_bytes-in-GetCmdDesc.ensures, ← c.as_bytes-in-GetCmdDesc-2.ensures)
     (tells c.args.scene.now c.tell-in-GetCmdDesc.result _ c.args.line.now.items (c.tell-in-GetCmdDesc.ensures.answer ∙ c.describe_command.ensures) c.tell-in-GetCmdDesc.ensures.effect
-    (of_command c.args.scene.now c.as_bytes-in-GetCmdDesc.result.now c.as_bytes-in-GetCmdDesc-2.result.now (Line (replies.CmdDesc c.as_bytes-in-GetCmdDesc.result.now c.as_bytes-in-GetCmdDesc-2.result.now (command_description c.as_bytes-in-GetCmdDesc-2.result.now))) (λ b. refl, λ configuration b. refl)))
+    (of_command c.args.scene.now c.as_bytes-in-GetCmdDesc.result.now c.as_bytes-in-GetCmdDesc-2.result.now (Line (replies.CmdDesc c.as_bytes-in-GetCmdDesc.result.now c.as_bytes-in-GetCmdDesc-2.result.now (command_description c.args.scene.now.configuration.command_texts c.as_bytes-in-GetCmdDesc-2.result.now))) (λ b. refl, λ configuration b. refl)))
 
 pub returns-in-List : goal.returns-in-List
 returns-in-List c =

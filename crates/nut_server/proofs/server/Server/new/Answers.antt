@@ -14,6 +14,6 @@ invariant_of-result c = record {
   up_to = subst (λ ks. IsUpTo 0 (numbers_of ks)) (sym c.in_ok-connections.ensures) tt;
   few = omega arith;
   within = omega (arith, ap (λ ks. length (numbers_of ks)) c.in_ok-connections.ensures);
-  limits = subst IsWithin c.config.view_is (config_within c.config.inside.ups c.config.inside.users c.config.inside.upsd);
+  limits = subst IsWithin c.config.view_is (config_within c.config.inside.ups c.config.inside.users c.config.inside.upsd c.config.inside.descriptions);
   all = ap length c.in_ok-devices.ensures ∙ length-map (below c.number_of_upses.result) (λ u. unheard) ∙ length-below c.number_of_upses.result ∙ c.number_of_upses.ensures.len;
 }
