@@ -6,18 +6,18 @@ use Rattle.std.specs.Io.KnownBytes.{append_known, prepend_known}
 use Rattle.nut_words.specs.Lines.{Text, lines}
 use Rattle.nut_proto.specs.declared.request.Request.{Request}
 use Rattle.nut_proto.specs.Requests.{request_line}
-use Rattle.nut_client.specs.declared.exchange.Stage.{Stage}
-use Rattle.nut_client.specs.declared.exchange.Stage.TheVariants as stages
+use Rattle.nut_link.specs.declared.exchange.Stage.{Stage}
+use Rattle.nut_link.specs.declared.exchange.Stage.TheVariants as stages
 use Rattle.nut_client.specs.declared.failure.Failure.{Failure}
 use Rattle.nut_client.specs.declared.failure.Failure.TheVariants as failures
-use Rattle.nut_client.specs.declared.fault.LinkFault.{LinkFault}
-use Rattle.nut_client.specs.declared.fault.LinkFault.TheVariants.{Memory}
-use Rattle.nut_client.specs.declared.outcome.Outcome.{Outcome}
-use Rattle.nut_client.specs.Asking.{is_writable}
+use Rattle.nut_link.specs.declared.fault.LinkFault.{LinkFault}
+use Rattle.nut_link.specs.declared.fault.LinkFault.TheVariants.{Memory}
+use Rattle.nut_link.specs.declared.outcome.Outcome.{Outcome}
+use Rattle.nut_link.specs.Asking.{is_writable}
 use Rattle.nut_client.specs.Conversation.{Answered, Hears, HearsPart, IsListening, IsReadFor, IsWaiting, Listens, Sends, link_sent}
-use Rattle.nut_client.specs.Hearing.{Feeds}
-use Rattle.nut_client.specs.Link.{LinkValue, answer_by, fed, outcome_in, outcome_of, stage_without, taken_out, with_exchange}
-use Rattle.nut_client.specs.Rests.{IsRest}
+use Rattle.nut_link.specs.Hearing.{Feeds}
+use Rattle.nut_link.specs.Link.{LinkValue, answer_by, fed, outcome_in, outcome_of, stage_without, taken_out, with_exchange}
+use Rattle.nut_link.specs.Rests.{IsRest}
 use Rattle.nut_client.specs.Script.{Script, Asks}
 use Rattle.nut_client.specs.Tool.{Failed, Waits, after, begin, breaks_off, ending, is_over, sent}
 use Rattle.nut_client.specs.Unread.{IsLinePart, IsUnbroken, IsWhole}

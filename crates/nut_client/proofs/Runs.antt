@@ -8,15 +8,15 @@ use Rattle.nut_words.proofs.LineLemmas.{lines_of_line, lines_of_unbroken, rest_o
 use Rattle.nut_words.proofs.StreamGrowth.{lines-append, rest-append}
 use Rattle.nut_proto.specs.declared.request.Request.{Request}
 use Rattle.nut_proto.specs.Requests.{request_line}
-use Rattle.nut_client.specs.declared.exchange.Exchange.{Exchange}
-use Rattle.nut_client.specs.declared.exchange.Stage.{Stage}
-use Rattle.nut_client.specs.declared.exchange.Stage.TheVariants as stages
+use Rattle.nut_link.specs.declared.exchange.Exchange.{Exchange}
+use Rattle.nut_link.specs.declared.exchange.Stage.{Stage}
+use Rattle.nut_link.specs.declared.exchange.Stage.TheVariants as stages
 use Rattle.nut_client.specs.declared.failure.Failure.TheVariants as failures
-use Rattle.nut_client.specs.declared.fault.LinkFault.{LinkFault}
-use Rattle.nut_client.specs.declared.outcome.Outcome.{Outcome}
+use Rattle.nut_link.specs.declared.fault.LinkFault.{LinkFault}
+use Rattle.nut_link.specs.declared.outcome.Outcome.{Outcome}
 use Rattle.nut_client.specs.Conversation.{IsWaiting}
-use Rattle.nut_client.specs.Link.{LinkValue, fed, heard, left_of, lines_heard, moved, on_line, outcome_in, outcome_of}
-use Rattle.nut_client.specs.Asking.{is_writable}
+use Rattle.nut_link.specs.Link.{LinkValue, fed, heard, left_of, lines_heard, moved, on_line, outcome_in, outcome_of}
+use Rattle.nut_link.specs.Asking.{is_writable}
 use Rattle.nut_client.specs.Script.{Script, Prints, Fails, Asks}
 use Rattle.nut_client.specs.Tool.{Run, Waits, Failed, after, begin, sent, failure_of, goes_on, hears}
 use Rattle.nut_client.specs.Unread.{IsUnbroken, IsWhole}

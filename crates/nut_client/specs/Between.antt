@@ -2,7 +2,7 @@
 use Rattle.std.specs.Prelude.{◌≡◌, ℕ, List, [], ◌++◌, Option}
 use Rattle.std.specs.Io.KnownBytes.{append_known, prepend_known}
 use Rattle.nut_words.specs.Lines.{Text, rest}
-use Rattle.nut_client.specs.Link.{LinkValue, fresh}
+use Rattle.nut_link.specs.Link.{LinkValue, fresh}
 use Rattle.nut_client.specs.Script.{Script}
 use Rattle.nut_client.specs.Tool.{IsReadInTime, begin, run_of}
 

@@ -4,13 +4,13 @@ use Rattle.std.specs.Io.KnownBytes.{append_known, prepend_known}
 use Rattle.nut_words.specs.Lines.{Text, lines, rest}
 use Rattle.nut_proto.specs.declared.request.Request.{Request}
 use Rattle.nut_proto.specs.Requests.{request_line}
-use Rattle.nut_client.specs.declared.exchange.Exchange.{Exchange}
+use Rattle.nut_link.specs.declared.exchange.Exchange.{Exchange}
 use Rattle.nut_client.specs.declared.failure.Failure.{Failure}
 use Rattle.nut_client.specs.declared.failure.Failure.TheVariants.{BadQuery, ConnectionLost, Memory}
-use Rattle.nut_client.specs.declared.fault.LinkFault.{LinkFault}
-use Rattle.nut_client.specs.declared.outcome.Outcome.{Outcome}
-use Rattle.nut_client.specs.Asking.{is_writable}
-use Rattle.nut_client.specs.Link.{LinkValue, fed, fresh, outcome_of}
+use Rattle.nut_link.specs.declared.fault.LinkFault.{LinkFault}
+use Rattle.nut_link.specs.declared.outcome.Outcome.{Outcome}
+use Rattle.nut_link.specs.Asking.{is_writable}
+use Rattle.nut_link.specs.Link.{LinkValue, fed, fresh, outcome_of}
 use Rattle.nut_client.specs.Script.{Script, Asks}
 use Rattle.nut_client.specs.Tool.{LastRead, Waits, WasWrittenBy, after, begin, ending, failure_of, sent}
 use Rattle.nut_client.specs.Unread.{IsUnbroken, IsWhole}

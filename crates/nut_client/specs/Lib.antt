@@ -1,10 +1,3 @@
-pub mod Rests
-pub mod Matching
-pub mod Asking
-pub mod Link
-pub mod Hearing
-pub mod Parts
-pub mod Bounds
 pub mod Stream
 pub mod Output
 pub mod Unread

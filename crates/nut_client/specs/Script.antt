@@ -8,8 +8,8 @@ use Rattle.nut_proto.specs.declared.request.Request.{Request}
 use Rattle.nut_proto.specs.declared.request.Request.TheVariants as requests
 use Rattle.nut_client.specs.declared.failure.Failure.{Failure}
 use Rattle.nut_client.specs.declared.failure.Failure.TheVariants as failures
-use Rattle.nut_client.specs.declared.outcome.Outcome.{Outcome}
-use Rattle.nut_client.specs.declared.outcome.Outcome.TheVariants as outcomes
+use Rattle.nut_link.specs.declared.outcome.Outcome.{Outcome}
+use Rattle.nut_link.specs.declared.outcome.Outcome.TheVariants as outcomes
 use Rattle.nut_client.specs.declared.printing.Form.{Form}
 use Rattle.nut_client.specs.declared.printing.Form.TheVariants.{Pairs, Firsts, Options, Ranges}
 use Rattle.nut_client.specs.declared.printing.Values.{Values}

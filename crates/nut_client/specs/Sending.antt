@@ -4,9 +4,9 @@ use Rattle.std.specs.Io.KnownBytes.{append_known}
 use Rattle.nut_words.specs.Lines.{Text}
 use Rattle.nut_proto.specs.declared.request.Request.{Request}
 use Rattle.nut_proto.specs.Requests.{request_line}
-use Rattle.nut_client.specs.declared.exchange.Stage.TheVariants as stages
-use Rattle.nut_client.specs.Asking.{query_of}
-use Rattle.nut_client.specs.Link.{LinkValue}
+use Rattle.nut_link.specs.declared.exchange.Stage.TheVariants as stages
+use Rattle.nut_link.specs.Asking.{query_of}
+use Rattle.nut_link.specs.Link.{LinkValue}
 
 -- the link once a query was asked on it of which these bytes still wait
 abbrev pub link_sending : Request → List ℕ → LinkValue

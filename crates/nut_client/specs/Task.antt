@@ -5,7 +5,7 @@ use Rattle.nut_proto.specs.declared.request.Request.{Request}
 use Rattle.nut_proto.specs.declared.request.Request.TheVariants as requests
 use Rattle.nut_client.specs.declared.failure.Failure.{Failure}
 use Rattle.nut_client.specs.declared.failure.Failure.TheVariants.{Memory}
-use Rattle.nut_client.specs.declared.outcome.Outcome.{Outcome}
+use Rattle.nut_link.specs.declared.outcome.Outcome.{Outcome}
 use Rattle.nut_client.specs.declared.printing.Values.{Values as Taken}
 use Rattle.nut_client.specs.declared.printing.Values.TheVariants as values
 use Rattle.nut_client.specs.declared.task.Next.{Next}

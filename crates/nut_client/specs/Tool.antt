@@ -9,15 +9,15 @@ use Rattle.std.specs.Io.KnownBytes.{append_known, prepend_known}
 use Rattle.nut_words.specs.Lines.{LineText, lines}
 use Rattle.nut_proto.specs.declared.request.Request.{Request}
 use Rattle.nut_proto.specs.Requests.{request_line}
-use Rattle.nut_client.specs.declared.exchange.Exchange.{Exchange}
-use Rattle.nut_client.specs.declared.exchange.Stage.TheVariants as stages
+use Rattle.nut_link.specs.declared.exchange.Exchange.{Exchange}
+use Rattle.nut_link.specs.declared.exchange.Stage.TheVariants as stages
 use Rattle.nut_client.specs.declared.failure.Failure.{Failure}
 use Rattle.nut_client.specs.declared.failure.Failure.TheVariants as failures
-use Rattle.nut_client.specs.declared.fault.LinkFault.{LinkFault}
-use Rattle.nut_client.specs.declared.fault.LinkFault.TheVariants as faults
-use Rattle.nut_client.specs.declared.outcome.Outcome.{Outcome}
-use Rattle.nut_client.specs.Asking.{query_of, is_writable}
-use Rattle.nut_client.specs.Link.{heard, outcome_of}
+use Rattle.nut_link.specs.declared.fault.LinkFault.{LinkFault}
+use Rattle.nut_link.specs.declared.fault.LinkFault.TheVariants as faults
+use Rattle.nut_link.specs.declared.outcome.Outcome.{Outcome}
+use Rattle.nut_link.specs.Asking.{query_of, is_writable}
+use Rattle.nut_link.specs.Link.{heard, outcome_of}
 use Rattle.nut_client.specs.CommandLine.{CommandLine, Options}
 use Rattle.nut_client.specs.Output.{Written, HasAll, HasText, IsCutShort, IsUntouched}
 use Rattle.nut_client.specs.Script.{Script, Prints, Fails, Asks, script}

@@ -2,15 +2,14 @@
 ghost use Rattle.std.specs.Prelude.{◌≡◌, [], IfErr, OnOk};
 ghost use Rattle.std.specs.Io.KnownBytes.{prepend_known};
 ghost use Rattle.nut_client.specs.Conversation.{Answered, Hears, IsWaiting, Sends};
-ghost use Rattle.nut_client.specs.Link.{fresh};
-ghost use Rattle.nut_client.specs.Rests.{IsRest};
+ghost use Rattle.nut_link.specs.Link.{fresh};
+ghost use Rattle.nut_link.specs.Rests.{IsRest};
 ghost use Rattle.nut_client.specs.declared.failure.Failure.TheVariants.{ConnectionLost};
 
 use crate::failure::Failure;
-use crate::link::Link;
-use crate::outcome::Outcome;
 use crate::stream::{Moved, Stream};
 use crate::unread::Unread;
+use nut_link::{Link, Outcome};
 use nut_proto::Request;
 use std::alloc::Global;
 use std::sync::Wait;

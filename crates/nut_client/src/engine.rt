@@ -11,13 +11,13 @@ ghost use Rattle.nut_client.specs.declared.failure.Failure.TheVariants.{Connecti
 
 use crate::command_line::{Options, Refusal};
 use crate::conversation::Conversation;
-use crate::copied::Text;
 use crate::failure::Failure;
 use crate::output::Output;
 use crate::stream::{Moved, Stream};
 use crate::task::{Next, Task};
 use crate::wanted::Wanted;
 use clap::error::ErrorKind;
+use nut_link::Text;
 use nut_proto::Word;
 use std::alloc::Global;
 use std::io;

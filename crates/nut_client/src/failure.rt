@@ -3,8 +3,7 @@ ghost use Rattle.std.specs.Prelude.{◌≡◌};
 ghost use Rattle.nut_client.specs.Tool.{failure_of, reason, status_of};
 ghost use Rattle.nut_client.specs.declared.failure.Failure.TheVariants.{Memory};
 
-use crate::copied::Text;
-use crate::fault::LinkFault;
+use nut_link::{LinkFault, Text};
 use std::alloc::{AllocError, AllocFailed};
 
 /// Why a tool ends without its output, or with a part of it.

@@ -3,7 +3,7 @@ ghost use Rattle.std.specs.Prelude.{◌≡◌, ◌<◌, ◌++◌, OnOk, codes};
 ghost use Rattle.std.specs.List.{flat_map};
 ghost use Rattle.nut_client.specs.Json.{escaped, hex_digit as hex_digit_of, json_object, json_string, member, members};
 
-use crate::copied::Fields;
+use nut_link::Fields;
 use std::alloc::AllocError;
 
 /// The digit of a number below 16.

@@ -3,7 +3,7 @@ ghost use Rattle.std.specs.Prelude.{◌≡◌, ◌++◌, ◌∷◌, [], OnOk};
 ghost use Rattle.std.specs.List.{flat_map};
 ghost use Rattle.nut_client.specs.Script.{has_word, row_line, row_lines, type_line, values_of, with_heading};
 
-use crate::copied::{Fields, Text};
+use nut_link::{Fields, Text};
 use std::alloc::AllocError;
 
 /// How a row is printed.

@@ -4,12 +4,11 @@ ghost use Rattle.nut_client.specs.Json.{json_object};
 ghost use Rattle.nut_client.specs.Script.{Prints, deed_query, line, on_done, on_rows, on_words, row_lines, script, word};
 ghost use Rattle.nut_client.specs.Task.{GivesRows, GivesWords, GoesOn, IsDone, Leads, Says, ShowsRow, answered, first_query, first_question, left_at, left_of, row_query, showing, showing_of};
 
-use crate::copied::{Fields, Rows, Text};
 use crate::failure::Failure;
 use crate::json::put_object;
-use crate::outcome::Outcome;
 use crate::printing::{Form, Values, put_heading, put_line, put_rows, values_of};
 use crate::wanted::{Deed, Wanted};
+use nut_link::{Fields, Outcome, Rows, Text};
 use nut_proto::{ListQuery, Request, Word};
 use std::alloc::Global;
 

@@ -5,7 +5,7 @@ use Rattle.std.specs.Option.{option_map}
 use Rattle.std.proofs.lemmas.Bool.{eq-eqb, and_parts}
 use Rattle.std.proofs.lemmas.List.Folds.{list_any-append}
 use Rattle.nut_conf.specs.declared.notice.Notice.TheVariants as kinds
-use Rattle.nut_client.specs.declared.outcome.Outcome.{Outcome}
+use Rattle.nut_link.specs.declared.outcome.Outcome.{Outcome}
 use Rattle.nut_decision.specs.declared.Communication.TheVariants.{Bad}
 use Rattle.nut_decision.specs.declared.Known.{Known}
 use Rattle.nut_decision.specs.declared.Notice.{Notice}

@@ -4,7 +4,7 @@ use Rattle.std.specs.Prelude.{Ok, Err}
 use Rattle.std.proofs.lemmas.List.{take-append-drop}
 use Rattle.std.proofs.Math.ListN.{drop_of_length-le}
 use Rattle.nut_words.specs.Lines.{rest}
-use Rattle.nut_client.specs.Link.{LinkValue}
+use Rattle.nut_link.specs.Link.{LinkValue}
 use Rattle.nut_decision.specs.declared.MonitorFault.TheVariants.{NoSuchLink, WrongLinkState, PieceTooLong, TooMuchTaken, Busy, Memory}
 use Rattle.nut_decision.specs.Configuration.{Configuration, line_in}
 use Rattle.nut_decision.specs.Event.{Event, Moment, Linked, LinkBytes, LinkLost, LinkTook, OutOfMemory, NoticeTaken}

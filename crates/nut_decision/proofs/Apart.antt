@@ -3,7 +3,7 @@ use Rattle.std.proofs.Common.{◌≡◌, ℕ, Bool, true, false, ◌&&◌, eqb, 
 use Rattle.std.specs.List.{list_any}
 use Rattle.std.specs.Option.{option_map}
 use Rattle.nut_words.specs.Lines.{rest}
-use Rattle.nut_client.specs.declared.outcome.Outcome.{Outcome}
+use Rattle.nut_link.specs.declared.outcome.Outcome.{Outcome}
 use Rattle.nut_decision.specs.declared.Communication.{Communication}
 use Rattle.nut_decision.specs.declared.Communication.TheVariants.{Bad}
 use Rattle.nut_decision.specs.declared.Known.{Known}

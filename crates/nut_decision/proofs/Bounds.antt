@@ -6,9 +6,9 @@ use Rattle.nut_words.specs.Lines.{Text, TooLong, rest, last_of, parts}
 use Rattle.nut_words.specs.Cutter.{kept_of}
 use Rattle.nut_proto.specs.Lines.{message}
 use Rattle.nut_proto.specs.Requests.{request_line, request_parts}
-use Rattle.nut_client.specs.Bounds.{IsBounded, IsStageBounded}
-use Rattle.nut_client.specs.Link.{LinkValue}
-use Rattle.nut_client.proofs.Writable.{length_line}
+use Rattle.nut_link.specs.Bounds.{IsBounded, IsStageBounded}
+use Rattle.nut_link.specs.Link.{LinkValue}
+use Rattle.nut_link.proofs.Writable.{length_line}
 use Rattle.nut_decision.specs.Configuration.{Line, Configuration, line_in}
 use Rattle.nut_decision.specs.Query.{request}
 use Rattle.nut_decision.specs.Trace.{Asked, Entry, linked, input, taken, outstanding, due, waits, joined_queries, trace}

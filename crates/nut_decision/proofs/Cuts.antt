@@ -4,9 +4,9 @@ use mathlib.Core.Path.{fun_ext}
 use Rattle.std.proofs.lemmas.Bool.{eq-eqb}
 use Rattle.nut_words.specs.Lines.{rest, rest_after, lines_after}
 use Rattle.nut_words.proofs.StreamGrowth.{rest-append}
-use Rattle.nut_client.specs.declared.exchange.Exchange.{Exchange}
-use Rattle.nut_client.specs.Link.{LinkValue, fed, link_with, lines_heard}
-use Rattle.nut_client.proofs.Feeding.{lines_cut, rest_cut}
+use Rattle.nut_link.specs.declared.exchange.Exchange.{Exchange}
+use Rattle.nut_link.specs.Link.{LinkValue, fed, link_with, lines_heard}
+use Rattle.nut_link.proofs.Feeding.{lines_cut, rest_cut}
 use Rattle.nut_decision.specs.Configuration.{Configuration, line_in}
 use Rattle.nut_decision.specs.Event.{Event, LinkBytes}
 use Rattle.nut_decision.specs.Decision.{next_query}

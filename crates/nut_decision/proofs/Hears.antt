@@ -7,15 +7,15 @@ use Rattle.nut_proto.specs.Answers.{answer_in}
 use Rattle.nut_proto.specs.declared.answer.Answer.{Answer as Said}
 use Rattle.nut_proto.specs.declared.answer.Answer.TheVariants as answers
 use Rattle.nut_proto.specs.declared.answer.AnswerFault.{AnswerFault}
-use Rattle.nut_client.specs.declared.exchange.Exchange.{Exchange}
-use Rattle.nut_client.specs.declared.exchange.Stage.{Stage}
-use Rattle.nut_client.specs.declared.exchange.Stage.TheVariants as stages
-use Rattle.nut_client.specs.declared.fault.LinkFault.{LinkFault}
-use Rattle.nut_client.specs.declared.fault.LinkFault.TheVariants.{BadLine, OutOfOrder}
-use Rattle.nut_client.specs.declared.outcome.Outcome.{Outcome}
-use Rattle.nut_client.specs.Asking.{Asked as Query}
-use Rattle.nut_client.specs.Matching.{Progress, Listing, Complete, expected, progress}
-use Rattle.nut_client.specs.Link.{stage_after, on_read, on_line, left_of, moved, lines_heard, outcome_of, taken_out}
+use Rattle.nut_link.specs.declared.exchange.Exchange.{Exchange}
+use Rattle.nut_link.specs.declared.exchange.Stage.{Stage}
+use Rattle.nut_link.specs.declared.exchange.Stage.TheVariants as stages
+use Rattle.nut_link.specs.declared.fault.LinkFault.{LinkFault}
+use Rattle.nut_link.specs.declared.fault.LinkFault.TheVariants.{BadLine, OutOfOrder}
+use Rattle.nut_link.specs.declared.outcome.Outcome.{Outcome}
+use Rattle.nut_link.specs.Asking.{Asked as Query}
+use Rattle.nut_link.specs.Matching.{Progress, Listing, Complete, expected, progress}
+use Rattle.nut_link.specs.Link.{stage_after, on_read, on_line, left_of, moved, lines_heard, outcome_of, taken_out}
 use Rattle.nut_decision.specs.declared.Query.{Query as Ask}
 use Rattle.nut_decision.specs.declared.Query.TheVariants.{Username, Password, Login, Primary, Status, Fsd, NumLogins}
 use Rattle.nut_decision.specs.Configuration.{Line}

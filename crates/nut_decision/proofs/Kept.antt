@@ -4,7 +4,7 @@ use Rattle.std.specs.Prelude.{nat_lt}
 use Rattle.std.proofs.lemmas.Bool.{cases_Bool, eqb-true, leb-true}
 use Rattle.std.proofs.lemmas.Bool.Decides.{leb_tells}
 use Rattle.nut_words.specs.Lines.{rest}
-use Rattle.nut_client.specs.Link.{LinkValue}
+use Rattle.nut_link.specs.Link.{LinkValue}
 use Rattle.nut_decision.specs.declared.MonitorFault.{MonitorFault}
 use Rattle.nut_decision.specs.declared.MonitorFault.TheVariants.{TooMuchTaken, WrongLinkState}
 use Rattle.nut_decision.specs.Configuration.{Configuration, line_in}

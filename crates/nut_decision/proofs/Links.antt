@@ -6,9 +6,9 @@ use Rattle.std.proofs.lemmas.Bool.{eq-eqb}
 use Rattle.nut_words.specs.Lines.{LineText, Text, rest, rest_after}
 use Rattle.nut_words.proofs.StreamGrowth.{rest-append}
 use Rattle.nut_conf.specs.declared.notice.Notice.TheVariants as kinds
-use Rattle.nut_client.specs.declared.exchange.Exchange.{Exchange}
-use Rattle.nut_client.specs.declared.outcome.Outcome.{Outcome}
-use Rattle.nut_client.specs.Link.{LinkValue, fed, lines_heard, outcome_of, taken_out}
+use Rattle.nut_link.specs.declared.exchange.Exchange.{Exchange}
+use Rattle.nut_link.specs.declared.outcome.Outcome.{Outcome}
+use Rattle.nut_link.specs.Link.{LinkValue, fed, lines_heard, outcome_of, taken_out}
 use Rattle.nut_decision.specs.declared.Communication.TheVariants.{Bad}
 use Rattle.nut_decision.specs.declared.Known.{Known}
 use Rattle.nut_decision.specs.declared.LastQuery.{LastQuery}

@@ -4,13 +4,13 @@ use Rattle.std.specs.Prelude.{nat_le}
 use mathlib.Core.Path.{fun_ext}
 use Rattle.std.proofs.lemmas.Bool.{eq-eqb, eqb-true, le-leb}
 use Rattle.nut_words.specs.Lines.{rest}
-use Rattle.nut_client.specs.declared.exchange.Exchange.{Exchange}
-use Rattle.nut_client.specs.declared.exchange.Stage.TheVariants as stages
-use Rattle.nut_client.specs.declared.exchange.Stage.{Stage}
-use Rattle.nut_client.specs.declared.fault.LinkFault.{LinkFault}
-use Rattle.nut_client.specs.declared.fault.LinkFault.TheVariants.{TooMuchTaken}
-use Rattle.nut_client.specs.Link.{LinkValue, stage_taken}
-use Rattle.nut_client.specs.Link
+use Rattle.nut_link.specs.declared.exchange.Exchange.{Exchange}
+use Rattle.nut_link.specs.declared.exchange.Stage.TheVariants as stages
+use Rattle.nut_link.specs.declared.exchange.Stage.{Stage}
+use Rattle.nut_link.specs.declared.fault.LinkFault.{LinkFault}
+use Rattle.nut_link.specs.declared.fault.LinkFault.TheVariants.{TooMuchTaken}
+use Rattle.nut_link.specs.Link.{LinkValue, stage_taken}
+use Rattle.nut_link.specs.Link
 use Rattle.nut_decision.specs.Trace
 use Rattle.nut_decision.specs.Configuration.{Line, Configuration, line_in}
 use Rattle.nut_decision.specs.Event.{Event, LinkTook, NoticeTaken}

@@ -12,7 +12,7 @@ use Rattle.nut_conf.specs.declared.monitor.Monitored.{Monitored}
 use Rattle.nut_words.specs.Name.{is_name, is_name_byte}
 use Rattle.nut_proto.specs.declared.part.Part.TheVariants.{Word}
 use Rattle.nut_proto.specs.Lines.{message, part_text}
-use Rattle.nut_client.specs.Asking.{is_writable}
+use Rattle.nut_link.specs.Asking.{is_writable}
 use Rattle.nut_decision.specs.Configuration.{line_of}
 use Rattle.nut_decision.specs.Query.{request}
 use Rattle.nut_decision.specs.declared.Query.{Query}

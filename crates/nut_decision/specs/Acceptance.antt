@@ -1,6 +1,6 @@
 -- Which events a monitor refuses, in the order of the tests, and the histories of events that it didn't refuse.
 use Rattle.std.specs.Prelude.{ℕ, ◌≡◌, nat_lt, Bool, true, false, if◌then◌else◌, List, [], ◌∷◌, length, slice_get, Option, Some, None, is_some}
-use Rattle.nut_client.specs.Link.{LinkValue, waits}
+use Rattle.nut_link.specs.Link.{LinkValue, waits}
 use Rattle.nut_decision.specs.declared.MonitorFault.{MonitorFault}
 use Rattle.nut_decision.specs.declared.MonitorFault.TheVariants.{NoSuchLink, WrongLinkState, PieceTooLong, TooMuchTaken, Busy}
 use Rattle.nut_decision.specs.Configuration.{Configuration}

@@ -1,10 +1,10 @@
 -- What a monitor has to know of its past: its content. Two histories of the same content are answered alike.
 use Rattle.std.specs.Prelude.{ℕ, suc, List, [], ◌∷◌, if◌then◌else◌, Option, Some, None}
 use Rattle.nut_words.specs.Lines.{rest}
-use Rattle.nut_client.specs.declared.exchange.Stage.{Stage}
-use Rattle.nut_client.specs.declared.exchange.Stage.TheVariants as stages
-use Rattle.nut_client.specs.Link.{LinkValue}
-use Rattle.nut_client.specs.Matching.{expected}
+use Rattle.nut_link.specs.declared.exchange.Stage.{Stage}
+use Rattle.nut_link.specs.declared.exchange.Stage.TheVariants as stages
+use Rattle.nut_link.specs.Link.{LinkValue}
+use Rattle.nut_link.specs.Matching.{expected}
 use Rattle.nut_decision.specs.declared.Known.{Known}
 use Rattle.nut_decision.specs.declared.LastQuery.{LastQuery}
 use Rattle.nut_decision.specs.declared.Notice.{Notice}

@@ -3,7 +3,7 @@
 use Rattle.std.specs.Prelude.{ℕ, suc, ◌+◌, nat_lt, nat_le, Bool, true, false, not, ◌&&◌, ◌||◌, if◌then◌else◌, List, [], ◌∷◌, ◌++◌, Option, Some, None, is_some}
 use Rattle.nut_conf.specs.declared.notice.Notice.{Notice as Kind}
 use Rattle.nut_conf.specs.declared.notice.Notice.TheVariants as kinds
-use Rattle.nut_client.specs.declared.outcome.Outcome.{Outcome}
+use Rattle.nut_link.specs.declared.outcome.Outcome.{Outcome}
 use Rattle.nut_decision.specs.declared.Communication.{Communication}
 use Rattle.nut_decision.specs.declared.Communication.TheVariants.{Never, Good, Bad}
 use Rattle.nut_decision.specs.declared.Known.{Known}

@@ -1,9 +1,9 @@
 -- What holds of every history of accepted events. Each of these is the contract of a function of the crate.
 use Rattle.std.specs.Prelude.{◌≡◌, ◌==◌, ℕ, ◌<◌, ◌≤◌, true, false, List, [], ◌∷◌, ◌++◌, length, map, ◌⊎◌, Option, None, Some, Result}
 use Rattle.nut_words.specs.Lines.{lines_after, rest}
-use Rattle.nut_client.specs.Asking.{is_writable}
-use Rattle.nut_client.specs.Bounds.{IsBounded}
-use Rattle.nut_client.specs.Link.{LinkValue}
+use Rattle.nut_link.specs.Asking.{is_writable}
+use Rattle.nut_link.specs.Bounds.{IsBounded}
+use Rattle.nut_link.specs.Link.{LinkValue}
 use Rattle.nut_decision.specs.declared.MonitorFault.{MonitorFault}
 use Rattle.nut_decision.specs.declared.Query.{Query}
 use Rattle.nut_decision.specs.declared.Query.TheVariants.{NumLogins}

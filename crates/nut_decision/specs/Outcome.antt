@@ -1,9 +1,9 @@
 -- How a monitor may answer an event, and the history that stands after it.
 use Rattle.std.specs.Prelude.{◌≡◌, ℕ, List, ◌∷◌, Option, Some, None, Result, Ok, Err}
 use Rattle.nut_words.specs.Lines.{lines_after}
-use Rattle.nut_client.specs.declared.exchange.Exchange.{Exchange}
-use Rattle.nut_client.specs.Hearing.{RunsOut}
-use Rattle.nut_client.specs.Link.{LinkValue}
+use Rattle.nut_link.specs.declared.exchange.Exchange.{Exchange}
+use Rattle.nut_link.specs.Hearing.{RunsOut}
+use Rattle.nut_link.specs.Link.{LinkValue}
 use Rattle.nut_decision.specs.declared.MonitorFault.{MonitorFault}
 use Rattle.nut_decision.specs.declared.MonitorFault.TheVariants.{NoSuchLink, WrongLinkState, PieceTooLong, TooMuchTaken, Busy, Memory}
 use Rattle.nut_decision.specs.Event.{Event, LinkBytes, OutOfMemory}

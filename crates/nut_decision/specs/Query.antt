@@ -9,10 +9,10 @@ use Rattle.nut_proto.specs.declared.answer.Answer.{Answer}
 use Rattle.nut_proto.specs.declared.answer.AnswerFault.{AnswerFault}
 use Rattle.nut_proto.specs.declared.request.Request.{Request}
 use Rattle.nut_proto.specs.declared.request.Request.TheVariants as requests
-use Rattle.nut_client.specs.declared.fault.LinkFault.{LinkFault}
-use Rattle.nut_client.specs.declared.outcome.Outcome.{Outcome}
-use Rattle.nut_client.specs.declared.outcome.Outcome.TheVariants as outcomes
-use Rattle.nut_client.specs.Matching.{Progress, Listing, Complete, expected, progress}
+use Rattle.nut_link.specs.declared.fault.LinkFault.{LinkFault}
+use Rattle.nut_link.specs.declared.outcome.Outcome.{Outcome}
+use Rattle.nut_link.specs.declared.outcome.Outcome.TheVariants as outcomes
+use Rattle.nut_link.specs.Matching.{Progress, Listing, Complete, expected, progress}
 use Rattle.nut_decision.specs.declared.Query.{Query}
 use Rattle.nut_decision.specs.declared.Query.TheVariants.{Username, Password, Login, Primary, Status, Fsd, NumLogins}
 use Rattle.nut_decision.specs.declared.StatusFlags.{StatusFlags}

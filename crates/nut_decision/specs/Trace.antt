@@ -7,7 +7,7 @@ use Rattle.nut_words.specs.Lines.{LineText, rest, lines_after}
 use Rattle.nut_conf.specs.declared.notice.Notice.TheVariants as kinds
 use Rattle.nut_conf.specs.declared.notice.Notice.{Notice as Kind}
 use Rattle.nut_proto.specs.Requests.{request_line}
-use Rattle.nut_client.specs.declared.outcome.Outcome.{Outcome}
+use Rattle.nut_link.specs.declared.outcome.Outcome.{Outcome}
 use Rattle.nut_decision.specs.declared.Communication.{Communication}
 use Rattle.nut_decision.specs.declared.Communication.TheVariants.{Never, Bad}
 use Rattle.nut_decision.specs.declared.Known.{Known}

@@ -8,13 +8,13 @@ use Rattle.nut_conf.specs.declared.monitor.Monitored.{Monitored}
 use Rattle.nut_proto.specs.Lines.{message}
 use Rattle.nut_proto.specs.Requests.{request_parts, request_line}
 use Rattle.nut_proto.specs.declared.request.Request.{Request}
-use Rattle.nut_client.specs.Asking.{is_writable}
-use Rattle.nut_client.specs.Bounds.{IsBounded}
-use Rattle.nut_client.specs.Hearing.{Feeds}
-use Rattle.nut_client.specs.Link.{LinkValue, outcome_of}
-use Rattle.nut_client.specs.declared.fault.LinkFault.{LinkFault}
-use Rattle.nut_client.proofs.Bounded.{bounds_stay, fed_within}
-use Rattle.nut_client.proofs.Writable.{length_line}
+use Rattle.nut_link.specs.Asking.{is_writable}
+use Rattle.nut_link.specs.Bounds.{IsBounded}
+use Rattle.nut_link.specs.Hearing.{Feeds}
+use Rattle.nut_link.specs.Link.{LinkValue, outcome_of}
+use Rattle.nut_link.specs.declared.fault.LinkFault.{LinkFault}
+use Rattle.nut_link.proofs.Bounded.{bounds_stay, fed_within}
+use Rattle.nut_link.proofs.Writable.{length_line}
 use Rattle.nut_decision.specs.Configuration.{Configuration, Line, line_of}
 use Rattle.nut_decision.specs.Content.{Watch}
 use Rattle.nut_decision.specs.Machine.{all_asked, all_silent, goes_on, is_silent, link_after, link_asked, link_took, lost, made, put, silent, took, watch_answered, watch_heard}

@@ -3,10 +3,10 @@ use Rattle.std.proofs.Common.{◌≡◌, ℕ, ◌<◌, ◌≤◌, Bool, true, fa
 use Rattle.std.specs.Prelude.{if◌then◌else◌}
 use Rattle.std.proofs.lemmas.Bool.{false≢true}
 use Rattle.nut_words.specs.Lines.{lines_after}
-use Rattle.nut_client.specs.Hearing.{Feeds, RunsOut}
-use Rattle.nut_client.specs.Link.{LinkValue, answer_by, failed}
-use Rattle.nut_client.specs.declared.fault.LinkFault.{LinkFault}
-use Rattle.nut_client.specs.declared.fault.LinkFault.TheVariants.{NotMine, BadLine, OutOfOrder, Memory, BadQuery, TooMuchTaken}
+use Rattle.nut_link.specs.Hearing.{Feeds, RunsOut}
+use Rattle.nut_link.specs.Link.{LinkValue, answer_by, failed}
+use Rattle.nut_link.specs.declared.fault.LinkFault.{LinkFault}
+use Rattle.nut_link.specs.declared.fault.LinkFault.TheVariants.{NotMine, BadLine, OutOfOrder, Memory, BadQuery, TooMuchTaken}
 use Rattle.nut_decision.specs.Acceptance.{is_linked, refusal, watch_at}
 use Rattle.nut_decision.specs.Content.{Watch, Content}
 use Rattle.nut_decision.specs.Event.{LinkBytes, OutOfMemory}

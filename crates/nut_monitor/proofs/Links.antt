@@ -7,20 +7,20 @@ use Rattle.nut_proto.specs.Answers.{answer_in}
 use Rattle.nut_proto.specs.declared.answer.Answer.{Answer}
 use Rattle.nut_proto.specs.declared.answer.Answer.TheVariants as answers
 use Rattle.nut_proto.specs.declared.answer.AnswerFault.{AnswerFault}
-use Rattle.nut_client.specs.Asking.{Asked}
-use Rattle.nut_client.specs.Hearing.{Feeds, RunsOut}
-use Rattle.nut_client.specs.Link.{LinkValue, answer_by, failed, fed, heard, left_of, lines_heard, moved, on_line, on_read, outcome_in, outcome_of, progress_of, stage_after, stage_without, taken_out, with_exchange}
-use Rattle.nut_client.specs.Matching.{Progress, Listing, Complete, begins, first, has_more, is_count, is_heading, is_line, is_row, next, progress}
-use Rattle.nut_client.specs.declared.exchange.Exchange.{Exchange}
-use Rattle.nut_client.specs.declared.exchange.Stage.{Stage}
-use Rattle.nut_client.specs.declared.exchange.Stage.TheVariants as stages
-use Rattle.nut_client.specs.declared.expected.Expected.{Expected}
-use Rattle.nut_client.specs.declared.expected.Expected.TheVariants as expects
-use Rattle.nut_client.specs.declared.expected.More.TheVariants as mores
-use Rattle.nut_client.specs.declared.fault.LinkFault.{LinkFault}
-use Rattle.nut_client.specs.declared.fault.LinkFault.TheVariants.{NotMine, BadLine, OutOfOrder, Memory, BadQuery, TooMuchTaken}
-use Rattle.nut_client.specs.declared.outcome.Outcome.{Outcome}
-use Rattle.nut_client.specs.declared.outcome.Outcome.TheVariants as outcomes
+use Rattle.nut_link.specs.Asking.{Asked}
+use Rattle.nut_link.specs.Hearing.{Feeds, RunsOut}
+use Rattle.nut_link.specs.Link.{LinkValue, answer_by, failed, fed, heard, left_of, lines_heard, moved, on_line, on_read, outcome_in, outcome_of, progress_of, stage_after, stage_without, taken_out, with_exchange}
+use Rattle.nut_link.specs.Matching.{Progress, Listing, Complete, begins, first, has_more, is_count, is_heading, is_line, is_row, next, progress}
+use Rattle.nut_link.specs.declared.exchange.Exchange.{Exchange}
+use Rattle.nut_link.specs.declared.exchange.Stage.{Stage}
+use Rattle.nut_link.specs.declared.exchange.Stage.TheVariants as stages
+use Rattle.nut_link.specs.declared.expected.Expected.{Expected}
+use Rattle.nut_link.specs.declared.expected.Expected.TheVariants as expects
+use Rattle.nut_link.specs.declared.expected.More.TheVariants as mores
+use Rattle.nut_link.specs.declared.fault.LinkFault.{LinkFault}
+use Rattle.nut_link.specs.declared.fault.LinkFault.TheVariants.{NotMine, BadLine, OutOfOrder, Memory, BadQuery, TooMuchTaken}
+use Rattle.nut_link.specs.declared.outcome.Outcome.{Outcome}
+use Rattle.nut_link.specs.declared.outcome.Outcome.TheVariants as outcomes
 use Rattle.nut_conf.specs.Values.{is_numeral}
 use Rattle.nut_decision.specs.declared.LastQuery.{LastQuery}
 use Rattle.nut_decision.specs.declared.Query.{Query}

@@ -3,11 +3,11 @@ use Rattle.std.proofs.Common.{◌≡◌, ℕ, zero, suc, ◌+◌, ◌<◌, ◌�
 use Rattle.std.specs.Prelude.{if◌then◌else◌, sum_by}
 use Rattle.std.proofs.lemmas.List.Sums.{sum_by-cons, sum_by-set}
 use Rattle.nut_words.specs.Lines.{LineText, lines_after}
-use Rattle.nut_client.specs.Hearing.{RunsOut}
-use Rattle.nut_client.specs.Link.{LinkValue, fed, left_of, lines_heard, outcome_in, outcome_of, taken_out, with_exchange}
-use Rattle.nut_client.specs.declared.exchange.Stage.{Stage}
-use Rattle.nut_client.specs.declared.exchange.Stage.TheVariants as stages
-use Rattle.nut_client.specs.declared.outcome.Outcome.{Outcome}
+use Rattle.nut_link.specs.Hearing.{RunsOut}
+use Rattle.nut_link.specs.Link.{LinkValue, fed, left_of, lines_heard, outcome_in, outcome_of, taken_out, with_exchange}
+use Rattle.nut_link.specs.declared.exchange.Stage.{Stage}
+use Rattle.nut_link.specs.declared.exchange.Stage.TheVariants as stages
+use Rattle.nut_link.specs.declared.outcome.Outcome.{Outcome}
 use Rattle.nut_conf.specs.declared.monitor.Monitored.{Monitored}
 use Rattle.nut_conf.specs.declared.upsmon.UpsmonConf.{UpsmonConf}
 use Rattle.nut_decision.specs.Acceptance.{bytes_refusal, is_linked, linked_refusal, lost_refusal, took_refusal, waits_on, watch_at}

@@ -1,9 +1,9 @@
 -- How a line hears a piece: as its link does.
 use Rattle.std.specs.Prelude.{◌≡◌, ℕ, ◌++◌, List, [], if◌then◌else◌, Option, Some, None, is_some, Result}
-use Rattle.nut_client.specs.Hearing.{Feeds}
-use Rattle.nut_client.specs.Link.{LinkValue, outcome_of, taken_out, with_exchange}
-use Rattle.nut_client.specs.declared.outcome.Outcome.{Outcome}
-use Rattle.nut_client.specs.declared.fault.LinkFault.{LinkFault}
+use Rattle.nut_link.specs.Hearing.{Feeds}
+use Rattle.nut_link.specs.Link.{LinkValue, outcome_of, taken_out, with_exchange}
+use Rattle.nut_link.specs.declared.outcome.Outcome.{Outcome}
+use Rattle.nut_link.specs.declared.fault.LinkFault.{LinkFault}
 use Rattle.nut_decision.specs.declared.Notice.{Notice}
 use Rattle.nut_decision.specs.Configuration.{Configuration}
 use Rattle.nut_decision.specs.Content.{Watch}

@@ -1,8 +1,8 @@
 -- How much a monitor keeps.
 use Rattle.std.specs.Prelude.{◌≤◌, List, length, Option, Some, None}
 use Rattle.std.specs.List.{AllByRecursion}
-use Rattle.nut_client.specs.Bounds.{IsBounded}
-use Rattle.nut_client.specs.Link.{LinkValue}
+use Rattle.nut_link.specs.Bounds.{IsBounded}
+use Rattle.nut_link.specs.Link.{LinkValue}
 use Rattle.nut_decision.specs.Content.{Watch, Content}
 
 -- a link that is there keeps one query of at most 512 bytes before its line feed, 512 bytes of a line, and 512 rows

@@ -1,16 +1,16 @@
 -- What is always so of a MONITOR line, and words that the clauses share.
 use Rattle.std.specs.Prelude.{◌≡◌, ℕ, Bool, true, false, not, Result, Ok, Err, ◌||◌, ◌&&◌, if◌then◌else◌, List, [], ◌∷◌, Option, Some, None, is_none, codes}
 use Rattle.std.specs.Str.{bytes_eq}
-use Rattle.nut_client.specs.Asking.{Asked}
-use Rattle.nut_client.specs.Link.{LinkValue}
-use Rattle.nut_client.specs.declared.exchange.Stage.{Stage}
-use Rattle.nut_client.specs.declared.exchange.Stage.TheVariants as stages
-use Rattle.nut_client.specs.declared.fault.LinkFault.{LinkFault}
-use Rattle.nut_client.specs.declared.fault.LinkFault.TheVariants as faults
-use Rattle.nut_client.specs.declared.expected.Expected.TheVariants as expects
-use Rattle.nut_client.specs.declared.expected.More.TheVariants as mores
-use Rattle.nut_client.specs.declared.outcome.Outcome.{Outcome}
-use Rattle.nut_client.specs.declared.outcome.Outcome.TheVariants as outcomes
+use Rattle.nut_link.specs.Asking.{Asked}
+use Rattle.nut_link.specs.Link.{LinkValue}
+use Rattle.nut_link.specs.declared.exchange.Stage.{Stage}
+use Rattle.nut_link.specs.declared.exchange.Stage.TheVariants as stages
+use Rattle.nut_link.specs.declared.fault.LinkFault.{LinkFault}
+use Rattle.nut_link.specs.declared.fault.LinkFault.TheVariants as faults
+use Rattle.nut_link.specs.declared.expected.Expected.TheVariants as expects
+use Rattle.nut_link.specs.declared.expected.More.TheVariants as mores
+use Rattle.nut_link.specs.declared.outcome.Outcome.{Outcome}
+use Rattle.nut_link.specs.declared.outcome.Outcome.TheVariants as outcomes
 use Rattle.nut_conf.specs.Values.{is_numeral}
 use Rattle.nut_decision.specs.Configuration.{Configuration}
 use Rattle.nut_decision.specs.Decision.{tells_replace}

@@ -1,8 +1,8 @@
 //! A MONITOR line: its link, and what is known of its UPS.
 ghost use Rattle.std.specs.Prelude.{◌≡◌, ◌+◌, ◌≤◌, ◌++◌, [], None, Some, if◌then◌else◌, is_some, length};
-ghost use Rattle.nut_client.specs.Link.{LinkValue, is_idle, with_exchange};
-ghost use Rattle.nut_client.specs.Asking.{query_of};
-ghost use Rattle.nut_client.specs.declared.exchange.Stage.TheVariants as stages;
+ghost use Rattle.nut_link.specs.Link.{LinkValue, is_idle, with_exchange};
+ghost use Rattle.nut_link.specs.Asking.{query_of};
+ghost use Rattle.nut_link.specs.declared.exchange.Stage.TheVariants as stages;
 ghost use Rattle.nut_decision.specs.Query.{request as request_of};
 ghost use Rattle.nut_conf.specs.declared.notice.Notice.TheVariants as kinds;
 ghost use Rattle.nut_decision.specs.Acceptance.{waits_on};
@@ -17,7 +17,7 @@ use crate::answer::{Scene, disturbed, hear, on_line, tell_disturbed};
 use crate::notices::Notices;
 use crate::query::{next_query, request};
 use crate::time::{is_over, is_past};
-use nut_client::{Link, LinkFault, Outcome};
+use nut_link::{Link, LinkFault, Outcome};
 use nut_conf::{Monitored, Notice as Kind, UpsmonConf};
 use nut_decision::{Communication, Known, LastQuery, Phase, Query};
 use std::alloc::Global;

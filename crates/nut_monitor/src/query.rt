@@ -1,6 +1,6 @@
 //! What a monitor asks on a link, and when.
 ghost use Rattle.std.specs.Prelude.{◌≡◌, true};
-ghost use Rattle.nut_client.specs.Asking.{is_writable};
+ghost use Rattle.nut_link.specs.Asking.{is_writable};
 ghost use Rattle.nut_decision.specs.Configuration.{configuration_of, line_of};
 ghost use Rattle.nut_decision.specs.Decision.{interval as interval_of, is_early as too_early, is_same as same, next_query as next_of, opening as opening_of, wanted as wanted_in};
 ghost use Rattle.nut_decision.specs.Query.{request as request_of};

@@ -17,7 +17,7 @@ use crate::event::{Event, PIECE_MAX};
 use crate::line::MonitorLine;
 use crate::notices::Notices;
 use crate::shutdown::{is_alone, is_forced, is_short, phase};
-use nut_client::LinkFault;
+use nut_link::LinkFault;
 use nut_conf::{Monitored, Notice as Kind, UpsmonConf};
 use nut_decision::{Known, LastQuery, MonitorFault, Notice, Phase};
 use std::alloc::{AllocError, Global};

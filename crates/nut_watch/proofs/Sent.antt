@@ -3,7 +3,7 @@ use Rattle.std.proofs.Common.{◌≡◌, ℕ, zero, suc, ◌+◌, ◌≤◌, ◌
 use Rattle.std.proofs.lemmas.Bool.{cases_Bool, eqb-true, eq-eqb, ltb-false}
 use Rattle.std.proofs.lemmas.List.{take-append-le}
 use Rattle.nut_proto.specs.Requests.{request_line}
-use Rattle.nut_client.specs.Link.{waits as waits_in_exchange}
+use Rattle.nut_link.specs.Link.{waits as waits_in_exchange}
 use Rattle.nut_decision.specs.declared.MonitorFault.{MonitorFault}
 use Rattle.nut_decision.specs.declared.MonitorFault.TheVariants.{TooMuchTaken, WrongLinkState}
 use Rattle.nut_decision.specs.declared.Query.{Query}

@@ -1,11 +1,11 @@
 -- What a write changes: what waits on the link alone.
 use Rattle.std.proofs.Common.{◌≡◌, ◌≢◌, ℕ, zero, suc, ◌<◌, ◌≤◌, Bool, true, false, List, [], ◌∷◌, length, drop, Option, Some, None, is_some, Result, if◌then◌else◌, refl, sym, ◌∙◌, ap, subst, inl, inr, arith, length-drop, le-leb}
 use Rattle.std.specs.Prelude.{option_map, nat_le}
-use Rattle.nut_client.specs.declared.exchange.Exchange.{Exchange}
-use Rattle.nut_client.specs.declared.exchange.Stage.{Stage}
-use Rattle.nut_client.specs.declared.exchange.Stage.TheVariants as stages
-use Rattle.nut_client.specs.Link.{LinkValue, waits, waits_in, stage_taken, take_fault, or_else}
-use Rattle.nut_client.specs.declared.fault.LinkFault.TheVariants.{TooMuchTaken}
+use Rattle.nut_link.specs.declared.exchange.Exchange.{Exchange}
+use Rattle.nut_link.specs.declared.exchange.Stage.{Stage}
+use Rattle.nut_link.specs.declared.exchange.Stage.TheVariants as stages
+use Rattle.nut_link.specs.Link.{LinkValue, waits, waits_in, stage_taken, take_fault, or_else}
+use Rattle.nut_link.specs.declared.fault.LinkFault.TheVariants.{TooMuchTaken}
 use Rattle.nut_decision.specs.declared.MonitorFault.{MonitorFault}
 use Rattle.nut_decision.specs.Configuration.{Configuration}
 use Rattle.nut_decision.specs.Event.{Event, LinkTook}

@@ -14,7 +14,7 @@
 use crate::failure::Failure;
 use crate::played::Played;
 use crate::text::{decode, parted, put};
-use nut_client::{Fields, Link, LinkFault, Outcome, Rows};
+use nut_link::{Fields, Link, LinkFault, Outcome, Rows};
 use nut_proto::read;
 use nut_words::split;
 use std::alloc::Global;

@@ -5,7 +5,7 @@ use crate::played::Played;
 use crate::room::Rooms;
 use crate::text::{decode, parted};
 use crate::{carrying, dummy, link, monitor, server, watching, words};
-use nut_client::Link;
+use nut_link::Link;
 use nut_dummy::Dummy;
 use nut_monitor::Monitor;
 use nut_server::Server;

@@ -1,0 +1,38 @@
+//! Why a link fails, or refuses a call.
+ghost use Rattle.std.specs.Prelude.{◌≡◌};
+ghost use Rattle.nut_link.specs.declared.fault.LinkFault.TheVariants.{Memory};
+
+use std::alloc::AllocError;
+use thiserror::Error;
+
+/// Why a link fails, or refuses a call.
+#[derive(Clone, Copy, Debug, PartialEq, Eq, Error)]
+pub enum LinkFault {
+    /// The line reads, but doesn't match the query.
+    #[error("the line does not answer the query")]
+    NotMine,
+    /// The line doesn't read as words, has none, or is longer than 512 bytes, or the list has more than 512 rows.
+    #[error("the line does not read")]
+    BadLine,
+    /// A line came while no query was there to be answered whose bytes were all taken, or a query was asked while another
+    /// one was still there.
+    #[error("out of order")]
+    OutOfOrder,
+    /// Memory was refused.
+    #[error("out of memory")]
+    Memory,
+    /// The query has a byte outside 0x20 to 0x7E, or its line is longer than 512 bytes.
+    #[error("the query can not be written")]
+    BadQuery,
+    /// More bytes were taken than waited.
+    #[error("more was taken than waits")]
+    TooMuchTaken,
+}
+
+impl From<AllocError> for LinkFault {
+    ghost from_gives = { λ _ e. e ≡ Memory };
+
+    fn from(_error: AllocError) -> LinkFault {
+        LinkFault::Memory
+    }
+}

@@ -1,0 +1,181 @@
+//! A query that was asked, until its answer is complete.
+ghost use Rattle.std.specs.Prelude.{◌≡◌, ◌<◌, ◌≤◌, ◌⊎◌, ◌++◌, ◌∷◌, [], ℕ, List, IfSome, IfErr, OnOk, OnErr, drop, false, length, is_some};
+ghost use Rattle.std.specs.List.{list_all};
+ghost use Rattle.nut_words.specs.Spelling.{is_printing};
+ghost use Rattle.nut_link.specs.Asking.{query_of, is_writable};
+ghost use Rattle.nut_link.specs.Parts.{Advances, Gives};
+ghost use Rattle.nut_link.specs.Matching.{first, next};
+ghost use Rattle.nut_link.specs.declared.fault.LinkFault.TheVariants.{BadLine, Memory};
+
+use crate::copied::{Fields, Rows, Text};
+use crate::expected::{Expected, expected_of};
+use crate::fault::LinkFault;
+use crate::outcome::Outcome;
+use arrayvec::ArrayVec;
+use nut_proto::{Answer, Request, Rest};
+use nut_words::are_printing;
+use std::alloc::Global;
+use std::marker::Model;
+use std::mem;
+
+/// How many rows a list has at most.
+const MOST_ROWS: usize = 512;
+
+/// A query that was asked: what it expects, its line with how much of it the server took, and the rows of its list so far
+/// once that has begun.
+#[derive(Debug, Drop)]
+pub struct Query {
+    expected: Expected,
+    line: ArrayVec<u8, 513>,
+    taken: usize,
+    rows: Option<Rows>,
+}
+
+impl Model for Query {
+    ghost use Rattle.std.specs.Prelude.{◌≤◌, drop};
+    ghost use Rattle.arrayvec.specs.ArrayVec.{array_vec_len};
+    ghost use Rattle.nut_link.specs.Asking.{Asked, HasFewRows};
+
+    ghost Value = { Asked };
+
+    ghost view = { λ q. record { expected = q.expected; waits = drop q.taken q.line.items; rows = q.rows } };
+
+    ghost invariant = { λ q. (q.taken ≤ array_vec_len q.line) × (array_vec_len q.line ≤ 513) × HasFewRows q.rows };
+}
+
+/// Whether the bytes of a line before its line feed are 0x20 to 0x7E.
+fn is_printing_line(line: &[u8]) -> bool
+    ensures line { (text : List ℕ) → line.now ≡ text ++ 10 ∷ [] → result ≡ list_all is_printing text }
+    ensures empty { line.now ≡ [] → result ≡ false }
+{
+    match line {
+        [text @ .., _] => are_printing(text),
+        [] => false,
+    }
+}
+
+impl Query {
+    /// The query of a request, unless it can't be written. Takes no memory.
+    pub(crate) fn new(request: &Request<'_>) -> Option<Query>
+        ensures some { IfSome result (λ q. q ≡ query_of request.now) }
+        ensures exact { is_some result ≡ is_writable request.now }
+    {
+        let Some(expected) = expected_of(request) else {
+            return None;
+        };
+        let mut line = ArrayVec::new();
+        if !request.put_in(&mut line) {
+            return None;
+        }
+        if !is_printing_line(line.as_slice()) {
+            return None;
+        }
+        Some(Query {
+            expected,
+            line,
+            taken: 0,
+            rows: None,
+        })
+    }
+
+    /// The bytes that wait to be taken.
+    pub(crate) fn waiting(&self) -> &[u8]
+        ensures { result.now ≡ self.now.waits }
+    {
+        &self.line.as_slice()[self.taken..]
+    }
+
+    /// The server took the first `n` of the bytes that wait.
+    pub(crate) fn took(&mut self, n: usize)
+        requires { n ≤ length self.old.waits }
+        ensures { self.new ≡ record self.old { waits = drop n self.old.waits } }
+    {
+        self.taken += n;
+    }
+
+    /// Hears an answer. It gives what came of the query, or none where its list goes on.
+    pub(crate) fn hear(
+        &mut self,
+        alloc: Global,
+        answer: &Answer<'_>,
+    ) -> Result<Option<Outcome>, LinkFault>
+        ensures { Advances self.old answer.now result self.new }
+    {
+        if !self.waiting().is_empty() {
+            return Err(LinkFault::OutOfOrder);
+        }
+        if let Some(rows) = &mut self.rows {
+            return hear_next(alloc, &self.expected, rows, answer);
+        }
+        let outcome = hear_first(alloc, &self.expected, answer)?;
+        if outcome.is_none() {
+            self.rows = Some(Rows::new(alloc));
+        }
+        Ok(outcome)
+    }
+}
+
+/// Hears the first line. It gives what came of the query, or none where a list begins.
+fn hear_first(
+    alloc: Global,
+    expected: &Expected,
+    answer: &Answer<'_>,
+) -> Result<Option<Outcome>, LinkFault>
+    ensures { Gives (first expected.now answer.now) answer.now result [] }
+{
+    match answer {
+        Answer::Err(name) => {
+            let name = Text::copy(alloc, name.as_bytes())?;
+            Ok(Some(Outcome::Refused(name)))
+        }
+        Answer::Ok(words) => expected.succeed(words),
+        Answer::Row(words) => expected.say(alloc, words),
+        Answer::Begin(words) => expected.begin(words),
+        Answer::End(_) => Err(LinkFault::NotMine),
+    }
+}
+
+/// Hears a line behind the beginning of a list, with these rows so far.
+fn hear_next(
+    alloc: Global,
+    expected: &Expected,
+    rows: &mut Rows,
+    answer: &Answer<'_>,
+) -> Result<Option<Outcome>, LinkFault>
+    ensures gives { Gives (next expected.now rows.old answer.now) answer.now result rows.new }
+    ensures few { length rows.old ≤ 512 → length rows.new ≤ 512 }
+{
+    let Expected::Listing(heading, count) = expected else {
+        return Err(LinkFault::NotMine);
+    };
+    match answer {
+        Answer::Row(words) => {
+            if !heading.is_row(*count, words) {
+                return Err(LinkFault::NotMine);
+            }
+            push_row(alloc, rows, words, heading.len())?;
+            Ok(None)
+        }
+        Answer::End(words) => {
+            if !heading.is_heading(words) {
+                return Err(LinkFault::NotMine);
+            }
+            Ok(Some(Outcome::List(mem::replace(rows, Rows::new(alloc)))))
+        }
+        Answer::Ok(_) | Answer::Err(_) | Answer::Begin(_) => Err(LinkFault::NotMine),
+    }
+}
+
+/// Adds the words of a row from the place `start` on, unless there are as many rows as there may be.
+fn push_row(alloc: Global, rows: &mut Rows, words: &Rest<'_>, start: usize) -> Result<(), LinkFault>
+    ensures ok { OnOk result ((rows.new ≡ rows.old ++ drop start words.now ∷ []) × (length rows.old < 512)) }
+    ensures err { IfErr result (λ fault. (fault ≡ Memory) ⊎ ((fault ≡ BadLine) × (512 ≤ length rows.old))) }
+    ensures kept { OnErr result (rows.new ≡ rows.old) }
+{
+    if rows.len() >= MOST_ROWS {
+        return Err(LinkFault::BadLine);
+    }
+    let row = Fields::copy(alloc, words, start)?;
+    rows.push(row)?;
+    Ok(())
+}
