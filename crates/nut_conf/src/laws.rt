@@ -34,7 +34,7 @@ pub fn names_are_distinct()
 {}
 
 /// In a file that reads, what its lines set for a directive is as often as it may be, and no two settings are alike that
-/// may not be: at most 16 endpoints, 128 `instcmds` of a user and 32 targets, no target twice, and no type of notice with
+/// may not be: at most so many endpoints, `instcmds` of a user and targets as `limits` says, no target twice, and no type of notice with
 /// two texts or two lines of flags.
 pub fn rules_are_kept()
     ensures ups { (file : List ℕ) (lines : List Words) → read_file ups_fault file ≡ Ok lines

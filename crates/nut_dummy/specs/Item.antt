@@ -5,7 +5,6 @@ use Rattle.std.specs.Str.{bytes_eq}
 use Rattle.nut_words.specs.declared.words.WordFault.{WordFault}
 use Rattle.nut_words.specs.Reader.{spelled}
 use Rattle.nut_words.specs.Spelling.{is_blank, is_comment, is_printing}
-use Rattle.nut_state.specs.declared.limits.TheConstants.{NAME_BYTES, VALUE_BYTES}
 use Rattle.nut_state.specs.Number.{natural}
 use Rattle.nut_words.specs.Name.{is_name_byte}
 use Rattle.nut_dummy.specs.declared.fault.ScriptFaultKind.{ScriptFaultKind}
@@ -39,9 +38,9 @@ is_remark (c ∷ cs) = c == 35
 abbrev pub is_skipped : List ℕ → Bool
 is_skipped line = is_remark (skip_blanks line)
 
--- A value has at most VALUE_BYTES printing bytes.
+-- A value has at most VALUE_MAX printing bytes.
 abbrev pub is_value : List ℕ → Bool
-is_value text = nat_le (length text) VALUE_BYTES && list_all is_printing text
+is_value text = nat_le (length text) VALUE_MAX && list_all is_printing text
 
 -- Only a script that goes round has timers.
 abbrev pub timer_in : ScriptKind → ℕ → Result Item ScriptFaultKind
@@ -65,9 +64,9 @@ timed kind (Err fault) = Err BadLine
 abbrev pub setting : List ℕ → List ℕ → Result Item ScriptFaultKind
 setting name value =
     if not (nat_lt 0 (length name) && list_all is_name_byte name) then Err BadName else
-    if nat_lt NAME_BYTES (length name) then Err PastLimit else
+    if nat_lt NAME_MAX (length name) then Err PastLimit else
     if not (list_all is_printing value) then Err BadLine else
-    if nat_lt VALUE_BYTES (length value) then Err PastLimit else
+    if nat_lt VALUE_MAX (length value) then Err PastLimit else
     Ok (Setting name value)
 
 -- what a line says, by the place of its first colon

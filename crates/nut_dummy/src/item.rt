@@ -12,7 +12,7 @@ use crate::fault::ScriptFaultKind;
 use crate::limits::{LINE_MAX, TIMER_MAX};
 use crate::text::{Name, Text};
 use crate::trim::{skip_blanks, trim};
-use nut_state::{NAME_BYTES, VALUE_BYTES, natural};
+use nut_state::natural;
 use nut_words::{WordFault, are_name_bytes, are_printing, split};
 use std::alloc::Global;
 
@@ -103,13 +103,13 @@ fn read_setting(name: &[u8], value: &[u8]) -> Result<Item, ScriptFaultKind>
     if name.is_empty() || !are_name_bytes(name) {
         return Err(ScriptFaultKind::BadName);
     }
-    if name.len() > NAME_BYTES {
+    if name.len() > NAME_MAX {
         return Err(ScriptFaultKind::PastLimit);
     }
     if !are_printing(value) {
         return Err(ScriptFaultKind::BadLine);
     }
-    if value.len() > VALUE_BYTES {
+    if value.len() > VALUE_MAX {
         return Err(ScriptFaultKind::PastLimit);
     }
     Ok(Item::Setting(Name::new(name), Text::new(value)))

@@ -8,7 +8,6 @@ use Rattle.nut_conf.specs.declared.users.Role.TheVariants as roles
 use Rattle.nut_state.specs.Attribute.{lists_enum}
 use Rattle.nut_state.specs.Number.{whole_number}
 use Rattle.nut_state.specs.Table.{Entry, variable, has_command}
-use Rattle.nut_state.specs.declared.limits.TheConstants.{VALUE_BYTES}
 use Rattle.nut_state.specs.declared.number.Range.{Range}
 use Rattle.nut_proto.specs.declared.refusal.Refusal.{Refusal}
 use Rattle.nut_proto.specs.declared.refusal.Refusal.TheVariants as refusals
@@ -218,7 +217,7 @@ misfit_by kinds.Number v value = None
 abbrev pub misfit : Entry → List ℕ → Option Refusal
 misfit v value =
     if not v.flags.writable then Some refusals.ReadOnly else
-    if nat_lt VALUE_BYTES (length value) then Some refusals.TooLong else misfit_by (kind_of v) v value
+    if nat_lt VALUE_MAX (length value) then Some refusals.TooLong else misfit_by (kind_of v) v value
 
 -- the request to the driver fits behind those that wait for it, or the client is refused
 abbrev pub handed_on : Refusal → List ℕ → Device → Answer

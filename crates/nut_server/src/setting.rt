@@ -11,7 +11,7 @@ ghost use Rattle.nut_history.specs.Device.{fits};
 use crate::device::Device;
 use arrayvec::ArrayVec;
 use nut_proto::{DriverAsk, Refusal, VariableKind};
-use nut_state::{Range, Text, VALUE_BYTES, Variable, whole_number};
+use nut_state::{Range, Text, Variable, whole_number};
 
 /// The kind of a variable.
 pub fn kind_of(variable: &Variable) -> VariableKind
@@ -77,7 +77,7 @@ pub fn misfit(variable: &Variable, value: &[u8]) -> Option<Refusal>
     if !variable.flags().writable {
         return Some(Refusal::ReadOnly);
     }
-    if value.len() > VALUE_BYTES {
+    if value.len() > VALUE_MAX {
         return Some(Refusal::TooLong);
     }
     misfit_by(kind_of(variable), variable, value)
