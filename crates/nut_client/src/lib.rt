@@ -19,6 +19,7 @@ mod fault;
 mod heading;
 mod json;
 mod laws;
+mod limits;
 mod link;
 mod outcome;
 mod output;
@@ -47,6 +48,7 @@ pub use laws::{
     all_bytes_decide, bounds_stay, cuts_do_not_matter, more_bytes_are_ignored, ok_takes_no_memory,
     replies_match, rests_stay,
 };
+pub use limits::{QUERY_MAX, query_limits};
 pub use link::Link;
 pub use nut_conf::{NameFault, Target, split_name};
 pub use outcome::Outcome;

@@ -1,5 +1,6 @@
 //! The lines of upsmon.conf that name a UPS.
 ghost use Rattle.std.specs.Prelude.{◌≤◌, length};
+ghost use Rattle.nut_conf.specs.declared.limits.TheConstants.{MONITORS_MAX};
 
 use crate::fault::FaultKind;
 use crate::limits::MONITORS_MAX;

@@ -8,6 +8,7 @@ use Rattle.std.specs.declared.cmp.Ordering.TheVariants.{Less}
 use Rattle.std.proofs.lemmas.Bool.Decides.{nat_tests}
 use Rattle.std.proofs.lemmas.List.{append-nil}
 use Rattle.std.proofs.lemmas.Slice.Eq.{bytes_eq-Decides}
+use Rattle.nut_words.specs.declared.limits.TheConstants.{VALUE_MAX}
 use Rattle.nut_state.specs.declared.limits.TheConstants.{VARIABLES_MAX}
 use Rattle.nut_state.specs.declared.number.Range.{Range}
 use Rattle.nut_state.specs.declared.variable.Flags.{Flags}
@@ -169,7 +170,7 @@ limiting_last name value xs low = by (writable_of name) refl where
 abbrev pub changes_of : List ℕ → Option (List ℕ) → List Change
 changes_of name value = option_map_or (λ x. set_info name x ∷ limiting name (writable_of name)) value []
 
-variable_last : (name : List ℕ) (value : Option (List ℕ)) (xs : List Entry) → is_name name ≡ true → IsValued value → length xs < 512 → Each entry_name Less name xs
+variable_last : (name : List ℕ) (value : Option (List ℕ)) (xs : List Entry) → is_name name ≡ true → IsValued value → length xs < VARIABLES_MAX → Each entry_name Less name xs
     → followed (changes_of name value) (filled xs) ≡ filled (xs ++ entries name value)
 variable_last name None xs named_so valued room low = ap filled (sym (append-nil xs))
 variable_last name (Some value) xs named_so valued room low =
@@ -198,7 +199,7 @@ few_more name None xs = omega (arith, length-append xs [])
 few_more name (Some value) xs = omega (arith, length-append xs (entry name value ∷ []))
 
 -- Variables that ascend go one behind the other.
-fills : (variables : List Variable) (xs : List Entry) → AllLow xs variables → IsAscending (map (λ v. v.name) variables) → AllByRecursion IsSound variables → length xs + length variables ≤ 512
+fills : (variables : List Variable) (xs : List Entry) → AllLow xs variables → IsAscending (map (λ v. v.name) variables) → AllByRecursion IsSound variables → length xs + length variables ≤ VARIABLES_MAX
     → followed (flat_map (λ v. changes_of v.name v.value) variables) (filled xs) ≡ filled (xs ++ flat_map (λ v. entries v.name v.value) variables)
 fills [] xs low up sound few = ap filled (sym (append-nil xs))
 fills (v ∷ variables) xs low up sound few =

@@ -7,11 +7,12 @@ use Rattle.nut_words.specs.Reader.{spelled}
 use Rattle.nut_words.specs.Spelling.{is_blank, is_comment, is_printing}
 use Rattle.nut_state.specs.Number.{natural}
 use Rattle.nut_words.specs.Name.{is_name_byte}
+use Rattle.nut_words.specs.declared.limits.TheConstants.{NAME_MAX, VALUE_MAX}
 use Rattle.nut_dummy.specs.declared.fault.ScriptFaultKind.{ScriptFaultKind}
 use Rattle.nut_dummy.specs.declared.fault.ScriptFaultKind.TheVariants.{BadLine, BadName, BadTimer, TimerInDev, PastLimit}
 use Rattle.nut_dummy.specs.declared.item.ScriptKind.{ScriptKind}
 use Rattle.nut_dummy.specs.declared.item.ScriptKind.TheVariants.{Dev, Seq}
-use Rattle.nut_dummy.specs.declared.limits.TheConstants.{LINE_MAX, TIMER_MAX}
+use Rattle.nut_dummy.specs.declared.limits.TheConstants.{SCRIPT_LINE_MAX, TIMER_MAX}
 
 -- a wait, or a value for a variable
 pub data Item : Type 0 where
@@ -74,9 +75,9 @@ abbrev pub parted : ScriptKind → List ℕ → Option ℕ → Result Item Scrip
 parted kind line None = timed kind (spelled line)
 parted kind line (Some at) = setting (trimmed (take at line)) (trimmed (drop (at + 1) line))
 
--- What a line says: it has at most LINE_MAX bytes, and these are printing, tabs or carriage returns.
+-- What a line says: it has at most SCRIPT_LINE_MAX bytes, and these are printing, tabs or carriage returns.
 abbrev pub item : ScriptKind → List ℕ → Result Item ScriptFaultKind
 item kind line =
-    if nat_lt LINE_MAX (length line) then Err PastLimit else
+    if nat_lt SCRIPT_LINE_MAX (length line) then Err PastLimit else
     if not (list_all is_comment line) then Err BadLine else
     parted kind line (position (λ c. c == 58) line)

@@ -4,7 +4,7 @@ ghost use Rattle.nut_state.specs.Text.{is_name};
 ghost use Rattle.nut_dummy.specs.Item.{is_value};
 
 use arrayvec::ArrayVec;
-use nut_words::are_printing;
+use nut_words::{NAME_MAX, VALUE_MAX, are_printing};
 use std::marker::Model;
 
 /// The name of a variable: 1 to [`NAME_MAX`] letters, digits, `.`, `_` and `-`.

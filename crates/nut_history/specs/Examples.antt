@@ -1,5 +1,6 @@
 -- Histories of connections, and what is answered in them: each of these is computed from the definitions.
 use Rattle.std.specs.Prelude.{◌≡◌, ℕ, zero, suc, List, [], ◌∷◌, codes, Some}
+use Rattle.nut_words.specs.declared.limits.TheConstants.{LINE_MAX}
 use Rattle.nut_history.specs.declared.Refused.TheVariants.{NoSuchConnection, PieceTooLong, Busy, TooMuchTaken, BadAddress, Full}
 use Rattle.nut_history.specs.Configuration.{Configuration}
 use Rattle.nut_history.specs.Event.{Event, Open, Bytes, Took, Close, WriteFailed}
@@ -58,8 +59,8 @@ pub record ConnectionExamples : Type 0 where
   pub unknown_command : answers_to (codes "FOO\n") ≡ codes "ERR UNKNOWN-COMMAND\n"
   pub open_quote : answers_to (codes "\"a\n") ≡ codes "ERR INVALID-ARGUMENT\n"
   pub after_logout : answers_to (codes "LOGOUT\nVER\n") ≡ codes "OK Goodbye\n"
-  pub longest_line : answers (Bytes 1 (codes "\n") ∷ Bytes 1 (many 512 65) ∷ one_open) ≡ codes "ERR UNKNOWN-COMMAND\n"
-  pub too_long_line : answers (Bytes 1 (codes "A\nVER\n") ∷ Bytes 1 (many 512 65) ∷ one_open) ≡ codes "ERR INVALID-ARGUMENT\nNetwork UPS Tools upsd profile 1.2\n"
+  pub longest_line : answers (Bytes 1 (codes "\n") ∷ Bytes 1 (many LINE_MAX 65) ∷ one_open) ≡ codes "ERR UNKNOWN-COMMAND\n"
+  pub too_long_line : answers (Bytes 1 (codes "A\nVER\n") ∷ Bytes 1 (many LINE_MAX 65) ∷ one_open) ≡ codes "ERR INVALID-ARGUMENT\nNetwork UPS Tools upsd profile 1.2\n"
   pub sent_first : sent su700 1 (Took 1 7 ∷ Bytes 1 (codes "VER\n") ∷ one_open) ≡ codes "Network"
   pub waits_still : waits su700 1 (Took 1 7 ∷ Bytes 1 (codes "VER\n") ∷ one_open) ≡ codes " UPS Tools upsd profile 1.2\n"
   pub accepted : IsAccepted su700 (Close 1 ∷ Took 1 7 ∷ Bytes 1 (codes "VER\n") ∷ one_open)

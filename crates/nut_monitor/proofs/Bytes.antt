@@ -3,6 +3,7 @@ use Rattle.std.proofs.Common.{◌≡◌, ℕ, ◌<◌, ◌≤◌, Bool, true, fa
 use Rattle.std.specs.Prelude.{if◌then◌else◌}
 use Rattle.std.proofs.lemmas.Bool.{false≢true}
 use Rattle.nut_words.specs.Lines.{lines_after}
+use Rattle.nut_words.specs.declared.limits.TheConstants.{PIECE_MAX}
 use Rattle.nut_client.specs.Hearing.{Feeds, RunsOut}
 use Rattle.nut_client.specs.Link.{LinkValue, answer_by, failed}
 use Rattle.nut_client.specs.declared.fault.LinkFault.{LinkFault}
@@ -43,7 +44,7 @@ not_lacking r f is memory = ap lacks_memory is ∙ ap (λ f. lacks_memory (answe
 
 module _ (s : Content) (i : ℕ) (p : List ℕ) (w w' : Watch) (scene : Scene) (r : ℕ × Result (Unit {0}) LinkFault) (news : List Notice)
     (lt : i < length s.watches) (is : w ≡ slice_index_or s.watches i w) (linked : is_linked (watch_at i s.watches) ≡ true)
-    (short : length p ≤ 512) (free : length s.notices ≤ 0)
+    (short : length p ≤ PIECE_MAX) (free : length s.notices ≤ 0)
     (seen : scene ≡ record { line = i; clock = s.clock; watching = is_none s.begun })
     (hears : (v : LinkValue) → w.link ≡ Some v → HearsPiece s.configuration scene p v w s.notices r w' news) where
   at : watch_at i s.watches ≡ Some w

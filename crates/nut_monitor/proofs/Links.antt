@@ -7,6 +7,7 @@ use Rattle.nut_proto.specs.Answers.{answer_in}
 use Rattle.nut_proto.specs.declared.answer.Answer.{Answer}
 use Rattle.nut_proto.specs.declared.answer.Answer.TheVariants as answers
 use Rattle.nut_proto.specs.declared.answer.AnswerFault.{AnswerFault}
+use Rattle.nut_proto.specs.declared.limits.TheConstants.{ROWS_MAX}
 use Rattle.nut_client.specs.Asking.{Asked}
 use Rattle.nut_client.specs.Hearing.{Feeds, RunsOut}
 use Rattle.nut_client.specs.Link.{LinkValue, answer_by, failed, fed, heard, left_of, lines_heard, moved, on_line, on_read, outcome_in, outcome_of, progress_of, stage_after, stage_without, taken_out, with_exchange}
@@ -252,7 +253,7 @@ nm_next (expects.Listing heading count) rows (answers.Ok words) = tt
 nm_next (expects.Listing heading count) rows (answers.Err name) = tt
 nm_next (expects.Listing heading count) rows (answers.Begin words) = tt
 nm_next (expects.Listing heading count) rows (answers.End words) = nm_if (is_heading heading words) (Ok (Complete (outcomes.List rows))) tt
-nm_next (expects.Listing heading count) rows (answers.Row words) = nm_row heading count rows words (is_row heading count words) (nat_lt (length rows) 512)
+nm_next (expects.Listing heading count) rows (answers.Row words) = nm_row heading count rows words (is_row heading count words) (nat_lt (length rows) ROWS_MAX)
 nm_next expects.Refusal rows (answers.Ok words) = tt
 nm_next expects.Refusal rows (answers.Err name) = tt
 nm_next expects.Refusal rows (answers.Begin words) = tt

@@ -11,7 +11,7 @@ ghost use Rattle.nut_history.specs.Machine.{up, down, drained, ticked, reported_
 ghost use Rattle.nut_history.specs.Outcome.{report_takes, MayRunOutOf};
 
 use nut_proto::Refusal;
-use nut_queue::AskRing;
+use nut_queue::{ASKS_MAX, AskRing};
 use nut_state::{Heard, StateFault, UpsState};
 use nut_words::{Line, LineCutter};
 use std::alloc::{AllocError, Global};
@@ -98,7 +98,7 @@ impl Device {
     /// How many bytes wait for the driver.
     pub fn waits(&self) -> usize
         ensures length { result ≡ length self.now.device.waits }
-        ensures within { result ≤ 4096 }
+        ensures within { result ≤ ASKS_MAX }
     {
         self.asks.len()
     }
