@@ -2,6 +2,7 @@
 use Rattle.std.specs.Prelude.{ℕ, ◌==◌, ◌+◌, ◌&&◌, Bool, true, not, List, [], ◌∷◌, Option, Some, None, Result, Ok, Err, if◌then◌else◌, codes, drop, take, length, nat_le, nat_lt, reverse}
 use Rattle.std.specs.List.{list_all, position}
 use Rattle.std.specs.Str.{bytes_eq}
+use Rattle.nut_words.specs.Bytes.{hash}
 use Rattle.nut_words.specs.declared.words.WordFault.{WordFault}
 use Rattle.nut_words.specs.Reader.{spelled}
 use Rattle.nut_words.specs.Spelling.{is_blank, is_comment, is_printing}
@@ -33,7 +34,7 @@ trimmed text = skip_last_blanks (skip_blanks text)
 -- whether nothing is there, or a `#` first
 abbrev pub is_remark : List ℕ → Bool
 is_remark [] = true
-is_remark (c ∷ cs) = c == 35
+is_remark (c ∷ cs) = c == hash
 
 -- Blank lines are skipped, and those whose first byte past blanks is `#`.
 abbrev pub is_skipped : List ℕ → Bool

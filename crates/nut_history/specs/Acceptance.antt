@@ -1,6 +1,7 @@
 -- Which events a server refuses, in the order of the tests, and the histories of events that it didn't refuse.
 use Rattle.std.specs.Prelude.{ℕ, zero, suc, ◌≡◌, ◌==◌, nat_lt, nat_le, Bool, false, not, ◌&&◌, if◌then◌else◌, List, [], ◌∷◌, length, find, slice_get, Option, Some, None}
 use Rattle.std.specs.List.{list_all}
+use Rattle.nut_words.specs.Bytes.{line_feed}
 use Rattle.nut_words.specs.Spelling.{is_bare}
 use Rattle.nut_words.specs.Cutter.{kept_of}
 use Rattle.nut_words.specs.declared.limits.TheConstants.{PIECE_MAX}
@@ -96,7 +97,7 @@ Tells first h s = IsAccepted first h × (s ≡ content first h)
 abbrev pub front : ℕ → List ℕ → List ℕ
 front zero piece = []
 front (suc k) [] = []
-front (suc k) (b ∷ piece) = b ∷ (if b == 10 then front k piece else front (suc k) piece)
+front (suc k) (b ∷ piece) = b ∷ (if b == line_feed then front k piece else front (suc k) piece)
 
 -- what stands in a history for a piece of c of which k lines were done when memory ran out
 abbrev pub lost : ℕ → List ℕ → ℕ → List Event → List Event
@@ -111,7 +112,7 @@ lost_report u piece (suc k) h = DriverDown u ∷ DriverBytes u (front (suc k) pi
 -- how many lines a piece completes
 abbrev pub line_feeds : List ℕ → ℕ
 line_feeds [] = 0
-line_feeds (b ∷ piece) = if b == 10 then suc (line_feeds piece) else line_feeds piece
+line_feeds (b ∷ piece) = if b == line_feed then suc (line_feeds piece) else line_feeds piece
 
 -- what a connection awaits, nothing where there is none
 abbrev pub waiting_in : Option Session → List ℕ

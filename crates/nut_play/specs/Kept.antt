@@ -1,5 +1,6 @@
 -- What the code keeps of a fleet, and what a step does to that.
 use Rattle.std.specs.Prelude.{ℕ, zero, suc, ◌≡◌, ◌++◌, min, Bool, true, false, not, ◌&&◌, nat_lt, if◌then◌else◌, List, [], ◌∷◌, length, take, drop, map, slice_get, slice_index_or, Option, Some, None, is_some, is_none}
+use Rattle.nut_words.specs.Bytes.{line_feed}
 use Rattle.nut_words.specs.declared.limits.TheConstants.{PIECE_MAX}
 use Rattle.nut_conf.specs.declared.upsmon.UpsmonConf.{UpsmonConf}
 use Rattle.nut_history.specs.Configuration.{Configuration as ServerConfiguration}
@@ -222,7 +223,7 @@ abbrev pub next : Kept → Step → Kept
 next k (ServerClock t) = told_to k (arrivals.Moment t)
 next k (MonitorClock m t) = with_seat k m (hear_seat m (events.Moment t))
 next k (Up u) = told_to k (arrivals.DriverUp u)
-next k (Driver u line) = told_to k (arrivals.DriverBytes u (line ++ 10 ∷ []))
+next k (Driver u line) = told_to k (arrivals.DriverBytes u (line ++ line_feed ∷ []))
 next k (Down u) = told_to k (arrivals.DriverDown u)
 next k (Link m i) = join_next k m i
 next k (Out m i n) = with_seat k m (out_seat k.server m i n)
