@@ -3,7 +3,6 @@ use Rattle.nut_words.specs.Lines.{parts}
 use Rattle.nut_dummy.specs.Memory.{Makes}
 use Rattle.nut_words.proofs.CutLemmas.{pending, left}
 use Rattle.nut_dummy.proofs.script.Script.read.Given as goal
-use Rattle.nut_dummy.specs.declared.limits.TheConstants.{TIMER_MAX}
 
 -- the lines so far made the script, and the others are left
 abbrev pub invariant-loop-rest : goal.invariant-loop-rest
@@ -12,7 +11,7 @@ invariant-loop-rest l = (front : List (List ℕ)) × record {
   count : l.number ≡ length front;
   makes : Makes l.kind front l.script;
   room : l.number + left l.rest ≤ length l.bytes + 1;
-  round : l.script.round ≤ TIMER_MAX * l.number;
+  round : l.script.round ≤ 86400 * l.number;
 }
 
 abbrev pub decreases-loop-rest : goal.decreases-loop-rest
