@@ -31,8 +31,8 @@ use Rattle.nut_client.specs.Rests.{IsRest}
 use Rattle.nut_client.proofs.Writable.{length_line}
 use Rattle.nut_client.specs.declared.limits.TheConstants.{QUERY_MAX}
 
-none : {n : ℕ} → 0 ≤ n
-none {n} = omega arith
+none : 0 ≤ ROWS_MAX
+none = omega arith
 
 -- What comes of a query has at most ROWS_MAX rows.
 abbrev HasFew : Result Progress LinkFault → Type 0
@@ -107,15 +107,18 @@ lines_within : (ls : List LineText) (e : Exchange) → IsStageBounded e.stage �
 lines_within [] e h = h
 lines_within (line ∷ ls) e h = lines_within ls (heard line e) (heard_within line e h)
 
+nothing : 0 ≤ LINE_MAX
+nothing = omega arith
+
 kept_as_line : (text : List ℕ) → kept_of (as_line text) ≤ LINE_MAX
 kept_as_line text = go (nat_le (length text) LINE_MAX) refl where
   go : (b : Bool) → nat_le (length text) LINE_MAX ≡ b → kept_of (if b then Text text else TooLong) ≤ LINE_MAX
   go true e = leb-true (length text) LINE_MAX e
-  go false e = none
+  go false e = nothing
 
 kept_joined : (old : LineText) (more : List ℕ) → kept_of (joined old more) ≤ LINE_MAX
 kept_joined (Text text) more = kept_as_line (text ++ more)
-kept_joined TooLong more = none
+kept_joined TooLong more = nothing
 
 kept_unfinished : (old : LineText) (ps : List (List ℕ)) → kept_of old ≤ LINE_MAX → kept_of (unfinished old ps) ≤ LINE_MAX
 kept_unfinished old [] h = h
@@ -123,7 +126,7 @@ kept_unfinished old (t ∷ []) h = kept_joined old t
 kept_unfinished old (t ∷ u ∷ ts) h = kept_as_line (last_of (u ∷ ts))
 
 kept_masked : (b : Bool) (line : LineText) → kept_of line ≤ LINE_MAX → kept_of (if b then Text [] else line) ≤ LINE_MAX
-kept_masked true line h = none
+kept_masked true line h = nothing
 kept_masked false line h = h
 
 -- A piece keeps a link within its bounds, also where memory runs out in it.
@@ -135,7 +138,7 @@ fed_within v w p done result feeds h = elim feeds.stands [
   })
   | inr out ↦ record {
     stage = subst (λ e. IsStageBounded e.stage) (sym out.0.stands.0) (left_within (lines_heard out.0.earlier v.exchange).stage (lines_within out.0.earlier v.exchange h.stage));
-    line = subst (λ line. kept_of line ≤ LINE_MAX) (sym out.1) none;
+    line = subst (λ line. kept_of line ≤ LINE_MAX) (sym out.1) nothing;
   }
 ]
 
