@@ -195,7 +195,7 @@ taken_out_within e h = go e.stage h where
 
 pub bounds_stay : BoundsStay
 bounds_stay = record {
-  begun = record { stage = record { query = omega arith; rows = none }; line = none };
+  begun = record { stage = record { query = omega arith; rows = none }; line = nothing };
   asks = asked_within;
   takes = taken_within;
   takes_out = taken_out_within;
