@@ -1,6 +1,7 @@
 //! What a client gives of itself: the name of a user, or a password.
 
 ghost use Rattle.std.specs.Prelude.{◌≡◌, ◌≤◌, List, ℕ, length};
+ghost use Rattle.nut_words.specs.declared.limits.TheConstants.{CREDENTIAL_MAX};
 
 use arrayvec::ArrayVec;
 use nut_words::CREDENTIAL_MAX;
@@ -13,8 +14,6 @@ pub struct LentCredential<'l> {
 }
 
 impl<'l> Model for LentCredential<'l> {
-    ghost use Rattle.nut_words.specs.declared.limits.TheConstants.{CREDENTIAL_MAX};
-
     ghost Value = { List ℕ };
 
     ghost view = { λ c. c.bytes.now };
