@@ -1,5 +1,6 @@
 -- What the values of `--ups` read as.
 use Rattle.std.specs.Prelude.{ℕ, ◌+◌, ◌==◌, List, [], ◌∷◌, take, drop, position, Option, Some, None, Result, Ok, Err}
+use Rattle.nut_words.specs.Bytes.{equals}
 use Rattle.nut_conf.specs.Faults.{◌>>=◌}
 use Rattle.nut_conf.specs.Ups.{Shown, with_ups}
 use Rattle.nut_conf.specs.declared.fault.FaultKind.{FaultKind}
@@ -12,7 +13,7 @@ parted before value (Some i) = with_ups before (take i value) (drop (i + 1) valu
 
 -- the UPSes with that of a value behind them, or its first fault; the value is parted at its first `=`
 abbrev pub ups_option : List Shown → List ℕ → Result (List Shown) FaultKind
-ups_option before value = parted before value (position (λ b. b == 61) value)
+ups_option before value = parted before value (position (λ b. b == equals) value)
 
 -- the UPSes with those of values behind them in turn, or the fault of the first value that has one
 abbrev pub ups_options : List Shown → List (List ℕ) → Result (List Shown) FaultKind

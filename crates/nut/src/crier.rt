@@ -2,15 +2,15 @@
 
 use crate::low_runtime::LowRuntimes;
 use crate::notify_command::{Call, NotifyCommand};
-use nut_conf::UpsmonConf;
+use nut_conf::{MESSAGE_MAX, TARGET_MAX, UpsmonConf};
 use nut_monitor::{Monitor, Notice};
 use nut_sockets::Herald;
 use std::alloc::{AllocError, Global};
 use std::io::Write;
 use std::process::Processes;
 
-/// How long a text is at most: 128 bytes whose `%s` is a target of 107.
-const TEXT_MAX: usize = 233;
+/// The greatest length of a text in bytes: that of a message, with a target in the place of its `%s`.
+const TEXT_MAX: usize = MESSAGE_MAX + TARGET_MAX - 2;
 
 /// Prints each notice whose flags have SYSLOG or WALL as one line, and runs NOTIFYCMD with each whose flags have EXEC. With
 /// IGNORE neither is done, whatever stands beside it.

@@ -8,7 +8,7 @@ use std::process::{Child, Command, OpenProcess, Processes};
 use std::{fmt, io};
 
 /// How many commands may run at a time.
-const MOST_RUNNING: usize = 64;
+const RUNNING_MAX: usize = 64;
 
 /// What a command is told of a notice.
 #[derive(Clone, Copy)]
@@ -33,7 +33,7 @@ pub enum CallFault {
 impl fmt::Display for CallFault {
     fn fmt<W: fmt::Write>(&self, f: &mut fmt::Formatter<W>) -> fmt::Result {
         match self {
-            CallFault::TooMany => write!(f, "is not run: {MOST_RUNNING} of it are running"),
+            CallFault::TooMany => write!(f, "is not run: {RUNNING_MAX} of it are running"),
             CallFault::NotStarted(error) => write!(f, "cannot be started: {error}"),
         }
     }
@@ -64,7 +64,7 @@ impl<'r, R: Processes> NotifyCommand<'r, R> {
             processes,
             alloc,
             script,
-            running: Vec::with_capacity(alloc, MOST_RUNNING)?,
+            running: Vec::with_capacity(alloc, RUNNING_MAX)?,
         })
     }
 
@@ -73,7 +73,7 @@ impl<'r, R: Processes> NotifyCommand<'r, R> {
         let Some(script) = &self.script else {
             return Ok(());
         };
-        if self.running.len() >= MOST_RUNNING {
+        if self.running.len() >= RUNNING_MAX {
             return Err(CallFault::TooMany);
         }
         match start(self.processes, self.alloc, script.as_str(), call) {

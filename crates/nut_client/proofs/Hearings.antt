@@ -4,6 +4,7 @@ use Rattle.std.proofs.Math.Seq.{drop-append_seam}
 use Rattle.std.proofs.lemmas.List.{append_assoc, append-nil, length-append}
 use Rattle.std.specs.Io.KnownBytes.{append_known, prepend_known}
 use Rattle.nut_words.specs.Lines.{Text, lines}
+use Rattle.nut_words.specs.declared.limits.TheConstants.{PIECE_MAX}
 use Rattle.nut_proto.specs.declared.request.Request.{Request}
 use Rattle.nut_proto.specs.Requests.{request_line}
 use Rattle.nut_link.specs.declared.exchange.Stage.{Stage}
@@ -78,14 +79,14 @@ pub part_all : (filled part unread' : List ℕ) → IsLinePart filled part → u
 part_all filled part unread' is left = ap (λ b. part ++ b) (left ∙ ap (drop (length part)) is.0.1 ∙ drop-append_seam part is.0.0) ∙ sym is.0.1
 
 -- what was read for a part
-pub part_reads : (unread filled part unread' : List ℕ) → IsLinePart filled part → unread' ≡ drop (length part) filled → (filled ≡ unread) ⊎ ((unread ≡ []) × (length filled ≤ 512))
-    → (part ++ unread' ≡ unread) ⊎ ((unread ≡ []) × (length (part ++ unread') ≤ 512))
+pub part_reads : (unread filled part unread' : List ℕ) → IsLinePart filled part → unread' ≡ drop (length part) filled → (filled ≡ unread) ⊎ ((unread ≡ []) × (length filled ≤ PIECE_MAX))
+    → (part ++ unread' ≡ unread) ⊎ ((unread ≡ []) × (length (part ++ unread') ≤ PIECE_MAX))
 part_reads unread filled part unread' is left (inl same) = inl (part_all filled part unread' is left ∙ same)
-part_reads unread filled part unread' is left (inr new) = inr (new.0, subst (λ b. length b ≤ 512) (sym (part_all filled part unread' is left)) new.1)
+part_reads unread filled part unread' is left (inr new) = inr (new.0, subst (λ b. length b ≤ PIECE_MAX) (sym (part_all filled part unread' is left)) new.1)
 
 -- A part was heard while the query waited.
 read_more : (request : Request) (link : LinkValue) (heard part start unread unread' : List ℕ) → Listens request heard link → IsReadFor request start (heard ++ unread)
-    → (part ++ unread' ≡ unread) ⊎ ((unread ≡ []) × (length (part ++ unread') ≤ 512)) → IsReadFor request start ((heard ++ part) ++ unread')
+    → (part ++ unread' ≡ unread) ⊎ ((unread ≡ []) × (length (part ++ unread') ≤ PIECE_MAX)) → IsReadFor request start ((heard ++ part) ++ unread')
 read_more request link heard part start unread unread' listens before (inl same) =
     subst (IsReadFor request start) (sym (append_assoc heard part unread' ∙ ap (λ b. heard ++ b) same)) before
 read_more request link heard part start unread unread' listens before (inr new) = inr (λ queries next. record {

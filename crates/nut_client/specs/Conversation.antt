@@ -2,6 +2,7 @@
 use Rattle.std.specs.Prelude.{◌≡◌, ℕ, ◌<◌, ◌≤◌, true, false, List, [], ◌++◌, length, Option, Some, None, Result, Ok, Err, IfErr, OnOk, ◌⊎◌}
 use Rattle.std.specs.Io.KnownBytes.{append_known, prepend_known}
 use Rattle.nut_words.specs.Lines.{Text, lines, rest}
+use Rattle.nut_words.specs.declared.limits.TheConstants.{PIECE_MAX}
 use Rattle.nut_proto.specs.declared.request.Request.{Request}
 use Rattle.nut_proto.specs.Requests.{request_line}
 use Rattle.nut_link.specs.declared.exchange.Exchange.{Exchange}
@@ -44,7 +45,7 @@ pub record Hears (before : LinkValue) (unread : List ℕ) (result : Result (Opti
   pub part : List ℕ
   pub read : input ≡ prepend_known part left
   pub broken : IsUnbroken part ⊎ IsWhole part
-  pub reads : (part ++ unread' ≡ unread) ⊎ ((unread ≡ []) × (length (part ++ unread') ≤ 512))
+  pub reads : (part ++ unread' ≡ unread) ⊎ ((unread ≡ []) × (length (part ++ unread') ≤ PIECE_MAX))
   pub some : OnOk result (0 < length part)
   pub emptied : IfErr result (λ failure. failure ≡ ConnectionLost → unread' ≡ [])
   pub came : HearsPart before part result after lost
@@ -63,8 +64,8 @@ Asked request heard (Err failure) written = (queries : List ℕ) (next : Outcome
 abbrev pub IsBrokenOff : Request → List ℕ → List ℕ → Type 0
 IsBrokenOff request heard written = (queries : List ℕ) (next : Outcome → Script) → length (queries ++ written) < length (after (lines heard) (begin queries (Asks request next))).queries
 
--- What has been read since a query was asked, with these bytes that had been read before: no more, or at most 512 bytes
--- behind some by which the query still waited.
+-- What has been read since a query was asked, with these bytes that had been read before: no more, or at most PIECE_MAX
+-- bytes behind some by which the query still waited.
 abbrev pub IsReadFor : Request → List ℕ → List ℕ → Type 0
 IsReadFor request unread bytes =
     (bytes ≡ unread) ⊎ ((queries : List ℕ) (next : Outcome → Script) → LastRead (λ heard. after (lines heard) (begin queries (Asks request next))) bytes)

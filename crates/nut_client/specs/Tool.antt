@@ -7,6 +7,7 @@ use Rattle.clap.specs.declared.error.ErrorKind.{ErrorKind}
 use Rattle.clap.specs.declared.error.ErrorKind.TheVariants as kinds
 use Rattle.std.specs.Io.KnownBytes.{append_known, prepend_known}
 use Rattle.nut_words.specs.Lines.{LineText, lines}
+use Rattle.nut_words.specs.declared.limits.TheConstants.{PIECE_MAX}
 use Rattle.nut_proto.specs.declared.request.Request.{Request}
 use Rattle.nut_proto.specs.Requests.{request_line}
 use Rattle.nut_link.specs.declared.exchange.Exchange.{Exchange}
@@ -90,15 +91,15 @@ is_over (Waits e next) = false
 is_over (Printed text) = true
 is_over (Failed failure) = true
 
--- Of these bytes at most 512 stand behind some by which a run still waits.
+-- Of these bytes at most PIECE_MAX stand behind some by which a run still waits.
 pub record LastRead (run : List ℕ → Run) (bytes : List ℕ) : Type 0 where
   pub early : List ℕ
   pub late : List ℕ
   pub parted : bytes ≡ early ++ late
-  pub few : length late ≤ 512
+  pub few : length late ≤ PIECE_MAX
   pub waits : is_over (run early).standing ≡ false
 
--- What a tool has read: nothing, or at most 512 bytes behind some by which it still waited.
+-- What a tool has read: nothing, or at most PIECE_MAX bytes behind some by which it still waited.
 abbrev pub IsReadInTime : (List ℕ → Run) → List ℕ → Type 0
 IsReadInTime run bytes = (bytes ≡ []) ⊎ LastRead run bytes
 

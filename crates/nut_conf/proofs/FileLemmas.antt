@@ -5,6 +5,7 @@ use Rattle.nut_conf.specs.Values.{Words}
 use Rattle.nut_conf.specs.Files.{LineFault, lines_of, with_line, at_line, read_lines, read_file, IsFaultOf}
 use Rattle.nut_conf.specs.declared.fault.FaultKind.{FaultKind}
 use Rattle.nut_conf.specs.declared.fault.FaultKind.TheVariants as kinds
+use Rattle.nut_conf.specs.declared.limits.TheConstants.{FILE_MAX}
 
 lines-equal : (x y : List Words) → ◌≡◌ {A = Result (List Words) (ℕ × FaultKind)} (Ok x) (Ok y) → x ≡ y
 lines-equal x y h = cc
@@ -53,5 +54,5 @@ module _ (fault : LineFault) where
   read_lines-done before n = refl
 
   -- a file that isn't too long is read by its lines
-  pub read_file-lines : (bytes : List ℕ) → length bytes ≤ 1048576 → read_file fault bytes ≡ read_lines fault [] 1 (lines_of bytes)
+  pub read_file-lines : (bytes : List ℕ) → length bytes ≤ FILE_MAX → read_file fault bytes ≡ read_lines fault [] 1 (lines_of bytes)
   read_file-lines bytes short = grind arith

@@ -14,6 +14,7 @@ use Rattle.nut_conf.specs.declared.text.Name.{Name}
 use Rattle.nut_conf.specs.declared.fault.FaultKind.{FaultKind}
 use Rattle.std.specs.Str.{bytes_eq}
 use Rattle.nut_words.proofs.CutLemmas.{false-from_not_true}
+use Rattle.nut_words.specs.declared.limits.TheConstants.{UPS_NAME_MAX}
 use Rattle.nut_conf.proofs.SlotLemmas.{length-map}
 
 -- what is a name reads as one
@@ -47,20 +48,20 @@ pub lookup-no : {K X : Type 0} (test : K → Bool) (es : List (K × X)) → ((k 
 lookup-no test [] none = refl
 lookup-no test (e ∷ es) none = rw (none e.0) (lookup-no test es none)
 
-prefix-names : (word : List ℕ) (ns : List (Name 32)) → prefix_len (λ b. not (bytes_eq word b)) (names_in ns) ≡ prefix_len (λ n. not (is_named word n)) ns
+prefix-names : (word : List ℕ) (ns : List (Name UPS_NAME_MAX)) → prefix_len (λ b. not (bytes_eq word b)) (names_in ns) ≡ prefix_len (λ n. not (is_named word n)) ns
 prefix-names word [] = refl
 prefix-names word (n ∷ ns) = elim (bytes_eq word n.bytes.items) as (λ t. cond (not t) (1 + prefix_len (λ b. not (bytes_eq word b)) (names_in ns)) 0 ≡ cond (not t) (1 + prefix_len (λ m. not (is_named word m)) ns) 0)
     [ true ↦ refl | false ↦ ap (λ k. 1 + k) (prefix-names word ns) ]
 
 -- the place of a name among the names is that among their bytes
-pub position-names : (word : List ℕ) (ns : List (Name 32)) → position (bytes_eq word) (names_in ns) ≡ position (is_named word) ns
+pub position-names : (word : List ℕ) (ns : List (Name UPS_NAME_MAX)) → position (bytes_eq word) (names_in ns) ≡ position (is_named word) ns
 position-names word ns =
     ap (λ k. cond (nat_lt k (length (names_in ns))) (Some k) None) (prefix-names word ns)
     ∙ ap (λ l. cond (nat_lt (position_or_len (is_named word) ns) l) (Some (position_or_len (is_named word) ns)) None) (length-map (λ n. n.bytes.items) ns)
 
 -- the name at a place is that of the entry there
-pub slice_get-names : {S : Type 0} (es : List (Name 32 × S)) (i : ℕ) → slice_get (names_in (keys_of es)) i ≡ option_map (λ e. e.0.bytes.items) (slice_get es i)
+pub slice_get-names : {S : Type 0} (es : List (Name UPS_NAME_MAX × S)) (i : ℕ) → slice_get (names_in (keys_of es)) i ≡ option_map (λ e. e.0.bytes.items) (slice_get es i)
 slice_get-names {S} es i = slice_get-map (λ n. n.bytes.items) (keys_of es) i ∙ ap (option_map (λ n. n.bytes.items)) (slice_get-map (λ e. e.0) es i) ∙ merged (slice_get es i) where
-  merged : (o : Option (Name 32 × S)) → option_map (λ n. n.bytes.items) (option_map (λ e. e.0) o) ≡ option_map (λ e. e.0.bytes.items) o
+  merged : (o : Option (Name UPS_NAME_MAX × S)) → option_map (λ n. n.bytes.items) (option_map (λ e. e.0) o) ≡ option_map (λ e. e.0.bytes.items) o
   merged None = refl
   merged (Some e) = refl

@@ -9,6 +9,7 @@ use Rattle.nut_conf.specs.declared.fault.FaultKind.{FaultKind}
 use Rattle.nut_conf.specs.declared.fault.FaultKind.TheVariants.{Unreadable, PastLimit}
 use Rattle.nut_conf.specs.declared.fault.FaultKind.TheVariants as kinds
 use Rattle.nut_conf.specs.declared.fault.ConfFault.{ConfFault}
+use Rattle.nut_conf.specs.declared.limits.TheConstants.{FILE_LINE_MAX, FILE_MAX}
 
 -- The first fault of a line, given the lines before it.
 abbrev pub LineFault : Type 0
@@ -23,9 +24,9 @@ abbrev pub readable : Result Words WordFault → Result Words FaultKind
 readable (Ok ws) = Ok ws
 readable (Err e) = Err Unreadable
 
--- the words of a line of at most 512 bytes
+-- the words of a line of at most FILE_LINE_MAX bytes
 abbrev pub words_of : List ℕ → Result Words FaultKind
-words_of line = if nat_lt 512 (length line) then Err PastLimit else readable (spelled line)
+words_of line = if nat_lt FILE_LINE_MAX (length line) then Err PastLimit else readable (spelled line)
 
 -- this, unless there is a fault
 abbrev pub unless : {X : Type 0} → Option FaultKind → X → Result X FaultKind
@@ -47,9 +48,9 @@ unfoldable pub read_lines : LineFault → List Words → ℕ → List (List ℕ)
 read_lines fault before n [] = Ok before
 read_lines fault before n (line ∷ lines) = at_line n (with_line fault before line) (λ more. read_lines fault more (n + 1) lines)
 
--- The words of the lines of a file that have words, or its first fault. A file of more than 1,048,576 bytes isn't read.
+-- The words of the lines of a file that have words, or its first fault. A file of more than FILE_MAX bytes isn't read.
 abbrev pub read_file : LineFault → List ℕ → Result (List Words) (ℕ × FaultKind)
-read_file fault bytes = if nat_lt 1048576 (length bytes) then Err (0, PastLimit) else read_lines fault [] 1 (lines_of bytes)
+read_file fault bytes = if nat_lt FILE_MAX (length bytes) then Err (0, PastLimit) else read_lines fault [] 1 (lines_of bytes)
 
 -- The fault that was answered is that of the reading, unless it is want of memory.
 abbrev pub IsFaultOf : {Y : Type 0} → ℕ → FaultKind → Result Y (ℕ × FaultKind) → Type 0

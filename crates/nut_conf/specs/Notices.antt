@@ -12,6 +12,7 @@ use Rattle.nut_conf.specs.declared.notice.Notice.TheVariants as notices
 use Rattle.nut_conf.specs.declared.notice.NoticeText.{NoticeText}
 use Rattle.nut_conf.specs.declared.notice.NoticeFlags.{NoticeFlags}
 use Rattle.nut_conf.specs.declared.notice.NoticeHandling.{NoticeHandling}
+use Rattle.nut_conf.specs.declared.limits.TheConstants.{MESSAGE_MAX}
 
 -- the word of a type of notice
 abbrev pub notice_word : Notice → List ℕ
@@ -48,7 +49,7 @@ default_text notices.Nocomm = codes "UPS %s is unavailable"
 -- a type of notice and its text
 abbrev pub message_value : Words → Result Setting FaultKind
 message_value vs =
-    if length vs == 2 then one_of notice_words (nth vs 0) >>= (λ n. text 0 128 (nth vs 1) >>= (λ t. Ok (Message n t)))
+    if length vs == 2 then one_of notice_words (nth vs 0) >>= (λ n. text 0 MESSAGE_MAX (nth vs 1) >>= (λ t. Ok (Message n t)))
     else Err BadForm
 
 -- the text of a type of notice

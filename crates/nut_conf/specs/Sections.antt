@@ -3,6 +3,7 @@ use Rattle.std.specs.Prelude.{◌≡◌, ℕ, ◌-◌, ◌==◌, Bool, ◌&&◌,
 use Rattle.std.specs.List.{list_any}
 use Rattle.std.specs.Option.{option_map_or}
 use Rattle.std.specs.Str.{bytes_eq}
+use Rattle.nut_words.specs.declared.limits.TheConstants.{UPS_NAME_MAX}
 use Rattle.nut_conf.specs.Faults.{◌>>=◌}
 use Rattle.nut_conf.specs.Values.{Words, nth, name}
 use Rattle.nut_conf.specs.Settings.{fault_of}
@@ -47,7 +48,7 @@ is_name_of n s = bytes_eq n s.0
 -- a section with this name may begin
 abbrev pub opens : ℕ → List Section → List ℕ → Result (List ℕ) FaultKind
 opens most earlier bytes =
-    name 32 bytes >>= (λ n.
+    name UPS_NAME_MAX bytes >>= (λ n.
     if list_any (is_name_of n) earlier then Err Repeated
     else if nat_le most (length earlier) then Err PastLimit
     else Ok n)
@@ -63,16 +64,16 @@ abbrev pub sectioned_grows : (Words → Bool) → Words → Bool
 sectioned_grows grows ws = is_some (section_name ws) || grows ws
 
 -- what was read under each name holds what the lines of that section set
-abbrev pub AllHold : {S : Type 0} → (S → List Words → Type 0) → List (Name 32 × S) → List Section → Type 0
+abbrev pub AllHold : {S : Type 0} → (S → List Words → Type 0) → List (Name UPS_NAME_MAX × S) → List Section → Type 0
 AllHold holds [] [] = Unit {0}
 AllHold holds [] (s ∷ ss) = ⊥
 AllHold holds (e ∷ es) [] = ⊥
 AllHold holds (e ∷ es) (s ∷ ss) = (e.0.bytes.items ≡ s.0) × holds e.1 s.1 × AllHold holds es ss
 
 -- a name that was read is this one
-abbrev pub is_named : List ℕ → Name 32 → Bool
+abbrev pub is_named : List ℕ → Name UPS_NAME_MAX → Bool
 is_named bytes n = bytes_eq bytes n.bytes.items
 
 -- the bytes of names
-abbrev pub names_in : List (Name 32) → List (List ℕ)
+abbrev pub names_in : List (Name UPS_NAME_MAX) → List (List ℕ)
 names_in names = map (λ n. n.bytes.items) names

@@ -1,6 +1,7 @@
 -- The name of a UPS at a host, `ups[@host[:port]]`.
 use Rattle.std.specs.Prelude.{ℕ, ◌+◌, ◌==◌, List, take, drop, position, codes, if◌then◌else◌, Option, Result, Ok, Err}
 use Rattle.std.specs.Option.{option_map, option_map_or}
+use Rattle.nut_words.specs.declared.limits.TheConstants.{UPS_NAME_MAX}
 use Rattle.nut_conf.specs.Faults.{◌>>=◌}
 use Rattle.nut_conf.specs.Values.{name, number}
 use Rattle.nut_conf.specs.Hosts.{is_host}
@@ -30,8 +31,8 @@ located bytes =
 -- the UPS, the host and the port; without a host that is localhost
 abbrev pub target : List ℕ → Result (List ℕ × List ℕ × ℕ) NameFault
 target bytes =
-    option_map_or (λ p. or_fault BadUps (name 32 p.0) >>= (λ u. located p.1 >>= (λ l. Ok (u, l.0, l.1))))
-    (parted 64 bytes) (or_fault BadUps (name 32 bytes) >>= (λ u. Ok (u, codes "localhost", 3493)))
+    option_map_or (λ p. or_fault BadUps (name UPS_NAME_MAX p.0) >>= (λ u. located p.1 >>= (λ l. Ok (u, l.0, l.1))))
+    (parted 64 bytes) (or_fault BadUps (name UPS_NAME_MAX bytes) >>= (λ u. Ok (u, codes "localhost", 3493)))
 
 -- what a target names
 abbrev pub target_view : Target → List ℕ × List ℕ × ℕ

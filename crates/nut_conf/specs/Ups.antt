@@ -5,6 +5,7 @@ use Rattle.std.specs.Option.{option_map, option_map_or, option_to_list}
 use Rattle.std.specs.Str.{bytes_eq}
 use Rattle.indexmap.specs.IndexMap.{keys, values}
 use Rattle.nut_words.specs.Spelling.{is_printing}
+use Rattle.nut_words.specs.declared.limits.TheConstants.{UPS_NAME_MAX}
 use Rattle.nut_conf.specs.Faults.{◌>>=◌}
 use Rattle.nut_conf.specs.Settings.{Setting, Text, Directive, settings, line_fault, once, name_value, text_value}
 use Rattle.nut_conf.specs.declared.values.Form.TheVariants.{Assigned}
@@ -18,12 +19,13 @@ use Rattle.nut_conf.specs.declared.ups.UpsConf.{UpsConf}
 use Rattle.nut_conf.specs.declared.ups.Ups.{Ups}
 use Rattle.nut_conf.specs.declared.ups.UpsDirective.{UpsDirective}
 use Rattle.nut_conf.specs.declared.ups.UpsDirective.TheVariants.{Driver, Port, Desc}
+use Rattle.nut_conf.specs.declared.limits.TheConstants.{DESCRIPTION_MAX, DEVICE_MAX, DRIVER_NAME_MAX, UPSES_MAX}
 
 -- the table of directives in a section
 abbrev pub ups_directive : UpsDirective → Directive
-ups_directive Driver = record { word = codes "driver"; rule = once Assigned (name_value 32) }
-ups_directive Port = record { word = codes "port"; rule = once Assigned (text_value 0 128) }
-ups_directive Desc = record { word = codes "desc"; rule = once Assigned (text_value 0 128) }
+ups_directive Driver = record { word = codes "driver"; rule = once Assigned (name_value DRIVER_NAME_MAX) }
+ups_directive Port = record { word = codes "port"; rule = once Assigned (text_value 0 DEVICE_MAX) }
+ups_directive Desc = record { word = codes "desc"; rule = once Assigned (text_value 0 DESCRIPTION_MAX) }
 
 -- the rows of the table
 abbrev pub ups_directives : List Directive
@@ -43,9 +45,9 @@ ups_grows ws = false
 abbrev pub ups_conf_grows : Words → Bool
 ups_conf_grows = sectioned_grows ups_grows
 
--- the first fault of a line of ups.conf, which has at most 32 sections
+-- the first fault of a line of ups.conf, which has at most UPSES_MAX sections
 abbrev pub ups_fault : LineFault
-ups_fault = sectioned_fault (line_fault ups_directives) 32
+ups_fault = sectioned_fault (line_fault ups_directives) UPSES_MAX
 
 -- a section has what its lines set
 abbrev pub UpsHolds : Ups → List Words → Type 0
@@ -87,7 +89,7 @@ pub record Shown : Type 0 where
   pub description : List ℕ
 
 -- what is set under a name, with the defaults
-abbrev pub shown : Name 32 × Ups → Shown
+abbrev pub shown : Name UPS_NAME_MAX × Ups → Shown
 shown e = record { name = e.0.bytes.items; driver = driver_of e.1; port = port_of e.1; description = desc_of e.1 }
 
 -- the UPSes, in the order of the file
@@ -102,8 +104,8 @@ is_shown_as n u = bytes_eq n u.name
 -- or the first fault.
 abbrev pub with_ups : List Shown → List ℕ → List ℕ → Result (List Shown) FaultKind
 with_ups before n desc =
-    name 32 n >>= (λ n. text 0 128 desc >>= (λ d.
-    if nat_le 32 (length before) then Err PastLimit
+    name UPS_NAME_MAX n >>= (λ n. text 0 DESCRIPTION_MAX desc >>= (λ d.
+    if nat_le UPSES_MAX (length before) then Err PastLimit
     else if list_any (is_shown_as n) before then Err Repeated
     else if not (list_all is_printing d) then Err Unreadable
     else Ok (before ++ record { name = n; driver = codes "dummy-ups"; port = []; description = d } ∷ [])))

@@ -14,6 +14,7 @@ use Rattle.nut_conf.specs.declared.upsd.UpsdConf.{UpsdConf}
 use Rattle.nut_conf.specs.declared.upsd.Endpoint.{Endpoint}
 use Rattle.nut_conf.specs.declared.upsd.UpsdDirective.{UpsdDirective}
 use Rattle.nut_conf.specs.declared.upsd.UpsdDirective.TheVariants as directives
+use Rattle.nut_conf.specs.declared.limits.TheConstants.{CONNECTIONS_MAX, LISTENERS_MAX}
 
 -- the address on which a server listens
 abbrev pub address : List ℕ → Result (List ℕ) FaultKind
@@ -32,9 +33,9 @@ endpoint_setting e = Listen e.address.bytes.items e.port.number
 
 -- the table of directives
 abbrev pub upsd_directive : UpsdDirective → Directive
-upsd_directive directives.Listen = record { word = codes "LISTEN"; rule = listed (Some 16) Plain listen_value }
+upsd_directive directives.Listen = record { word = codes "LISTEN"; rule = listed (Some LISTENERS_MAX) Plain listen_value }
 upsd_directive directives.MaxAge = record { word = codes "MAXAGE"; rule = once Plain (number_value 1 86400) }
-upsd_directive directives.MaxConn = record { word = codes "MAXCONN"; rule = once Plain (number_value 1 256) }
+upsd_directive directives.MaxConn = record { word = codes "MAXCONN"; rule = once Plain (number_value 1 CONNECTIONS_MAX) }
 
 -- the rows of the table
 abbrev pub upsd_directives : List Directive
@@ -62,9 +63,9 @@ UpsdHolds c lines = (d : UpsdDirective) → upsd_settings c d ≡ settings (upsd
 abbrev pub max_age_of : UpsdConf → ℕ
 max_age_of c = option_map_or (λ n. n.value) c.max_age 15
 
--- how many connections may be open; where none is set, 256
+-- how many connections may be open; where none is set, CONNECTIONS_MAX
 abbrev pub max_conn_of : UpsdConf → ℕ
-max_conn_of c = option_map_or (λ n. n.value) c.max_conn 256
+max_conn_of c = option_map_or (λ n. n.value) c.max_conn CONNECTIONS_MAX
 
 -- an address and a port
 abbrev pub endpoint_view : Endpoint → List ℕ × ℕ

@@ -19,6 +19,7 @@ use Rattle.nut_conf.specs.declared.upsmon.UpsmonConf.{UpsmonConf}
 use Rattle.nut_conf.specs.declared.monitor.Monitored.{Monitored}
 use Rattle.nut_conf.specs.declared.upsmon.UpsmonDirective.{UpsmonDirective}
 use Rattle.nut_conf.specs.declared.upsmon.UpsmonDirective.TheVariants as directives
+use Rattle.nut_conf.specs.declared.limits.TheConstants.{COMMAND_MAX, MONITORS_MAX, PASSWORD_MAX, USER_NAME_MAX}
 
 -- a target that names its host
 abbrev pub monitored_target : List ℕ → Result (List ℕ × List ℕ × ℕ) FaultKind
@@ -32,8 +33,8 @@ written_target bytes = monitored_target bytes >>= (λ t. Ok (bytes, t))
 abbrev pub monitor_value : Words → Result Setting FaultKind
 monitor_value vs =
     if length vs == 5 then
-    monitored_target (nth vs 0) >>= (λ t. number 0 1000 (nth vs 1) >>= (λ p. name 32 (nth vs 2) >>= (λ u.
-    text 1 128 (nth vs 3) >>= (λ w. one_of (codes "primary" ∷ codes "secondary" ∷ []) (nth vs 4) >>= (λ r.
+    monitored_target (nth vs 0) >>= (λ t. number 0 1000 (nth vs 1) >>= (λ p. name USER_NAME_MAX (nth vs 2) >>= (λ u.
+    text 1 PASSWORD_MAX (nth vs 3) >>= (λ w. one_of (codes "primary" ∷ codes "secondary" ∷ []) (nth vs 4) >>= (λ r.
     Ok (Monitor (record { target = nth vs 0; ups = t.0; host = t.1; port = t.2; power = p; user = u; password = w; role = r })))))))
     else Err BadForm
 
@@ -57,11 +58,11 @@ same_target _ _ = false
 
 -- the table of directives
 abbrev pub upsmon_directive : UpsmonDirective → Directive
-upsmon_directive directives.Monitor = record { word = codes "MONITOR"; rule = distinct same_target (Some 32) Plain monitor_value }
+upsmon_directive directives.Monitor = record { word = codes "MONITOR"; rule = distinct same_target (Some MONITORS_MAX) Plain monitor_value }
 upsmon_directive directives.MinSupplies = record { word = codes "MINSUPPLIES"; rule = once Plain (number_value 0 32000) }
-upsmon_directive directives.ShutdownCmd = record { word = codes "SHUTDOWNCMD"; rule = once Plain (text_value 1 256) }
-upsmon_directive directives.NotifyCmd = record { word = codes "NOTIFYCMD"; rule = once Plain (text_value 1 256) }
-upsmon_directive directives.PowerDownFlag = record { word = codes "POWERDOWNFLAG"; rule = once Plain (text_value 1 256) }
+upsmon_directive directives.ShutdownCmd = record { word = codes "SHUTDOWNCMD"; rule = once Plain (text_value 1 COMMAND_MAX) }
+upsmon_directive directives.NotifyCmd = record { word = codes "NOTIFYCMD"; rule = once Plain (text_value 1 COMMAND_MAX) }
+upsmon_directive directives.PowerDownFlag = record { word = codes "POWERDOWNFLAG"; rule = once Plain (text_value 1 COMMAND_MAX) }
 upsmon_directive directives.PollFreq = record { word = codes "POLLFREQ"; rule = once Plain (number_value 1 1000000) }
 upsmon_directive directives.DeadTime = record { word = codes "DEADTIME"; rule = once Plain (number_value 1 1000000) }
 upsmon_directive directives.RbWarnTime = record { word = codes "RBWARNTIME"; rule = once Plain (number_value 1 1000000) }

@@ -4,6 +4,7 @@ use Rattle.std.specs.List.{list_any}
 use Rattle.std.specs.Option.{option_map, option_map_or, option_to_list}
 use Rattle.std.specs.Str.{bytes_eq}
 use Rattle.std.specs.Char.{to_ascii_lowercase}
+use Rattle.nut_words.specs.declared.limits.TheConstants.{NAME_MAX}
 use Rattle.indexmap.specs.IndexMap.{get_by}
 use Rattle.nut_conf.specs.Faults.{◌>>=◌}
 use Rattle.nut_conf.specs.Values.{Words, nth, one, name}
@@ -22,6 +23,7 @@ use Rattle.nut_conf.specs.declared.users.Role.{Role}
 use Rattle.nut_conf.specs.declared.users.Role.TheVariants as roles
 use Rattle.nut_conf.specs.declared.users.UserDirective.{UserDirective}
 use Rattle.nut_conf.specs.declared.users.UserDirective.TheVariants.{Password, Actions, Instcmds, Upsmon}
+use Rattle.nut_conf.specs.declared.limits.TheConstants.{INSTCMDS_MAX, PASSWORD_MAX, USERS_MAX}
 
 -- the word of a role
 abbrev pub role_word : Role → List ℕ
@@ -56,13 +58,13 @@ commands_setting (commands.Named n) = Text n.bytes.items
 
 -- `all` in any case, or the name of a command
 abbrev pub commands_value : Words → Result Setting FaultKind
-commands_value vs = one vs >>= (λ w. if bytes_eq (map to_ascii_lowercase w) (codes "all") then Ok AllCommands else name 64 w >>= (λ n. Ok (Text n)))
+commands_value vs = one vs >>= (λ w. if bytes_eq (map to_ascii_lowercase w) (codes "all") then Ok AllCommands else name NAME_MAX w >>= (λ n. Ok (Text n)))
 
 -- the table of directives in a section
 abbrev pub user_directive : UserDirective → Directive
-user_directive Password = record { word = codes "password"; rule = once Assigned (text_value 1 128) }
+user_directive Password = record { word = codes "password"; rule = once Assigned (text_value 1 PASSWORD_MAX) }
 user_directive Actions = record { word = codes "actions"; rule = listed None Assigned action_value }
-user_directive Instcmds = record { word = codes "instcmds"; rule = listed (Some 128) Assigned commands_value }
+user_directive Instcmds = record { word = codes "instcmds"; rule = listed (Some INSTCMDS_MAX) Assigned commands_value }
 user_directive Upsmon = record { word = codes "upsmon"; rule = once Plain role_value }
 
 -- the rows of the table
@@ -84,9 +86,9 @@ user_grows ws = bytes_eq (nth ws 0) (codes "actions") || bytes_eq (nth ws 0) (co
 abbrev pub users_conf_grows : Words → Bool
 users_conf_grows = sectioned_grows user_grows
 
--- the first fault of a line of upsd.users, which has at most 64 sections
+-- the first fault of a line of upsd.users, which has at most USERS_MAX sections
 abbrev pub users_fault : LineFault
-users_fault = sectioned_fault (line_fault user_directives) 64
+users_fault = sectioned_fault (line_fault user_directives) USERS_MAX
 
 -- a user has what the lines of the section set
 abbrev pub UserHolds : User → List Words → Type 0

@@ -8,7 +8,7 @@ use thiserror::Error;
 /// What is wrong with a line, or with a file as a whole. It is shown by its name.
 #[derive(Clone, Copy, Debug, PartialEq, Eq, Error)]
 pub enum FaultKind {
-    /// The line spells no words: an open quote, a lone backslash, a byte that isn't ASCII, more than 32 words and the like.
+    /// The line spells no words: an open quote, a lone backslash, a byte that isn't ASCII, more than [`WORDS_MAX`](nut_words::WORDS_MAX) words and the like.
     #[error("Unreadable")]
     Unreadable,
     /// A directive stands before the first section.

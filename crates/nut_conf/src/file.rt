@@ -7,12 +7,10 @@ ghost use Rattle.nut_conf.specs.Memory.{MayRunOut, MayTake};
 
 use crate::draft::Draft;
 use crate::fault::{ConfFault, FaultKind};
+use crate::limits::FILE_MAX;
 use crate::line::Line;
 use nut_words::cut;
 use std::alloc::Global;
-
-/// How many bytes a configuration file has at most.
-pub const FILE_MAX: usize = 1_048_576;
 
 /// Takes in a line.
 fn take_line<D: Draft>(alloc: Global, draft: &mut D, bytes: &[u8]) -> Result<(), FaultKind>

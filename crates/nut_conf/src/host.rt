@@ -3,19 +3,20 @@ ghost use Rattle.std.specs.Prelude.{◌≡◌, IsTrue, MatchOption, false};
 ghost use Rattle.std.specs.List.{list_all};
 ghost use Rattle.nut_conf.specs.Hosts.{is_host_byte as host_byte, is_address_byte as address_byte, is_host, is_address};
 
+use crate::limits::HOST_MAX;
 use arrayvec::ArrayVec;
 
-/// The name of a host or its address, as one dials it: 1 to 64 letters, digits, `.` and `-`.
+/// The name of a host or its address, as one dials it: 1 to [`HOST_MAX`] letters, digits, `.` and `-`.
 #[derive(Debug, PartialEq, Eq, Drop)]
 pub struct Host {
-    pub bytes: ArrayVec<u8, 64>,
+    pub bytes: ArrayVec<u8, HOST_MAX>,
     pub ghost valid: { IsTrue (is_host bytes.items) },
 }
 
-/// An address on which a server listens: 1 to 64 letters, digits, `.`, `-` and `:`.
+/// An address on which a server listens: 1 to [`HOST_MAX`] letters, digits, `.`, `-` and `:`.
 #[derive(Debug, PartialEq, Eq, Drop)]
 pub struct Address {
-    pub bytes: ArrayVec<u8, 64>,
+    pub bytes: ArrayVec<u8, HOST_MAX>,
     pub ghost valid: { IsTrue (is_address bytes.items) },
 }
 

@@ -36,8 +36,8 @@ pub fn names_are_distinct()
 {}
 
 /// In a file that reads, what its lines set for a directive is as often as it may be, and no two settings are alike that
-/// may not be: at most 16 endpoints, 128 `instcmds` of a user and 32 targets, no target twice, no type of notice with two
-/// texts or two lines of flags, and at most 1,024 variables and 1,024 commands with a description, none with two.
+/// may not be: no more endpoints, `instcmds` of a user, targets and descriptions than `limits` says, no target twice, no type of
+/// notice with two texts or two lines of flags, and no name with two descriptions.
 pub fn rules_are_kept()
     ensures ups { (file : List ℕ) (lines : List Words) → read_file ups_fault file ≡ Ok lines
         → (d : UpsDirective) → EachKeepsRule (ups_directive d) (sections lines) }

@@ -9,6 +9,7 @@ mod fault;
 mod file;
 mod host;
 mod laws;
+mod limits;
 mod line;
 mod monitor;
 mod monitors;
@@ -26,9 +27,13 @@ mod values;
 
 pub use descriptions::{DescriptionDirective, Descriptions, read_descriptions};
 pub use fault::{ConfFault, FaultKind};
-pub use file::FILE_MAX;
 pub use host::{Address, Host};
 pub use laws::{blank_lines_change_nothing, first_fault, names_are_distinct, rules_are_kept};
+pub use limits::{
+    COMMAND_MAX, CONNECTIONS_MAX, DESCRIPTION_MAX, DEVICE_MAX, DRIVER_NAME_MAX, FILE_LINE_MAX,
+    FILE_MAX, HOST_MAX, INSTCMDS_MAX, LISTENERS_MAX, MESSAGE_MAX, MONITORS_MAX, PASSWORD_MAX,
+    TARGET_MAX, UPSES_MAX, USER_NAME_MAX, USERS_MAX, file_limits,
+};
 pub use monitor::Monitored;
 pub use monitors::Monitors;
 pub use notice::{Notice, NoticeFlags, NoticeHandling, NoticeText};

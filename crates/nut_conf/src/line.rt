@@ -8,7 +8,8 @@ ghost use Rattle.nut_conf.specs.Faults.{Gives};
 ghost use Rattle.nut_conf.specs.Files.{words_of};
 
 use crate::fault::FaultKind;
-use nut_words::{LINE_MAX, WordFault, Words, split};
+use crate::limits::FILE_LINE_MAX;
+use nut_words::{WordFault, Words, split};
 use std::alloc::Global;
 
 /// The words of a line that has some.
@@ -22,9 +23,9 @@ pub struct Line<'a> {
 /// Reads the words of a line.
 fn words(alloc: Global, bytes: &[u8]) -> Result<Words<'_>, FaultKind>
     ensures words { Gives (λ words. words) result (words_of bytes.now) }
-    ensures memory { result ≡ Err FaultKind.Memory → (length bytes.now ≤ 512) × IsTrue (has_backslash bytes.now) }
+    ensures memory { result ≡ Err FaultKind.Memory → (length bytes.now ≤ FILE_LINE_MAX) × IsTrue (has_backslash bytes.now) }
 {
-    if bytes.len() > LINE_MAX {
+    if bytes.len() > FILE_LINE_MAX {
         return Err(FaultKind::PastLimit);
     }
     match split(alloc, bytes) {
@@ -38,7 +39,7 @@ impl<'a> Line<'a> {
     /// Reads a line, or None where it has no words.
     pub fn read(alloc: Global, bytes: &'a [u8]) -> Result<Option<Self>, FaultKind>
         ensures line { Gives (λ line. option_map_or (λ l. l.words) line []) result (words_of bytes.now) }
-        ensures memory { result ≡ Err FaultKind.Memory → (length bytes.now ≤ 512) × IsTrue (has_backslash bytes.now) }
+        ensures memory { result ≡ Err FaultKind.Memory → (length bytes.now ≤ FILE_LINE_MAX) × IsTrue (has_backslash bytes.now) }
     {
         if bytes.is_empty() {
             return Ok(None);

@@ -6,15 +6,13 @@ ghost use Rattle.nut_conf.specs.Target.{target_view};
 ghost use Rattle.nut_conf.specs.Upsmon.{monitored_target, written_target};
 
 use crate::fault::FaultKind;
+use crate::limits::{PASSWORD_MAX, TARGET_MAX, USER_NAME_MAX};
 use crate::slot::{Clashes, FromValues};
 use crate::target::Target;
 use crate::text::{Name, Number, Text};
 use crate::users::Role;
 use crate::values::Values;
 use arrayvec::ArrayVec;
-
-/// How long a target is at most: a UPS of 32 bytes, a host of 64, a port of 9 digits, `@` and `:`.
-const TARGET_MAX: usize = 107;
 
 /// A UPS that is watched.
 #[derive(Drop)]
@@ -25,8 +23,8 @@ pub struct Monitored {
     pub target: Target,
     /// How many power supplies of this machine the UPS feeds.
     pub power: Number<0, 1000>,
-    pub user: Name<32>,
-    pub password: Text<1, 128>,
+    pub user: Name<USER_NAME_MAX>,
+    pub password: Text<1, PASSWORD_MAX>,
     pub role: Role,
 }
 

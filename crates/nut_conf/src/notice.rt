@@ -8,6 +8,7 @@ ghost use Rattle.nut_conf.specs.Values.{one_of};
 ghost use Rattle.nut_conf.specs.Notices.{all_notices, notice_word, notice_words, default_text as usual_text, flags, flags_in, with_flag, is_flag as flag_word, default_flags as usual_flags, is_text_of, is_handling_of};
 
 use crate::fault::FaultKind;
+use crate::limits::MESSAGE_MAX;
 use crate::slot::{Clashes, FromValues};
 use crate::text::Text;
 use crate::values::Values;
@@ -101,7 +102,7 @@ impl Notice {
 #[derive(Debug, PartialEq, Eq, Drop)]
 pub struct NoticeText {
     pub notice: Notice,
-    pub text: Text<0, 128>,
+    pub text: Text<0, MESSAGE_MAX>,
 }
 
 impl NoticeText {

@@ -8,12 +8,13 @@ use crate::fault::FaultKind;
 use crate::line::Line;
 use crate::text::Name;
 use indexmap::IndexMap;
+use nut_words::UPS_NAME_MAX;
 use std::alloc::Global;
 
 /// At most `MOST` sections, by name, in the order of the file.
 #[derive(Drop)]
 pub struct Sections<S, const MOST: usize> {
-    pub by_name: IndexMap<Name<32>, S>,
+    pub by_name: IndexMap<Name<UPS_NAME_MAX>, S>,
     alloc: Global,
     pub ghost few: { length by_name.entries ≤ MOST },
 }

@@ -8,15 +8,16 @@ ghost use Rattle.nut_conf.specs.declared.target.NameFault.TheVariants.{BadPort, 
 
 use crate::host::Host;
 use crate::text::{Name, Port};
+use nut_words::UPS_NAME_MAX;
 use thiserror::Error;
 
 /// Why a name of a UPS at a host doesn't read.
 #[derive(Clone, Copy, Debug, PartialEq, Eq, Error)]
 pub enum NameFault {
-    /// The name of the UPS isn't 1 to 32 letters, digits, `.`, `_` and `-`.
+    /// The name of the UPS isn't 1 to [`UPS_NAME_MAX`] letters, digits, `.`, `_` and `-`.
     #[error("BadUps")]
     BadUps,
-    /// The host isn't 1 to 64 letters, digits, `.` and `-`.
+    /// The host isn't 1 to [`HOST_MAX`](crate::limits::HOST_MAX) letters, digits, `.` and `-`.
     #[error("BadHost")]
     BadHost,
     /// The port isn't a number from 1 to 65,535.
@@ -28,7 +29,7 @@ pub enum NameFault {
 #[derive(Debug, PartialEq, Eq, Drop)]
 pub struct Target {
     /// The name of the UPS.
-    pub ups: Name<32>,
+    pub ups: Name<UPS_NAME_MAX>,
     /// The host of its server.
     pub host: Host,
     /// The port of its server.
@@ -71,8 +72,8 @@ fn port(bytes: &[u8]) -> Result<Port, NameFault>
     }
 }
 
-fn ups(bytes: &[u8]) -> Result<Name<32>, NameFault>
-    ensures { Reads (λ n. n.bytes.items) result (or_fault BadUps (name 32 bytes.now)) }
+fn ups(bytes: &[u8]) -> Result<Name<UPS_NAME_MAX>, NameFault>
+    ensures { Reads (λ n. n.bytes.items) result (or_fault BadUps (name UPS_NAME_MAX bytes.now)) }
 {
     match Name::read(bytes) {
         Ok(name) => Ok(name),

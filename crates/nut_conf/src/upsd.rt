@@ -10,6 +10,7 @@ use crate::draft::Draft;
 use crate::fault::{ConfFault, FaultKind};
 use crate::file::read_draft;
 use crate::host::Address;
+use crate::limits::{CONNECTIONS_MAX, LISTENERS_MAX};
 use crate::line::Line;
 use crate::slot::{FromValues, listed, once};
 use crate::text::{Number, Port};
@@ -26,10 +27,10 @@ pub struct Endpoint {
 /// The configuration of upsd.conf. What isn't set has its default.
 #[derive(Drop)]
 pub struct UpsdConf {
-    /// Of a file that was read, at most 16.
+    /// Of a file that was read, at most [`LISTENERS_MAX`].
     pub listen: Vec<Endpoint>,
     pub max_age: Option<Number<1, 86400>>,
-    pub max_conn: Option<Number<1, 256>>,
+    pub max_conn: Option<Number<1, CONNECTIONS_MAX>>,
 }
 
 impl UpsdConf {
@@ -52,15 +53,15 @@ impl UpsdConf {
         }
     }
 
-    /// How many connections may be open; where none is set, 256.
+    /// How many connections may be open; where none is set, [`CONNECTIONS_MAX`].
     pub fn max_conn(&self) -> u32
         ensures value { result ≡ max_conn_of self.now }
         ensures least { 1 ≤ result }
-        ensures most { result ≤ 256 }
+        ensures most { result ≤ CONNECTIONS_MAX }
     {
         match &self.max_conn {
             Some(number) => number.value,
-            None => 256,
+            None => CONNECTIONS_MAX,
         }
     }
 
@@ -162,7 +163,12 @@ impl Draft for UpsdConf {
 
     fn put(&mut self, line: &Line<'_>) -> Result<(), FaultKind> {
         match UpsdDirective::of(line.directive()) {
-            Some(UpsdDirective::Listen) => listed(&mut self.listen, Form::Plain, line, Some(16)),
+            Some(UpsdDirective::Listen) => listed(
+                &mut self.listen,
+                Form::Plain,
+                line,
+                Some(LISTENERS_MAX),
+            ),
             Some(UpsdDirective::MaxAge) => once(&mut self.max_age, Form::Plain, line),
             Some(UpsdDirective::MaxConn) => once(&mut self.max_conn, Form::Plain, line),
             None => Err(FaultKind::UnknownDirective),
@@ -176,7 +182,7 @@ impl Draft for UpsdConf {
 /// out only at a line with a backslash, or at one without a fault that has `LISTEN`.
 pub fn read_upsd(alloc: Global, bytes: &[u8]) -> Result<UpsdConf, ConfFault>
     ensures means { Means (read_file upsd_fault bytes.now) UpsdHolds result }
-    ensures few { IfOk result (λ conf. length conf.listen.items ≤ 16) }
+    ensures few { IfOk result (λ conf. length conf.listen.items ≤ LISTENERS_MAX) }
     ensures memory { IfErr result (λ fault. fault.kind ≡ FaultKind.Memory → MayRunOut upsd_fault upsd_grows bytes.now fault.line) }
 {
     read_draft(alloc, bytes)

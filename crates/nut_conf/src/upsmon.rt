@@ -12,6 +12,7 @@ ghost use Rattle.nut_conf.specs.Upsmon.{UpsmonHolds, upsmon_fault, upsmon_grows,
 use crate::draft::Draft;
 use crate::fault::{ConfFault, FaultKind};
 use crate::file::read_draft;
+use crate::limits::{COMMAND_MAX, MESSAGE_MAX};
 use crate::line::Line;
 use crate::monitor::Monitored;
 use crate::monitors::Monitors;
@@ -24,12 +25,12 @@ use std::alloc::Global;
 /// The configuration of upsmon.conf. What isn't set has its default.
 #[derive(Drop)]
 pub struct UpsmonConf {
-    /// At most 32, in the order of the file.
+    /// At most [`MONITORS_MAX`](crate::limits::MONITORS_MAX), in the order of the file.
     pub monitors: Monitors,
     pub min_supplies: Option<Number<0, 32000>>,
-    pub shutdown_cmd: Option<Text<1, 256>>,
-    pub notify_cmd: Option<Text<1, 256>>,
-    pub power_down_flag: Option<Text<1, 256>>,
+    pub shutdown_cmd: Option<Text<1, COMMAND_MAX>>,
+    pub notify_cmd: Option<Text<1, COMMAND_MAX>>,
+    pub power_down_flag: Option<Text<1, COMMAND_MAX>>,
     pub poll_freq: Option<Number<1, 1000000>>,
     pub dead_time: Option<Number<1, 1000000>>,
     pub rb_warn_time: Option<Number<1, 1000000>>,
@@ -108,7 +109,7 @@ impl UpsmonConf {
     /// The text of a type of notice. Its first `%s` stands for the UPS.
     pub fn message(&self, notice: Notice) -> &[u8]
         ensures value { result.now ≡ message_of notice self.now }
-        ensures bounded { IsTrue (is_text 0 128 result.now) }
+        ensures bounded { IsTrue (is_text 0 MESSAGE_MAX result.now) }
         ensures printable { IsPrintable result.now }
     {
         match text_of(self.messages.as_slice(), notice) {

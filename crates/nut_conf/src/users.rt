@@ -10,26 +10,28 @@ ghost use Rattle.nut_conf.specs.Users.{UsersConfHolds, users_fault, users_conf_g
 use crate::draft::Draft;
 use crate::fault::{ConfFault, FaultKind};
 use crate::file::read_draft;
+use crate::limits::{INSTCMDS_MAX, PASSWORD_MAX, USERS_MAX};
 use crate::line::Line;
 use crate::sections::Sections;
 use crate::slot::{FromValues, listed, once};
 use crate::text::{Name, Text};
 use crate::values::{Form, Values};
+use nut_words::NAME_MAX;
 use std::alloc::Global;
 
 /// A user: a section of upsd.users.
 #[derive(Drop)]
 pub struct User {
-    pub password: Option<Text<1, 128>>,
+    pub password: Option<Text<1, PASSWORD_MAX>>,
     pub actions: Vec<Action>,
     pub instcmds: Vec<Commands>,
     pub upsmon: Option<Role>,
 }
 
-/// The configuration of upsd.users: at most 64 users by name, in the order of the file.
+/// The configuration of upsd.users: at most [`USERS_MAX`] users by name, in the order of the file.
 #[derive(Drop)]
 pub struct UsersConf {
-    pub users: Sections<User, 64>,
+    pub users: Sections<User, USERS_MAX>,
 }
 
 /// What a user may do.
@@ -45,7 +47,7 @@ pub enum Action {
 #[derive(Debug, PartialEq, Eq, Drop)]
 pub enum Commands {
     All,
-    Named(Name<64>),
+    Named(Name<NAME_MAX>),
 }
 
 /// What a monitor is to a UPS.
@@ -258,7 +260,7 @@ impl Draft for User {
             Some(UserDirective::Password) => once(&mut self.password, Form::Assigned, line),
             Some(UserDirective::Actions) => listed(&mut self.actions, Form::Assigned, line, None),
             Some(UserDirective::Instcmds) => {
-                listed(&mut self.instcmds, Form::Assigned, line, Some(128))
+                listed(&mut self.instcmds, Form::Assigned, line, Some(INSTCMDS_MAX))
             }
             Some(UserDirective::Upsmon) => once(&mut self.upsmon, Form::Plain, line),
             None => Err(FaultKind::UnknownDirective),

@@ -4,11 +4,13 @@ use Rattle.std.specs.Prelude.{nat_le}
 use Rattle.std.proofs.lemmas.Bool.{and_parts, leb-true}
 use Rattle.nut_words.specs.Lines.{Text, TooLong, rest, last_of, parts}
 use Rattle.nut_words.specs.Cutter.{kept_of}
+use Rattle.nut_words.specs.declared.limits.TheConstants.{LINE_MAX}
 use Rattle.nut_proto.specs.Lines.{message}
 use Rattle.nut_proto.specs.Requests.{request_line, request_parts}
 use Rattle.nut_link.specs.Bounds.{IsBounded, IsStageBounded}
 use Rattle.nut_link.specs.Link.{LinkValue}
 use Rattle.nut_link.proofs.Writable.{length_line}
+use Rattle.nut_link.specs.declared.limits.TheConstants.{QUERY_MAX}
 use Rattle.nut_decision.specs.Configuration.{Line, Configuration, line_in}
 use Rattle.nut_decision.specs.Query.{request}
 use Rattle.nut_decision.specs.Trace.{Asked, Entry, linked, input, taken, outstanding, due, waits, joined_queries, trace}
@@ -18,18 +20,18 @@ use Rattle.nut_decision.proofs.Lists.{found_at}
 use Rattle.nut_decision.proofs.Settled.{IsIdle, IsAsked}
 use Rattle.nut_decision.proofs.Kept.{all-hold}
 
-kept-if : (text : List ℕ) (b : Bool) → nat_le (length text) 512 ≡ b → kept_of (if b then Text text else TooLong) ≤ 512
+kept-if : (text : List ℕ) (b : Bool) → nat_le (length text) LINE_MAX ≡ b → kept_of (if b then Text text else TooLong) ≤ LINE_MAX
 kept-if text false is = omega arith
-kept-if text true is = omega (arith, leb-true (length text) 512 is)
+kept-if text true is = omega (arith, leb-true (length text) LINE_MAX is)
 
-kept-rest : (bytes : List ℕ) → kept_of (rest bytes) ≤ 512
-kept-rest bytes = kept-if (last_of (parts bytes)) (nat_le (length (last_of (parts bytes))) 512) refl
+kept-rest : (bytes : List ℕ) → kept_of (rest bytes) ≤ LINE_MAX
+kept-rest bytes = kept-if (last_of (parts bytes)) (nat_le (length (last_of (parts bytes))) LINE_MAX) refl
 
-query-short : (line : Line) (asked : Asked) → IsWritable line → length (request_line (request line asked.query)) ≤ 513
+query-short : (line : Line) (asked : Asked) → IsWritable line → length (request_line (request line asked.query)) ≤ QUERY_MAX
 query-short line asked writable =
     let r = request line asked.query in
-    let short : nat_le (length (message (request_parts r))) 512 ≡ true = (and_parts (nat_le (length (message (request_parts r))) 512) _ (writable asked.query)).0 in
-    omega (arith, length_line r, leb-true (length (message (request_parts r))) 512 short)
+    let short : nat_le (length (message (request_parts r))) LINE_MAX ≡ true = (and_parts (nat_le (length (message (request_parts r))) LINE_MAX) _ (writable asked.query)).0 in
+    omega (arith, length_line r, leb-true (length (message (request_parts r))) LINE_MAX short)
 
 module _ (configuration : Configuration) (past : List Entry) (i : ℕ) (there : linked i past ≡ true) (writable : IsWritable (line_in configuration.lines i)) where
   abbrev line : Line
@@ -38,11 +40,11 @@ module _ (configuration : Configuration) (past : List Entry) (i : ℕ) (there : 
   whole : length (waits configuration i past) ≡ length (drop (taken i past) (due configuration i past))
   whole = ap (λ b. length (if b then drop (taken i past) (due configuration i past) else [])) there
 
-  stage-bounded : (asked : Option Asked) → (is_some asked ≡ true → length (waits configuration i past) ≤ 513) → IsStageBounded (stage_in line asked (waits configuration i past))
+  stage-bounded : (asked : Option Asked) → (is_some asked ≡ true → length (waits configuration i past) ≤ QUERY_MAX) → IsStageBounded (stage_in line asked (waits configuration i past))
   stage-bounded None short = record { query = omega arith; rows = omega arith }
   stage-bounded (Some asked) short = record { query = short refl; rows = omega arith }
 
-  short-by : IsIdle configuration i past ⊎ IsAsked configuration i past → length (waits configuration i past) ≤ 513
+  short-by : IsIdle configuration i past ⊎ IsAsked configuration i past → length (waits configuration i past) ≤ QUERY_MAX
   short-by (inl idle) = omega (arith, whole, idle.taken, length-drop (taken i past) (due configuration i past))
   short-by (inr asked) =
       let bytes : length (due configuration i past) ≡ length (joined_queries line asked.older) + length (request_line (request line asked.asked.query)) =

@@ -2,10 +2,12 @@
 use Rattle.std.proofs.Common.{◌≡◌, ℕ, zero, suc, ◌+◌, ◌≤◌, Bool, true, false, not, ◌&&◌, inl, inr, List, [], ◌∷◌, ◌++◌, length, refl, sym, ◌∙◌, ap, subst, arith, Option, Some, None, is_some, is_none, if◌then◌else◌, length-append, length-drop}
 use Rattle.std.specs.Prelude.{nat_lt, slice_get}
 use Rattle.std.proofs.lemmas.Bool.Decides.{leb_tells}
+use Rattle.nut_words.specs.declared.limits.TheConstants.{PIECE_MAX}
 use Rattle.nut_conf.specs.declared.notice.Notice.TheVariants as kinds
 use Rattle.nut_link.specs.declared.exchange.Exchange.{Exchange}
 use Rattle.nut_link.specs.declared.outcome.Outcome.{Outcome}
 use Rattle.nut_link.specs.Link.{LinkValue, fed, outcome_of}
+use Rattle.nut_conf.specs.declared.limits.TheConstants.{MONITORS_MAX}
 use Rattle.nut_decision.specs.declared.Communication.{Communication}
 use Rattle.nut_decision.specs.declared.Known.{Known}
 use Rattle.nut_decision.specs.declared.LastQuery.{LastQuery}
@@ -205,31 +207,31 @@ heard-if true true a b o is = cc
 heard-if true false a b o is = is
 heard-if false long a b o is = cc
 
-with-watch-room : (i : ℕ) (change : Watch → Watch) (more : List Notice) (s : Content) → length more ≤ 8 → length s.notices ≡ 0 → length s.watches ≤ 32 → room (with_watch i change more s) ≤ 73
+with-watch-room : (i : ℕ) (change : Watch → Watch) (more : List Notice) (s : Content) → length more ≤ 8 → length s.notices ≡ 0 → length s.watches ≤ MONITORS_MAX → room (with_watch i change more s) ≤ 73
 with-watch-room i change more s few none lines =
     omega (arith, few, none, lines, given-few (is_none s.begun) s.notices more, fresh-few (update i change s.watches), length-update i change s.watches, left-one s.ended)
 
-piece-room : (i : ℕ) (piece : List ℕ) (w : Watch) (l : Option LinkValue) (s : Content) → length s.notices ≡ 0 → length s.watches ≤ 32 → room s ≤ 73 → room (piece_heard i piece w l s) ≤ 73
+piece-room : (i : ℕ) (piece : List ℕ) (w : Watch) (l : Option LinkValue) (s : Content) → length s.notices ≡ 0 → length s.watches ≤ MONITORS_MAX → room s ≤ 73 → room (piece_heard i piece w l s) ≤ 73
 piece-room i piece w None s none lines before = before
 piece-room i piece w (Some v) s none lines before =
     with-watch-room i (watch_heard s.configuration s.clock (is_none s.begun) (fed piece v)) (told_heard s.configuration s.clock i (is_none s.begun) (fed piece v) w) s
     (heard-few s.configuration s.clock i (is_none s.begun) (fed piece v) w) none lines
 
-bytes-room : (i : ℕ) (piece : List ℕ) (o : Option Watch) (s : Content) → bytes_refusal s piece o ≡ None → length s.watches ≤ 32 → room s ≤ 73 → room (bytes_heard i piece o s) ≤ 73
+bytes-room : (i : ℕ) (piece : List ℕ) (o : Option Watch) (s : Content) → bytes_refusal s piece o ≡ None → length s.watches ≤ MONITORS_MAX → room s ≤ 73 → room (bytes_heard i piece o s) ≤ 73
 bytes-room i piece None s accepted lines before = before
 bytes-room i piece (Some w) s accepted lines before =
-    piece-room i piece w w.link s (not-busy s (heard-if (is_some w.link) (nat_lt 512 (length piece)) _ _ (busy s) accepted)) lines before
+    piece-room i piece w w.link s (not-busy s (heard-if (is_some w.link) (nat_lt PIECE_MAX (length piece)) _ _ (busy s) accepted)) lines before
 
-out-room : (i : ℕ) (piece : List ℕ) (k : ℕ) (w : Watch) (l : Option LinkValue) (s : Content) → length s.notices ≡ 0 → length s.watches ≤ 32 → room s ≤ 73 → room (piece_out i piece k w l s) ≤ 73
+out-room : (i : ℕ) (piece : List ℕ) (k : ℕ) (w : Watch) (l : Option LinkValue) (s : Content) → length s.notices ≡ 0 → length s.watches ≤ MONITORS_MAX → room s ≤ 73 → room (piece_out i piece k w l s) ≤ 73
 out-room i piece k w None s none lines before = before
 out-room i piece k w (Some v) s none lines before =
     with-watch-room i (watch_out s.configuration s.clock (is_none s.begun) (heard_before k piece v)) (told_out s.configuration s.clock i (is_none s.begun) (heard_before k piece v) w) s
     (out-few s.configuration s.clock i (is_none s.begun) (heard_before k piece v) w) none lines
 
-memory-room : (i : ℕ) (piece : List ℕ) (k : ℕ) (o : Option Watch) (s : Content) → bytes_refusal s piece o ≡ None → length s.watches ≤ 32 → room s ≤ 73 → room (memory_out i piece k o s) ≤ 73
+memory-room : (i : ℕ) (piece : List ℕ) (k : ℕ) (o : Option Watch) (s : Content) → bytes_refusal s piece o ≡ None → length s.watches ≤ MONITORS_MAX → room s ≤ 73 → room (memory_out i piece k o s) ≤ 73
 memory-room i piece k None s accepted lines before = before
 memory-room i piece k (Some w) s accepted lines before =
-    out-room i piece k w w.link s (not-busy s (heard-if (is_some w.link) (nat_lt 512 (length piece)) _ _ (busy s) accepted)) lines before
+    out-room i piece k w w.link s (not-busy s (heard-if (is_some w.link) (nat_lt PIECE_MAX (length piece)) _ _ (busy s) accepted)) lines before
 
 when-fresh : (b : Bool) (notice : Notice) → length (when (not b) notice) ≡ (if b then 0 else 1)
 when-fresh true notice = refl
@@ -240,7 +242,7 @@ lost-room i None s is = omega arith
 lost-room i (Some w) s is =
     omega (arith, given-few (is_none s.begun) s.notices (loss_told i w), when-fresh (is_bad w.known.communication) (told kinds.Commbad i), fresh-lost i s.watches w is)
 
-silences-room : (b : Bool) (s : Content) → length s.notices ≡ 0 → length s.watches ≤ 32 →
+silences-room : (b : Bool) (s : Content) → length s.notices ≡ 0 → length s.watches ≤ MONITORS_MAX →
     room (let r : Content = if b then record s {
       notices = s.notices ++ silences_told s.configuration s.clock 0 s.watches;
       watches = all_silent s.configuration s.clock s.watches;
@@ -258,7 +260,7 @@ silences-room true s none lines =
     )
 silences-room false s none lines = omega (arith, none, lines, fresh-few s.watches, left-one s.ended)
 
-advance-room : (s : Content) (event : Event) → length s.watches ≤ 32 → refusal s event ≡ None → room s ≤ 73 → room (advance s event) ≤ 73
+advance-room : (s : Content) (event : Event) → length s.watches ≤ MONITORS_MAX → refusal s event ≡ None → room s ≤ 73 → room (advance s event) ≤ 73
 advance-room s (Moment t) lines accepted before =
     let r = silences_heard (clock_set t s) in
     omega (arith, settled-room r, silences-room (is_none s.begun) (clock_set t s) (not-busy s accepted) lines)
@@ -273,7 +275,7 @@ advance-room s (OutOfMemory i piece k) lines accepted before =
     omega (arith, settled-room (memory_out i piece k (watch_at i s.watches) s), memory-room i piece k (watch_at i s.watches) s accepted lines before)
 advance-room s NoticeTaken lines accepted before = omega (arith, length-drop 1 s.notices, before)
 
-all-room : (configuration : Configuration) (events : List Event) → IsAccepted configuration events → length configuration.lines ≤ 32 → room (content configuration events) ≤ 73
+all-room : (configuration : Configuration) (events : List Event) → IsAccepted configuration events → length configuration.lines ≤ MONITORS_MAX → room (content configuration events) ≤ 73
 all-room configuration [] accepted lines =
     omega (arith, lines, fresh-few (content configuration []).watches, length-each (watch configuration []) configuration.lines)
 all-room configuration (event ∷ events) accepted lines =

@@ -9,7 +9,9 @@ use Rattle.nut_words.specs.Spelling.{is_printing}
 use Rattle.nut_conf.proofs.PrintingWords.{name_printable, text_printable}
 use Rattle.nut_conf.specs.Values.{is_text}
 use Rattle.nut_conf.specs.declared.monitor.Monitored.{Monitored}
+use Rattle.nut_conf.specs.declared.limits.TheConstants.{PASSWORD_MAX, USER_NAME_MAX}
 use Rattle.nut_words.specs.Name.{is_name, is_name_byte}
+use Rattle.nut_words.specs.declared.limits.TheConstants.{LINE_MAX, UPS_NAME_MAX}
 use Rattle.nut_proto.specs.declared.part.Part.TheVariants.{Word}
 use Rattle.nut_proto.specs.Lines.{message, part_text}
 use Rattle.nut_link.specs.Asking.{is_writable}
@@ -80,12 +82,12 @@ message_printing w ws h hs =
     list_all-append is_printing (word_text w) (tail ws)
     ∙ and_from (list_all is_printing (word_text w)) (list_all is_printing (tail ws)) (chosen_printing (stands_bare w) w h) (tail_printing ws hs)
 
-message_length : (w : List ℕ) (ws : List (List ℕ)) → room (w ∷ ws) ≤ 512 → length (message (map Word (w ∷ ws))) ≤ 512
+message_length : (w : List ℕ) (ws : List (List ℕ)) → room (w ∷ ws) ≤ LINE_MAX → length (message (map Word (w ∷ ws))) ≤ LINE_MAX
 message_length w ws few = omega (arith, length-append (word_text w) (tail ws), chosen_length (stands_bare w) w, tail_length ws, few)
 
-written : (w : List ℕ) (ws : List (List ℕ)) → IsPrintable w → AllByRecursion IsPrintable ws → room (w ∷ ws) ≤ 512
-    → (nat_le (length (message (map Word (w ∷ ws)))) 512 && list_all is_printing (message (map Word (w ∷ ws)))) ≡ true
-written w ws h hs few = and_from _ _ (le-leb _ 512 (message_length w ws few)) (message_printing w ws h hs)
+written : (w : List ℕ) (ws : List (List ℕ)) → IsPrintable w → AllByRecursion IsPrintable ws → room (w ∷ ws) ≤ LINE_MAX
+    → (nat_le (length (message (map Word (w ∷ ws)))) LINE_MAX && list_all is_printing (message (map Word (w ∷ ws)))) ≡ true
+written w ws h hs few = and_from _ _ (le-leb _ LINE_MAX (message_length w ws few)) (message_printing w ws h hs)
 
 name_length : (most : ℕ) (w : List ℕ) → is_name most w ≡ true → length w ≤ most
 name_length most w h = leb-true (length w) most (right_true (nat_le 1 (length w)) (nat_le (length w) most) (left_true (nat_le 1 (length w) && nat_le (length w) most) (list_all is_name_byte w) h))
@@ -101,25 +103,25 @@ word_printable (c ∷ w) h = (left_true (is_printing c) (list_all is_printing w)
 
 pub query_writable : (m : Monitored) (query : Query) → is_writable (request (line_of m) query) ≡ true
 query_writable m Username =
-    written (codes "USERNAME") (m.user.bytes.items ∷ []) (word_printable (codes "USERNAME") refl) (name_printable 32 m.user.bytes.items m.user.named, tt)
-    (omega (arith, name_length 32 m.user.bytes.items m.user.named))
+    written (codes "USERNAME") (m.user.bytes.items ∷ []) (word_printable (codes "USERNAME") refl) (name_printable USER_NAME_MAX m.user.bytes.items m.user.named, tt)
+    (omega (arith, name_length USER_NAME_MAX m.user.bytes.items m.user.named))
 query_writable m Password =
-    written (codes "PASSWORD") (m.password.bytes.items ∷ []) (word_printable (codes "PASSWORD") refl) (text_printable 1 128 m.password.bytes.items m.password.bounded, tt)
-    (omega (arith, text_length 1 128 m.password.bytes.items m.password.bounded))
+    written (codes "PASSWORD") (m.password.bytes.items ∷ []) (word_printable (codes "PASSWORD") refl) (text_printable 1 PASSWORD_MAX m.password.bytes.items m.password.bounded, tt)
+    (omega (arith, text_length 1 PASSWORD_MAX m.password.bytes.items m.password.bounded))
 query_writable m Login =
-    written (codes "LOGIN") (m.target.ups.bytes.items ∷ []) (word_printable (codes "LOGIN") refl) (name_printable 32 m.target.ups.bytes.items m.target.ups.named, tt)
-    (omega (arith, name_length 32 m.target.ups.bytes.items m.target.ups.named))
+    written (codes "LOGIN") (m.target.ups.bytes.items ∷ []) (word_printable (codes "LOGIN") refl) (name_printable UPS_NAME_MAX m.target.ups.bytes.items m.target.ups.named, tt)
+    (omega (arith, name_length UPS_NAME_MAX m.target.ups.bytes.items m.target.ups.named))
 query_writable m Primary =
-    written (codes "PRIMARY") (m.target.ups.bytes.items ∷ []) (word_printable (codes "PRIMARY") refl) (name_printable 32 m.target.ups.bytes.items m.target.ups.named, tt)
-    (omega (arith, name_length 32 m.target.ups.bytes.items m.target.ups.named))
+    written (codes "PRIMARY") (m.target.ups.bytes.items ∷ []) (word_printable (codes "PRIMARY") refl) (name_printable UPS_NAME_MAX m.target.ups.bytes.items m.target.ups.named, tt)
+    (omega (arith, name_length UPS_NAME_MAX m.target.ups.bytes.items m.target.ups.named))
 query_writable m Status =
     written (codes "GET") (codes "VAR" ∷ m.target.ups.bytes.items ∷ codes "ups.status" ∷ []) (word_printable (codes "GET") refl)
-    (word_printable (codes "VAR") refl, (name_printable 32 m.target.ups.bytes.items m.target.ups.named, (word_printable (codes "ups.status") refl, tt)))
-    (omega (arith, name_length 32 m.target.ups.bytes.items m.target.ups.named))
+    (word_printable (codes "VAR") refl, (name_printable UPS_NAME_MAX m.target.ups.bytes.items m.target.ups.named, (word_printable (codes "ups.status") refl, tt)))
+    (omega (arith, name_length UPS_NAME_MAX m.target.ups.bytes.items m.target.ups.named))
 query_writable m Fsd =
-    written (codes "FSD") (m.target.ups.bytes.items ∷ []) (word_printable (codes "FSD") refl) (name_printable 32 m.target.ups.bytes.items m.target.ups.named, tt)
-    (omega (arith, name_length 32 m.target.ups.bytes.items m.target.ups.named))
+    written (codes "FSD") (m.target.ups.bytes.items ∷ []) (word_printable (codes "FSD") refl) (name_printable UPS_NAME_MAX m.target.ups.bytes.items m.target.ups.named, tt)
+    (omega (arith, name_length UPS_NAME_MAX m.target.ups.bytes.items m.target.ups.named))
 query_writable m NumLogins =
     written (codes "GET") (codes "NUMLOGINS" ∷ m.target.ups.bytes.items ∷ []) (word_printable (codes "GET") refl)
-    (word_printable (codes "NUMLOGINS") refl, (name_printable 32 m.target.ups.bytes.items m.target.ups.named, tt))
-    (omega (arith, name_length 32 m.target.ups.bytes.items m.target.ups.named))
+    (word_printable (codes "NUMLOGINS") refl, (name_printable UPS_NAME_MAX m.target.ups.bytes.items m.target.ups.named, tt))
+    (omega (arith, name_length UPS_NAME_MAX m.target.ups.bytes.items m.target.ups.named))

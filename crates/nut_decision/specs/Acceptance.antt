@@ -1,6 +1,7 @@
 -- Which events a monitor refuses, in the order of the tests, and the histories of events that it didn't refuse.
 use Rattle.std.specs.Prelude.{ℕ, ◌≡◌, nat_lt, Bool, true, false, if◌then◌else◌, List, [], ◌∷◌, length, slice_get, Option, Some, None, is_some}
 use Rattle.nut_link.specs.Link.{LinkValue, waits}
+use Rattle.nut_words.specs.declared.limits.TheConstants.{PIECE_MAX}
 use Rattle.nut_decision.specs.declared.MonitorFault.{MonitorFault}
 use Rattle.nut_decision.specs.declared.MonitorFault.TheVariants.{NoSuchLink, WrongLinkState, PieceTooLong, TooMuchTaken, Busy}
 use Rattle.nut_decision.specs.Configuration.{Configuration}
@@ -23,11 +24,11 @@ abbrev pub linked_refusal : Option Watch → Option MonitorFault
 linked_refusal None = Some NoSuchLink
 linked_refusal (Some w) = if is_some w.link then Some WrongLinkState else None
 
--- Of a link that is there come pieces of at most 512 bytes, and none while a notice waits.
+-- Of a link that is there come pieces of at most PIECE_MAX bytes, and none while a notice waits.
 abbrev pub bytes_refusal : Content → List ℕ → Option Watch → Option MonitorFault
 bytes_refusal s piece None = Some NoSuchLink
 bytes_refusal s piece (Some w) =
-    if is_some w.link then (if nat_lt 512 (length piece) then Some PieceTooLong else busy s) else Some WrongLinkState
+    if is_some w.link then (if nat_lt PIECE_MAX (length piece) then Some PieceTooLong else busy s) else Some WrongLinkState
 
 -- Only a link that is there is lost.
 abbrev pub lost_refusal : Option Watch → Option MonitorFault

@@ -1,5 +1,6 @@
 -- Runs of a monitor, and what it tells, asks and decides in them: each of these is computed from the definitions.
-use Rattle.std.specs.Prelude.{◌≡◌, ℕ, zero, suc, if◌then◌else◌, Bool, true, false, List, [], ◌∷◌, ◌++◌, codes, length, ◌&&◌, Some, None, is_none}
+use Rattle.std.specs.Prelude.{◌≡◌, ℕ, ◌+◌, zero, suc, if◌then◌else◌, Bool, true, false, List, [], ◌∷◌, ◌++◌, codes, length, ◌&&◌, Some, None, is_none}
+use Rattle.nut_words.specs.declared.limits.TheConstants.{PIECE_MAX}
 use Rattle.nut_conf.specs.declared.notice.Notice.TheVariants as kinds
 use Rattle.nut_decision.specs.declared.MonitorFault.TheVariants.{NoSuchLink, WrongLinkState, PieceTooLong, TooMuchTaken, Busy}
 use Rattle.nut_decision.specs.declared.Notice.{Notice}
@@ -345,9 +346,9 @@ pub record RefusalExamples : Type 0 where
   pub no_line : refusal (content_after []) (Linked 1) ≡ Some NoSuchLink
   pub not_linked : refusal (content_after []) (LinkLost 0) ≡ Some WrongLinkState
   pub linked_already : refusal (content_after linked_run) (Linked 0) ≡ Some WrongLinkState
-  pub no_line_before_length : refusal (content_after linked_run) (LinkBytes 1 (many 513 65)) ≡ Some NoSuchLink
-  pub long_piece : refusal (content_after linked_run) (LinkBytes 0 (many 513 65)) ≡ Some PieceTooLong
-  pub whole_piece : refusal (content_after linked_run) (LinkBytes 0 (many 512 65)) ≡ None
+  pub no_line_before_length : refusal (content_after linked_run) (LinkBytes 1 (many (PIECE_MAX + 1) 65)) ≡ Some NoSuchLink
+  pub long_piece : refusal (content_after linked_run) (LinkBytes 0 (many (PIECE_MAX + 1) 65)) ≡ Some PieceTooLong
+  pub whole_piece : refusal (content_after linked_run) (LinkBytes 0 (many PIECE_MAX 65)) ≡ None
   pub too_much : refusal (content_after linked_run) (LinkTook 0 14) ≡ Some TooMuchTaken
   pub whole_query : refusal (content_after linked_run) (LinkTook 0 13) ≡ None
   pub moment_is_busy : refusal busy (Moment 0) ≡ Some Busy
@@ -359,13 +360,13 @@ busy_link = content primary_room (Linked 0 ∷ LinkLost 0 ∷ run primary_room l
 
 -- the order of the tests
 pub record OrderExamples : Type 0 where
-  pub bytes_without_line : refusal busy (LinkBytes 1 (many 513 65)) ≡ Some NoSuchLink
+  pub bytes_without_line : refusal busy (LinkBytes 1 (many (PIECE_MAX + 1) 65)) ≡ Some NoSuchLink
   pub took_without_line : refusal busy (LinkTook 1 14) ≡ Some NoSuchLink
   pub lost_without_line : refusal busy (LinkLost 1) ≡ Some NoSuchLink
-  pub bytes_without_link : refusal busy (LinkBytes 0 (many 513 65)) ≡ Some WrongLinkState
+  pub bytes_without_link : refusal busy (LinkBytes 0 (many (PIECE_MAX + 1) 65)) ≡ Some WrongLinkState
   pub took_without_link : refusal busy (LinkTook 0 14) ≡ Some WrongLinkState
-  pub length_before_busy : refusal busy_link (LinkBytes 0 (many 513 65)) ≡ Some PieceTooLong
-  pub bytes_are_busy : refusal busy_link (LinkBytes 0 (many 512 65)) ≡ Some Busy
+  pub length_before_busy : refusal busy_link (LinkBytes 0 (many (PIECE_MAX + 1) 65)) ≡ Some PieceTooLong
+  pub bytes_are_busy : refusal busy_link (LinkBytes 0 (many PIECE_MAX 65)) ≡ Some Busy
   pub none_is_busy : refusal busy_link (LinkBytes 0 []) ≡ Some Busy
   pub too_much_when_busy : refusal busy_link (LinkTook 0 14) ≡ Some TooMuchTaken
   pub took_is_not_busy : refusal busy_link (LinkTook 0 13) ≡ None

@@ -1,5 +1,6 @@
 -- What holds of every history of accepted events. Each of these is the contract of a function of the crate.
 use Rattle.std.specs.Prelude.{◌≡◌, ◌==◌, ℕ, ◌<◌, ◌≤◌, true, false, List, [], ◌∷◌, ◌++◌, length, map, ◌⊎◌, Option, None, Some, Result}
+use Rattle.nut_conf.specs.declared.limits.TheConstants.{MONITORS_MAX}
 use Rattle.nut_words.specs.Lines.{lines_after, rest}
 use Rattle.nut_link.specs.Asking.{is_writable}
 use Rattle.nut_link.specs.Bounds.{IsBounded}
@@ -16,6 +17,7 @@ use Rattle.nut_decision.specs.Handing.{notices_handed}
 use Rattle.nut_decision.specs.Acceptance.{IsAccepted, Tells, watch_at, is_linked, waiting_on}
 use Rattle.nut_decision.specs.Outcome.{IsAnswer, after}
 use Rattle.nut_decision.specs.MachineOutcome.{content_after}
+use Rattle.nut_decision.specs.declared.limits.TheConstants.{NOTICES_MAX}
 
 -- these are all queries, or all but the newest
 abbrev pub IsInTurn : List Asked → List Asked → Type 0
@@ -72,11 +74,11 @@ CutsDoNotMatter =
     lines_after (rest (input i (trace configuration events))) x ≡ [] →
     content configuration (LinkBytes i (x ++ y) ∷ events) ≡ content configuration (LinkBytes i y ∷ LinkBytes i x ∷ events)
 
--- No more than 128 notices wait, where there are at most 32 MONITOR lines.
+-- No more than NOTICES_MAX notices wait, where there are at most MONITORS_MAX MONITOR lines.
 abbrev pub NoticesAreFew : Type 0
 NoticesAreFew =
-    (configuration : Configuration) (events : List Event) → IsAccepted configuration events → length configuration.lines ≤ 32 →
-    length (content configuration events).notices ≤ 128
+    (configuration : Configuration) (events : List Event) → IsAccepted configuration events → length configuration.lines ≤ MONITORS_MAX →
+    length (content configuration events).notices ≤ NOTICES_MAX
 
 -- The notices that were handed out, and then those that wait, are all notices, in their order.
 abbrev pub NoticesComeInOrder : Type 0
@@ -118,11 +120,11 @@ OthersStay =
     (configuration : Configuration) (events : List Event) (event : Event) (i j : ℕ) → IsAccepted configuration (event ∷ events) →
     link_of event ≡ Some i → (i == j) ≡ false → known j (trace configuration (event ∷ events)) ≡ known j (trace configuration events)
 
--- the queries of a line can be written: each has at most 512 bytes before its line feed, all of them 0x20 to 0x7E
+-- the queries of a line can be written: each has at most LINE_MAX bytes before its line feed, all of them 0x20 to 0x7E
 abbrev pub IsWritable : Line → Type 0
 IsWritable line = (query : Query) → is_writable (request line query) ≡ true
 
--- A link keeps no more than one query of at most 512 bytes and its line feed, and 512 bytes of an unfinished line.
+-- A link keeps no more than one query of at most QUERY_MAX bytes, and LINE_MAX bytes of an unfinished line.
 abbrev pub LinksAreBounded : Type 0
 LinksAreBounded =
     (configuration : Configuration) (events : List Event) (i : ℕ) (w : Watch) (v : LinkValue) → IsAccepted configuration events →

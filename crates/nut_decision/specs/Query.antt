@@ -2,6 +2,7 @@
 use Rattle.std.specs.Prelude.{ℕ, ◌==◌, Bool, true, false, List, ◌∷◌, codes, Option, Some, None, Result, Ok, Err}
 use Rattle.std.specs.List.{list_any, slice_split}
 use Rattle.std.specs.Str.{bytes_eq}
+use Rattle.nut_words.specs.Bytes.{blank}
 use Rattle.nut_words.specs.Lines.{LineText, Text, TooLong}
 use Rattle.nut_conf.specs.Values.{decimal}
 use Rattle.nut_proto.specs.Answers.{answer_in}
@@ -48,7 +49,7 @@ outcome_in asked TooLong = None
 
 -- the words of a value, parted at blanks
 abbrev pub parted : List ℕ → List (List ℕ)
-parted value = slice_split (λ byte. byte == 32) value
+parted value = slice_split (λ byte. byte == blank) value
 
 -- the words of the status, where one is answered to the status query
 abbrev pub status_in : Query → Outcome → Option (List (List ℕ))

@@ -6,6 +6,9 @@ ghost use Rattle.nut_decision.specs.Machine.{KeepsContent};
 ghost use Rattle.nut_decision.specs.Laws.{AnswersComeInTurn, AnswersKeepContent, CutsDoNotMatter, LinkedIsMade, LinksAreBounded, LinksAreTold, LoginsFollowFsd, NoticesAreFew, NoticesComeInOrder, OthersStay, QueriesComeAlone, SentAndWaitingIsDue, ShutdownStays, WaitingIsLeft};
 ghost use Rattle.nut_decision.specs.Examples.{CommunicationExamples, EdgeExamples, OrderExamples, PrimaryExamples, RefusalExamples, RoomExamples, SecondaryExamples};
 
+mod limits;
+
+pub use limits::{NOTICES_MAX, notice_limits};
 use nut_conf::Notice as NoticeKind;
 use thiserror::Error;
 
@@ -114,7 +117,7 @@ pub enum MonitorFault {
     /// The link isn't there, or for `Linked` is there already.
     #[error("the link is in the wrong state")]
     WrongLinkState,
-    /// The piece has more than 512 bytes.
+    /// The piece has more than [`PIECE_MAX`](nut_words::PIECE_MAX) bytes.
     #[error("the piece is too long")]
     PieceTooLong,
     /// More bytes were taken than wait.
@@ -189,12 +192,14 @@ pub fn cuts_do_not_matter()
     ensures { CutsDoNotMatter }
 {}
 
-/// A link keeps no more than one query of at most 512 bytes and its line feed, and 512 bytes of an unfinished line.
+/// A link keeps no more than one query of at most [`QUERY_MAX`](nut_link::QUERY_MAX) bytes, and
+/// [`LINE_MAX`](nut_words::LINE_MAX) bytes of an unfinished line.
 pub fn links_are_bounded()
     ensures { LinksAreBounded }
 {}
 
-/// No more than 128 notices wait, where there are at most 32 MONITOR lines.
+/// No more than [`NOTICES_MAX`] notices wait, where there are at most [`MONITORS_MAX`](nut_conf::MONITORS_MAX) MONITOR
+/// lines.
 pub fn notices_are_few()
     ensures { NoticesAreFew }
 {}

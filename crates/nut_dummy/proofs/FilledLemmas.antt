@@ -8,7 +8,8 @@ use Rattle.std.specs.declared.cmp.Ordering.TheVariants.{Less}
 use Rattle.std.proofs.lemmas.Bool.Decides.{nat_tests}
 use Rattle.std.proofs.lemmas.List.{append-nil}
 use Rattle.std.proofs.lemmas.Slice.Eq.{bytes_eq-Decides}
-use Rattle.nut_state.specs.declared.limits.TheConstants.{VALUE_BYTES, MAX_VARIABLES}
+use Rattle.nut_words.specs.declared.limits.TheConstants.{VALUE_MAX}
+use Rattle.nut_state.specs.declared.limits.TheConstants.{VARIABLES_MAX}
 use Rattle.nut_state.specs.declared.number.Range.{Range}
 use Rattle.nut_state.specs.declared.variable.Flags.{Flags}
 use Rattle.nut_state.specs.Attribute.{takes_enum, takes_range}
@@ -88,7 +89,7 @@ followed-append [] b t = refl
 followed-append (change ∷ a) b t = followed-append a b (after t change)
 
 module _ (name : List ℕ) (xs : List Entry) (low : Each entry_name Less name xs) where
-  set_last : (value : List ℕ) → is_name name ≡ true → nat_le (length value) VALUE_BYTES ≡ true → nat_lt (length xs) MAX_VARIABLES ≡ true
+  set_last : (value : List ℕ) → is_name name ≡ true → nat_le (length value) VALUE_MAX ≡ true → nat_lt (length xs) VARIABLES_MAX ≡ true
       → after (filled xs) (set_info name value) ≡ filled (xs ++ fresh name value ∷ [])
   unfolding after accepts changed
   set_last value named_so short room =
@@ -99,7 +100,7 @@ module _ (name : List ℕ) (xs : List Entry) (low : Each entry_name Less name xs
     unfolding after accepts changed
     flags_last flags = rw (named_last entry_name name xs e low own) (ap filled (put_again entry_name name xs e (record e { flags = flags }) low own))
 
-    aux_last : (aux : ℕ) → nat_le aux VALUE_BYTES ≡ true → after (filled (xs ++ e ∷ [])) (set_aux name (Some aux)) ≡ filled (xs ++ (record e { aux = aux }) ∷ [])
+    aux_last : (aux : ℕ) → nat_le aux VALUE_MAX ≡ true → after (filled (xs ++ e ∷ [])) (set_aux name (Some aux)) ≡ filled (xs ++ (record e { aux = aux }) ∷ [])
     unfolding after accepts changed
     aux_last aux fits = rw (named_last entry_name name xs e low own, fits) (ap filled (put_again entry_name name xs e (record e { aux = aux }) low own))
 
@@ -123,7 +124,7 @@ number_last name value most xs low =
     ∙ range_last name xs low (record { name = name; value = value; flags = a.flags; aux = 0; enums = []; ranges = [] }) refl range refl
 
 -- a text's number
-text_last : (name value : List ℕ) (most : ℕ) (xs : List Entry) → Each entry_name Less name xs → nat_le most VALUE_BYTES ≡ true
+text_last : (name value : List ℕ) (most : ℕ) (xs : List Entry) → Each entry_name Less name xs → nat_le most VALUE_MAX ≡ true
     → after (after (filled (xs ++ fresh name value ∷ [])) (set_flags name (text_of 0 []).flags)) (set_aux name (Some most)) ≡ filled (xs ++ with_attributes name value (text_of most []) ∷ [])
 text_last name value most xs low fits =
     let flags = (text_of 0 []).flags in
@@ -169,12 +170,12 @@ limiting_last name value xs low = by (writable_of name) refl where
 abbrev pub changes_of : List ℕ → Option (List ℕ) → List Change
 changes_of name value = option_map_or (λ x. set_info name x ∷ limiting name (writable_of name)) value []
 
-variable_last : (name : List ℕ) (value : Option (List ℕ)) (xs : List Entry) → is_name name ≡ true → IsValued value → length xs < 512 → Each entry_name Less name xs
+variable_last : (name : List ℕ) (value : Option (List ℕ)) (xs : List Entry) → is_name name ≡ true → IsValued value → length xs < VARIABLES_MAX → Each entry_name Less name xs
     → followed (changes_of name value) (filled xs) ≡ filled (xs ++ entries name value)
 variable_last name None xs named_so valued room low = ap filled (sym (append-nil xs))
 variable_last name (Some value) xs named_so valued room low =
-    let short : nat_le (length value) VALUE_BYTES ≡ true = and_left _ _ valued in
-    let few : nat_lt (length xs) MAX_VARIABLES ≡ true = grind (arith, nat_tests) in
+    let short : nat_le (length value) VALUE_MAX ≡ true = and_left _ _ valued in
+    let few : nat_lt (length xs) VARIABLES_MAX ≡ true = grind (arith, nat_tests) in
     ap (followed (limiting name (writable_of name))) (set_last name xs low value named_so short few) ∙ limiting_last name value xs low
 
 -- ---- all of them
@@ -198,7 +199,7 @@ few_more name None xs = omega (arith, length-append xs [])
 few_more name (Some value) xs = omega (arith, length-append xs (entry name value ∷ []))
 
 -- Variables that ascend go one behind the other.
-fills : (variables : List Variable) (xs : List Entry) → AllLow xs variables → IsAscending (map (λ v. v.name) variables) → AllByRecursion IsSound variables → length xs + length variables ≤ 512
+fills : (variables : List Variable) (xs : List Entry) → AllLow xs variables → IsAscending (map (λ v. v.name) variables) → AllByRecursion IsSound variables → length xs + length variables ≤ VARIABLES_MAX
     → followed (flat_map (λ v. changes_of v.name v.value) variables) (filled xs) ≡ filled (xs ++ flat_map (λ v. entries v.name v.value) variables)
 fills [] xs low up sound few = ap filled (sym (append-nil xs))
 fills (v ∷ variables) xs low up sound few =

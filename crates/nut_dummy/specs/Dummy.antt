@@ -1,6 +1,7 @@
 -- A dummy driver: how it begins, and how each call moves it.
 use Rattle.std.specs.Prelude.{◌≡◌, ℕ, ◌-◌, ◌<◌, Bool, true, false, not, List, [], ◌∷◌, Option, Some, None, Result, Ok, Err, if◌then◌else◌, is_some, length, drop, map, max, take, nat_lt}
 use Rattle.nut_words.specs.Lines.{LineText, Text, lines_after, rest, rest_after}
+use Rattle.nut_words.specs.declared.limits.TheConstants.{PIECE_MAX}
 use Rattle.nut_state.specs.Sorted.{put}
 use Rattle.nut_dummy.specs.declared.dummy.DummyFault.{DummyFault}
 use Rattle.nut_dummy.specs.declared.dummy.DummyFault.TheVariants as faults
@@ -91,7 +92,7 @@ abbrev pub bytes_refusal : List ℕ → Content → Option DummyFault
 bytes_refusal piece s =
     if not s.linked then Some faults.NotLinked else
     if nat_lt 0 (length (waits_of s)) then Some faults.Busy else
-    if nat_lt 512 (length piece) then Some faults.PieceTooLong else None
+    if nat_lt PIECE_MAX (length piece) then Some faults.PieceTooLong else None
 
 abbrev pub took_refusal : ℕ → Content → Option DummyFault
 took_refusal n s = if nat_lt (length (waits_of s)) n then Some faults.TooMuchTaken else None

@@ -2,17 +2,18 @@
 use Rattle.std.specs.Prelude.{ℕ, ◌==◌, ◌+◌, ◌&&◌, Bool, true, not, List, [], ◌∷◌, Option, Some, None, Result, Ok, Err, if◌then◌else◌, codes, drop, take, length, nat_le, nat_lt, reverse}
 use Rattle.std.specs.List.{list_all, position}
 use Rattle.std.specs.Str.{bytes_eq}
+use Rattle.nut_words.specs.Bytes.{hash}
 use Rattle.nut_words.specs.declared.words.WordFault.{WordFault}
 use Rattle.nut_words.specs.Reader.{spelled}
 use Rattle.nut_words.specs.Spelling.{is_blank, is_comment, is_printing}
-use Rattle.nut_state.specs.declared.limits.TheConstants.{NAME_BYTES, VALUE_BYTES}
 use Rattle.nut_state.specs.Number.{natural}
 use Rattle.nut_words.specs.Name.{is_name_byte}
+use Rattle.nut_words.specs.declared.limits.TheConstants.{NAME_MAX, VALUE_MAX}
 use Rattle.nut_dummy.specs.declared.fault.ScriptFaultKind.{ScriptFaultKind}
 use Rattle.nut_dummy.specs.declared.fault.ScriptFaultKind.TheVariants.{BadLine, BadName, BadTimer, TimerInDev, PastLimit}
 use Rattle.nut_dummy.specs.declared.item.ScriptKind.{ScriptKind}
 use Rattle.nut_dummy.specs.declared.item.ScriptKind.TheVariants.{Dev, Seq}
-use Rattle.nut_dummy.specs.declared.limits.TheConstants.{LINE_MAX, TIMER_MAX}
+use Rattle.nut_dummy.specs.declared.limits.TheConstants.{SCRIPT_LINE_MAX, TIMER_MAX}
 
 -- a wait, or a value for a variable
 pub data Item : Type 0 where
@@ -33,15 +34,15 @@ trimmed text = skip_last_blanks (skip_blanks text)
 -- whether nothing is there, or a `#` first
 abbrev pub is_remark : List ℕ → Bool
 is_remark [] = true
-is_remark (c ∷ cs) = c == 35
+is_remark (c ∷ cs) = c == hash
 
 -- Blank lines are skipped, and those whose first byte past blanks is `#`.
 abbrev pub is_skipped : List ℕ → Bool
 is_skipped line = is_remark (skip_blanks line)
 
--- A value has at most VALUE_BYTES printing bytes.
+-- A value has at most VALUE_MAX printing bytes.
 abbrev pub is_value : List ℕ → Bool
-is_value text = nat_le (length text) VALUE_BYTES && list_all is_printing text
+is_value text = nat_le (length text) VALUE_MAX && list_all is_printing text
 
 -- Only a script that goes round has timers.
 abbrev pub timer_in : ScriptKind → ℕ → Result Item ScriptFaultKind
@@ -65,9 +66,9 @@ timed kind (Err fault) = Err BadLine
 abbrev pub setting : List ℕ → List ℕ → Result Item ScriptFaultKind
 setting name value =
     if not (nat_lt 0 (length name) && list_all is_name_byte name) then Err BadName else
-    if nat_lt NAME_BYTES (length name) then Err PastLimit else
+    if nat_lt NAME_MAX (length name) then Err PastLimit else
     if not (list_all is_printing value) then Err BadLine else
-    if nat_lt VALUE_BYTES (length value) then Err PastLimit else
+    if nat_lt VALUE_MAX (length value) then Err PastLimit else
     Ok (Setting name value)
 
 -- what a line says, by the place of its first colon
@@ -75,9 +76,9 @@ abbrev pub parted : ScriptKind → List ℕ → Option ℕ → Result Item Scrip
 parted kind line None = timed kind (spelled line)
 parted kind line (Some at) = setting (trimmed (take at line)) (trimmed (drop (at + 1) line))
 
--- What a line says: it has at most LINE_MAX bytes, and these are printing, tabs or carriage returns.
+-- What a line says: it has at most SCRIPT_LINE_MAX bytes, and these are printing, tabs or carriage returns.
 abbrev pub item : ScriptKind → List ℕ → Result Item ScriptFaultKind
 item kind line =
-    if nat_lt LINE_MAX (length line) then Err PastLimit else
+    if nat_lt SCRIPT_LINE_MAX (length line) then Err PastLimit else
     if not (list_all is_comment line) then Err BadLine else
     parted kind line (position (λ c. c == 58) line)

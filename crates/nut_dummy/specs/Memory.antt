@@ -5,13 +5,13 @@ use Rattle.nut_words.specs.Lines.{parts}
 use Rattle.nut_words.specs.Reader.{has_backslash}
 use Rattle.nut_dummy.specs.declared.fault.ScriptFaultKind.{ScriptFaultKind}
 use Rattle.nut_dummy.specs.declared.item.ScriptKind.{ScriptKind}
-use Rattle.nut_dummy.specs.declared.limits.TheConstants.{LINE_MAX}
+use Rattle.nut_dummy.specs.declared.limits.TheConstants.{SCRIPT_LINE_MAX}
 use Rattle.nut_dummy.specs.Item.{Item, Timer, Setting, is_skipped, item}
 use Rattle.nut_dummy.specs.Script.{Script, has_room, no_script, read_lines}
 
 -- Parting a line into words may take memory only where it isn't too long, and has a backslash and no colon.
 abbrev pub IsEscaped : List ℕ → Type 0
-IsEscaped line = (length line ≤ LINE_MAX) × (position (λ c. c == 58) line ≡ None) × IsTrue (has_backslash line)
+IsEscaped line = (length line ≤ SCRIPT_LINE_MAX) × (position (λ c. c == 58) line ≡ None) × IsTrue (has_backslash line)
 
 -- whether a line says a value for which there is room
 abbrev pub grows : Script → Result Item ScriptFaultKind → Bool

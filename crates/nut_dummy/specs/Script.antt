@@ -9,7 +9,7 @@ use Rattle.nut_dummy.specs.declared.fault.ScriptFaultKind.TheVariants.{PastLimit
 use Rattle.nut_dummy.specs.declared.fault.ScriptFaultKind.TheVariants as kinds
 use Rattle.nut_dummy.specs.declared.item.ScriptKind.{ScriptKind}
 use Rattle.nut_dummy.specs.declared.item.ScriptKind.TheVariants.{Dev, Seq}
-use Rattle.nut_dummy.specs.declared.limits.TheConstants.{MAX_STEPS, SCRIPT_VARIABLES}
+use Rattle.nut_dummy.specs.declared.limits.TheConstants.{STEPS_MAX, SCRIPT_VARIABLES_MAX}
 use Rattle.nut_dummy.specs.Item.{Item, Timer, Setting, is_skipped, item}
 
 -- a value, and how many seconds after the beginning of a round it is due: those of the timers before it
@@ -50,7 +50,7 @@ with_step name step variables =
 abbrev pub has_room : Script → Item → Bool
 has_room s (Timer seconds) = true
 has_room s (Setting name value) =
-    nat_lt s.count MAX_STEPS && (is_some (timeline name s.variables) || nat_lt (length s.variables) SCRIPT_VARIABLES)
+    nat_lt s.count STEPS_MAX && (is_some (timeline name s.variables) || nat_lt (length s.variables) SCRIPT_VARIABLES_MAX)
 
 -- The script with what one line more says.
 abbrev pub extended : Script → Item → Script

@@ -10,13 +10,10 @@ use crate::begin::into_variables;
 use crate::script::Script;
 use crate::teller::{Teller, hear_piece};
 use crate::variable::{Change, Variable};
-use nut_words::LineCutter;
+use nut_words::{LineCutter, PIECE_MAX};
 use std::alloc::Global;
 use std::marker::Model;
 use thiserror::Error;
-
-/// How many bytes a piece has at most.
-const PIECE_MAX: usize = 512;
 
 /// Why a call of a dummy driver isn't done. All but `Memory` change nothing.
 #[derive(Clone, Copy, Debug, PartialEq, Eq, Error)]
@@ -34,7 +31,7 @@ pub enum DummyFault {
     /// More bytes were taken than wait.
     #[error("more was taken than waits")]
     TooMuchTaken,
-    /// The piece has more than 512 bytes.
+    /// The piece has more than [`PIECE_MAX`] bytes.
     #[error("the piece is too long")]
     PieceTooLong,
 }
@@ -157,8 +154,8 @@ impl Dummy {
     ///
     /// # Errors
     ///
-    /// The first of these that applies: `NotLinked`; `Busy`, exactly while bytes wait; `PieceTooLong` past 512 bytes.
-    /// These change nothing. `Memory` with the number of lines that were done, which stand; then the link is cut.
+    /// The first of these that applies: `NotLinked`; `Busy`, exactly while bytes wait; `PieceTooLong` past [`PIECE_MAX`]
+    /// bytes. These change nothing. `Memory` with the number of lines that were done, which stand; then the link is cut.
     pub fn server_bytes(&mut self, piece: &[u8]) -> Result<(), DummyFault>
         ensures heard { Hears piece.now self.old self.new result }
         ensures stands { (script : ScriptValue) (start : ℕ) (h : List Call) → Stands script start h self.old

@@ -9,11 +9,11 @@ ghost use Rattle.nut_dummy.specs.Read.{item_of};
 ghost use Rattle.nut_dummy.specs.Script.{Gives};
 
 use crate::fault::ScriptFaultKind;
-use crate::limits::{LINE_MAX, TIMER_MAX};
+use crate::limits::{SCRIPT_LINE_MAX, TIMER_MAX};
 use crate::text::{Name, Text};
 use crate::trim::{skip_blanks, trim};
-use nut_state::{NAME_BYTES, VALUE_BYTES, natural};
-use nut_words::{WordFault, are_name_bytes, are_printing, split};
+use nut_state::natural;
+use nut_words::{NAME_MAX, VALUE_MAX, WordFault, are_name_bytes, are_printing, split};
 use std::alloc::Global;
 
 /// How a script is told (NUT's manual page dummy-ups).
@@ -103,13 +103,13 @@ fn read_setting(name: &[u8], value: &[u8]) -> Result<Item, ScriptFaultKind>
     if name.is_empty() || !are_name_bytes(name) {
         return Err(ScriptFaultKind::BadName);
     }
-    if name.len() > NAME_BYTES {
+    if name.len() > NAME_MAX {
         return Err(ScriptFaultKind::PastLimit);
     }
     if !are_printing(value) {
         return Err(ScriptFaultKind::BadLine);
     }
-    if value.len() > VALUE_BYTES {
+    if value.len() > VALUE_MAX {
         return Err(ScriptFaultKind::PastLimit);
     }
     Ok(Item::Setting(Name::new(name), Text::new(value)))
@@ -120,7 +120,7 @@ pub fn read_item(alloc: Global, kind: ScriptKind, line: &[u8]) -> Result<Item, S
     ensures item { Gives item_of result (item kind line.now) }
     ensures memory { result ≡ Err ScriptFaultKind.Memory → IsEscaped line.now }
 {
-    if line.len() > LINE_MAX {
+    if line.len() > SCRIPT_LINE_MAX {
         return Err(ScriptFaultKind::PastLimit);
     }
     if !has_line_bytes(line) {

@@ -4,7 +4,7 @@ ghost use Rattle.nut_dummy.specs.Dump.{DumpIsTheTable};
 ghost use Rattle.nut_dummy.specs.Heard.{ToldLinesAreHeard};
 ghost use Rattle.nut_dummy.specs.History.{LooksBack};
 
-use crate::limits::{LINE_MAX, MAX_STEPS, SCRIPT_VARIABLES, TIMER_MAX};
+use crate::limits::{SCRIPT_LINE_MAX, SCRIPT_VARIABLES_MAX, STEPS_MAX, TIMER_MAX};
 
 /// A law, with nothing to run: after any history of accepted calls the driver holds for each variable the latest of the
 /// steps that were due, the settings and the commands, in the order in which they were counted; and the bytes taken on the
@@ -29,8 +29,8 @@ pub fn dump_is_the_table()
 
 /// A law, with nothing to run: which numbers the limits are that the definitions name.
 pub fn script_limits()
-    ensures line { LINE_MAX ≡ 512 }
+    ensures line { SCRIPT_LINE_MAX ≡ 512 }
     ensures timer { TIMER_MAX ≡ 86400 }
-    ensures variables { SCRIPT_VARIABLES ≡ 509 }
-    ensures steps { MAX_STEPS ≡ 4096 }
+    ensures variables { SCRIPT_VARIABLES_MAX ≡ 509 }
+    ensures steps { STEPS_MAX ≡ 4096 }
 {}

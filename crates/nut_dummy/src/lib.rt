@@ -33,6 +33,6 @@ pub use dummy::{Dummy, DummyFault};
 pub use fault::{ScriptFault, ScriptFaultKind};
 pub use item::ScriptKind;
 pub use laws::{dump_is_the_table, looks_back, script_limits, told_lines_are_heard};
-pub use limits::{MAX_STEPS, SCRIPT_VARIABLES, TIMER_MAX};
+pub use limits::{SCRIPT_LINE_MAX, SCRIPT_VARIABLES_MAX, STEPS_MAX, TIMER_MAX};
 pub use script::Script;
 pub use variable::Variable;

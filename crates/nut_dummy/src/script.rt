@@ -8,7 +8,7 @@ ghost use Rattle.nut_dummy.specs.Read.{item_of};
 
 use crate::fault::{ScriptFault, ScriptFaultKind};
 use crate::item::{Item, ScriptKind, is_skipped, read_item};
-use crate::limits::{MAX_STEPS, SCRIPT_VARIABLES};
+use crate::limits::{SCRIPT_VARIABLES_MAX, STEPS_MAX, TIMER_MAX};
 use crate::text::{Name, Text};
 use crate::timeline::{Step, Timeline, place_of};
 use nut_words::cut;
@@ -45,11 +45,11 @@ fn with_step(
     step: Step,
 ) -> Result<Vec<Timeline>, ScriptFaultKind>
     requires { IsAscending (map (λ t. t.name) variables.items) }
-    ensures step { Gives (λ v. v.items) result (if is_some (timeline name variables.items) || nat_lt (length variables.items) SCRIPT_VARIABLES
+    ensures step { Gives (λ v. v.items) result (if is_some (timeline name variables.items) || nat_lt (length variables.items) SCRIPT_VARIABLES_MAX
         then Ok (with_step name step variables.items) else Err ScriptFaultKind.PastLimit) }
     ensures ascending { IfOk result (λ v. IsAscending (map (λ t. t.name) v.items)) }
     ensures memory { result ≡ Err ScriptFaultKind.Memory
-        → IsTrue (is_some (timeline name variables.items) || nat_lt (length variables.items) SCRIPT_VARIABLES) }
+        → IsTrue (is_some (timeline name variables.items) || nat_lt (length variables.items) SCRIPT_VARIABLES_MAX) }
 {
     match place_of(&variables, name.as_bytes()) {
         Ok(place) => {
@@ -57,7 +57,7 @@ fn with_step(
             Ok(variables)
         }
         Err(place) => {
-            if variables.len() >= SCRIPT_VARIABLES {
+            if variables.len() >= SCRIPT_VARIABLES_MAX {
                 return Err(ScriptFaultKind::PastLimit);
             }
             let mut timeline = Timeline::new(alloc, name);
@@ -108,7 +108,7 @@ impl Script {
             count,
             round,
         } = self;
-        if count >= MAX_STEPS {
+        if count >= STEPS_MAX {
             return Err(ScriptFaultKind::PastLimit);
         }
         let variables = with_step(alloc, variables, name, Step::new(round, value))?;
@@ -133,7 +133,7 @@ impl Script {
     fn with_line(self, kind: ScriptKind, line: &[u8]) -> Result<Script, ScriptFaultKind>
         requires { self.round < 2 ^ 120 }
         ensures line { Gives (λ s. s) result (with_line kind self line.now) }
-        ensures round { IfOk result (λ s. s.round ≤ self.round + 86400) }
+        ensures round { IfOk result (λ s. s.round ≤ self.round + TIMER_MAX) }
         ensures memory { result ≡ Err ScriptFaultKind.Memory → MayTake kind self line.now }
     {
         if is_skipped(line) {
@@ -166,12 +166,14 @@ impl Script {
     ///
     /// # Errors
     ///
-    /// The first faulty line, and in it the first of these that applies: `PastLimit` past 512 bytes; `BadLine` for a
-    /// byte outside 0x20 to 0x7E, tab and carriage return; of a timer `BadTimer`, then `TimerInDev`; `BadLine` without a
-    /// colon; `BadName`; `PastLimit` for a name past 64 bytes; `BadLine` for a tab or a carriage return in the value;
-    /// `PastLimit` for a value past 128 bytes, and for a 510th variable or a 4,097th value. Without a faulty line,
-    /// `NoTimer` at line 0 for a script that goes round and has none. `Memory` at the line at which memory ran out, which
-    /// says a value, or has a backslash and no colon.
+    /// The first faulty line, and in it the first of these that applies: `PastLimit` past
+    /// [`SCRIPT_LINE_MAX`](crate::limits::SCRIPT_LINE_MAX) bytes; `BadLine` for a byte outside 0x20 to 0x7E, tab and
+    /// carriage return; of a timer `BadTimer`, then `TimerInDev`; `BadLine` without a colon; `BadName`; `PastLimit` for
+    /// a name past [`NAME_MAX`](nut_words::NAME_MAX) bytes; `BadLine` for a tab or a carriage return in the value;
+    /// `PastLimit` for a value past [`VALUE_MAX`](nut_words::VALUE_MAX) bytes, and for a variable past
+    /// [`SCRIPT_VARIABLES_MAX`] or a value past [`STEPS_MAX`]. Without a faulty line, `NoTimer` at line 0 for a script
+    /// that goes round and has none. `Memory` at the line at which memory ran out, which says a value, or has a
+    /// backslash and no colon.
     pub fn read(alloc: Global, kind: ScriptKind, bytes: &[u8]) -> Result<Script, ScriptFault>
         ensures means { Means result (read_script kind bytes.now) }
         ensures memory { IfErr result (λ fault. fault.kind ≡ ScriptFaultKind.Memory → MayRunOut kind bytes.now fault.line) }

@@ -4,14 +4,13 @@ ghost use Rattle.nut_state.specs.Text.{is_name};
 ghost use Rattle.nut_dummy.specs.Item.{is_value};
 
 use arrayvec::ArrayVec;
-use nut_state::{NAME_BYTES, VALUE_BYTES};
-use nut_words::are_printing;
+use nut_words::{NAME_MAX, VALUE_MAX, are_printing};
 use std::marker::Model;
 
-/// The name of a variable: 1 to [`NAME_BYTES`] letters, digits, `.`, `_` and `-`.
+/// The name of a variable: 1 to [`NAME_MAX`] letters, digits, `.`, `_` and `-`.
 #[derive(Drop)]
 pub struct Name {
-    bytes: ArrayVec<u8, NAME_BYTES>,
+    bytes: ArrayVec<u8, NAME_MAX>,
 }
 
 impl Model for Name {
@@ -45,13 +44,13 @@ impl Name {
 pub fn is_value(bytes: &[u8]) -> bool
     ensures { result ≡ is_value bytes.now }
 {
-    bytes.len() <= VALUE_BYTES && are_printing(bytes)
+    bytes.len() <= VALUE_MAX && are_printing(bytes)
 }
 
-/// A value: 0 to [`VALUE_BYTES`] printing bytes.
+/// A value: 0 to [`VALUE_MAX`] printing bytes.
 #[derive(Drop)]
 pub struct Text {
-    contents: ArrayVec<u8, VALUE_BYTES>,
+    contents: ArrayVec<u8, VALUE_MAX>,
 }
 
 impl Model for Text {

@@ -4,6 +4,7 @@ use Rattle.std.specs.Prelude.{if◌then◌else◌}
 use Rattle.std.proofs.lemmas.Bool.{cases_Bool, cases_eq, and_parts, eqb-true, eq-eqb, ne_eqb, not-true, lt-ltb}
 use Rattle.std.specs.Prelude.{nat_lt}
 use Rattle.nut_words.specs.Quoting.{Begins}
+use Rattle.nut_words.specs.declared.limits.TheConstants.{PIECE_MAX}
 use Rattle.nut_history.specs.Event as arrivals
 use Rattle.nut_history.specs.Content as server
 use Rattle.nut_history.specs.Acceptance as server_tests
@@ -453,8 +454,8 @@ module _ (setup : Setup) (earlier : List Step) (s : Sound setup earlier (world s
       ∙ same-counted (moved n (monitor_waits setup w m i)) (λ k. inform_seen f m (events.LinkTook i k)) (λ k. inform setup w m (events.LinkTook i k)) (λ k. heard m (events.LinkTook i k)))
   same-deed (Reach m i n) ok =
       both-ways (open_seen f m i) (is_open setup w m i) _ _ (same-open m i ok) (λ up.
-      ap (λ bytes. carried (take (min n 512) bytes) (λ piece. tell_seen f (arrivals.Bytes (f.link m i).connection piece))) (same-to_server m i ok up)
-      ∙ same-carried (take (min n 512) (to_server setup w m i)) (λ piece. tell_seen f (arrivals.Bytes (f.link m i).connection piece))
+      ap (λ bytes. carried (take (min n PIECE_MAX) bytes) (λ piece. tell_seen f (arrivals.Bytes (f.link m i).connection piece))) (same-to_server m i ok up)
+      ∙ same-carried (take (min n PIECE_MAX) (to_server setup w m i)) (λ piece. tell_seen f (arrivals.Bytes (f.link m i).connection piece))
       (λ piece. tell setup w (arrivals.Bytes (w.connection m i) piece)) (λ piece. told-at m i ok (λ c. arrivals.Bytes c piece)))
   same-deed (Back m i n) ok =
       both-ways (open_seen f m i) (is_open setup w m i) _ _ (same-open m i ok) (λ up.
@@ -463,8 +464,8 @@ module _ (setup : Setup) (earlier : List Step) (s : Sound setup earlier (world s
       (λ k. tell setup w (arrivals.Took (w.connection m i) k)) (λ k. told-at m i ok (λ c. arrivals.Took c k)))
   same-deed (Land m i n) ok =
       both-ways (linked_seen f m i) (is_linked setup w m i) _ _ (same-linked m i ok) (λ up.
-      ap (λ bytes. carried (take (min n 512) bytes) (λ piece. inform_seen f m (events.LinkBytes i piece))) (same-to_monitor m i ok up)
-      ∙ same-carried (take (min n 512) (to_monitor setup w m i)) (λ piece. inform_seen f m (events.LinkBytes i piece))
+      ap (λ bytes. carried (take (min n PIECE_MAX) bytes) (λ piece. inform_seen f m (events.LinkBytes i piece))) (same-to_monitor m i ok up)
+      ∙ same-carried (take (min n PIECE_MAX) (to_monitor setup w m i)) (λ piece. inform_seen f m (events.LinkBytes i piece))
       (λ piece. inform setup w m (events.LinkBytes i piece)) (λ piece. heard m (events.LinkBytes i piece)))
   same-deed (CutServer m i) ok = told-at m i ok (λ c. arrivals.Close c)
   same-deed (CutMonitor m i) ok = heard m (events.LinkLost i)
@@ -530,17 +531,17 @@ module _ (setup : Setup) (earlier : List Step) (s : Sound setup earlier (world s
       when-counted (Out m i n) (moved n (monitor_waits setup w m i)) (λ k. inform setup w m (events.LinkTook i k))
       (heard-goes (Out m i n) m (events.LinkTook i (moved n (monitor_waits setup w m i))) tt (out-keeps m i (moved n (monitor_waits setup w m i)) ok)))
   goes (Reach m i n) ok =
-      when-test (Reach m i n) (is_open setup w m i) (carried (take (min n 512) (to_server setup w m i)) (λ piece. tell setup w (arrivals.Bytes (w.connection m i) piece))) (λ up.
-      when-carried (Reach m i n) (take (min n 512) (to_server setup w m i)) (λ piece. tell setup w (arrivals.Bytes (w.connection m i) piece))
-      (told-goes (Reach m i n) (arrivals.Bytes (w.connection m i) (take (min n 512) (to_server setup w m i))) (reach-keeps m i (take (min n 512) (to_server setup w m i)) ok up)))
+      when-test (Reach m i n) (is_open setup w m i) (carried (take (min n PIECE_MAX) (to_server setup w m i)) (λ piece. tell setup w (arrivals.Bytes (w.connection m i) piece))) (λ up.
+      when-carried (Reach m i n) (take (min n PIECE_MAX) (to_server setup w m i)) (λ piece. tell setup w (arrivals.Bytes (w.connection m i) piece))
+      (told-goes (Reach m i n) (arrivals.Bytes (w.connection m i) (take (min n PIECE_MAX) (to_server setup w m i))) (reach-keeps m i (take (min n PIECE_MAX) (to_server setup w m i)) ok up)))
   goes (Back m i n) ok =
       when-test (Back m i n) (is_open setup w m i) (counted (moved n (server_waits setup w m i)) (λ k. tell setup w (arrivals.Took (w.connection m i) k))) (λ up.
       when-counted (Back m i n) (moved n (server_waits setup w m i)) (λ k. tell setup w (arrivals.Took (w.connection m i) k))
       (told-goes (Back m i n) (arrivals.Took (w.connection m i) (moved n (server_waits setup w m i))) (back-keeps m i (moved n (server_waits setup w m i)) ok up)))
   goes (Land m i n) ok =
-      when-test (Land m i n) (is_linked setup w m i) (carried (take (min n 512) (to_monitor setup w m i)) (λ piece. inform setup w m (events.LinkBytes i piece))) (λ up.
-      when-carried (Land m i n) (take (min n 512) (to_monitor setup w m i)) (λ piece. inform setup w m (events.LinkBytes i piece))
-      (heard-goes (Land m i n) m (events.LinkBytes i (take (min n 512) (to_monitor setup w m i))) tt (land-keeps m i (take (min n 512) (to_monitor setup w m i)) ok)))
+      when-test (Land m i n) (is_linked setup w m i) (carried (take (min n PIECE_MAX) (to_monitor setup w m i)) (λ piece. inform setup w m (events.LinkBytes i piece))) (λ up.
+      when-carried (Land m i n) (take (min n PIECE_MAX) (to_monitor setup w m i)) (λ piece. inform setup w m (events.LinkBytes i piece))
+      (heard-goes (Land m i n) m (events.LinkBytes i (take (min n PIECE_MAX) (to_monitor setup w m i))) tt (land-keeps m i (take (min n PIECE_MAX) (to_monitor setup w m i)) ok)))
   goes (CutServer m i) ok = told-goes (CutServer m i) (arrivals.Close (w.connection m i)) (λ e. tell-quiet (arrivals.Close (w.connection m i)) e (λ c. (refl, refl)))
   goes (CutMonitor m i) ok = heard-goes (CutMonitor m i) m (events.LinkLost i) tt (λ e. inform-quiet m (events.LinkLost i) e (λ j. (refl, refl, refl)))
 

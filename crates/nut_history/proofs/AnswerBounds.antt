@@ -3,6 +3,7 @@ use Rattle.std.proofs.Common.{ℕ, ◌≤◌, Bool, true, false, List, [], ◌�
 use Rattle.std.specs.List.{AllByRecursion}
 use Rattle.std.specs.Prelude.{if◌then◌else◌}
 use Rattle.std.proofs.lemmas.List.{length-map}
+use Rattle.nut_conf.specs.declared.limits.TheConstants.{CONNECTIONS_MAX}
 use Rattle.nut_words.specs.Lines.{LineText}
 use Rattle.nut_state.specs.Holds.{EveryTableHolds}
 use Rattle.nut_history.specs.Configuration.{Configuration}
@@ -18,11 +19,12 @@ use Rattle.nut_history.proofs.Alls.{all_map}
 use Rattle.nut_history.proofs.AnswerLengths.{IsFit, IsShortScene, answer_fit, fit_silence}
 use Rattle.nut_history.proofs.Tables.{IsShortTable, table_short}
 use Rattle.nut_history.proofs.Waiting.{configuration_stays, few_history}
+use Rattle.nut_history.specs.declared.limits.TheConstants.{ADDRESS_MAX}
 
--- so many connections are open at most, and the address of each has at most 64 bytes
+-- so many connections are open at most, and the address of each has at most ADDRESS_MAX bytes
 record IsShortPast (t : List Entry) : Type 0 where
-  few : length (open_numbers t) ≤ 256
-  addresses : AllByRecursion (λ c. length (address c t) ≤ 64) (open_numbers t)
+  few : length (open_numbers t) ≤ CONNECTIONS_MAX
+  addresses : AllByRecursion (λ c. length (address c t) ≤ ADDRESS_MAX) (open_numbers t)
 
 module _ {X Y : Type 0} (P : Y → Type 0) (f : X → Y) where
   of_mapped : (xs : List X) → AllByRecursion P (map f xs) → AllByRecursion (λ x. P (f x)) xs
@@ -42,7 +44,7 @@ module _ (every : EveryTableHolds) (first : Configuration) (within : IsWithin fi
     configured = subst IsWithin (sym (configuration_stays first t)) within;
     devices = all_map (λ (d : Device). IsShortTable d.table) (device first t) (ups_numbers first t) (λ u. table_short every (reports u t));
     nothing = table_short every [];
-    guests = as_mapped (λ (g : Guest). length g.address ≤ 64) (guest first t) (open_numbers t) short.addresses;
+    guests = as_mapped (λ (g : Guest). length g.address ≤ ADDRESS_MAX) (guest first t) (open_numbers t) short.addresses;
     few = omega (arith, length-map (open_numbers t) (guest first t), short.few);
   }
 
@@ -67,7 +69,7 @@ module _ (every : EveryTableHolds) (first : Configuration) (within : IsWithin fi
       let t = past first h in
       record {
         few = omega (arith, length-map (open_numbers t) (session first h), are.few, within.connections);
-        addresses = of_mapped (λ (k : Session). length k.address ≤ 64) (session first h) (open_numbers t) are.addresses;
+        addresses = of_mapped (λ (k : Session). length k.address ≤ ADDRESS_MAX) (session first h) (open_numbers t) are.addresses;
       }
 
   answers_fit : (h : List Event) → IsAccepted first h → AreFit (past first h)

@@ -6,12 +6,15 @@ use Rattle.std.specs.Str.{bytes_eq}
 use Rattle.std.proofs.lemmas.Bool.{cases_Bool, ltb-true}
 use Rattle.std.proofs.lemmas.Map.Text.{is_eq-slice_cmp}
 use Rattle.std.proofs.lemmas.Slice.Eq.{bytes_eq-Decides}
+use Rattle.nut_conf.specs.declared.limits.TheConstants.{CONNECTIONS_MAX}
 use Rattle.nut_words.specs.Name.{is_name}
 use Rattle.nut_words.specs.Quoting.{quoted}
+use Rattle.nut_words.specs.declared.limits.TheConstants.{NAME_MAX, UPS_NAME_MAX, VALUE_MAX}
 use Rattle.nut_state.specs.Holds.{IsWithinLimits}
 use Rattle.nut_state.specs.declared.number.Range.{Range}
 use Rattle.nut_state.specs.Table.{Entry, variable, has_command, empty}
 use Rattle.nut_state.proofs.SortedLemmas.{equal, one_at_most}
+use Rattle.nut_state.specs.declared.limits.TheConstants.{VARIABLES_MAX}
 use Rattle.nut_proto.specs.declared.refusal.Refusal.{Refusal}
 use Rattle.nut_proto.specs.declared.refusal.Refusal.TheVariants as refusals
 use Rattle.nut_proto.specs.declared.request.Request.{Request}
@@ -36,6 +39,7 @@ use Rattle.nut_history.proofs.Lengths.{length-quoted, name_within}
 use Rattle.nut_history.proofs.ReplyLengths as L
 use Rattle.nut_history.proofs.Requests.{require-case, check-case, unless-case, with_right-case}
 use Rattle.nut_history.proofs.Tables.{IsShortRange, IsShortTable, variable_within, variable_named, command_named}
+use Rattle.nut_history.specs.declared.limits.TheConstants.{ADDRESS_MAX}
 
 -- the answer is no longer than the longest
 abbrev pub IsFit : Answer → Type 0
@@ -83,8 +87,8 @@ pub record IsShortScene (s : Scene) : Type 0 where
   pub configured : IsWithin s.configuration
   pub devices : AllByRecursion (λ d. IsShortTable d.table) s.devices
   pub nothing : IsShortTable empty
-  pub guests : AllByRecursion (λ g. length g.address ≤ 64) s.guests
-  pub few : length s.guests ≤ 256
+  pub guests : AllByRecursion (λ g. length g.address ≤ ADDRESS_MAX) s.guests
+  pub few : length s.guests ≤ CONNECTIONS_MAX
 
 device_short : (ds : List Device) (u : ℕ) → IsShortTable empty → AllByRecursion (λ d. IsShortTable d.table) ds → IsShortTable (slice_index_or ds u absent).table
 device_short [] u nothing all = nothing
@@ -95,25 +99,25 @@ same_bytes : (x y : List ℕ) → bytes_eq x y ≡ true → x ≡ y
 same_bytes x y e = grind (arith, bytes_eq-Decides x y)
 
 -- a name under which there is a UPS
-number_within : (name : List ℕ) (upses : List Ups) (u : ℕ) → AllByRecursion IsUpsWithin upses → number_of_ups name upses ≡ Some u → is_name 32 name ≡ true
+number_within : (name : List ℕ) (upses : List Ups) (u : ℕ) → AllByRecursion IsUpsWithin upses → number_of_ups name upses ≡ Some u → is_name UPS_NAME_MAX name ≡ true
 number_within name upses u all found = by_place upses all (inside (nat_lt (position_or_len (λ (u : Ups). bytes_eq u.name name) upses) (length upses)) refl found) where
   inside : (b : Bool) → nat_lt (position_or_len (λ (u : Ups). bytes_eq u.name name) upses) (length upses) ≡ b → (if b then Some (position_or_len (λ (u : Ups). bytes_eq u.name name) upses) else None) ≡ Some u
       → position_or_len (λ (u : Ups). bytes_eq u.name name) upses < length upses
   inside true e is = ltb-true (position_or_len (λ (u : Ups). bytes_eq u.name name) upses) (length upses) e
   inside false e is = absurd (cc)
 
-  by_place : (upses : List Ups) → AllByRecursion IsUpsWithin upses → position_or_len (λ (u : Ups). bytes_eq u.name name) upses < length upses → is_name 32 name ≡ true
+  by_place : (upses : List Ups) → AllByRecursion IsUpsWithin upses → position_or_len (λ (u : Ups). bytes_eq u.name name) upses < length upses → is_name UPS_NAME_MAX name ≡ true
   by_place [] all lt = absurd (omega arith)
   by_place (x ∷ xs) all lt =
       elim (cases_Bool (bytes_eq x.name name)) [
-        | inl e ↦ subst (λ n. is_name 32 n ≡ true) (same_bytes x.name name e) all.0.name
+        | inl e ↦ subst (λ n. is_name UPS_NAME_MAX n ≡ true) (same_bytes x.name name e) all.0.name
         | inr e ↦ by_place xs all.1 (let less = rw e at lt in omega (arith, less))
       ]
 
 -- ---- what comes after a test
 
 module _ (s : Scene) (short : IsShortScene s) where
-  fit_ups : (name : List ℕ) (next : ℕ → Answer) → ((u : ℕ) → is_name 32 name ≡ true → IsFit (next u)) → IsFit (on_ups s name next)
+  fit_ups : (name : List ℕ) (next : ℕ → Answer) → ((u : ℕ) → is_name UPS_NAME_MAX name ≡ true → IsFit (next u)) → IsFit (on_ups s name next)
   fit_ups name next fit =
       require-case IsFit refusals.UnknownUps (ups_number s name) next (fit_refused refusals.UnknownUps) (λ u found.
       fit u (number_within name s.configuration.upses u short.configured.each_ups found))
@@ -122,7 +126,7 @@ module _ (s : Scene) (short : IsShortScene s) where
   fit_data u next fit =
       unless-case IsFit (trouble s.configuration.max_age s.clock (device_at s u)) (next (device_at s u)) fit_refused (fit (device_short s.devices u short.nothing short.devices))
 
-  fit_device : (name : List ℕ) (next : Device → Answer) → ((d : Device) → is_name 32 name ≡ true → IsShortTable d.table → IsFit (next d)) → IsFit (on_device s name next)
+  fit_device : (name : List ℕ) (next : Device → Answer) → ((d : Device) → is_name UPS_NAME_MAX name ≡ true → IsShortTable d.table → IsFit (next d)) → IsFit (on_device s name next)
   fit_device name next fit = fit_ups name _ (λ u named. fit_data u next (λ table. fit (device_at s u) named table))
 
 fit_variable : (name : List ℕ) (d : Device) (next : Entry → Answer) → ((v : Entry) → variable d.table name ≡ Some v → IsFit (next v)) → IsFit (on_variable name d next)
@@ -131,13 +135,13 @@ fit_variable name d next fit = require-case IsFit refusals.VarNotSupported (vari
 fit_command : (name : List ℕ) (d : Device) (next : Answer) → (has_command d.table name ≡ true → IsFit next) → IsFit (on_command name d next)
 fit_command name d next fit = check-case IsFit refusals.CmdNotSupported (has_command d.table name) next (fit_refused refusals.CmdNotSupported) fit
 
--- a UPS's name has at most 32 bytes, and stands bare
-ups_short : (name : List ℕ) → is_name 32 name ≡ true → length name ≤ 32
-ups_short name named = (name_within 32 name named).1
+-- a UPS's name has at most UPS_NAME_MAX bytes, and stands bare
+ups_short : (name : List ℕ) → is_name UPS_NAME_MAX name ≡ true → length name ≤ UPS_NAME_MAX
+ups_short name named = (name_within UPS_NAME_MAX name named).1
 
 -- ---- the values that are shown
 
-length-marked : (b : Bool) (value : List ℕ) → length value ≤ 128 → length (quoted (if b then codes "FSD " ++ value else value)) ≤ 262
+length-marked : (b : Bool) (value : List ℕ) → length value ≤ VALUE_MAX → length (quoted (if b then codes "FSD " ++ value else value)) ≤ 262
 length-marked true value few = omega (arith, length-quoted value)
 length-marked false value few = omega (arith, length-quoted value)
 
@@ -166,7 +170,7 @@ rows_shown d row (v ∷ vs) each all =
     ]
 
 variables_fit : (d : Device) (row : Entry → Reply) (vs : List Entry) → ((v : Entry) → IsWithinLimits v → length (reply_line (row v)) ≤ 103 + length (quoted (shown d v)))
-    → AllByRecursion IsWithinLimits vs → length vs ≤ 512 → length (filter (equal (λ (v : Entry). v.name) (codes "ups.status")) vs) ≤ 1
+    → AllByRecursion IsWithinLimits vs → length vs ≤ VARIABLES_MAX → length (filter (equal (λ (v : Entry). v.name) (codes "ups.status")) vs) ≤ 1
     → length (flat_map reply_line (map row vs)) ≤ 184836
 variables_fit d row vs each all few one = omega (arith, rows_shown d row vs each all)
 
@@ -178,9 +182,9 @@ all_within d table = all_places IsWithinLimits d.table.variables table.in_order.
 
 -- ---- the answers
 
-kind_few : (v : Entry) (m : ℕ) → v.aux ≤ 128 → kind_of v ≡ kinds.String m → m ≤ 128
+kind_few : (v : Entry) (m : ℕ) → v.aux ≤ VALUE_MAX → kind_of v ≡ kinds.String m → m ≤ VALUE_MAX
 kind_few v m few is = by_tests (not (is_empty v.enums)) (not (is_empty v.ranges)) v.flags.string is where
-  by_tests : (a b c : Bool) → (if a then kinds.Enum else if b then kinds.Range else if c then kinds.String v.aux else kinds.Number) ≡ kinds.String m → m ≤ 128
+  by_tests : (a b c : Bool) → (if a then kinds.Enum else if b then kinds.Range else if c then kinds.String v.aux else kinds.Number) ≡ kinds.String m → m ≤ VALUE_MAX
   by_tests true b c is = absurd (cc)
   by_tests false true c is = absurd (cc)
   by_tests false false true is = let same : v.aux ≡ m = cc in omega arith
@@ -191,7 +195,7 @@ described_fit name [] all = fit_refused refusals.UnknownUps
 described_fit name (x ∷ xs) all =
     elim (cases_Bool (bytes_eq x.name name)) [
       | inl e ↦
-          let own : is_name 32 name ≡ true = subst (λ n. is_name 32 n ≡ true) (same_bytes x.name name e) all.0.name in
+          let own : is_name UPS_NAME_MAX name ≡ true = subst (λ n. is_name UPS_NAME_MAX n ≡ true) (same_bytes x.name name e) all.0.name in
           rw e (fit_line (replies.UpsDesc name x.description) (L.length-ups_desc name x.description (ups_short name own) all.0.description))
       | inr e ↦ rw e (described_fit name xs all.1)
     ]
@@ -209,30 +213,30 @@ module _ (s : Scene) (short : IsShortScene s) where
       (omega (arith, short.configured.upses, rows_short row upses (all_weaker IsUpsWithin _ upses (λ ups within. L.length-ups ups.name ups.description (ups_short ups.name within.name) within.description) short.configured.each_ups)))
       (omega arith)
   list_fit (queries.Var ups) = fit_device s short ups _ (λ d named table.
-      let name = name_within 32 ups named in
+      let name = name_within UPS_NAME_MAX ups named in
       fit_list (queries.Var ups) (map (var_row ups d) d.table.variables) 94 184836 (L.length-marks_var ups name)
-      (variables_fit d (var_row ups d) d.table.variables (λ v within. L.length-var ups v.name (shown d v) name (name_within 64 v.name within.name)) (all_within d table) table.in_order.variables_within (one_status d table))
+      (variables_fit d (var_row ups d) d.table.variables (λ v within. L.length-var ups v.name (shown d v) name (name_within NAME_MAX v.name within.name)) (all_within d table) table.in_order.variables_within (one_status d table))
       (omega arith))
   list_fit (queries.Rw ups) = fit_device s short ups _ (λ d named table.
-      let name = name_within 32 ups named in
+      let name = name_within UPS_NAME_MAX ups named in
       let p : Entry → Bool = λ v. v.flags.writable in
       let vs = d.table.variables in
       fit_list (queries.Rw ups) (map (rw_row ups d) (filter p vs)) 94 184836 (L.length-marks_rw ups name)
-      (variables_fit d (rw_row ups d) (filter p vs) (λ v within. L.length-rw ups v.name (shown d v) name (name_within 64 v.name within.name)) (all_filter IsWithinLimits p vs (all_within d table))
+      (variables_fit d (rw_row ups d) (filter p vs) (λ v within. L.length-rw ups v.name (shown d v) name (name_within NAME_MAX v.name within.name)) (all_filter IsWithinLimits p vs (all_within d table))
       (omega (arith, fewer p vs, table.in_order.variables_within)) (omega (arith, fewer_both (equal (λ (v : Entry). v.name) (codes "ups.status")) p vs, one_status d table)))
       (omega arith))
   list_fit (queries.Cmd ups) = fit_device s short ups _ (λ d named table.
       let commands = d.table.commands in
       let row : List ℕ → Reply = λ k. replies.Cmd ups k in
       fit_list (queries.Cmd ups) (map row commands) 1000 89600 (L.length-marks_cmd ups (ups_short ups named))
-      (omega (arith, table.in_order.commands_within, rows_short row commands (all_weaker (λ k. is_name 64 k ≡ true) _ commands (λ k own. L.length-cmd ups k (ups_short ups named) (name_within 64 k own).1) (all_places _ commands table.in_order.each_command))))
+      (omega (arith, table.in_order.commands_within, rows_short row commands (all_weaker (λ k. is_name NAME_MAX k ≡ true) _ commands (λ k own. L.length-cmd ups k (ups_short ups named) (name_within NAME_MAX k own).1) (all_places _ commands table.in_order.each_command))))
       (omega arith))
   list_fit (queries.Enum ups name) = fit_device s short ups _ (λ d named table. fit_variable name d _ (λ v there.
       let within = variable_within d.table name v table there in
       let own = (variable_named d.table name v table there).1 in
       let row : List ℕ → Reply = λ x. replies.Enum ups name x in
       fit_list (queries.Enum ups name) (map row v.enums) 1000 44800 (L.length-marks_enum ups name (ups_short ups named) own)
-      (omega (arith, within.enums, rows_short row v.enums (all_weaker (λ x. length x ≤ 128) _ v.enums (λ x few. L.length-enum ups name x (ups_short ups named) own few) (all_places _ v.enums within.each_enum))))
+      (omega (arith, within.enums, rows_short row v.enums (all_weaker (λ x. length x ≤ VALUE_MAX) _ v.enums (λ x few. L.length-enum ups name x (ups_short ups named) own few) (all_places _ v.enums within.each_enum))))
       (omega arith)))
   list_fit (queries.Range ups name) = fit_device s short ups _ (λ d named table. fit_variable name d _ (λ v there.
       let within = variable_within d.table name v table there in
@@ -245,7 +249,7 @@ module _ (s : Scene) (short : IsShortScene s) where
       let p : Guest → Bool = λ g. is_logged_in u g.login in
       let row : Guest → Reply = λ g. replies.Client ups g.address in
       fit_list (queries.Client ups) (map row (filter p s.guests)) 1000 179200 (L.length-marks_client ups (ups_short ups named))
-      (omega (arith, fewer p s.guests, short.few, rows_short row (filter p s.guests) (all_weaker (λ (g : Guest). length g.address ≤ 64) _ (filter p s.guests) (λ g few. L.length-client ups g.address (ups_short ups named) few) (all_filter _ p s.guests short.guests))))
+      (omega (arith, fewer p s.guests, short.few, rows_short row (filter p s.guests) (all_weaker (λ (g : Guest). length g.address ≤ ADDRESS_MAX) _ (filter p s.guests) (λ g few. L.length-client ups g.address (ups_short ups named) few) (all_filter _ p s.guests short.guests))))
       (omega arith)))
 
   request_fit : (k : Caller) (request : Request) → IsFit (answer_request s k request)
@@ -255,10 +259,10 @@ module _ (s : Scene) (short : IsShortScene s) where
   request_fit k (requests.GetUpsDesc ups) = described_fit ups s.configuration.upses short.configured.each_ups
   request_fit k (requests.GetVar ups name) = fit_device s short ups _ (λ d named table. fit_variable name d _ (λ v there.
       let within = variable_within d.table name v table there in
-      fit_line (var_row ups d v) (omega (arith, L.length-var ups v.name (shown d v) (name_within 32 ups named) (name_within 64 v.name within.name), length-shown d v within))))
+      fit_line (var_row ups d v) (omega (arith, L.length-var ups v.name (shown d v) (name_within UPS_NAME_MAX ups named) (name_within NAME_MAX v.name within.name), length-shown d v within))))
   request_fit k (requests.GetType ups name) = fit_device s short ups _ (λ d named table. fit_variable name d _ (λ v there.
       let within = variable_within d.table name v table there in
-      fit_line (type_reply ups v) (L.length-type ups v.name v.flags.writable (kind_of v) (ups_short ups named) (name_within 64 v.name within.name).1 (λ m is. kind_few v m within.aux is))))
+      fit_line (type_reply ups v) (L.length-type ups v.name v.flags.writable (kind_of v) (ups_short ups named) (name_within NAME_MAX v.name within.name).1 (λ m is. kind_few v m within.aux is))))
   request_fit k (requests.GetDesc ups name) = fit_device s short ups _ (λ d named table. fit_variable name d _ (λ v there.
       let text = variable_description s.configuration.variable_texts name in
       let few = L.length-variable_text s.configuration.variable_texts name short.configured.variable_texts in

@@ -4,14 +4,16 @@ use Rattle.std.specs.Prelude.{if◌then◌else◌, max, ◌&&◌, ◌/◌}
 use Rattle.std.specs.Option.{option_map_or}
 use Rattle.std.proofs.lemmas.Bool.{cases_Bool, eqb-true, leb-true}
 use Rattle.std.proofs.lemmas.Option.{get_or_from_slice_get}
+use Rattle.nut_queue.specs.declared.limits.TheConstants.{ASKS_MAX}
 use Rattle.nut_words.specs.Lines.{LineText, as_line, last_of, parts}
 use Rattle.nut_words.specs.Cutter.{kept_of}
+use Rattle.nut_words.specs.declared.limits.TheConstants.{LINE_MAX}
 use Rattle.nut_proto.specs.declared.driver_ask.DriverAsk.TheVariants.{Ping, DumpAll}
 use Rattle.nut_proto.specs.DriverAsks.{ask_line}
 use Rattle.nut_proto.specs.Lines.{line}
 use Rattle.nut_history.specs.Configuration.{Configuration}
 use Rattle.nut_history.specs.Command.{command_of}
-use Rattle.nut_history.specs.Device.{Device, absent, is_past, fits, needs_ping, most_waiting}
+use Rattle.nut_history.specs.Device.{Device, absent, is_past, fits, needs_ping}
 use Rattle.nut_history.specs.Effect.{target, request_of}
 use Rattle.nut_history.specs.Event.{Event, Moment, Open, Bytes, Took, Close, WriteFailed, DriverUp, DriverBytes, DriverTook, DriverDown, Step, Clock, Said, Reported, input, driver_input, steps, with_lines, with_reports, brought}
 use Rattle.nut_history.specs.Answer.{device_at}
@@ -24,32 +26,32 @@ use Rattle.nut_history.proofs.Requests.{asked-fits}
 
 -- ---- lines
 
-pub line-bound : (text : List ℕ) → kept_of (as_line text) ≤ 512
+pub line-bound : (text : List ℕ) → kept_of (as_line text) ≤ LINE_MAX
 line-bound text =
-    elim (cases_Bool (leb (length text) 512)) [
-      | inl e ↦ rw e (leb-true (length text) 512 e)
+    elim (cases_Bool (leb (length text) LINE_MAX)) [
+      | inl e ↦ rw e (leb-true (length text) LINE_MAX e)
       | inr e ↦ rw e (omega arith)
     ]
 
 -- ---- what waits for a driver
 
 abbrev IsBounded : Configuration → List Entry → ℕ → Type 0
-IsBounded first t u = u < length (configuration first t).upses → length (driver_waits u t) ≤ most_waiting
+IsBounded first t u = u < length (configuration first t).upses → length (driver_waits u t) ≤ ASKS_MAX
 
-fits-bound : (line : List ℕ) (d : Device) → fits line d ≡ true → length d.waits + length line ≤ most_waiting
-fits-bound line d holds = leb-true (length d.waits + length line) most_waiting holds
+fits-bound : (line : List ℕ) (d : Device) → fits line d ≡ true → length d.waits + length line ≤ ASKS_MAX
+fits-bound line d holds = leb-true (length d.waits + length line) ASKS_MAX holds
 
 -- a request that fits behind what waits leaves it bounded
-asked-bound : (is : Bool) (m : ℕ) (due : List ℕ) (request : Option (List ℕ)) → length (if is then drop m due else []) ≤ most_waiting
-    → ((line : List ℕ) → request ≡ Some line → length (if is then drop m due else []) + length line ≤ most_waiting)
-    → length (if is then drop m (with_request request due) else []) ≤ most_waiting
+asked-bound : (is : Bool) (m : ℕ) (due : List ℕ) (request : Option (List ℕ)) → length (if is then drop m due else []) ≤ ASKS_MAX
+    → ((line : List ℕ) → request ≡ Some line → length (if is then drop m due else []) + length line ≤ ASKS_MAX)
+    → length (if is then drop m (with_request request due) else []) ≤ ASKS_MAX
 asked-bound true m due None bounded fit = bounded
 asked-bound true m due (Some line) bounded fit =
     omega (arith, fit line refl, length-drop m (due ++ line), length-drop m due, length-append due line)
 asked-bound false m due request bounded fit = omega arith
 
 -- less waits after some of it was taken
-drained-bound : (is : Bool) (m n : ℕ) (due : List ℕ) → length (if is then drop m due else []) ≤ most_waiting → length (if is then drop (m + n) due else []) ≤ most_waiting
+drained-bound : (is : Bool) (m n : ℕ) (due : List ℕ) → length (if is then drop m due else []) ≤ ASKS_MAX → length (if is then drop (m + n) due else []) ≤ ASKS_MAX
 drained-bound true m n due bounded = omega (arith, bounded, length-drop m due, length-drop (m + n) due)
 drained-bound false m n due bounded = omega arith
 
@@ -99,7 +101,7 @@ bounded-reports : (first : Configuration) (v u : ℕ) (ls : List LineText) (s : 
 bounded-reports first v u [] s bounded = bounded
 bounded-reports first v u (l ∷ ls) s bounded = bounded-reports first v u ls (Reported v l ∷ s) bounded
 
-dump-bound : length (ask_line DumpAll) ≤ most_waiting
+dump-bound : length (ask_line DumpAll) ≤ ASKS_MAX
 unfolding ask_line line
 dump-bound = omega arith
 

@@ -9,8 +9,9 @@ use Rattle.nut_history.specs.Laws.{ConnectionsAreFew}
 use Rattle.nut_history.proofs.Kept.{opened_lines, opened_reports}
 use Rattle.nut_history.proofs.Numbers.{numbers-rise}
 use Rattle.nut_history.proofs.Waiting.{configuration_stays, few_history, opened_few}
+use Rattle.nut_history.specs.declared.limits.TheConstants.{OPENED_MAX}
 
-opened-most : (first : Configuration) (h : List Event) → IsAccepted first h → opened (past first h) ≤ 4_294_967_295
+opened-most : (first : Configuration) (h : List Event) → IsAccepted first h → opened (past first h) ≤ OPENED_MAX
 opened-most first [] accepted = omega arith
 opened-most first (Moment t ∷ h) accepted = opened-most first h accepted.0
 opened-most first (Open address ∷ h) accepted = omega (arith, (opened_few (content first h) address accepted.1).2)

@@ -6,7 +6,9 @@ use Rattle.std.specs.Int.Signed.{mag}
 use Rattle.std.specs.List.{AllByRecursion}
 use Rattle.std.specs.Str.{bytes_eq}
 use Rattle.std.proofs.lemmas.Fmt.{length-decimal-le, length_signed_le}
+use Rattle.nut_conf.specs.declared.limits.TheConstants.{CONNECTIONS_MAX, DESCRIPTION_MAX}
 use Rattle.nut_words.specs.Quoting.{quoted}
+use Rattle.nut_words.specs.declared.limits.TheConstants.{NAME_MAX, UPS_NAME_MAX, VALUE_MAX}
 use Rattle.nut_proto.specs.declared.part.Part.TheVariants.{Word, Quoted, Number, QuotedNumber}
 use Rattle.nut_proto.specs.declared.refusal.Refusal.{Refusal}
 use Rattle.nut_proto.specs.declared.refusal.Refusal.TheVariants as refusals
@@ -22,6 +24,7 @@ use Rattle.nut_proto.specs.Replies.{reply_line, kind_part}
 use Rattle.nut_proto.specs.Requests.{begin_line, end_line}
 use Rattle.nut_history.specs.Limits.{IsTextWithin}
 use Rattle.nut_history.proofs.Lengths.{length-line, length-quoted, length-word, length-name}
+use Rattle.nut_history.specs.declared.limits.TheConstants.{ADDRESS_MAX}
 
 -- ---- lines that are always the same
 
@@ -77,25 +80,25 @@ length-commands = omega arith
 
 -- ---- lines of GET
 
-pub length-num_logins : (ups : List ℕ) (n : ℕ) → length ups ≤ 32 → n ≤ 256 → length (reply_line (replies.NumLogins ups n)) ≤ 1000
+pub length-num_logins : (ups : List ℕ) (n : ℕ) → length ups ≤ UPS_NAME_MAX → n ≤ CONNECTIONS_MAX → length (reply_line (replies.NumLogins ups n)) ≤ 1000
 unfolding reply_line
 length-num_logins ups n u few =
     omega (arith, length-line (Word (codes "NUMLOGINS")) (Word ups ∷ Number n ∷ []), length-word ups, length-word (decimal n), length-decimal-le 3 n (omega arith) (omega arith) (omega arith))
 
-pub length-ups_desc : (ups text : List ℕ) → length ups ≤ 32 → length text ≤ 128 → length (reply_line (replies.UpsDesc ups text)) ≤ 1000
+pub length-ups_desc : (ups text : List ℕ) → length ups ≤ UPS_NAME_MAX → length text ≤ DESCRIPTION_MAX → length (reply_line (replies.UpsDesc ups text)) ≤ 1000
 unfolding reply_line
 length-ups_desc ups text u t =
     omega (arith, length-line (Word (codes "UPSDESC")) (Word ups ∷ Quoted text ∷ []), length-word ups, length-quoted text)
 
-length-kind : (kind : VariableKind) → ((m : ℕ) → kind ≡ kinds.String m → m ≤ 128) → length (part_text (kind_part kind)) ≤ 24
+length-kind : (kind : VariableKind) → ((m : ℕ) → kind ≡ kinds.String m → m ≤ VALUE_MAX) → length (part_text (kind_part kind)) ≤ 24
 length-kind kinds.Enum few = omega arith
 length-kind kinds.Range few = omega arith
 length-kind (kinds.String m) few =
-    let most : m ≤ 128 = few m refl in
+    let most : m ≤ VALUE_MAX = few m refl in
     omega (arith, length-word (codes "STRING:" ++ decimal m), length-append (codes "STRING:") (decimal m), length-decimal-le 3 m (omega arith) (omega arith) (omega arith))
 length-kind kinds.Number few = omega arith
 
-pub length-type : (ups name : List ℕ) (writable : Bool) (kind : VariableKind) → length ups ≤ 32 → length name ≤ 64 → ((m : ℕ) → kind ≡ kinds.String m → m ≤ 128)
+pub length-type : (ups name : List ℕ) (writable : Bool) (kind : VariableKind) → length ups ≤ UPS_NAME_MAX → length name ≤ NAME_MAX → ((m : ℕ) → kind ≡ kinds.String m → m ≤ VALUE_MAX)
     → length (reply_line (replies.Type ups name writable kind)) ≤ 1000
 unfolding reply_line
 length-type ups name true kind u n few =
@@ -135,12 +138,12 @@ unfolding command_description
 length-command_text rows name short =
     length-told (beside name described_commands) (beside name rows) (short-beside name described_commands short-commands) (short-beside name rows short)
 
-pub length-desc : (ups name text : List ℕ) → length ups ≤ 32 → length name ≤ 64 → length text ≤ 128 → length (reply_line (replies.Desc ups name text)) ≤ 1000
+pub length-desc : (ups name text : List ℕ) → length ups ≤ UPS_NAME_MAX → length name ≤ NAME_MAX → length text ≤ 128 → length (reply_line (replies.Desc ups name text)) ≤ 1000
 unfolding reply_line
 length-desc ups name text u n t =
     omega (arith, length-line (Word (codes "DESC")) (Word ups ∷ Word name ∷ Quoted text ∷ []), length-word ups, length-word name, length-quoted text)
 
-pub length-cmd_desc : (ups name text : List ℕ) → length ups ≤ 32 → length name ≤ 64 → length text ≤ 128 → length (reply_line (replies.CmdDesc ups name text)) ≤ 1000
+pub length-cmd_desc : (ups name text : List ℕ) → length ups ≤ UPS_NAME_MAX → length name ≤ NAME_MAX → length text ≤ 128 → length (reply_line (replies.CmdDesc ups name text)) ≤ 1000
 unfolding reply_line
 length-cmd_desc ups name text u n t =
     omega (arith, length-line (Word (codes "CMDDESC")) (Word ups ∷ Word name ∷ Quoted text ∷ []), length-word ups, length-word name, length-quoted text)
@@ -148,30 +151,30 @@ length-cmd_desc ups name text u n t =
 -- ---- rows of lists
 
 -- by the length of the value between its quotes
-pub length-var : (ups name value : List ℕ) → IsName 32 ups → IsName 64 name → length (reply_line (replies.Var ups name value)) ≤ 103 + length (quoted value)
+pub length-var : (ups name value : List ℕ) → IsName UPS_NAME_MAX ups → IsName NAME_MAX name → length (reply_line (replies.Var ups name value)) ≤ 103 + length (quoted value)
 unfolding reply_line
 length-var ups name value u n =
-    omega (arith, length-line (Word (codes "VAR")) (Word ups ∷ Word name ∷ Quoted value ∷ []), length-name 32 ups u, length-name 64 name n)
+    omega (arith, length-line (Word (codes "VAR")) (Word ups ∷ Word name ∷ Quoted value ∷ []), length-name UPS_NAME_MAX ups u, length-name NAME_MAX name n)
 
-pub length-rw : (ups name value : List ℕ) → IsName 32 ups → IsName 64 name → length (reply_line (replies.Rw ups name value)) ≤ 103 + length (quoted value)
+pub length-rw : (ups name value : List ℕ) → IsName UPS_NAME_MAX ups → IsName NAME_MAX name → length (reply_line (replies.Rw ups name value)) ≤ 103 + length (quoted value)
 unfolding reply_line
 length-rw ups name value u n =
-    omega (arith, length-line (Word (codes "RW")) (Word ups ∷ Word name ∷ Quoted value ∷ []), length-name 32 ups u, length-name 64 name n)
+    omega (arith, length-line (Word (codes "RW")) (Word ups ∷ Word name ∷ Quoted value ∷ []), length-name UPS_NAME_MAX ups u, length-name NAME_MAX name n)
 
-pub length-ups : (ups text : List ℕ) → length ups ≤ 32 → length text ≤ 128 → length (reply_line (replies.Ups ups text)) ≤ 700
+pub length-ups : (ups text : List ℕ) → length ups ≤ UPS_NAME_MAX → length text ≤ DESCRIPTION_MAX → length (reply_line (replies.Ups ups text)) ≤ 700
 unfolding reply_line
 length-ups ups text u t = omega (arith, length-line (Word (codes "UPS")) (Word ups ∷ Quoted text ∷ []), length-word ups, length-quoted text)
 
-pub length-cmd : (ups name : List ℕ) → length ups ≤ 32 → length name ≤ 64 → length (reply_line (replies.Cmd ups name)) ≤ 700
+pub length-cmd : (ups name : List ℕ) → length ups ≤ UPS_NAME_MAX → length name ≤ NAME_MAX → length (reply_line (replies.Cmd ups name)) ≤ 700
 unfolding reply_line
 length-cmd ups name u n = omega (arith, length-line (Word (codes "CMD")) (Word ups ∷ Word name ∷ []), length-word ups, length-word name)
 
-pub length-enum : (ups name value : List ℕ) → length ups ≤ 32 → length name ≤ 64 → length value ≤ 128 → length (reply_line (replies.Enum ups name value)) ≤ 700
+pub length-enum : (ups name value : List ℕ) → length ups ≤ UPS_NAME_MAX → length name ≤ NAME_MAX → length value ≤ VALUE_MAX → length (reply_line (replies.Enum ups name value)) ≤ 700
 unfolding reply_line
 length-enum ups name value u n v =
     omega (arith, length-line (Word (codes "ENUM")) (Word ups ∷ Word name ∷ Quoted value ∷ []), length-word ups, length-word name, length-quoted value)
 
-pub length-range : (ups name : List ℕ) (low high : ℤ) → length ups ≤ 32 → length name ≤ 64 → mag low < 10 ^ 9 → mag high < 10 ^ 9
+pub length-range : (ups name : List ℕ) (low high : ℤ) → length ups ≤ UPS_NAME_MAX → length name ≤ NAME_MAX → mag low < 10 ^ 9 → mag high < 10 ^ 9
     → length (reply_line (replies.Range ups name low high)) ≤ 700
 unfolding reply_line
 length-range ups name low high u n l h =
@@ -186,42 +189,42 @@ length-range ups name low high u n l h =
       length_signed_le 10 high (omega arith) (omega arith),
     )
 
-pub length-client : (ups address : List ℕ) → length ups ≤ 32 → length address ≤ 64 → length (reply_line (replies.Client ups address)) ≤ 700
+pub length-client : (ups address : List ℕ) → length ups ≤ UPS_NAME_MAX → length address ≤ ADDRESS_MAX → length (reply_line (replies.Client ups address)) ≤ 700
 unfolding reply_line
 length-client ups address u a = omega (arith, length-line (Word (codes "CLIENT")) (Word ups ∷ Word address ∷ []), length-word ups, length-word address)
 
 -- ---- the lines around a list, where the names that its query has are within their limits
 
-pub length-marks_var : (ups : List ℕ) → IsName 32 ups → length (begin_line (queries.Var ups)) + length (end_line (queries.Var ups)) ≤ 94
+pub length-marks_var : (ups : List ℕ) → IsName UPS_NAME_MAX ups → length (begin_line (queries.Var ups)) + length (end_line (queries.Var ups)) ≤ 94
 unfolding begin_line end_line
 length-marks_var ups u =
-    omega (arith, length-line (Word (codes "BEGIN")) (Word (codes "LIST") ∷ Word (codes "VAR") ∷ Word ups ∷ []), length-line (Word (codes "END")) (Word (codes "LIST") ∷ Word (codes "VAR") ∷ Word ups ∷ []), length-name 32 ups u)
+    omega (arith, length-line (Word (codes "BEGIN")) (Word (codes "LIST") ∷ Word (codes "VAR") ∷ Word ups ∷ []), length-line (Word (codes "END")) (Word (codes "LIST") ∷ Word (codes "VAR") ∷ Word ups ∷ []), length-name UPS_NAME_MAX ups u)
 
-pub length-marks_rw : (ups : List ℕ) → IsName 32 ups → length (begin_line (queries.Rw ups)) + length (end_line (queries.Rw ups)) ≤ 94
+pub length-marks_rw : (ups : List ℕ) → IsName UPS_NAME_MAX ups → length (begin_line (queries.Rw ups)) + length (end_line (queries.Rw ups)) ≤ 94
 unfolding begin_line end_line
 length-marks_rw ups u =
-    omega (arith, length-line (Word (codes "BEGIN")) (Word (codes "LIST") ∷ Word (codes "RW") ∷ Word ups ∷ []), length-line (Word (codes "END")) (Word (codes "LIST") ∷ Word (codes "RW") ∷ Word ups ∷ []), length-name 32 ups u)
+    omega (arith, length-line (Word (codes "BEGIN")) (Word (codes "LIST") ∷ Word (codes "RW") ∷ Word ups ∷ []), length-line (Word (codes "END")) (Word (codes "LIST") ∷ Word (codes "RW") ∷ Word ups ∷ []), length-name UPS_NAME_MAX ups u)
 
 pub length-marks_ups : length (begin_line queries.Ups) + length (end_line queries.Ups) ≤ 1000
 unfolding begin_line end_line line
 length-marks_ups = omega arith
 
-pub length-marks_cmd : (ups : List ℕ) → length ups ≤ 32 → length (begin_line (queries.Cmd ups)) + length (end_line (queries.Cmd ups)) ≤ 1000
+pub length-marks_cmd : (ups : List ℕ) → length ups ≤ UPS_NAME_MAX → length (begin_line (queries.Cmd ups)) + length (end_line (queries.Cmd ups)) ≤ 1000
 unfolding begin_line end_line
 length-marks_cmd ups u =
     omega (arith, length-line (Word (codes "BEGIN")) (Word (codes "LIST") ∷ Word (codes "CMD") ∷ Word ups ∷ []), length-line (Word (codes "END")) (Word (codes "LIST") ∷ Word (codes "CMD") ∷ Word ups ∷ []), length-word ups)
 
-pub length-marks_client : (ups : List ℕ) → length ups ≤ 32 → length (begin_line (queries.Client ups)) + length (end_line (queries.Client ups)) ≤ 1000
+pub length-marks_client : (ups : List ℕ) → length ups ≤ UPS_NAME_MAX → length (begin_line (queries.Client ups)) + length (end_line (queries.Client ups)) ≤ 1000
 unfolding begin_line end_line
 length-marks_client ups u =
     omega (arith, length-line (Word (codes "BEGIN")) (Word (codes "LIST") ∷ Word (codes "CLIENT") ∷ Word ups ∷ []), length-line (Word (codes "END")) (Word (codes "LIST") ∷ Word (codes "CLIENT") ∷ Word ups ∷ []), length-word ups)
 
-pub length-marks_enum : (ups name : List ℕ) → length ups ≤ 32 → length name ≤ 64 → length (begin_line (queries.Enum ups name)) + length (end_line (queries.Enum ups name)) ≤ 1000
+pub length-marks_enum : (ups name : List ℕ) → length ups ≤ UPS_NAME_MAX → length name ≤ NAME_MAX → length (begin_line (queries.Enum ups name)) + length (end_line (queries.Enum ups name)) ≤ 1000
 unfolding begin_line end_line
 length-marks_enum ups name u n =
     omega (arith, length-line (Word (codes "BEGIN")) (Word (codes "LIST") ∷ Word (codes "ENUM") ∷ Word ups ∷ Word name ∷ []), length-line (Word (codes "END")) (Word (codes "LIST") ∷ Word (codes "ENUM") ∷ Word ups ∷ Word name ∷ []), length-word ups, length-word name)
 
-pub length-marks_range : (ups name : List ℕ) → length ups ≤ 32 → length name ≤ 64 → length (begin_line (queries.Range ups name)) + length (end_line (queries.Range ups name)) ≤ 1000
+pub length-marks_range : (ups name : List ℕ) → length ups ≤ UPS_NAME_MAX → length name ≤ NAME_MAX → length (begin_line (queries.Range ups name)) + length (end_line (queries.Range ups name)) ≤ 1000
 unfolding begin_line end_line
 length-marks_range ups name u n =
     omega (arith, length-line (Word (codes "BEGIN")) (Word (codes "LIST") ∷ Word (codes "RANGE") ∷ Word ups ∷ Word name ∷ []), length-line (Word (codes "END")) (Word (codes "LIST") ∷ Word (codes "RANGE") ∷ Word ups ∷ Word name ∷ []), length-word ups, length-word name)

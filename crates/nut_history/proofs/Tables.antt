@@ -10,6 +10,7 @@ use Rattle.std.specs.Str.{bytes_eq}
 use Rattle.std.proofs.lemmas.Bool.{cases_Bool}
 use Rattle.std.proofs.lemmas.Bool.Decides.{nat_tests}
 use Rattle.nut_words.specs.Reader.{spelled}
+use Rattle.nut_words.specs.declared.limits.TheConstants.{NAME_MAX}
 use Rattle.nut_state.specs.declared.number.Range.{Range}
 use Rattle.nut_state.specs.Change.{Change, add_range, asked_by, asked, heard, word}
 use Rattle.nut_state.specs.Holds.{EveryTableHolds, IsTable, IsWithinLimits}
@@ -253,15 +254,15 @@ pub variable_within : (t : Table) (name : List ℕ) (v : Entry) → IsShortTable
 variable_within t name v short is = All-named (λ (v : Entry). v.name) IsWithinLimits name t.variables v short.in_order.each_within is
 
 -- the name of a variable that there is, and of a command
-pub variable_named : (t : Table) (name : List ℕ) (v : Entry) → IsShortTable t → variable t name ≡ Some v → IsName 64 name
+pub variable_named : (t : Table) (name : List ℕ) (v : Entry) → IsShortTable t → variable t name ≡ Some v → IsName NAME_MAX name
 variable_named t name v short is =
     let own : v.name ≡ name = name-named (λ (v : Entry). v.name) name t.variables v is in
-    subst (IsName 64) own (name_within 64 v.name (variable_within t name v short is).name)
+    subst (IsName NAME_MAX) own (name_within NAME_MAX v.name (variable_within t name v short is).name)
 
-pub command_named : (t : Table) (name : List ℕ) → IsShortTable t → has_command t name ≡ true → IsName 64 name
+pub command_named : (t : Table) (name : List ℕ) → IsShortTable t → has_command t name ≡ true → IsName NAME_MAX name
 command_named t name short is = by_found (named (λ (command : List ℕ). command) name t.commands) refl is where
-  by_found : (o : Option (List ℕ)) → named (λ (command : List ℕ). command) name t.commands ≡ o → is_some o ≡ true → IsName 64 name
+  by_found : (o : Option (List ℕ)) → named (λ (command : List ℕ). command) name t.commands ≡ o → is_some o ≡ true → IsName NAME_MAX name
   by_found None found some = absurd (cc)
   by_found (Some x) found some =
       let own : x ≡ name = name-named (λ (command : List ℕ). command) name t.commands x found in
-      subst (IsName 64) own (name_within 64 x (All-named (λ (command : List ℕ). command) (λ (command : List ℕ). is_name command ≡ true) name t.commands x short.in_order.each_command found))
+      subst (IsName NAME_MAX) own (name_within NAME_MAX x (All-named (λ (command : List ℕ). command) (λ (command : List ℕ). is_name command ≡ true) name t.commands x short.in_order.each_command found))

@@ -4,6 +4,7 @@ use Rattle.std.specs.Prelude.{Result, Ok, Err, IsTrue, option_map, slice_get}
 use Rattle.std.specs.Option.{option_map_or}
 use Rattle.nut_words.specs.Lines.{LineText, lines_after}
 use Rattle.std.proofs.lemmas.Bool.{cases_Bool, ltb-false, le-ltb}
+use Rattle.nut_words.specs.declared.limits.TheConstants.{PIECE_MAX}
 use Rattle.nut_history.specs.declared.Place.{Place}
 use Rattle.nut_history.specs.declared.Place.TheVariants.{Line, Report}
 use Rattle.nut_history.specs.declared.Refused.{Refused}
@@ -39,15 +40,15 @@ front_short (suc k) (b ∷ piece) =
     ]
 
 -- a piece that isn't too long has no front that is
-front_fits : (k : ℕ) (piece : List ℕ) → ltb 512 (length piece) ≡ false → ltb 512 (length (front k piece)) ≡ false
-front_fits k piece fits = le-ltb 512 (length (front k piece)) (omega (arith, front_short k piece, ltb-false 512 (length piece) fits))
+front_fits : (k : ℕ) (piece : List ℕ) → ltb PIECE_MAX (length piece) ≡ false → ltb PIECE_MAX (length (front k piece)) ≡ false
+front_fits k piece fits = le-ltb PIECE_MAX (length (front k piece)) (omega (arith, front_short k piece, ltb-false PIECE_MAX (length piece) fits))
 
 -- ---- a piece of a connection
 
 shorter : (k : ℕ) (piece : List ℕ) (o : Option Session) → bytes_refusal piece o ≡ None → bytes_refusal (front k piece) o ≡ None
 shorter k piece None accepted = cc
 shorter k piece (Some j) accepted =
-    elim (cases_Bool (ltb 512 (length piece))) [
+    elim (cases_Bool (ltb PIECE_MAX (length piece))) [
       | inl e ↦ absurd (let bad = rw e at accepted in cc)
       | inr e ↦ rw (front_fits k piece e) (rw e at accepted)
     ]
@@ -77,7 +78,7 @@ shorter_report k piece None accepted = cc
 shorter_report k piece (Some d) accepted =
     elim (cases_Bool d.device.connected) [
       | inr e ↦ absurd (let bad = rw e at accepted in cc)
-      | inl e ↦ rw e (elim (cases_Bool (ltb 512 (length piece))) [
+      | inl e ↦ rw e (elim (cases_Bool (ltb PIECE_MAX (length piece))) [
         | inl f ↦ absurd (let bad = rw (e, f) at accepted in cc)
         | inr f ↦ rw (front_fits k piece f) refl
       ])

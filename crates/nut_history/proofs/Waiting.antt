@@ -4,9 +4,11 @@ use Rattle.std.specs.Prelude.{◌&&◌, if◌then◌else◌, not, nat_lt, nat_le
 use Rattle.std.specs.List.{AllByRecursion, list_all}
 use Rattle.std.proofs.lemmas.Bool.{cases_Bool, eqb-true, ltb-true, ltb-false, leb-true}
 use Rattle.std.proofs.lemmas.List.{length-map}
+use Rattle.nut_conf.specs.declared.limits.TheConstants.{CONNECTIONS_MAX}
 use Rattle.nut_words.specs.Lines.{LineText, Text, TooLong, joined}
 use Rattle.nut_words.specs.Reader as reader
 use Rattle.nut_words.specs.Spelling.{is_bare}
+use Rattle.nut_words.specs.declared.limits.TheConstants.{PIECE_MAX}
 use Rattle.nut_state.specs.Holds.{EveryTableHolds}
 use Rattle.nut_state.specs.Table.{empty}
 use Rattle.nut_history.specs.declared.Refused.TheVariants.{PieceTooLong, Busy, BadAddress, Full}
@@ -28,13 +30,14 @@ use Rattle.nut_history.proofs.Kept.{keeps-content}
 use Rattle.nut_history.proofs.Others.{advance-other, advance-took, advance-close, advance-write_failed, opened-fresh}
 use Rattle.nut_history.proofs.Sessions.{session_of-update}
 use Rattle.nut_history.proofs.Tables.{IsShortTable, table_short}
+use Rattle.nut_history.specs.declared.limits.TheConstants.{ADDRESS_MAX, OPENED_MAX}
 
 -- ---- who is open
 
--- so many are open at most, and the address of each has at most 64 bytes
+-- so many are open at most, and the address of each has at most ADDRESS_MAX bytes
 pub record AreFew (m : ℕ) (ks : List Session) : Type 0 where
   pub few : length ks ≤ m
-  pub addresses : AllByRecursion (λ k. length k.address ≤ 64) ks
+  pub addresses : AllByRecursion (λ k. length k.address ≤ ADDRESS_MAX) ks
 
 few_update : (m c : ℕ) (change : Session → Session) (ks : List Session) → ((k : Session) → (change k).address ≡ k.address) → AreFew m ks → AreFew m (update c change ks)
 few_update m c change ks keeps are = record { few = omega (arith, as_long ks, are.few); addresses = each ks are.addresses } where
@@ -42,7 +45,7 @@ few_update m c change ks keeps are = record { few = omega (arith, as_long ks, ar
   as_long [] = refl
   as_long (k ∷ ks) = elim (cases_Bool (eqb k.number c)) [ inl e ↦ rw e refl | inr e ↦ rw e (ap suc (as_long ks)) ]
 
-  each : (ks : List Session) → AllByRecursion (λ k. length k.address ≤ 64) ks → AllByRecursion (λ k. length k.address ≤ 64) (update c change ks)
+  each : (ks : List Session) → AllByRecursion (λ k. length k.address ≤ ADDRESS_MAX) ks → AllByRecursion (λ k. length k.address ≤ ADDRESS_MAX) (update c change ks)
   each [] all = tt
   each (k ∷ ks) all =
       elim (cases_Bool (eqb k.number c)) [
@@ -77,18 +80,18 @@ both : (a b : Bool) → (a && b) ≡ true → (a ≡ true) × (b ≡ true)
 both true b e = (refl, e)
 both false b e = absurd (cc)
 
--- an address that is accepted has at most 64 bytes, and there is room and a number
+-- an address that is accepted has at most ADDRESS_MAX bytes, and there is room and a number
 pub opened_few : (s : Content) (address : List ℕ) → open_refusal s address ≡ None
-    → (length address ≤ 64) × (length s.sessions < s.configuration.most_connections) × (s.opened < 4_294_967_295)
+    → (length address ≤ ADDRESS_MAX) × (length s.sessions < s.configuration.most_connections) × (s.opened < OPENED_MAX)
 opened_few s address accepted =
     elim (cases_Bool (is_address address)) [
       | inl e ↦
-          elim (cases_Bool (nat_lt (length s.sessions) s.configuration.most_connections && nat_lt s.opened 4_294_967_295)) [
+          elim (cases_Bool (nat_lt (length s.sessions) s.configuration.most_connections && nat_lt s.opened OPENED_MAX)) [
             | inl f ↦
-                let sizes = both (nat_le 1 (length address) && nat_le (length address) 64) (list_all is_bare address) e in
-                let most = both (nat_le 1 (length address)) (nat_le (length address) 64) sizes.0 in
-                let room = both (nat_lt (length s.sessions) s.configuration.most_connections) (nat_lt s.opened 4_294_967_295) f in
-                (leb-true (length address) 64 most.1, ltb-true (length s.sessions) s.configuration.most_connections room.0, ltb-true s.opened 4_294_967_295 room.1)
+                let sizes = both (nat_le 1 (length address) && nat_le (length address) ADDRESS_MAX) (list_all is_bare address) e in
+                let most = both (nat_le 1 (length address)) (nat_le (length address) ADDRESS_MAX) sizes.0 in
+                let room = both (nat_lt (length s.sessions) s.configuration.most_connections) (nat_lt s.opened OPENED_MAX) f in
+                (leb-true (length address) ADDRESS_MAX most.1, ltb-true (length s.sessions) s.configuration.most_connections room.0, ltb-true s.opened OPENED_MAX room.1)
             | inr f ↦ absurd (let bad : Some Full ≡ None = rw (e, f) at accepted in cc)
           ]
       | inr e ↦ absurd (let bad : Some BadAddress ≡ None = rw e at accepted in cc)
@@ -99,7 +102,7 @@ few_advance s (Moment t) accepted are = are
 few_advance s (Open address) accepted are =
     let k = fresh (s.opened + 1) address in
     let room = opened_few s address accepted in
-    record { few = omega (arith, length-append s.sessions (k ∷ []), room.1); addresses = all_append (λ k. length k.address ≤ 64) s.sessions (k ∷ []) are.addresses (room.0, tt) }
+    record { few = omega (arith, length-append s.sessions (k ∷ []), room.1); addresses = all_append (λ k. length k.address ≤ ADDRESS_MAX) s.sessions (k ∷ []) are.addresses (room.0, tt) }
 few_advance s (Bytes c piece) accepted are = few_bytes s.configuration.most_connections c piece s are
 few_advance s (Took c n) accepted are = few_update s.configuration.most_connections c (λ k. record k { waits = drop n k.waits }) s.sessions (λ k. refl) are
 few_advance s (Close c) accepted are = few_without s.configuration.most_connections c s.sessions are
@@ -130,7 +133,7 @@ pub record IsShort (s : Content) : Type 0 where
   pub configured : IsWithin s.configuration
   pub tables : AllByRecursion (λ d. IsShortTable d.device.table) s.supplies
   pub nothing : IsShortTable empty
-  pub sessions : AreFew 256 s.sessions
+  pub sessions : AreFew CONNECTIONS_MAX s.sessions
 
 scene_short : (s : Content) → IsShort s → IsShortScene (scene_of s)
 scene_short s short = record {
@@ -144,7 +147,7 @@ scene_short s short = record {
   each_device [] all = tt
   each_device (d ∷ ds) all = (all.0, each_device ds all.1)
 
-  each_guest : (ks : List Session) → AllByRecursion (λ k. length k.address ≤ 64) ks → AllByRecursion (λ (g : Guest). length g.address ≤ 64) (map guest_of ks)
+  each_guest : (ks : List Session) → AllByRecursion (λ k. length k.address ≤ ADDRESS_MAX) ks → AllByRecursion (λ (g : Guest). length g.address ≤ ADDRESS_MAX) (map guest_of ks)
   each_guest [] all = tt
   each_guest (k ∷ ks) all = (all.0, each_guest ks all.1)
 
@@ -168,7 +171,7 @@ short_line c (Some k) s short =
       configured = short.configured;
       tables = tables_acted (target s.configuration command) command reply s.supplies short.tables;
       nothing = short.nothing;
-      sessions = few_answer 256 c command reply s short.sessions;
+      sessions = few_answer CONNECTIONS_MAX c command reply s short.sessions;
     }
 
 short_byte : (c b : ℕ) (s : Content) → IsShort s → IsShort (byte_heard c b s)
@@ -179,7 +182,7 @@ short_byte c b s short =
         configured = short.configured;
         tables = short.tables;
         nothing = short.nothing;
-        sessions = few_update 256 c (λ k. with_rest (joined k.rest (b ∷ [])) k) s.sessions (λ k. refl) short.sessions;
+        sessions = few_update CONNECTIONS_MAX c (λ k. with_rest (joined k.rest (b ∷ [])) k) s.sessions (λ k. refl) short.sessions;
       })
     ]
 
@@ -303,22 +306,22 @@ served_bytes c [] n m s le short served = λ k there.
 served_bytes c (b ∷ bytes) n m s le short served = served_bytes c bytes (n + 1) m (byte_heard c b s) (omega arith) (short_byte c b s short) (served_byte c b n s short served)
 
 -- a piece that is accepted is short, and nothing waits
-pub piece_accepted : (piece : List ℕ) (o : Option Session) → bytes_refusal piece o ≡ None → (length piece ≤ 512) × (length (waiting_in o) ≤ 0)
+pub piece_accepted : (piece : List ℕ) (o : Option Session) → bytes_refusal piece o ≡ None → (length piece ≤ PIECE_MAX) × (length (waiting_in o) ≤ 0)
 piece_accepted piece None accepted = absurd (cc)
 piece_accepted piece (Some k) accepted =
-    elim (cases_Bool (nat_lt 512 (length piece))) [
+    elim (cases_Bool (nat_lt PIECE_MAX (length piece))) [
       | inl e ↦ absurd (let bad : Some PieceTooLong ≡ None = rw e at accepted in cc)
       | inr e ↦
           elim (cases_Bool (nat_lt 0 (length k.waits))) [
             | inl f ↦ absurd (let bad : Some Busy ≡ None = rw (e, f) at accepted in cc)
-            | inr f ↦ (ltb-false 512 (length piece) e, ltb-false 0 (length k.waits) f)
+            | inr f ↦ (ltb-false PIECE_MAX (length piece) e, ltb-false 0 (length k.waits) f)
           ]
     ]
 
 piece_bounded : (s : Content) (c : ℕ) (piece : List ℕ) (k : Session) → IsShort s → refusal s (Bytes c piece) ≡ None → session_of c (bytes_heard c piece s).sessions ≡ Some k → length k.waits ≤ most_waits
 piece_bounded s c piece k short accepted there =
     let before = piece_accepted piece (session_of c s.sessions) accepted in
-    let served = served_bytes c piece 1 513 s (omega (arith, before.0)) short (λ j is. record {
+    let served = served_bytes c piece 1 (PIECE_MAX + 1) s (omega (arith, before.0)) short (λ j is. record {
       lines = 0;
       answers = omega (arith, before.1, ap (λ o. length (waiting_in o)) is);
       heard = omega (arith, unfinished-le j.rest);

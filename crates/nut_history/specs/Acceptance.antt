@@ -1,13 +1,16 @@
 -- Which events a server refuses, in the order of the tests, and the histories of events that it didn't refuse.
 use Rattle.std.specs.Prelude.{ℕ, zero, suc, ◌≡◌, ◌==◌, nat_lt, nat_le, Bool, false, not, ◌&&◌, if◌then◌else◌, List, [], ◌∷◌, length, find, slice_get, Option, Some, None}
 use Rattle.std.specs.List.{list_all}
+use Rattle.nut_words.specs.Bytes.{line_feed}
 use Rattle.nut_words.specs.Spelling.{is_bare}
 use Rattle.nut_words.specs.Cutter.{kept_of}
+use Rattle.nut_words.specs.declared.limits.TheConstants.{PIECE_MAX}
 use Rattle.nut_history.specs.declared.Refused.{Refused}
 use Rattle.nut_history.specs.declared.Refused.TheVariants.{NoSuchConnection, NotConnected, PieceTooLong, Busy, TooMuchTaken, BadAddress, Full}
 use Rattle.nut_history.specs.Configuration.{Configuration}
 use Rattle.nut_history.specs.Event.{Event, Moment, Open, Bytes, Took, Close, WriteFailed, DriverUp, DriverBytes, DriverTook, DriverDown}
 use Rattle.nut_history.specs.Content.{Session, Supply, Content, content}
+use Rattle.nut_history.specs.declared.limits.TheConstants.{ADDRESS_MAX, OPENED_MAX}
 
 -- the session of the connection c, where it is open
 abbrev pub session_of : ℕ → List Session → Option Session
@@ -17,21 +20,21 @@ session_of c sessions = find (λ k. k.number == c) sessions
 abbrev pub supply_of : ℕ → List Supply → Option Supply
 supply_of u supplies = slice_get supplies u
 
--- 1 to 64 bytes, each of which may stand in a bare word
+-- 1 to ADDRESS_MAX bytes, each of which may stand in a bare word
 abbrev pub is_address : List ℕ → Bool
-is_address address = nat_le 1 (length address) && nat_le (length address) 64 && list_all is_bare address
+is_address address = nat_le 1 (length address) && nat_le (length address) ADDRESS_MAX && list_all is_bare address
 
 -- A connection is refused for its address, and then where as many are open or were opened as may be.
 abbrev pub open_refusal : Content → List ℕ → Option Refused
 open_refusal s address =
     if not (is_address address) then Some BadAddress else
-    if not (nat_lt (length s.sessions) s.configuration.most_connections && nat_lt s.opened 4_294_967_295) then Some Full else None
+    if not (nat_lt (length s.sessions) s.configuration.most_connections && nat_lt s.opened OPENED_MAX) then Some Full else None
 
--- Of an open connection come pieces of at most 512 bytes, and none while answers wait for it.
+-- Of an open connection come pieces of at most PIECE_MAX bytes, and none while answers wait for it.
 abbrev pub bytes_refusal : List ℕ → Option Session → Option Refused
 bytes_refusal piece None = Some NoSuchConnection
 bytes_refusal piece (Some k) =
-    if nat_lt 512 (length piece) then Some PieceTooLong else
+    if nat_lt PIECE_MAX (length piece) then Some PieceTooLong else
     if nat_lt 0 (length k.waits) then Some Busy else None
 
 -- An open connection takes no more than waits for it.
@@ -49,12 +52,12 @@ abbrev pub up_refusal : Option Supply → Option Refused
 up_refusal None = Some NotConnected
 up_refusal (Some d) = None
 
--- Of a connected driver come pieces of at most 512 bytes.
+-- Of a connected driver come pieces of at most PIECE_MAX bytes.
 abbrev pub report_refusal : List ℕ → Option Supply → Option Refused
 report_refusal piece None = Some NotConnected
 report_refusal piece (Some d) =
     if not d.device.connected then Some NotConnected else
-    if nat_lt 512 (length piece) then Some PieceTooLong else None
+    if nat_lt PIECE_MAX (length piece) then Some PieceTooLong else None
 
 -- A connected driver takes no more than waits for it.
 abbrev pub drain_refusal : ℕ → Option Supply → Option Refused
@@ -94,7 +97,7 @@ Tells first h s = IsAccepted first h × (s ≡ content first h)
 abbrev pub front : ℕ → List ℕ → List ℕ
 front zero piece = []
 front (suc k) [] = []
-front (suc k) (b ∷ piece) = b ∷ (if b == 10 then front k piece else front (suc k) piece)
+front (suc k) (b ∷ piece) = b ∷ (if b == line_feed then front k piece else front (suc k) piece)
 
 -- the history behind k lines of a piece of c, and behind k lines of a piece of the driver of u
 abbrev pub behind : ℕ → List ℕ → ℕ → List Event → List Event
@@ -116,7 +119,7 @@ lost_report u piece k h = DriverDown u ∷ behind_report u piece k h
 -- how many lines a piece completes
 abbrev pub line_feeds : List ℕ → ℕ
 line_feeds [] = 0
-line_feeds (b ∷ piece) = if b == 10 then suc (line_feeds piece) else line_feeds piece
+line_feeds (b ∷ piece) = if b == line_feed then suc (line_feeds piece) else line_feeds piece
 
 -- what a connection awaits, nothing where there is none
 abbrev pub waiting_in : Option Session → List ℕ

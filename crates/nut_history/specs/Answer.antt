@@ -2,13 +2,13 @@
 use Rattle.std.specs.Prelude.{ℕ, ℤ, ◌==◌, Bool, true, false, not, ◌&&◌, ◌||◌, nat_lt, int_le, if◌then◌else◌, List, [], ◌∷◌, ◌++◌, codes, length, map, filter, flat_map, slice_index_or, Option, Some, None, is_some, is_none}
 use Rattle.std.specs.List.{list_any}
 use Rattle.std.specs.Str.{bytes_eq}
+use Rattle.nut_words.specs.declared.limits.TheConstants.{VALUE_MAX}
 use Rattle.nut_conf.specs.declared.users.Action.TheVariants as actions
 use Rattle.nut_conf.specs.declared.users.Role.{Role}
 use Rattle.nut_conf.specs.declared.users.Role.TheVariants as roles
 use Rattle.nut_state.specs.Attribute.{lists_enum}
 use Rattle.nut_state.specs.Number.{whole_number}
 use Rattle.nut_state.specs.Table.{Entry, variable, has_command}
-use Rattle.nut_state.specs.declared.limits.TheConstants.{VALUE_BYTES}
 use Rattle.nut_state.specs.declared.number.Range.{Range}
 use Rattle.nut_proto.specs.declared.refusal.Refusal.{Refusal}
 use Rattle.nut_proto.specs.declared.refusal.Refusal.TheVariants as refusals
@@ -218,7 +218,7 @@ misfit_by kinds.Number v value = None
 abbrev pub misfit : Entry → List ℕ → Option Refusal
 misfit v value =
     if not v.flags.writable then Some refusals.ReadOnly else
-    if nat_lt VALUE_BYTES (length value) then Some refusals.TooLong else misfit_by (kind_of v) v value
+    if nat_lt VALUE_MAX (length value) then Some refusals.TooLong else misfit_by (kind_of v) v value
 
 -- the request to the driver fits behind those that wait for it, or the client is refused
 abbrev pub handed_on : Refusal → List ℕ → Device → Answer

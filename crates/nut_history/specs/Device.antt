@@ -1,6 +1,7 @@
 -- A UPS as its driver has told it, and how far that can be relied on (NUT developer guide, chapter 5).
 use Rattle.std.specs.Prelude.{ℕ, ◌+◌, ◌/◌, Bool, true, false, not, ◌&&◌, ◌||◌, nat_lt, nat_le, if◌then◌else◌, List, [], length, Option, Some, None}
 use Rattle.std.specs.Option.{option_map_or}
+use Rattle.nut_queue.specs.declared.limits.TheConstants.{ASKS_MAX}
 use Rattle.nut_state.specs.Table.{Table, empty}
 use Rattle.nut_proto.specs.declared.refusal.Refusal.{Refusal}
 use Rattle.nut_proto.specs.declared.refusal.Refusal.TheVariants.{DriverNotConnected, DataStale}
@@ -37,13 +38,9 @@ trouble max_age clock d =
     if not d.connected then Some DriverNotConnected else
     if is_stale max_age clock d then Some DataStale else None
 
--- how many bytes may wait for a driver
-abbrev pub most_waiting : ℕ
-most_waiting = 4096
-
--- a request fits behind those that wait
+-- a request fits behind those that wait, of at most ASKS_MAX bytes in all
 abbrev pub fits : List ℕ → Device → Bool
-fits line d = nat_le (length d.waits + length line) most_waiting
+fits line d = nat_le (length d.waits + length line) ASKS_MAX
 
 -- A connected driver is asked PING where a third of MAXAGE has passed since the last line that was heard of it, and since
 -- the last PING; one that doesn't fit is left out.

@@ -1,5 +1,6 @@
 -- Histories of drivers and users, and what is answered in them: each of these is computed from the definitions.
-use Rattle.std.specs.Prelude.{◌≡◌, ℕ, true, false, List, [], ◌∷◌, ◌++◌, codes, Some, None}
+use Rattle.std.specs.Prelude.{◌≡◌, ℕ, ◌+◌, true, false, List, [], ◌∷◌, ◌++◌, codes, Some, None}
+use Rattle.nut_words.specs.declared.limits.TheConstants.{PIECE_MAX, VALUE_MAX}
 use Rattle.nut_conf.specs.declared.users.Action.TheVariants as actions
 use Rattle.nut_conf.specs.declared.users.Role.TheVariants as roles
 use Rattle.nut_proto.specs.declared.refusal.Refusal.TheVariants.{SetFailed}
@@ -102,8 +103,8 @@ pub record DriverExamples : Type 0 where
   pub no_ping_where_heard : asked (Moment 8 ∷ DriverBytes 0 (codes "DATAOK\n") ∷ Moment 3 ∷ live) ≡ []
   pub accepted : IsAccepted room (Moment 6 ∷ live)
   pub no_such_ups : refusal (content room quiet) (DriverUp 1) ≡ Some NotConnected
-  pub not_connected_before_too_long : refusal (content room quiet) (DriverBytes 0 (many 513 65)) ≡ Some NotConnected
-  pub long_report : refusal (content room joined_up) (DriverBytes 0 (many 513 65)) ≡ Some PieceTooLong
+  pub not_connected_before_too_long : refusal (content room quiet) (DriverBytes 0 (many (PIECE_MAX + 1) 65)) ≡ Some NotConnected
+  pub long_report : refusal (content room joined_up) (DriverBytes 0 (many (PIECE_MAX + 1) 65)) ≡ Some PieceTooLong
   pub too_much : refusal (content room joined_up) (DriverTook 0 1) ≡ Some TooMuchTaken
   pub gone_already : refusal (content room (DriverDown 0 ∷ joined_up)) (DriverDown 0) ≡ Some NotConnected
 
@@ -139,8 +140,8 @@ pub record UserExamples : Type 0 where
   pub no_driver_before_no_variable : answers_to (as_admin ++ codes "SET VAR su700 x x\n") quiet ≡ codes "OK\nOK\nERR DRIVER-NOT-CONNECTED\n"
   pub no_variable : answers_to (as_admin ++ codes "SET VAR su700 x x\n") live ≡ codes "OK\nOK\nERR VAR-NOT-SUPPORTED\n"
   pub read_only : answers_to (as_admin ++ codes "SET VAR su700 ups.status x\n") live ≡ codes "OK\nOK\nERR READONLY\n"
-  pub read_only_before_too_long : answers_to (as_admin ++ codes "SET VAR su700 ups.status " ++ many 129 65 ++ codes "\n") live ≡ codes "OK\nOK\nERR READONLY\n"
-  pub too_long_before_out_of_range : answers_to (as_admin ++ codes "SET VAR su700 battery.charge.low " ++ many 129 65 ++ codes "\n") live ≡ codes "OK\nOK\nERR TOO-LONG\n"
+  pub read_only_before_too_long : answers_to (as_admin ++ codes "SET VAR su700 ups.status " ++ many (VALUE_MAX + 1) 65 ++ codes "\n") live ≡ codes "OK\nOK\nERR READONLY\n"
+  pub too_long_before_out_of_range : answers_to (as_admin ++ codes "SET VAR su700 battery.charge.low " ++ many (VALUE_MAX + 1) 65 ++ codes "\n") live ≡ codes "OK\nOK\nERR TOO-LONG\n"
   pub out_of_range : answers_to (as_admin ++ codes "SET VAR su700 battery.charge.low 91\n") live ≡ codes "OK\nOK\nERR INVALID-VALUE\n"
   pub set : answers_to (as_admin ++ codes "SET VAR su700 battery.charge.low 90\n") live ≡ codes "OK\nOK\nOK\n"
   pub set_is_asked : asked (Bytes 1 (as_admin ++ codes "SET VAR su700 battery.charge.low 90\n") ∷ live) ≡ codes "SET battery.charge.low \"90\"\n"

@@ -1,5 +1,6 @@
 -- Histories of connections, and what is answered in them: each of these is computed from the definitions.
-use Rattle.std.specs.Prelude.{◌≡◌, ℕ, zero, suc, List, [], ◌∷◌, codes, Some}
+use Rattle.std.specs.Prelude.{◌≡◌, ℕ, ◌+◌, zero, suc, List, [], ◌∷◌, codes, Some}
+use Rattle.nut_words.specs.declared.limits.TheConstants.{LINE_MAX, PIECE_MAX}
 use Rattle.nut_history.specs.declared.Refused.TheVariants.{NoSuchConnection, PieceTooLong, Busy, TooMuchTaken, BadAddress, Full}
 use Rattle.nut_history.specs.Configuration.{Configuration}
 use Rattle.nut_history.specs.Event.{Event, Open, Bytes, Took, Close, WriteFailed}
@@ -60,14 +61,14 @@ pub record ConnectionExamples : Type 0 where
   pub unknown_command : answers_to (codes "FOO\n") ≡ codes "ERR UNKNOWN-COMMAND\n"
   pub open_quote : answers_to (codes "\"a\n") ≡ codes "ERR INVALID-ARGUMENT\n"
   pub after_logout : answers_to (codes "LOGOUT\nVER\n") ≡ codes "OK Goodbye\n"
-  pub longest_line : answers (Bytes 1 (codes "\n") ∷ Bytes 1 (many 512 65) ∷ one_open) ≡ codes "ERR UNKNOWN-COMMAND\n"
-  pub too_long_line : answers (Bytes 1 (codes "A\nVER\n") ∷ Bytes 1 (many 512 65) ∷ one_open) ≡ codes "ERR INVALID-ARGUMENT\nNetwork UPS Tools upsd profile 1.2\n"
+  pub longest_line : answers (Bytes 1 (codes "\n") ∷ Bytes 1 (many LINE_MAX 65) ∷ one_open) ≡ codes "ERR UNKNOWN-COMMAND\n"
+  pub too_long_line : answers (Bytes 1 (codes "A\nVER\n") ∷ Bytes 1 (many LINE_MAX 65) ∷ one_open) ≡ codes "ERR INVALID-ARGUMENT\nNetwork UPS Tools upsd profile 1.2\n"
   pub sent_first : sent su700 1 (Took 1 7 ∷ Bytes 1 (codes "VER\n") ∷ one_open) ≡ codes "Network"
   pub waits_still : waits su700 1 (Took 1 7 ∷ Bytes 1 (codes "VER\n") ∷ one_open) ≡ codes " UPS Tools upsd profile 1.2\n"
   pub accepted : IsAccepted su700 (Close 1 ∷ Took 1 7 ∷ Bytes 1 (codes "VER\n") ∷ one_open)
   pub busy : refusal (content su700 (Bytes 1 (codes "VER\n") ∷ one_open)) (Bytes 1 (codes "VER\n")) ≡ Some Busy
   pub too_much : refusal (content su700 (Bytes 1 (codes "LOGOUT\n") ∷ one_open)) (Took 1 12) ≡ Some TooMuchTaken
-  pub long_piece : refusal (content su700 one_open) (Bytes 1 (many 513 65)) ≡ Some PieceTooLong
+  pub long_piece : refusal (content su700 one_open) (Bytes 1 (many (PIECE_MAX + 1) 65)) ≡ Some PieceTooLong
   pub closed : refusal (content su700 (Close 1 ∷ one_open)) (Bytes 1 (codes "VER\n")) ≡ Some NoSuchConnection
   pub no_number_again : refusal (content su700 (Open (codes "192.0.2.1") ∷ WriteFailed 1 ∷ one_open)) (Took 1 0) ≡ Some NoSuchConnection
   pub full : refusal (content su700 one_open) (Open (codes "192.0.2.1")) ≡ Some Full

@@ -1,10 +1,12 @@
 -- What holds of every history of accepted events. Each of these is the contract of a function of the crate.
 use Rattle.std.specs.Prelude.{◌≡◌, ℕ, ◌<◌, ◌≤◌, ◌==◌, ◌+◌, false, true, if◌then◌else◌, List, [], ◌∷◌, ◌++◌, length, map, take, Option, Some, None, Result}
+use Rattle.nut_queue.specs.declared.limits.TheConstants.{ASKS_MAX}
 use Rattle.nut_words.specs.Quoting.{Begins}
 use Rattle.nut_words.specs.Cutter.{kept_of}
 use Rattle.nut_words.specs.Lines.{rest}
+use Rattle.nut_words.specs.declared.limits.TheConstants.{LINE_MAX}
 use Rattle.nut_history.specs.Configuration.{Configuration}
-use Rattle.nut_history.specs.Device.{Device, most_waiting}
+use Rattle.nut_history.specs.Device.{Device}
 use Rattle.nut_history.specs.Event.{Event, Moment, Open, Bytes, Took, Close, WriteFailed, DriverUp, DriverBytes, DriverTook, DriverDown, input, driver_input, steps}
 use Rattle.nut_history.specs.Trace.{device, due, driver_due, driver_sent, logged_out}
 use Rattle.nut_history.specs.Content.{Session, Supply, Content, content, past, sent, session}
@@ -13,6 +15,7 @@ use Rattle.nut_history.specs.Acceptance.{IsAccepted, Tells, session_of, waiting_
 use Rattle.nut_history.specs.Machine.{fresh}
 use Rattle.nut_history.specs.Outcome.{IsAnswer, after}
 use Rattle.nut_history.specs.MachineOutcome.{Answers, content_after}
+use Rattle.nut_history.specs.declared.limits.TheConstants.{OPENED_MAX}
 
 -- However a connection's bytes are cut into pieces, the content is the same.
 abbrev pub CutsDoNotMatter : Type 0
@@ -228,13 +231,13 @@ ClosedStaysClosed =
 
 -- ---- bounds
 
--- no more than 4,096 bytes wait for a driver
+-- no more than ASKS_MAX bytes wait for a driver
 abbrev pub IsBoundedSupply : Supply → Type 0
-IsBoundedSupply d = length d.device.waits ≤ most_waiting
+IsBoundedSupply d = length d.device.waits ≤ ASKS_MAX
 
--- no more than 512 bytes of an unfinished line are kept
+-- no more than LINE_MAX bytes of an unfinished line are kept
 abbrev pub IsBoundedSession : Session → Type 0
-IsBoundedSession k = kept_of k.rest ≤ 512
+IsBoundedSession k = kept_of k.rest ≤ LINE_MAX
 
 -- What is kept of a line, and what waits for a driver, have their bounds in every history of accepted events.
 abbrev pub BoundsHold : Type 0
@@ -247,7 +250,7 @@ BoundsHold =
 -- has one of the numbers that were given.
 pub record HasFewConnections (s : Content) : Type 0 where
   pub few : length s.sessions ≤ s.configuration.most_connections
-  pub given : s.opened ≤ 4_294_967_295
+  pub given : s.opened ≤ OPENED_MAX
   pub each : IsUpTo s.opened (numbers s)
 
 -- So it is in every history of accepted events.

@@ -1,6 +1,7 @@
 -- The server as a machine over its content: what an accepted event makes of it. The machine forgets the past. That
 -- it keeps the content of every history is the law `machine_keeps_content`.
 use Rattle.std.specs.Prelude.{ℕ, zero, suc, true, false, not, ◌==◌, ◌≡◌, max, if◌then◌else◌, ◌+◌, List, [], ◌∷◌, ◌++◌, filter, map, drop, Option, Some, None}
+use Rattle.nut_words.specs.Bytes.{line_feed}
 use Rattle.nut_words.specs.Lines.{LineText, Text, TooLong, joined}
 use Rattle.nut_state.specs.Table.{Table, empty}
 use Rattle.nut_state.specs.Step.{applied}
@@ -115,7 +116,7 @@ line_heard c (Some k) s = after_command c (command_of k.rest) (Some k) s
 -- the content after one byte of c: a line feed ends the unfinished line, and any other byte makes it longer
 abbrev pub byte_heard : ℕ → ℕ → Content → Content
 byte_heard c b s =
-    if b == 10 then line_heard c (session_of c s.sessions) s
+    if b == line_feed then line_heard c (session_of c s.sessions) s
     else with_sessions (update c (λ k. with_rest (joined k.rest (b ∷ [])) k) s.sessions) s
 
 -- the content after bytes of c, in turn
@@ -156,7 +157,7 @@ reported_by time line d = record {
 
 -- a UPS after one byte of its driver, and after bytes in turn
 abbrev pub byte_reported : ℕ → ℕ → Supply → Supply
-byte_reported time b d = if b == 10 then reported_by time d.rest d else record d { rest = joined d.rest (b ∷ []) }
+byte_reported time b d = if b == line_feed then reported_by time d.rest d else record d { rest = joined d.rest (b ∷ []) }
 
 abbrev pub bytes_reported : ℕ → List ℕ → Supply → Supply
 bytes_reported time [] d = d

@@ -8,6 +8,9 @@ ghost use Rattle.nut_history.specs.DriverExamples.{DriverExamples, EdgeExamples,
 ghost use Rattle.nut_history.specs.Laws.{AnswersKeepContent, BoundsHold, ClosedStaysClosed, ConnectionsAreFew, CutsAndWritesDoNotMatter, CutsDoNotMatter, DriverCutsAndWritesDoNotMatter, DriverCutsDoNotMatter, DriverSentAndWaitingIsDue, DriverSentIsReceived, LogoutIsFinal, NumbersRise, OpenedIsFresh, OtherDriversStay, OthersStay, SameStepsSameAnswers, SentAndWaitingIsDue, SentIsFrontOfDue, SentIsReceived, WaitsForOnePiece};
 ghost use Rattle.nut_history.specs.Limits.{AnswersAreBounded, WaitsAreBounded};
 
+mod limits;
+
+pub use limits::{ADDRESS_MAX, OPENED_MAX, connection_limits};
 use nut_state::every_table_holds;
 use thiserror::Error;
 
@@ -31,7 +34,7 @@ pub enum Refused {
     /// No UPS has this number, or its driver isn't connected.
     #[error("the driver isn't connected")]
     NotConnected,
-    /// The piece has more than 512 bytes.
+    /// The piece has more than [`PIECE_MAX`](nut_words::PIECE_MAX) bytes.
     #[error("the piece is too long")]
     PieceTooLong,
     /// Answers wait for the connection: it has to take them first.
@@ -40,10 +43,10 @@ pub enum Refused {
     /// More bytes were taken than wait.
     #[error("more was taken than waits")]
     TooMuchTaken,
-    /// The address isn't one of 1 to 64 bytes that may stand in a bare word.
+    /// The address isn't one of 1 to [`ADDRESS_MAX`] bytes that may stand in a bare word.
     #[error("not an address")]
     BadAddress,
-    /// As many connections are open as may be, or 4,294,967,295 were opened.
+    /// As many connections are open as may be, or [`OPENED_MAX`] were opened.
     #[error("too many connections")]
     Full,
     /// A growth of memory was refused there.
@@ -149,13 +152,13 @@ pub fn bounds_hold()
     ensures { BoundsHold }
 {}
 
-/// No more connections are open than the configuration allows, and no more were opened than 4,294,967,295.
+/// No more connections are open than the configuration allows, and no more were opened than [`OPENED_MAX`].
 pub fn connections_are_few()
     ensures { ConnectionsAreFew }
 {}
 
 /// Where the configuration is within the limits that its files have, no answer to one line is longer than 184,930 bytes:
-/// that to a LIST VAR of 512 variables.
+/// that to a LIST VAR of as many variables as a table holds.
 pub fn answers_are_bounded()
     ensures { AnswersAreBounded }
 {

@@ -2,6 +2,7 @@
 use Rattle.std.proofs.Common.{◌≡◌, ◌⊎◌, ℕ, ◌≤◌, ◌==◌, ◌&&◌, ◌++◌, min, not, true, false, inl, inr, List, [], ◌∷◌, take, is_none, refl, sym, ◌∙◌, ap, subst, arith}
 use Rattle.std.proofs.lemmas.Bool.{cases_Bool, cases_eq, and_parts, not-true, eq-eqb, ne_eqb}
 use Rattle.nut_words.specs.Quoting.{Begins}
+use Rattle.nut_words.specs.declared.limits.TheConstants.{PIECE_MAX}
 use Rattle.nut_history.specs.Event as arrivals
 use Rattle.nut_history.specs.Acceptance as server_tests
 use Rattle.nut_history.specs.Content as server
@@ -62,18 +63,18 @@ module _ (setup : Setup) (w : World) (m i : ℕ) (up : is_linked setup w m i ≡
           (λ ok. if-counted Same setup w (moved n (monitor_waits setup w k j)) (λ x. inform setup w k (LinkTook j x)) refl (heard k (LinkTook j (moved n (monitor_waits setup w k j)))))
       by (Reach k j n) =
           if-played Same setup w (is_open setup w k j)
-          (carried (take (min n 512) (to_server setup w k j)) (λ piece. tell setup w (arrivals.Bytes (w.connection k j) piece))) refl
-          (λ ok. if-carried Same setup w (take (min n 512) (to_server setup w k j)) (λ piece. tell setup w (arrivals.Bytes (w.connection k j) piece)) refl
-          (told (arrivals.Bytes (w.connection k j) (take (min n 512) (to_server setup w k j)))))
+          (carried (take (min n PIECE_MAX) (to_server setup w k j)) (λ piece. tell setup w (arrivals.Bytes (w.connection k j) piece))) refl
+          (λ ok. if-carried Same setup w (take (min n PIECE_MAX) (to_server setup w k j)) (λ piece. tell setup w (arrivals.Bytes (w.connection k j) piece)) refl
+          (told (arrivals.Bytes (w.connection k j) (take (min n PIECE_MAX) (to_server setup w k j)))))
       by (Back k j n) =
           if-played Same setup w (is_open setup w k j) (counted (moved n (server_waits setup w k j)) (λ x. tell setup w (arrivals.Took (w.connection k j) x))) refl
           (λ ok. if-counted Same setup w (moved n (server_waits setup w k j)) (λ x. tell setup w (arrivals.Took (w.connection k j) x)) refl
           (told (arrivals.Took (w.connection k j) (moved n (server_waits setup w k j)))))
       by (Land k j n) =
           if-played Same setup w (is_linked setup w k j)
-          (carried (take (min n 512) (to_monitor setup w k j)) (λ piece. inform setup w k (LinkBytes j piece))) refl
-          (λ ok. if-carried Same setup w (take (min n 512) (to_monitor setup w k j)) (λ piece. inform setup w k (LinkBytes j piece)) refl
-          (heard k (LinkBytes j (take (min n 512) (to_monitor setup w k j)))))
+          (carried (take (min n PIECE_MAX) (to_monitor setup w k j)) (λ piece. inform setup w k (LinkBytes j piece))) refl
+          (λ ok. if-carried Same setup w (take (min n PIECE_MAX) (to_monitor setup w k j)) (λ piece. inform setup w k (LinkBytes j piece)) refl
+          (heard k (LinkBytes j (take (min n PIECE_MAX) (to_monitor setup w k j)))))
       by (CutServer k j) = told (arrivals.Close (w.connection k j))
       by (CutMonitor k j) = heard k (LinkLost j)
 

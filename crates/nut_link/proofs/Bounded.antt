@@ -5,6 +5,7 @@ use Rattle.std.specs.Prelude.{◌==◌}
 use Rattle.nut_words.specs.Cutter.{kept_of}
 use Rattle.nut_words.specs.Spelling.{is_printing}
 use Rattle.nut_words.specs.Lines.{LineText, Text, TooLong, as_line, joined, last_of, lines_after, parts, rest, rest_after, unfinished}
+use Rattle.nut_words.specs.declared.limits.TheConstants.{LINE_MAX}
 use Rattle.nut_proto.specs.declared.answer.Answer.{Answer}
 use Rattle.nut_proto.specs.declared.answer.Answer.TheVariants as answers
 use Rattle.nut_proto.specs.declared.answer.AnswerFault.{AnswerFault}
@@ -27,14 +28,16 @@ use Rattle.nut_link.specs.Link.{LinkValue, asked, fed, heard, is_idle, left_of, 
 use Rattle.nut_link.specs.Matching.{Progress, Listing, Complete, first, is_heading, is_line, is_row, next, progress}
 use Rattle.nut_link.specs.Rests.{IsRest}
 use Rattle.nut_link.proofs.Writable.{length_line}
+use Rattle.nut_proto.specs.declared.limits.TheConstants.{ROWS_MAX}
+use Rattle.nut_link.specs.declared.limits.TheConstants.{QUERY_MAX}
 
-none : 0 ≤ 512
+none : 0 ≤ ROWS_MAX
 none = omega arith
 
--- What comes of a query has at most 512 rows.
+-- What comes of a query has at most ROWS_MAX rows.
 abbrev HasFew : Result Progress LinkFault → Type 0
-HasFew (Ok (Listing rows)) = length rows ≤ 512
-HasFew (Ok (Complete outcome)) = rows_of outcome ≤ 512
+HasFew (Ok (Listing rows)) = length rows ≤ ROWS_MAX
+HasFew (Ok (Complete outcome)) = rows_of outcome ≤ ROWS_MAX
 HasFew (Err fault) = Unit {0}
 
 few_if : (b : Bool) (p q : Result Progress LinkFault) → (b ≡ true → HasFew p) → HasFew q → HasFew (if b then p else q)
@@ -49,16 +52,16 @@ few_first expects.AnyLine (answers.Row words) = none
 few_first (expects.Listing heading count) (answers.Begin words) = few_if (is_heading heading words) _ _ (λ is. none) tt
 few_first e answer = tt
 
-few_next : (e : Expected) (rows : List (List (List ℕ))) (answer : Answer) → length rows ≤ 512 → HasFew (next e rows answer)
+few_next : (e : Expected) (rows : List (List (List ℕ))) (answer : Answer) → length rows ≤ ROWS_MAX → HasFew (next e rows answer)
 few_next (expects.Listing heading count) rows (answers.Row words) few =
-    few_if (is_row heading count words) _ _ (λ is. few_if (nat_lt (length rows) 512) _ _
-    (λ less. omega (arith, ltb-true (length rows) 512 less, length-append rows (drop (length heading) words ∷ []))) tt) tt
+    few_if (is_row heading count words) _ _ (λ is. few_if (nat_lt (length rows) ROWS_MAX) _ _
+    (λ less. omega (arith, ltb-true (length rows) ROWS_MAX less, length-append rows (drop (length heading) words ∷ []))) tt) tt
 few_next (expects.Listing heading count) rows (answers.End words) few = few_if (is_heading heading words) _ _ (λ is. few) tt
 few_next e rows answer few = tt
 
-few_progress : (query : Asked) (answer : Answer) → rows_in (stages.Asked query) ≤ 512 → HasFew (progress_of query answer)
+few_progress : (query : Asked) (answer : Answer) → rows_in (stages.Asked query) ≤ ROWS_MAX → HasFew (progress_of query answer)
 few_progress query answer few = few_if (length query.waits == 0) _ _ (λ is. go query.rows few) tt where
-  go : (rows : Option (List (List (List ℕ)))) → rows_in (stages.Asked (record query { rows = rows })) ≤ 512 → HasFew (progress query.expected rows answer)
+  go : (rows : Option (List (List (List ℕ)))) → rows_in (stages.Asked (record query { rows = rows })) ≤ ROWS_MAX → HasFew (progress query.expected rows answer)
   go None few = few_first query.expected answer
   go (Some rows) few = few_next query.expected rows answer few
 
@@ -67,7 +70,7 @@ abbrev IsWithin : Result Stage LinkFault → Type 0
 IsWithin (Ok stage) = IsStageBounded stage
 IsWithin (Err fault) = Unit {0}
 
-after : (query : Asked) (p : Result Progress LinkFault) → length query.waits ≤ 513 → HasFew p → IsWithin (stage_after query p)
+after : (query : Asked) (p : Result Progress LinkFault) → length query.waits ≤ QUERY_MAX → HasFew p → IsWithin (stage_after query p)
 after query (Ok (Listing rows)) waits few = record { query = waits; rows = few }
 after query (Ok (Complete outcome)) waits few = record { query = omega arith; rows = few }
 after query (Err fault) waits few = tt
@@ -104,23 +107,26 @@ lines_within : (ls : List LineText) (e : Exchange) → IsStageBounded e.stage �
 lines_within [] e h = h
 lines_within (line ∷ ls) e h = lines_within ls (heard line e) (heard_within line e h)
 
-kept_as_line : (text : List ℕ) → kept_of (as_line text) ≤ 512
-kept_as_line text = go (nat_le (length text) 512) refl where
-  go : (b : Bool) → nat_le (length text) 512 ≡ b → kept_of (if b then Text text else TooLong) ≤ 512
-  go true e = leb-true (length text) 512 e
-  go false e = none
+nothing : 0 ≤ LINE_MAX
+nothing = omega arith
 
-kept_joined : (old : LineText) (more : List ℕ) → kept_of (joined old more) ≤ 512
+kept_as_line : (text : List ℕ) → kept_of (as_line text) ≤ LINE_MAX
+kept_as_line text = go (nat_le (length text) LINE_MAX) refl where
+  go : (b : Bool) → nat_le (length text) LINE_MAX ≡ b → kept_of (if b then Text text else TooLong) ≤ LINE_MAX
+  go true e = leb-true (length text) LINE_MAX e
+  go false e = nothing
+
+kept_joined : (old : LineText) (more : List ℕ) → kept_of (joined old more) ≤ LINE_MAX
 kept_joined (Text text) more = kept_as_line (text ++ more)
-kept_joined TooLong more = none
+kept_joined TooLong more = nothing
 
-kept_unfinished : (old : LineText) (ps : List (List ℕ)) → kept_of old ≤ 512 → kept_of (unfinished old ps) ≤ 512
+kept_unfinished : (old : LineText) (ps : List (List ℕ)) → kept_of old ≤ LINE_MAX → kept_of (unfinished old ps) ≤ LINE_MAX
 kept_unfinished old [] h = h
 kept_unfinished old (t ∷ []) h = kept_joined old t
 kept_unfinished old (t ∷ u ∷ ts) h = kept_as_line (last_of (u ∷ ts))
 
-kept_masked : (b : Bool) (line : LineText) → kept_of line ≤ 512 → kept_of (if b then Text [] else line) ≤ 512
-kept_masked true line h = none
+kept_masked : (b : Bool) (line : LineText) → kept_of line ≤ LINE_MAX → kept_of (if b then Text [] else line) ≤ LINE_MAX
+kept_masked true line h = nothing
 kept_masked false line h = h
 
 -- A piece keeps a link within its bounds, also where memory runs out in it.
@@ -132,7 +138,7 @@ fed_within v w p done result feeds h = elim feeds.stands [
   })
   | inr out ↦ record {
     stage = subst (λ e. IsStageBounded e.stage) (sym out.0.stands.0) (left_within (lines_heard out.0.earlier v.exchange).stage (lines_within out.0.earlier v.exchange h.stage));
-    line = subst (λ line. kept_of line ≤ 512) (sym out.1) none;
+    line = subst (λ line. kept_of line ≤ LINE_MAX) (sym out.1) nothing;
   }
 ]
 
@@ -140,14 +146,14 @@ and_left : (a b : Bool) → (a && b) ≡ true → a ≡ true
 and_left true b e = refl
 and_left false b e = e
 
-kept_rest : (bytes : List ℕ) → kept_of (rest bytes) ≤ 512
+kept_rest : (bytes : List ℕ) → kept_of (rest bytes) ≤ LINE_MAX
 kept_rest bytes = kept_as_line (last_of (parts bytes))
 
 -- A link of an unfinished line and an exchange within its bounds is within them.
 pub link_within : (cutter : LineText) (e : Exchange) → IsRest cutter → IsStageBounded e.stage → IsBounded (link_with cutter e)
 link_within cutter e is h = record {
   stage = h;
-  line = kept_masked (is_some e.fault) cutter (subst (λ line. kept_of line ≤ 512) (sym is.1) (kept_rest is.0));
+  line = kept_masked (is_some e.fault) cutter (subst (λ line. kept_of line ≤ LINE_MAX) (sym is.1) (kept_rest is.0));
 }
 
 -- A piece keeps an exchange within its bounds, also where memory runs out in it.
@@ -167,7 +173,7 @@ asked_within request e h = go e.fault (is_idle e.stage) (is_writable request) re
   go None true false is = h
   go None true true is =
       let text = message (request_parts request) in
-      record { query = omega (arith, length_line request, leb-true (length text) 512 (and_left (nat_le (length text) 512) (list_all is_printing text) is)); rows = none }
+      record { query = omega (arith, length_line request, leb-true (length text) LINE_MAX (and_left (nat_le (length text) LINE_MAX) (list_all is_printing text) is)); rows = none }
 
 taken_within : (n : ℕ) (e : Exchange) → IsStageBounded e.stage → IsStageBounded (taken n e).stage
 taken_within n e h = go (is_some (take_fault n e)) where
@@ -189,7 +195,7 @@ taken_out_within e h = go e.stage h where
 
 pub bounds_stay : BoundsStay
 bounds_stay = record {
-  begun = record { stage = record { query = omega arith; rows = none }; line = none };
+  begun = record { stage = record { query = omega arith; rows = none }; line = nothing };
   asks = asked_within;
   takes = taken_within;
   takes_out = taken_out_within;

@@ -6,6 +6,7 @@ use Rattle.std.specs.List.{flat_map, list_all, list_any}
 use Rattle.std.specs.Prelude.{◌==◌}
 use Rattle.nut_words.specs.Quoting.{escaped, quoted, stands_bare}
 use Rattle.nut_words.specs.Spelling.{is_printing}
+use Rattle.nut_words.specs.declared.limits.TheConstants.{LINE_MAX}
 use Rattle.nut_proto.specs.declared.part.Part.{Part}
 use Rattle.nut_proto.specs.declared.part.Part.TheVariants.{Word, Quoted, Number, QuotedNumber, StringOf}
 use Rattle.nut_proto.specs.declared.request.Request.{Request}
@@ -13,6 +14,7 @@ use Rattle.nut_proto.specs.Lines.{line, message, message_words, part_text, part_
 use Rattle.nut_proto.specs.Requests.{request_line, request_parts}
 use Rattle.nut_link.specs.Asking.{is_writable}
 use Rattle.nut_link.specs.Matching.{is_long}
+use Rattle.nut_link.specs.declared.limits.TheConstants.{QUERY_MAX}
 
 length-cond : (b : Bool) (c : ℕ) → 1 ≤ length (cond b (92 ∷ c ∷ []) (c ∷ []))
 length-cond true c = omega arith
@@ -38,23 +40,23 @@ length-part (Number n) = length-choice (stands_bare (decimal n)) (decimal n)
 length-part (QuotedNumber z) = length-quoted (signed_decimal z)
 length-part (StringOf n) = length-choice (stands_bare (codes "STRING:" ++ decimal n)) (codes "STRING:" ++ decimal n)
 
-long_in : (parts : List Part) → list_any is_long (map part_word parts) ≡ true → 512 < length (flat_map (λ part. 32 ∷ part_text part) parts)
+long_in : (parts : List Part) → list_any is_long (map part_word parts) ≡ true → LINE_MAX < length (flat_map (λ part. 32 ∷ part_text part) parts)
 long_in [] long = absurd (false≢true long)
 long_in (part ∷ parts) long =
     let whole = length-append (32 ∷ part_text part) (flat_map (λ part. 32 ∷ part_text part) parts) in
     elim (cases_Bool (is_long (part_word part))) [
-      | inl e ↦ omega (arith, whole, ltb-true 512 (length (part_word part)) e, length-part part)
+      | inl e ↦ omega (arith, whole, ltb-true LINE_MAX (length (part_word part)) e, length-part part)
       | inr e ↦ omega (arith, whole, long_in parts (sym (ap (λ b. b || list_any is_long (map part_word parts)) e) ∙ long))
     ]
 
-long_behind : (parts : List Part) → list_any is_long (drop 1 (message_words parts)) ≡ true → 512 < length (message parts)
+long_behind : (parts : List Part) → list_any is_long (drop 1 (message_words parts)) ≡ true → LINE_MAX < length (message parts)
 long_behind [] long = absurd (false≢true long)
 long_behind (part ∷ parts) long = omega (arith, length-append (part_text part) (flat_map (λ part. 32 ∷ part_text part) parts), long_in parts long)
 
-not_le : (n : ℕ) → 512 < n → nat_le n 512 ≡ false
-not_le n more = elim (cases_Bool (nat_le n 512)) [ inl e ↦ absurd (omega (arith, more, leb-true n 512 e)) | inr e ↦ e ]
+not_le : (n : ℕ) → LINE_MAX < n → nat_le n LINE_MAX ≡ false
+not_le n more = elim (cases_Bool (nat_le n LINE_MAX)) [ inl e ↦ absurd (omega (arith, more, leb-true n LINE_MAX e)) | inr e ↦ e ]
 
-unwritable : (request : Request) → 512 < length (message (request_parts request)) → false ≡ is_writable request
+unwritable : (request : Request) → LINE_MAX < length (message (request_parts request)) → false ≡ is_writable request
 unwritable request more = ap (λ b. b && list_all is_printing (message (request_parts request))) (sym (not_le (length (message (request_parts request))) more))
 
 -- a word that an answer repeats is too long
@@ -70,14 +72,14 @@ pub length_line : (request : Request) → length (request_line request) ≡ leng
 length_line request = ap length (line_is request) ∙ length-append (message (request_parts request)) (10 ∷ [])
 
 -- the line doesn't fit
-pub unwritable_line : (request : Request) (n : ℕ) (fits : Bool) → n ≡ 0 → fits ≡ false → (n + length (request_line request) ≤ 513 → fits ≡ true) → false ≡ is_writable request
+pub unwritable_line : (request : Request) (n : ℕ) (fits : Bool) → n ≡ 0 → fits ≡ false → (n + length (request_line request) ≤ QUERY_MAX → fits ≡ true) → false ≡ is_writable request
 unwritable_line request n fits none not room =
-    elim (cases_Bool (nat_le (length (message (request_parts request))) 512)) [
-      | inl e ↦ absurd (false≢true (sym not ∙ room (omega (arith, none, length_line request, leb-true (length (message (request_parts request))) 512 e))))
+    elim (cases_Bool (nat_le (length (message (request_parts request))) LINE_MAX)) [
+      | inl e ↦ absurd (false≢true (sym not ∙ room (omega (arith, none, length_line request, leb-true (length (message (request_parts request))) LINE_MAX e))))
       | inr e ↦ ap (λ b. b && list_all is_printing (message (request_parts request))) (sym e)
     ]
 
 -- the line fits, and then its bytes decide
-pub writable_line : (request : Request) (n : ℕ) → n + length (request_line request) ≤ 513 → list_all is_printing (message (request_parts request)) ≡ is_writable request
+pub writable_line : (request : Request) (n : ℕ) → n + length (request_line request) ≤ QUERY_MAX → list_all is_printing (message (request_parts request)) ≡ is_writable request
 writable_line request n fits =
-    ap (λ b. b && list_all is_printing (message (request_parts request))) (sym (le-leb (length (message (request_parts request))) 512 (omega (arith, fits, length_line request))))
+    ap (λ b. b && list_all is_printing (message (request_parts request))) (sym (le-leb (length (message (request_parts request))) LINE_MAX (omega (arith, fits, length_line request))))

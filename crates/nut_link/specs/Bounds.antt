@@ -1,12 +1,15 @@
 -- How much a link keeps.
 use Rattle.std.specs.Prelude.{ℕ, ◌≤◌, length}
 use Rattle.std.specs.Option.{option_map_or}
+use Rattle.nut_proto.specs.declared.limits.TheConstants.{ROWS_MAX}
 use Rattle.nut_words.specs.Cutter.{kept_of}
 use Rattle.nut_link.specs.declared.exchange.Stage.{Stage}
 use Rattle.nut_link.specs.declared.exchange.Stage.TheVariants as stages
 use Rattle.nut_link.specs.declared.outcome.Outcome.{Outcome}
 use Rattle.nut_link.specs.declared.outcome.Outcome.TheVariants as outcomes
 use Rattle.nut_link.specs.Link.{LinkValue, waits_in}
+use Rattle.nut_words.specs.declared.limits.TheConstants.{LINE_MAX}
+use Rattle.nut_link.specs.declared.limits.TheConstants.{QUERY_MAX}
 
 -- how many rows an answer has
 abbrev pub rows_of : Outcome → ℕ
@@ -21,12 +24,12 @@ rows_in stages.Idle = 0
 rows_in (stages.Asked query) = option_map_or (λ rows. length rows) query.rows 0
 rows_in (stages.Answered outcome) = rows_of outcome
 
--- One query of at most 512 bytes and its line feed, and at most 512 rows.
+-- One query of at most QUERY_MAX bytes, its line feed with them, and at most ROWS_MAX rows.
 pub record IsStageBounded (stage : Stage) : Type 0 where
-  pub query : length (waits_in stage) ≤ 513
-  pub rows : rows_in stage ≤ 512
+  pub query : length (waits_in stage) ≤ QUERY_MAX
+  pub rows : rows_in stage ≤ ROWS_MAX
 
--- And at most 512 bytes of an unfinished line.
+-- And at most LINE_MAX bytes of an unfinished line.
 pub record IsBounded (v : LinkValue) : Type 0 where
   pub stage : IsStageBounded v.exchange.stage
-  pub line : kept_of v.rest ≤ 512
+  pub line : kept_of v.rest ≤ LINE_MAX

@@ -3,6 +3,7 @@ use Rattle.std.specs.Prelude.{ℕ, ◌+◌, ◌==◌, ◌&&◌, nat_le, nat_lt, 
 use Rattle.std.specs.Char.{is_ascii_digit}
 use Rattle.std.specs.List.{list_all}
 use Rattle.std.specs.Str.{bytes_eq}
+use Rattle.nut_words.specs.declared.limits.TheConstants.{LINE_MAX}
 use Rattle.nut_proto.specs.declared.answer.Answer.{Answer}
 use Rattle.nut_proto.specs.declared.answer.Answer.TheVariants as answers
 use Rattle.nut_proto.specs.declared.request.ListQuery.{ListQuery}
@@ -17,6 +18,7 @@ use Rattle.nut_link.specs.declared.fault.LinkFault.{LinkFault}
 use Rattle.nut_link.specs.declared.fault.LinkFault.TheVariants.{NotMine, BadLine}
 use Rattle.nut_link.specs.declared.outcome.Outcome.{Outcome}
 use Rattle.nut_link.specs.declared.outcome.Outcome.TheVariants as outcomes
+use Rattle.nut_proto.specs.declared.limits.TheConstants.{ROWS_MAX}
 
 -- what a LIST expects: the words behind LIST at both ends, and rows that begin with them and have so many more
 abbrev pub listing : ListQuery → Expected
@@ -94,11 +96,11 @@ first expects.AnyLine (answers.Row words) = Ok (Complete (outcomes.Said words))
 first (expects.Listing heading count) (answers.Begin words) = if is_heading heading words then Ok (Listing []) else Err NotMine
 first e answer = Err NotMine
 
--- What a line behind the beginning of a list makes of it, which has these rows so far: one more, of 512, or its end.
+-- What a line behind the beginning of a list makes of it, which has these rows so far: one more, of ROWS_MAX, or its end.
 abbrev pub next : Expected → List (List (List ℕ)) → Answer → Result Progress LinkFault
 next (expects.Listing heading count) rows (answers.Row words) =
     if is_row heading count words
-    then (if nat_lt (length rows) 512 then Ok (Listing (rows ++ drop (length heading) words ∷ [])) else Err BadLine)
+    then (if nat_lt (length rows) ROWS_MAX then Ok (Listing (rows ++ drop (length heading) words ∷ [])) else Err BadLine)
     else Err NotMine
 next (expects.Listing heading count) rows (answers.End words) =
     if is_heading heading words then Ok (Complete (outcomes.List rows)) else Err NotMine
@@ -110,6 +112,6 @@ abbrev pub progress : Expected → Option (List (List (List ℕ))) → Answer �
 progress e None answer = first e answer
 progress e (Some rows) answer = next e rows answer
 
--- more than 512 bytes
+-- more bytes than a line has
 abbrev pub is_long : List ℕ → Bool
-is_long word = nat_lt 512 (length word)
+is_long word = nat_lt LINE_MAX (length word)

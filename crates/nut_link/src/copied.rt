@@ -142,7 +142,7 @@ impl Rows {
         self.rows.as_slice()
     }
 
-    /// How many rows there are, at most 512.
+    /// How many rows there are, at most [`ROWS_MAX`](nut_proto::ROWS_MAX).
     pub fn len(&self) -> usize
         ensures { result ≡ length self.now }
     {

@@ -126,7 +126,7 @@ impl Expected {
     }
 }
 
-/// What a request expects, unless a word of it that an answer repeats is longer than 512 bytes. Takes no memory.
+/// What a request expects, unless a word of it that an answer repeats is longer than a line may be. Takes no memory.
 pub(crate) fn expected_of(request: &Request<'_>) -> Option<Expected>
     ensures some { IfSome result (λ e. e ≡ expected request.now) }
     ensures none { IfNone result (IsTrue (list_any is_long (drop 1 (message_words (request_parts request.now))))) }

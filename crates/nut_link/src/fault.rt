@@ -11,7 +11,8 @@ pub enum LinkFault {
     /// The line reads, but doesn't match the query.
     #[error("the line does not answer the query")]
     NotMine,
-    /// The line doesn't read as words, has none, or is longer than 512 bytes, or the list has more than 512 rows.
+    /// The line doesn't read as words, has none, or is longer than [`LINE_MAX`](nut_words::LINE_MAX) bytes, or the list has
+    /// more than [`ROWS_MAX`](nut_proto::ROWS_MAX) rows.
     #[error("the line does not read")]
     BadLine,
     /// A line came while no query was there to be answered whose bytes were all taken, or a query was asked while another
@@ -21,7 +22,8 @@ pub enum LinkFault {
     /// Memory was refused.
     #[error("out of memory")]
     Memory,
-    /// The query has a byte outside 0x20 to 0x7E, or its line is longer than 512 bytes.
+    /// The query has a byte outside 0x20 to 0x7E, or its line is longer than
+    /// [`LINE_MAX`](nut_words::LINE_MAX) bytes.
     #[error("the query can not be written")]
     BadQuery,
     /// More bytes were taken than waited.

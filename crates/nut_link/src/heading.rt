@@ -6,12 +6,13 @@ ghost use Rattle.nut_link.specs.Matching.{begins, is_heading, is_long, is_row};
 
 use arrayvec::ArrayVec;
 use nut_proto::Rest;
+use nut_words::LINE_MAX;
 use std::marker::Model;
 
-/// A word of at most 512 bytes.
+/// A word of at most [`LINE_MAX`] bytes, since no line has more.
 #[derive(Debug, Drop)]
 pub struct Name {
-    bytes: ArrayVec<u8, 512>,
+    bytes: ArrayVec<u8, LINE_MAX>,
 }
 
 impl Model for Name {
@@ -65,7 +66,7 @@ impl Model for Heading {
 }
 
 impl Heading {
-    /// A copy of these words, unless one is longer than 512 bytes. Takes no memory.
+    /// A copy of these words, unless one is longer than [`LINE_MAX`] bytes. Takes no memory.
     pub(crate) fn copy(words: &[&[u8]]) -> Option<Heading>
         requires { length words.now ≤ 3 }
         ensures some { IfSome result (λ h. h ≡ texts words.now) }

@@ -9,6 +9,7 @@ ghost use Rattle.nut_link.specs.Rests.{IsRest};
 
 use crate::exchange::{Exchange, Stage};
 use crate::fault::LinkFault;
+use crate::limits::QUERY_MAX;
 use crate::outcome::Outcome;
 use nut_proto::Request;
 use nut_words::LineCutter;
@@ -24,8 +25,8 @@ use std::marker::Model;
 /// A link takes a line only where it answers the query that is there, by the words of RFC 9271, and the query's bytes
 /// were all taken. At any other line it fails, and from then on each call answers the fault.
 ///
-/// It keeps one query of at most 512 bytes before its line feed, at most 512 bytes of an unfinished line, and at most 512
-/// rows.
+/// It keeps one query of at most [`LINE_MAX`](nut_words::LINE_MAX) bytes before its line feed, at most as many bytes of an
+/// unfinished line, and at most [`ROWS_MAX`](nut_proto::ROWS_MAX) rows.
 #[derive(Drop)]
 pub struct Link {
     cutter: LineCutter,
@@ -66,7 +67,7 @@ impl Link {
     ///
     /// The first of these that applies, and then nothing changed: the fault with which the link failed; `OutOfOrder`
     /// where a query or its answer is still there; `BadQuery` where the query has a byte outside 0x20 to 0x7E or more
-    /// than 512 bytes before its line feed.
+    /// than [`LINE_MAX`](nut_words::LINE_MAX) bytes before its line feed.
     pub fn ask(&mut self, request: &Request<'_>) -> Result<(), LinkFault>
         ensures answered { result ≡ answer_by (ask_fault request.now self.old.exchange) }
         ensures stands { self.new ≡ with_exchange (asked request.now self.old.exchange) self.old }
@@ -74,10 +75,10 @@ impl Link {
         self.exchange.ask(request)
     }
 
-    /// The bytes of the query that wait to be sent, its line feed at their end: at most 513.
+    /// The bytes of the query that wait to be sent, its line feed at their end: at most [`QUERY_MAX`].
     pub fn waiting(&self) -> &[u8]
         ensures value { result.now ≡ waits self.now.exchange }
-        ensures few { length result.now ≤ 513 }
+        ensures few { length result.now ≤ QUERY_MAX }
     {
         self.exchange.waiting()
     }
@@ -109,9 +110,9 @@ impl Link {
     /// # Errors
     ///
     /// The fault with which the link failed before, or with which it fails at the first line that it can't take: in this
-    /// order `BadLine` for its form, `OutOfOrder`, `NotMine`, and `BadLine` for a row past the 512th. An answer that was
-    /// complete before that line can still be taken out. `Memory` comes only at a line that has a backslash, is a row,
-    /// or names an error.
+    /// order `BadLine` for its form, `OutOfOrder`, `NotMine`, and `BadLine` for a row past
+    /// [`ROWS_MAX`](nut_proto::ROWS_MAX). An answer that was complete before that line can still be taken out. `Memory`
+    /// comes only at a line that has a backslash, is a row, or names an error.
     pub fn feed(&mut self, piece: &[u8]) -> Result<(), LinkFault>
         ensures feeds { (done : ℕ) × Feeds self.old piece.now done result self.new }
 
@@ -119,7 +120,7 @@ impl Link {
         ensures no_memory { list_any may_take_memory (lines_after self.old.rest piece.now) ≡ false
             → (self.new ≡ fed piece.now self.old) × (result ≡ answer_by (fed piece.now self.old).exchange.fault) }
 
-        // It keeps no more than a query, 512 bytes of a line and 512 rows.
+        // It keeps no more than a query, a line and the rows of a list.
         ensures bounded { IsBounded self.new }
     {
         self.feed_lines(piece).1

@@ -10,23 +10,21 @@ ghost use Rattle.nut_link.specs.declared.fault.LinkFault.TheVariants.{BadLine, M
 use crate::copied::{Fields, Rows, Text};
 use crate::expected::{Expected, expected_of};
 use crate::fault::LinkFault;
+use crate::limits::QUERY_MAX;
 use crate::outcome::Outcome;
 use arrayvec::ArrayVec;
-use nut_proto::{Answer, Request, Rest};
+use nut_proto::{Answer, ROWS_MAX, Request, Rest};
 use nut_words::are_printing;
 use std::alloc::Global;
 use std::marker::Model;
 use std::mem;
-
-/// How many rows a list has at most.
-const MOST_ROWS: usize = 512;
 
 /// A query that was asked: what it expects, its line with how much of it the server took, and the rows of its list so far
 /// once that has begun.
 #[derive(Debug, Drop)]
 pub struct Query {
     expected: Expected,
-    line: ArrayVec<u8, 513>,
+    line: ArrayVec<u8, QUERY_MAX>,
     taken: usize,
     rows: Option<Rows>,
 }
@@ -35,12 +33,13 @@ impl Model for Query {
     ghost use Rattle.std.specs.Prelude.{◌≤◌, drop};
     ghost use Rattle.arrayvec.specs.ArrayVec.{array_vec_len};
     ghost use Rattle.nut_link.specs.Asking.{Asked, HasFewRows};
+    ghost use Rattle.nut_link.specs.declared.limits.TheConstants.{QUERY_MAX};
 
     ghost Value = { Asked };
 
     ghost view = { λ q. record { expected = q.expected; waits = drop q.taken q.line.items; rows = q.rows } };
 
-    ghost invariant = { λ q. (q.taken ≤ array_vec_len q.line) × (array_vec_len q.line ≤ 513) × HasFewRows q.rows };
+    ghost invariant = { λ q. (q.taken ≤ array_vec_len q.line) × (array_vec_len q.line ≤ QUERY_MAX) × HasFewRows q.rows };
 }
 
 /// Whether the bytes of a line before its line feed are 0x20 to 0x7E.
@@ -143,7 +142,7 @@ fn hear_next(
     answer: &Answer<'_>,
 ) -> Result<Option<Outcome>, LinkFault>
     ensures gives { Gives (next expected.now rows.old answer.now) answer.now result rows.new }
-    ensures few { length rows.old ≤ 512 → length rows.new ≤ 512 }
+    ensures few { length rows.old ≤ ROWS_MAX → length rows.new ≤ ROWS_MAX }
 {
     let Expected::Listing(heading, count) = expected else {
         return Err(LinkFault::NotMine);
@@ -168,11 +167,11 @@ fn hear_next(
 
 /// Adds the words of a row from the place `start` on, unless there are as many rows as there may be.
 fn push_row(alloc: Global, rows: &mut Rows, words: &Rest<'_>, start: usize) -> Result<(), LinkFault>
-    ensures ok { OnOk result ((rows.new ≡ rows.old ++ drop start words.now ∷ []) × (length rows.old < 512)) }
-    ensures err { IfErr result (λ fault. (fault ≡ Memory) ⊎ ((fault ≡ BadLine) × (512 ≤ length rows.old))) }
+    ensures ok { OnOk result ((rows.new ≡ rows.old ++ drop start words.now ∷ []) × (length rows.old < ROWS_MAX)) }
+    ensures err { IfErr result (λ fault. (fault ≡ Memory) ⊎ ((fault ≡ BadLine) × (ROWS_MAX ≤ length rows.old))) }
     ensures kept { OnErr result (rows.new ≡ rows.old) }
 {
-    if rows.len() >= MOST_ROWS {
+    if rows.len() >= ROWS_MAX {
         return Err(LinkFault::BadLine);
     }
     let row = Fields::copy(alloc, words, start)?;

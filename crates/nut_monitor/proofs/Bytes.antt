@@ -7,6 +7,7 @@ use Rattle.nut_link.specs.Hearing.{Feeds, RunsOut}
 use Rattle.nut_link.specs.Link.{LinkValue, answer_by, failed}
 use Rattle.nut_link.specs.declared.fault.LinkFault.{LinkFault}
 use Rattle.nut_link.specs.declared.fault.LinkFault.TheVariants.{NotMine, BadLine, OutOfOrder, Memory, BadQuery, TooMuchTaken}
+use Rattle.nut_words.specs.declared.limits.TheConstants.{PIECE_MAX}
 use Rattle.nut_decision.specs.Acceptance.{is_linked, refusal, watch_at}
 use Rattle.nut_decision.specs.Content.{Watch, Content}
 use Rattle.nut_decision.specs.Event.{LinkBytes, OutOfMemory}
@@ -43,7 +44,7 @@ not_lacking r f is memory = ap lacks_memory is ∙ ap (λ f. lacks_memory (answe
 
 module _ (s : Content) (i : ℕ) (p : List ℕ) (w w' : Watch) (scene : Scene) (r : ℕ × Result (Unit {0}) LinkFault) (news : List Notice)
     (lt : i < length s.watches) (is : w ≡ slice_index_or s.watches i w) (linked : is_linked (watch_at i s.watches) ≡ true)
-    (short : length p ≤ 512) (free : length s.notices ≤ 0)
+    (short : length p ≤ PIECE_MAX) (free : length s.notices ≤ 0)
     (seen : scene ≡ record { line = i; clock = s.clock; watching = is_none s.begun })
     (hears : (v : LinkValue) → w.link ≡ Some v → HearsPiece s.configuration scene p v w s.notices r w' news) where
   at : watch_at i s.watches ≡ Some w

@@ -21,6 +21,7 @@ use Rattle.nut_link.specs.declared.fault.LinkFault.{LinkFault}
 use Rattle.nut_link.specs.declared.fault.LinkFault.TheVariants.{NotMine, BadLine, OutOfOrder, Memory, BadQuery, TooMuchTaken}
 use Rattle.nut_link.specs.declared.outcome.Outcome.{Outcome}
 use Rattle.nut_link.specs.declared.outcome.Outcome.TheVariants as outcomes
+use Rattle.nut_proto.specs.declared.limits.TheConstants.{ROWS_MAX}
 use Rattle.nut_conf.specs.Values.{is_numeral}
 use Rattle.nut_decision.specs.declared.LastQuery.{LastQuery}
 use Rattle.nut_decision.specs.declared.Query.{Query}
@@ -252,7 +253,7 @@ nm_next (expects.Listing heading count) rows (answers.Ok words) = tt
 nm_next (expects.Listing heading count) rows (answers.Err name) = tt
 nm_next (expects.Listing heading count) rows (answers.Begin words) = tt
 nm_next (expects.Listing heading count) rows (answers.End words) = nm_if (is_heading heading words) (Ok (Complete (outcomes.List rows))) tt
-nm_next (expects.Listing heading count) rows (answers.Row words) = nm_row heading count rows words (is_row heading count words) (nat_lt (length rows) 512)
+nm_next (expects.Listing heading count) rows (answers.Row words) = nm_row heading count rows words (is_row heading count words) (nat_lt (length rows) ROWS_MAX)
 nm_next expects.Refusal rows (answers.Ok words) = tt
 nm_next expects.Refusal rows (answers.Err name) = tt
 nm_next expects.Refusal rows (answers.Begin words) = tt

@@ -8,8 +8,10 @@ use Rattle.nut_link.specs.Link.{LinkValue, fed, left_of, lines_heard, outcome_in
 use Rattle.nut_link.specs.declared.exchange.Stage.{Stage}
 use Rattle.nut_link.specs.declared.exchange.Stage.TheVariants as stages
 use Rattle.nut_link.specs.declared.outcome.Outcome.{Outcome}
+use Rattle.nut_words.specs.declared.limits.TheConstants.{PIECE_MAX}
 use Rattle.nut_conf.specs.declared.monitor.Monitored.{Monitored}
 use Rattle.nut_conf.specs.declared.upsmon.UpsmonConf.{UpsmonConf}
+use Rattle.nut_conf.specs.declared.limits.TheConstants.{MONITORS_MAX}
 use Rattle.nut_decision.specs.Acceptance.{bytes_refusal, is_linked, linked_refusal, lost_refusal, took_refusal, waits_on, watch_at}
 use Rattle.nut_decision.specs.Configuration.{Configuration, Line, configuration_of, line_of}
 use Rattle.nut_decision.specs.Content.{Watch, Content}
@@ -50,9 +52,9 @@ lost_accepted o w is linked = ap lost_refusal is ∙ rw (linked_here o w true is
 pub linked_accepted : (o : Option Watch) (w : Watch) → o ≡ Some w → is_linked o ≡ false → linked_refusal o ≡ None
 linked_accepted o w is linked = ap linked_refusal is ∙ rw (linked_here o w false is linked) refl
 
-pub bytes_accepted : (s : Content) (p : List ℕ) (o : Option Watch) (w : Watch) → o ≡ Some w → is_linked o ≡ true → length p ≤ 512 → length s.notices ≤ 0 → bytes_refusal s p o ≡ None
+pub bytes_accepted : (s : Content) (p : List ℕ) (o : Option Watch) (w : Watch) → o ≡ Some w → is_linked o ≡ true → length p ≤ PIECE_MAX → length s.notices ≤ 0 → bytes_refusal s p o ≡ None
 bytes_accepted s p o w is linked short free =
-    ap (bytes_refusal s p) is ∙ rw (linked_here o w true is linked, le-ltb 512 (length p) short, le-ltb 0 (length s.notices) free) refl
+    ap (bytes_refusal s p) is ∙ rw (linked_here o w true is linked, le-ltb PIECE_MAX (length p) short, le-ltb 0 (length s.notices) free) refl
 
 -- ---- bounds
 
@@ -78,7 +80,7 @@ set_orderly s i w w' lt is same bounded o =
     }
 
 -- what is told between two moments or pieces fits
-pub anew_orderly : (s : Content) (clock : ℕ) (news : List Notice) (ws : List Watch) → length ws ≡ length s.watches → length news ≤ 32 → AreLinksBounded ws → IsOrderly s
+pub anew_orderly : (s : Content) (clock : ℕ) (news : List Notice) (ws : List Watch) → length ws ≡ length s.watches → length news ≤ MONITORS_MAX → AreLinksBounded ws → IsOrderly s
     → IsOrderly (record s { clock = clock; notices = news; watches = ws })
 anew_orderly s clock news ws same few bounded o = record {
   all = same ∙ o.all;

@@ -1,5 +1,6 @@
 -- What always holds inside a monitor.
 use Rattle.std.specs.Prelude.{◌≡◌, ◌≤◌, ◌+◌, ℕ, Bool, true, false, not, ◌||◌, List, length, sum_by, if◌then◌else◌, Option, Some, None, is_some}
+use Rattle.nut_conf.specs.declared.limits.TheConstants.{MONITORS_MAX}
 use Rattle.nut_decision.specs.declared.Communication.TheVariants as communications
 use Rattle.nut_decision.specs.Content.{Watch, Content}
 use Rattle.nut_decision.specs.Configuration.{Configuration, Line}
@@ -41,10 +42,10 @@ to_lose w = if is_bad w.known.communication then 0 else 1
 abbrev pub to_shut : Option ℕ → ℕ
 to_shut ended = if is_some ended then 0 else 1
 
--- Each line has its watch, at most 32, there is room for all notices that may come before the next moment or piece, and each
--- link keeps no more than it may.
+-- Each line has its watch, at most MONITORS_MAX, there is room for all notices that may come before the next moment or
+-- piece, and each link keeps no more than it may.
 pub record IsOrderly (s : Content) : Type 0 where
   pub all : length s.watches ≡ length s.configuration.lines
-  pub most : length s.watches ≤ 32
+  pub most : length s.watches ≤ MONITORS_MAX
   pub few : length s.notices + sum_by to_lose s.watches + to_shut s.ended ≤ 65
   pub links : AreLinksBounded s.watches

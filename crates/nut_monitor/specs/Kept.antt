@@ -4,8 +4,9 @@ use Rattle.std.specs.List.{AllByRecursion}
 use Rattle.nut_link.specs.Bounds.{IsBounded}
 use Rattle.nut_link.specs.Link.{LinkValue}
 use Rattle.nut_decision.specs.Content.{Watch, Content}
+use Rattle.nut_decision.specs.declared.limits.TheConstants.{NOTICES_MAX}
 
--- a link that is there keeps one query of at most 512 bytes before its line feed, 512 bytes of a line, and 512 rows
+-- a link that is there keeps one query, an unfinished line, and the rows of a list
 abbrev pub IsLinkBounded : Option LinkValue → Type 0
 IsLinkBounded None = Unit {0}
 IsLinkBounded (Some v) = IsBounded v
@@ -14,7 +15,7 @@ IsLinkBounded (Some v) = IsBounded v
 abbrev pub AreLinksBounded : List Watch → Type 0
 AreLinksBounded watches = AllByRecursion (λ w. IsLinkBounded w.link) watches
 
--- No more than 128 notices wait, and each link keeps no more than it may.
+-- No more than NOTICES_MAX notices wait, and each link keeps no more than it may.
 pub record KeepsLittle (s : Content) : Type 0 where
-  pub notices : length s.notices ≤ 128
+  pub notices : length s.notices ≤ NOTICES_MAX
   pub links : AreLinksBounded s.watches

@@ -1,8 +1,5 @@
 //! What a monitor is told.
 
-/// How many bytes a piece has at most.
-pub const PIECE_MAX: usize = 512;
-
 /// One thing that a monitor is told. Links go by the numbers of their MONITOR lines, from 0 on.
 #[derive(Clone, Copy, Drop)]
 pub enum Event<'a> {
@@ -10,7 +7,7 @@ pub enum Event<'a> {
     Moment(u64),
     /// A link is made.
     Linked(usize),
-    /// A piece of the bytes that the server of a link sends, of at most 512 bytes.
+    /// A piece of the bytes that the server of a link sends, of at most [`PIECE_MAX`](nut_words::PIECE_MAX) bytes.
     LinkBytes(usize, &'a [u8]),
     /// A link is lost.
     LinkLost(usize),

@@ -13,6 +13,6 @@ mod shutdown;
 mod state;
 mod time;
 
-pub use event::{Event, PIECE_MAX};
+pub use event::Event;
 pub use monitor::Monitor;
 pub use nut_decision::{Known, LastQuery, MonitorFault, Notice, Phase, Query, StatusFlags};

@@ -21,7 +21,7 @@ ghost use Rattle.std.specs.Option.{option_map};
 use crate::event::Event;
 use crate::message::put_text;
 use crate::state::State;
-use nut_conf::UpsmonConf;
+use nut_conf::{MONITORS_MAX, UpsmonConf};
 use nut_decision::{Known, LastQuery, MonitorFault, Notice, Phase};
 use std::alloc::{AllocError, Global};
 use std::marker::Model;
@@ -81,10 +81,10 @@ impl Monitor {
         &self.config
     }
 
-    /// How many MONITOR lines there are, at most 32.
+    /// How many MONITOR lines there are, at most [`MONITORS_MAX`].
     pub fn lines(&self) -> usize
         ensures value { result ≡ length self.now.content.watches }
-        ensures few { result ≤ 32 }
+        ensures few { result ≤ MONITORS_MAX }
     {
         self.state.watches.len()
     }
@@ -218,7 +218,7 @@ impl Monitor {
         ensures unchanged { (fault : AnyFault) → refusal self.old.content (event_of event.entry) ≡ Some fault
             → (result ≡ Err fault) × (self.new ≡ self.old) }
 
-        // At most 128 notices wait, and each link keeps at most one query, 512 bytes of a line and 512 rows, whatever was told.
+        // Few notices wait, and each link keeps at most one query, a line and the rows of a list, whatever was told.
         ensures little { KeepsLittle self.new.content }
     {
         let answer = self.step(event);

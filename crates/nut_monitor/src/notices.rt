@@ -3,13 +3,10 @@ ghost use Rattle.std.specs.Prelude.{◌≡◌, ◌+◌, ◌<◌, ◌≤◌, ◌=
 ghost use Rattle.nut_decision.specs.Decision.{when};
 ghost use Rattle.nut_monitor.specs.Sound.{first_of};
 
-use nut_decision::Notice;
+use nut_decision::{NOTICES_MAX, Notice};
 use std::alloc::{AllocError, Global};
 use std::collections::VecDeque;
 use std::marker::Model;
-
-/// How many notices may wait.
-const MOST_NOTICES: usize = 128;
 
 /// The notices that wait, the oldest first. There is room for all that may wait.
 #[derive(Drop)]
@@ -21,12 +18,13 @@ impl Model for Notices {
     ghost use Rattle.std.specs.Prelude.{◌≤◌, List};
     ghost use Rattle.std.specs.VecDeque.{deque_capacity};
     ghost use Rattle.nut_decision.specs.declared.Notice.{Notice};
+    ghost use Rattle.nut_decision.specs.declared.limits.TheConstants.{NOTICES_MAX};
 
     ghost Value = { List Notice };
 
     ghost view = { λ n. n.queue.items };
 
-    ghost invariant = { λ n. 128 ≤ deque_capacity n.queue };
+    ghost invariant = { λ n. NOTICES_MAX ≤ deque_capacity n.queue };
 }
 
 impl Notices {
@@ -35,7 +33,7 @@ impl Notices {
         ensures { IfOk result (λ n. n ≡ []) }
     {
         Ok(Notices {
-            queue: VecDeque::with_capacity(alloc, MOST_NOTICES)?,
+            queue: VecDeque::with_capacity(alloc, NOTICES_MAX)?,
         })
     }
 
@@ -48,7 +46,7 @@ impl Notices {
 
     /// Tells this behind the others, where the test holds.
     pub fn tell_when(&mut self, test: bool, notice: Notice)
-        requires { length self.old < 128 }
+        requires { length self.old < NOTICES_MAX }
         ensures told { self.new ≡ self.old ++ when test notice }
         ensures few { length self.new ≤ length self.old + 1 }
     {

@@ -13,13 +13,14 @@ ghost use Rattle.nut_monitor.specs.Steps.{Steps, checked_fault, content_in};
 ghost use Rattle.nut_monitor.specs.Monitors.{last_on};
 
 use crate::answer::Scene;
-use crate::event::{Event, PIECE_MAX};
+use crate::event::Event;
 use crate::line::MonitorLine;
 use crate::notices::Notices;
 use crate::shutdown::{is_alone, is_forced, is_short, phase};
 use nut_link::LinkFault;
 use nut_conf::{Monitored, Notice as Kind, UpsmonConf};
-use nut_decision::{Known, LastQuery, MonitorFault, Notice, Phase};
+use nut_decision::{Known, LastQuery, MonitorFault, NOTICES_MAX, Notice, Phase};
+use nut_words::PIECE_MAX;
 use std::alloc::{AllocError, Global};
 
 /// What a monitor knows and has decided: the time, the moments at which its shutdown began and at which Final did, the
@@ -130,7 +131,7 @@ impl State {
     /// Begins Final where Forcing is over.
     fn move_phase(&mut self, config: &UpsmonConf)
         requires all { length self.old.watches.items ≡ length (configuration_of config.now).lines }
-        requires few { length self.old.notices < 128 }
+        requires few { length self.old.notices < NOTICES_MAX }
         ensures content { content_in (configuration_of config.now) self.new ≡ phase_moved (content_in (configuration_of config.now) self.old) }
         ensures orderly { IsOrderly (content_in (configuration_of config.now) self.old) → IsOrderly (content_in (configuration_of config.now) self.new) }
     {

@@ -1,8 +1,9 @@
 -- A fleet that is that of a world goes on as the world does.
 use Rattle.std.proofs.Common.{◌≡◌, ℕ, zero, suc, Bool, true, false, ◌&&◌, List, [], ◌∷◌, ◌++◌, length, map, slice_get, slice_index_or, refl, sym, ◌∙◌, ap, subst}
-use Rattle.std.specs.Prelude.{nat_lt, nat_le}
+use Rattle.std.specs.Prelude.{nat_lt}
 use Rattle.std.specs.List.{AllByRecursion}
 use Rattle.std.proofs.lemmas.List.{length-map}
+use Rattle.nut_words.specs.declared.limits.TheConstants.{PIECE_MAX}
 use Rattle.nut_conf.specs.declared.upsmon.UpsmonConf.{UpsmonConf}
 use Rattle.nut_history.specs.Configuration.{Configuration as ServerConfiguration}
 use Rattle.nut_history.specs.Content as server
@@ -75,7 +76,7 @@ module _ (setup : Setup) (w : World) (k : Kept) (is : IsFleet setup w k) where
   same-fit (ServerClock t) = refl
   same-fit (MonitorClock m t) = ap (nat_lt m) seats
   same-fit (Up u) = same-ups u
-  same-fit (Driver u line) = ap (λ b. b && nat_le (length line) 511) (same-ups u)
+  same-fit (Driver u line) = ap (λ b. b && nat_lt (length line) PIECE_MAX) (same-ups u)
   same-fit (Down u) = same-ups u
   same-fit (Link m i) = same-link_there m i
   same-fit (Out m i n) = same-link_there m i

@@ -2,6 +2,7 @@
 use Rattle.std.proofs.Common.{◌≡◌, ◌<◌, ◌==◌, ℕ, Bool, true, false, inl, inr, List, [], ◌∷◌, ◌++◌, min, take, length, slice_get, Some, is_none, refl, sym, ◌∙◌, ap, subst}
 use Rattle.std.specs.Prelude.{if◌then◌else◌, not, ◌&&◌}
 use Rattle.std.proofs.lemmas.Bool.{cases_Bool, cases_eq, ltb-true}
+use Rattle.nut_words.specs.declared.limits.TheConstants.{PIECE_MAX}
 use Rattle.nut_history.specs.Event as arrivals
 use Rattle.nut_history.specs.Acceptance as server_tests
 use Rattle.nut_decision.specs.Event as events
@@ -175,11 +176,11 @@ module _ (k : Kept) (m : ℕ) (x : Seat) (is : slice_get k.seats m ≡ Some x) w
         let P : Deed → Type 0 = λ d. IsSame (after d) (moved_by (fleet_of k) d (Reach m i n)) × (told_if (is_played d) [] ≡ news_by (fleet_of k) d) in
         let still : IsSame (after Skip) (fleet_of k) = record { server = refl; monitor = λ n. refl; link = same-link m i (fleet_of k).link } in
         let goes : P d =
-        when P (open_by k.server (link_of k m i)) (carried (take (min n 512) (link_of k m i).to_server) (λ piece. tell_by k.server (arrivals.Bytes (link_of k m i).connection piece)))
+        when P (open_by k.server (link_of k m i)) (carried (take (min n PIECE_MAX) (link_of k m i).to_server) (λ piece. tell_by k.server (arrivals.Bytes (link_of k m i).connection piece)))
         (still, refl)
-        (when-carried P (take (min n 512) (link_of k m i).to_server) (λ piece. tell_by k.server (arrivals.Bytes (link_of k m i).connection piece)) (still, refl)
-        (when P (is_none (server_tests.refusal k.server (arrivals.Bytes (link_of k m i).connection (take (min n 512) (link_of k m i).to_server))))
-        (Tell (arrivals.Bytes (link_of k m i).connection (take (min n 512) (link_of k m i).to_server)))
+        (when-carried P (take (min n PIECE_MAX) (link_of k m i).to_server) (λ piece. tell_by k.server (arrivals.Bytes (link_of k m i).connection piece)) (still, refl)
+        (when P (is_none (server_tests.refusal k.server (arrivals.Bytes (link_of k m i).connection (take (min n PIECE_MAX) (link_of k m i).to_server))))
+        (Tell (arrivals.Bytes (link_of k m i).connection (take (min n PIECE_MAX) (link_of k m i).to_server)))
         (still, refl) (same-self _, refl))) in (
           same-then (fleet_of (reach_next k m i n)) (after d) (moved_by (fleet_of k) d (Reach m i n))
               (record {
@@ -271,7 +272,7 @@ module _ (k : Kept) (m : ℕ) (x : Seat) (is : slice_get k.seats m ≡ Some x) w
         let d : Deed = land_by m s i ends n in
         let P : Deed → Type 0 = λ d. IsSame (after d) (moved_by (fleet_of k) d (Land m i n)) × (told_if (is_played d) (told_news d s) ≡ news_by (fleet_of k) d) in
         let still : IsSame (after Skip) (fleet_of k) = record { server = refl; monitor = same-for m (fleet_of k).monitor; link = same-link m i (fleet_of k).link } in
-        let piece : List ℕ = take (min n 512) ends.to_monitor in
+        let piece : List ℕ = take (min n PIECE_MAX) ends.to_monitor in
         let goes : P d =
         when P (linked_by s i) (carried piece (λ b. inform_by m s (events.LinkBytes i b)))
         (still, refl)

@@ -1,5 +1,7 @@
 -- What the code keeps of a fleet, and what a step does to that.
-use Rattle.std.specs.Prelude.{ℕ, zero, suc, ◌≡◌, ◌++◌, min, Bool, true, false, not, ◌&&◌, nat_lt, nat_le, if◌then◌else◌, List, [], ◌∷◌, length, take, drop, map, slice_get, slice_index_or, Option, Some, None, is_some, is_none}
+use Rattle.std.specs.Prelude.{ℕ, zero, suc, ◌≡◌, ◌++◌, min, Bool, true, false, not, ◌&&◌, nat_lt, if◌then◌else◌, List, [], ◌∷◌, length, take, drop, map, slice_get, slice_index_or, Option, Some, None, is_some, is_none}
+use Rattle.nut_words.specs.Bytes.{line_feed}
+use Rattle.nut_words.specs.declared.limits.TheConstants.{PIECE_MAX}
 use Rattle.nut_conf.specs.declared.upsmon.UpsmonConf.{UpsmonConf}
 use Rattle.nut_history.specs.Configuration.{Configuration as ServerConfiguration}
 use Rattle.nut_history.specs.Event as arrivals
@@ -79,7 +81,7 @@ waits_by s i = monitor_tests.waiting_on (monitor_tests.watch_at i s.watches)
 
 abbrev pub reach_by : server.Content → Ends → ℕ → Deed
 reach_by s ends n =
-    if open_by s ends then carried (take (min n 512) ends.to_server) (λ piece. tell_by s (arrivals.Bytes ends.connection piece)) else Skip
+    if open_by s ends then carried (take (min n PIECE_MAX) ends.to_server) (λ piece. tell_by s (arrivals.Bytes ends.connection piece)) else Skip
 
 abbrev pub back_by : server.Content → Ends → ℕ → Deed
 back_by s ends n =
@@ -91,7 +93,7 @@ out_by m s i n = if linked_by s i then counted (moved n (waits_by s i)) (λ k. i
 
 abbrev pub land_by : ℕ → knowledge.Content → ℕ → Ends → ℕ → Deed
 land_by m s i ends n =
-    if linked_by s i then carried (take (min n 512) ends.to_monitor) (λ piece. inform_by m s (events.LinkBytes i piece)) else Skip
+    if linked_by s i then carried (take (min n PIECE_MAX) ends.to_monitor) (λ piece. inform_by m s (events.LinkBytes i piece)) else Skip
 
 abbrev pub link_by : ℕ → server.Content → knowledge.Content → ℕ → Ends → Deed
 link_by m s t i ends =
@@ -221,7 +223,7 @@ abbrev pub next : Kept → Step → Kept
 next k (ServerClock t) = told_to k (arrivals.Moment t)
 next k (MonitorClock m t) = with_seat k m (hear_seat m (events.Moment t))
 next k (Up u) = told_to k (arrivals.DriverUp u)
-next k (Driver u line) = told_to k (arrivals.DriverBytes u (line ++ 10 ∷ []))
+next k (Driver u line) = told_to k (arrivals.DriverBytes u (line ++ line_feed ∷ []))
 next k (Down u) = told_to k (arrivals.DriverDown u)
 next k (Link m i) = join_next k m i
 next k (Out m i n) = with_seat k m (out_seat k.server m i n)
@@ -248,7 +250,7 @@ abbrev pub fits : Kept → Step → Bool
 fits k (ServerClock t) = true
 fits k (MonitorClock m t) = nat_lt m (length k.seats)
 fits k (Up u) = nat_lt u (length k.server.configuration.upses)
-fits k (Driver u line) = nat_lt u (length k.server.configuration.upses) && nat_le (length line) 511
+fits k (Driver u line) = nat_lt u (length k.server.configuration.upses) && nat_lt (length line) PIECE_MAX
 fits k (Down u) = nat_lt u (length k.server.configuration.upses)
 fits k (Link m i) = fits_link k m i
 fits k (Out m i n) = fits_link k m i

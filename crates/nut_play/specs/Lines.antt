@@ -3,13 +3,13 @@ use Rattle.std.specs.Prelude.{ℕ, ◌≡◌, Bool, true, false, ◌||◌, List,
 use Rattle.std.specs.Option.{option_and_then, option_map}
 use Rattle.std.specs.Str.{bytes_eq}
 use Rattle.nut_words.specs.declared.words.WordFault.{WordFault}
-use Rattle.nut_words.specs.declared.cutter.TheConstants.{LINE_MAX}
 use Rattle.nut_words.specs.Reader.{spelled, has_backslash}
 use Rattle.nut_state.specs.Number.{natural}
 use Rattle.nut_play.specs.declared.reading.StepFault.{StepFault}
 use Rattle.nut_play.specs.declared.reading.StepFault.TheVariants.{BadStep, Memory}
 use Rattle.nut_play.specs.declared.verb.Verb.{Verb}
 use Rattle.nut_play.specs.declared.verb.Verb.TheVariants as verbs
+use Rattle.nut_play.specs.declared.limits.TheConstants.{STEP_LINE_MAX}
 use Rattle.nut_fleet.specs.Schedule.{Step, ServerClock, MonitorClock, Up, Driver, Down, Link, Out, Reach, Back, Land, CutServer, CutMonitor}
 
 abbrev pub verb_name : Verb → List ℕ
@@ -103,7 +103,7 @@ meant_by (Err fault) = None
 
 -- The step that a line says, if it says one.
 abbrev pub said : List ℕ → Option Step
-said line = if nat_le (length line) LINE_MAX then meant_by (spelled line) else None
+said line = if nat_le (length line) STEP_LINE_MAX then meant_by (spelled line) else None
 
 -- Reading a line takes memory for its words where it has a backslash, and for what a driver says.
 abbrev pub is_of_driver : Option Step → Bool

@@ -26,6 +26,7 @@ use nut_conf::UpsmonConf;
 use nut_fleet::{configurations_are_spoken, fleets_go_on};
 use nut_monitor::Event;
 use nut_server::{Arrival, Config, Server};
+use nut_words::PIECE_MAX;
 use std::alloc::Global;
 use std::marker::Model;
 
@@ -231,7 +232,7 @@ impl Fleet {
             Step::ServerClock(_) => true,
             Step::MonitorClock(m, _) => *m < self.seats.len(),
             Step::Up(u) | Step::Down(u) => *u < self.server.number_of_upses(),
-            Step::Driver(u, line) => *u < self.server.number_of_upses() && line.len() <= 511,
+            Step::Driver(u, line) => *u < self.server.number_of_upses() && line.len() < PIECE_MAX,
             Step::Link(m, i)
             | Step::Out(m, i, _)
             | Step::Reach(m, i, _)
@@ -339,8 +340,8 @@ fn place(monitor: usize, link: usize, step: usize) -> Place
 }
 
 /// A driver's line with its line feed.
-fn with_feed(line: &[u8]) -> ArrayVec<u8, 512>
-    requires fit { length line.now ≤ 511 }
+fn with_feed(line: &[u8]) -> ArrayVec<u8, PIECE_MAX>
+    requires fit { length line.now < PIECE_MAX }
     ensures { result.items ≡ line.now ++ 10 ∷ [] }
 {
     let mut piece = ArrayVec::new();

@@ -16,8 +16,10 @@ use crate::types::{Lack, Logged};
 use arrayvec::ArrayVec;
 use bytes::BytesMut;
 use itoa::Buffer;
+use nut_history::ADDRESS_MAX;
 use nut_monitor::{Event, Monitor};
-use nut_server::{Arrival, PIECE_MAX, Server};
+use nut_server::{Arrival, Server};
+use nut_words::PIECE_MAX;
 use std::alloc::Global;
 use std::marker::Model;
 
@@ -47,8 +49,8 @@ impl Model for Link {
 
 /// How many bytes a step moves that may move `n`, where so many are there.
 pub fn count_of(n: usize, there: usize) -> usize
-    ensures value { result ≡ min (min n 512) there }
-    ensures most { result ≤ 512 }
+    ensures value { result ≡ min (min n PIECE_MAX) there }
+    ensures most { result ≤ PIECE_MAX }
     ensures within { result ≤ there }
 {
     n.min(PIECE_MAX).min(there)
@@ -277,7 +279,7 @@ fn take_front(
 }
 
 /// The address of the links of a monitor.
-fn address_of(m: usize) -> ArrayVec<u8, 64>
+fn address_of(m: usize) -> ArrayVec<u8, ADDRESS_MAX>
     ensures { result.items ≡ address_of m }
 {
     let mut address = ArrayVec::new();

@@ -6,17 +6,19 @@ ghost use Rattle.nut_play.specs.declared.reading.StepFault.{StepFault};
 ghost use Rattle.nut_play.specs.Lines.{Gives, form, is_of_driver, meant, one_number, said, said_by_driver, takes_memory, three_numbers, two_numbers};
 ghost use Rattle.nut_play.specs.Steps.{step_of};
 
+use crate::limits::STEP_LINE_MAX;
 use crate::types::Step;
 use crate::verb::Verb;
 use nut_state::natural;
-use nut_words::{LINE_MAX, WordFault, Words, split};
+use nut_words::{WordFault, Words, split};
 use std::alloc::Global;
 use thiserror::Error;
 
 /// Why a line of a schedule gives no step.
 #[derive(Clone, Copy, Debug, PartialEq, Eq, Error)]
 pub enum StepFault {
-    /// The line is no step: it has more than 512 bytes, spells no words or none at all, or its words are none of the forms.
+    /// The line is no step: it has more than [`STEP_LINE_MAX`] bytes, spells no words or none at all, or its words are none
+    /// of the forms.
     #[error("BadStep")]
     BadStep,
     /// Memory was refused.
@@ -50,7 +52,7 @@ pub fn read_step(alloc: Global, line: &[u8]) -> Result<Step, StepFault>
     ensures step { Gives step_of (said line.now) result }
     ensures memory { result ≡ Err StepFault.Memory → IsTrue (takes_memory line.now) }
 {
-    if line.len() > LINE_MAX {
+    if line.len() > STEP_LINE_MAX {
         return Err(StepFault::BadStep);
     }
     match split(alloc, line) {

@@ -5,7 +5,7 @@ use thiserror::Error;
 
 /// One step of a schedule. Monitors are counted from 0, UPSes by their places in ups.conf, and the links of a monitor by the
 /// places of its MONITOR lines. A step that moves bytes moves as many as are there, but no more than its last number and no
-/// more than 512.
+/// more than [`PIECE_MAX`](nut_words::PIECE_MAX).
 #[derive(Debug, Drop)]
 pub enum Step {
     /// The server's clock shows so many seconds since the start.
@@ -14,7 +14,8 @@ pub enum Step {
     MonitorClock(usize, u64),
     /// The driver of a UPS connects to the server.
     Up(usize),
-    /// The driver of a UPS says a line, which stands here without its line feed and has at most 511 bytes.
+    /// The driver of a UPS says a line, which stands here without its line feed and with it has at most
+    /// [`PIECE_MAX`](nut_words::PIECE_MAX) bytes.
     Driver(usize, Vec<u8>),
     /// The driver of a UPS is gone.
     Down(usize),
@@ -60,8 +61,8 @@ pub type FleetLog = Vec<Logged>;
 /// Why a fleet can't be made, or can't go on.
 #[derive(Clone, Copy, Debug, PartialEq, Eq, Error)]
 pub enum FleetFault {
-    /// The step with this number, counted from 1, names a monitor, a link or a UPS that isn't there, or its line is longer
-    /// than 511 bytes. The steps before it stand.
+    /// The step with this number, counted from 1, names a monitor, a link or a UPS that isn't there, or its line is
+    /// longer than a piece may be. The steps before it stand.
     #[error("bad step {0}")]
     BadStep(usize),
     /// At the step with this number, or at 0 when the fleet was made, memory was refused. The fleet has failed.

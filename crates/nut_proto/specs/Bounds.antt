@@ -1,19 +1,21 @@
 -- How long messages are where names and values are within their limits.
-use Rattle.std.specs.Prelude.{ℕ, ◌+◌, ◌≤◌, List, ◌∷◌, ◌++◌, length, codes, IsTrue}
+use Rattle.std.specs.Prelude.{ℕ, ◌+◌, ◌<◌, ◌≤◌, List, ◌∷◌, ◌++◌, length, codes, IsTrue}
 use Rattle.std.specs.List.{flat_map, AllByRecursion}
 use Rattle.nut_words.specs.Quoting.{stands_bare}
+use Rattle.nut_words.specs.declared.limits.TheConstants.{NAME_MAX, UPS_NAME_MAX, VALUE_MAX}
 use Rattle.nut_proto.specs.declared.reply.Reply.TheVariants as replies
 use Rattle.nut_proto.specs.declared.request.ListQuery.TheVariants as queries
 use Rattle.nut_proto.specs.Requests.{begin_line, end_line}
 use Rattle.nut_proto.specs.Replies.{reply_line}
+use Rattle.nut_proto.specs.declared.limits.TheConstants.{ROWS_MAX}
 
 -- A name stands bare, and has at most so many bytes.
 abbrev pub IsName : ℕ → List ℕ → Type 0
 IsName most name = IsTrue (stands_bare name) × (length name ≤ most)
 
--- A variable's name has at most 64 bytes, and its value at most 128.
+-- A variable's name has at most NAME_MAX bytes, and its value at most VALUE_MAX.
 abbrev pub IsVariable : List ℕ × List ℕ → Type 0
-IsVariable row = IsName 64 row.0 × (length row.1 ≤ 128)
+IsVariable row = IsName NAME_MAX row.0 × (length row.1 ≤ VALUE_MAX)
 
 -- the rows of LIST VAR, of names with their values
 abbrev pub variable_rows : List ℕ → List (List ℕ × List ℕ) → List ℕ
@@ -25,18 +27,18 @@ variable_list ups rows = begin_line (queries.Var ups) ++ (variable_rows ups rows
 
 -- A row of LIST VAR has at most 361 bytes.
 abbrev pub RowsAreBounded : Type 0
-RowsAreBounded = (ups name value : List ℕ) → IsName 32 ups → IsVariable (name, value) → length (reply_line (replies.Var ups name value)) ≤ 361
+RowsAreBounded = (ups name value : List ℕ) → IsName UPS_NAME_MAX ups → IsVariable (name, value) → length (reply_line (replies.Var ups name value)) ≤ 361
 
--- The reply to LIST VAR, 512 variables at most, has at most 184,926 bytes.
+-- The reply to LIST VAR, of at most ROWS_MAX variables, has at most 184,926 bytes.
 abbrev pub ListsAreBounded : Type 0
 ListsAreBounded =
     (ups : List ℕ) (rows : List (List ℕ × List ℕ)) →
-    IsName 32 ups → AllByRecursion IsVariable rows → length rows ≤ 512 → length (variable_list ups rows) ≤ 184926
+    IsName UPS_NAME_MAX ups → AllByRecursion IsVariable rows → length rows ≤ ROWS_MAX → length (variable_list ups rows) ≤ 184926
 
 -- Where one value is shown with `FSD ` in front, it has at most 184,930.
 abbrev pub ForcedListsAreBounded : Type 0
 ForcedListsAreBounded =
     (ups name value : List ℕ) (before after : List (List ℕ × List ℕ)) →
-    IsName 32 ups → AllByRecursion IsVariable before → IsVariable (name, value) → AllByRecursion IsVariable after →
-    length before + length after ≤ 511 →
+    IsName UPS_NAME_MAX ups → AllByRecursion IsVariable before → IsVariable (name, value) → AllByRecursion IsVariable after →
+    length before + length after < ROWS_MAX →
     length (variable_list ups (before ++ (name, codes "FSD " ++ value) ∷ after)) ≤ 184930

@@ -1,6 +1,7 @@
 -- What is written is read back as it was meant.
 use Rattle.std.specs.Prelude.{◌≡◌, ◌≤◌, List, [], ◌∷◌, length, Ok, Some, codes, IsTrue}
 use Rattle.nut_words.specs.Reader.{spelled}
+use Rattle.nut_words.specs.declared.limits.TheConstants.{WORDS_MAX}
 use Rattle.nut_proto.specs.declared.part.Part.{Part}
 use Rattle.nut_proto.specs.declared.request.Request.{Request}
 use Rattle.nut_proto.specs.declared.request.Request.TheVariants as requests
@@ -19,11 +20,11 @@ use Rattle.nut_proto.specs.Replies.{reply_parts}
 use Rattle.nut_proto.specs.DriverAsks.{ask_parts, ask_of}
 use Rattle.nut_proto.specs.Answers.{answer_in}
 
--- At most 32 parts spell their words.
+-- At most WORDS_MAX parts spell their words.
 abbrev pub MessagesSpell : Type 0
-MessagesSpell = (parts : List Part) → AreWritable parts → length parts ≤ 32 → spelled (message parts) ≡ Ok (message_words parts)
+MessagesSpell = (parts : List Part) → AreWritable parts → length parts ≤ WORDS_MAX → spelled (message parts) ≡ Ok (message_words parts)
 
--- A user name and a password have 1 to 128 bytes; no other word of a request has a bound of its own.
+-- A user name and a password have 1 to CREDENTIAL_MAX bytes; no other word of a request has a bound of its own.
 abbrev pub IsReadable : Request → Type 0
 IsReadable (requests.Username name) = IsTrue (is_credential name)
 IsReadable (requests.Password password) = IsTrue (is_credential password)

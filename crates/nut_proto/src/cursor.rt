@@ -3,7 +3,7 @@ ghost use Rattle.std.specs.Prelude.{◌≡◌, ◌≤◌, List, ℕ, [], ◌∷�
 ghost use Rattle.nut_proto.specs.Rules.{no_word, one_word, two_words, three_words, credential_word};
 
 use crate::word::Word;
-use nut_words::Words;
+use nut_words::{CREDENTIAL_MAX, Words};
 use std::marker::Model;
 
 /// The words of a line that are not read yet.
@@ -78,13 +78,13 @@ impl<'a, 'l> Cursor<'a, 'l> {
         Some((first, second, third))
     }
 
-    /// The last word, where exactly one is left, of 1 to 128 bytes.
+    /// The last word, where exactly one is left, of 1 to [`CREDENTIAL_MAX`] bytes.
     pub fn credential(self) -> Option<Word<'a>>
         ensures { result ≡ credential_word self.entry }
     {
         let word = self.one()?;
         let len = word.as_bytes().len();
-        if 1 <= len && len <= 128 {
+        if 1 <= len && len <= CREDENTIAL_MAX {
             Some(word)
         } else {
             None

@@ -55,11 +55,11 @@ pub enum Request<'a> {
         ups: Word<'a>,
         command: Word<'a>,
     },
-    /// `USERNAME`, of 1 to 128 bytes where it was read.
+    /// `USERNAME`, of 1 to [`CREDENTIAL_MAX`](nut_words::CREDENTIAL_MAX) bytes where it was read.
     Username {
         name: Word<'a>,
     },
-    /// `PASSWORD`, of 1 to 128 bytes where it was read.
+    /// `PASSWORD`, of 1 to [`CREDENTIAL_MAX`](nut_words::CREDENTIAL_MAX) bytes where it was read.
     Password {
         password: Word<'a>,
     },

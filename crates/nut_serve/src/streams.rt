@@ -7,6 +7,7 @@ ghost use Rattle.nut_serve.specs.declared.streams.Stage.TheVariants.{Ended};
 
 use crate::{Address, Fault, Next, Piece, World, Written};
 use nut_server::Server;
+use nut_words::PIECE_MAX;
 use std::io;
 use std::io::{ErrorKind, Read, Write};
 
@@ -148,7 +149,7 @@ fn address() -> Address {
 
 /// Reads one piece, and says how long it is: 0 at the end of the input.
 pub fn read_piece<R: Read>(input: &mut R, piece: &mut Piece) -> io::Result<usize> {
-    *piece = Piece::from([0; 512]);
+    *piece = Piece::from([0; PIECE_MAX]);
     for _ in 0..u64::MAX {
         match input.read(piece.as_mut_slice()) {
             Ok(n) => {

@@ -1,13 +1,15 @@
 //! What a world answers.
 
 use arrayvec::ArrayVec;
+use nut_history::ADDRESS_MAX;
+use nut_words::PIECE_MAX;
 use thiserror::Error;
 
-/// The bytes of one arrival: at most 512.
-pub type Piece = ArrayVec<u8, 512>;
+/// The bytes of one arrival: at most [`PIECE_MAX`].
+pub type Piece = ArrayVec<u8, PIECE_MAX>;
 
-/// The address of a client, as the world names it: at most 64 bytes.
-pub type Address = ArrayVec<u8, 64>;
+/// The address of a client, as the world names it: at most [`ADDRESS_MAX`] bytes.
+pub type Address = ArrayVec<u8, ADDRESS_MAX>;
 
 /// What comes next. Connections go by the numbers that the server gave them, UPSes by their places in ups.conf.
 #[derive(Drop)]

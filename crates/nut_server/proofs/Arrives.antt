@@ -3,8 +3,10 @@ use Rattle.std.proofs.Common.{◌≡◌, ℕ, zero, suc, ◌+◌, ◌<◌, ◌�
 use Rattle.std.specs.Prelude.{IsTrue}
 use Rattle.std.specs.Option.{option_map_or}
 use Rattle.nut_conf.specs.declared.text.Number.{Number}
+use Rattle.nut_conf.specs.declared.limits.TheConstants.{CONNECTIONS_MAX}
 use Rattle.nut_history.specs.Trace.{below}
 use Rattle.std.proofs.lemmas.Bool.{cases_Bool, eqb-true, false≢true, le-ltb}
+use Rattle.nut_words.specs.declared.limits.TheConstants.{PIECE_MAX}
 use Rattle.nut_history.specs.declared.Refused.{Refused}
 use Rattle.nut_history.specs.declared.Refused.TheVariants.{NoSuchConnection, NotConnected, PieceTooLong, Busy, TooMuchTaken, BadAddress, Full, Memory}
 use Rattle.nut_history.specs.Configuration.{Configuration}
@@ -16,11 +18,12 @@ use Rattle.nut_history.specs.Laws.{IsUpTo}
 use Rattle.nut_history.specs.Outcome.{IsAnswer, after}
 use Rattle.nut_history.specs.MachineOutcome.{Answers, content_after}
 use Rattle.nut_history.proofs.Tells.{answers-told, tells-after}
+use Rattle.nut_history.specs.declared.limits.TheConstants.{OPENED_MAX}
 use Rattle.nut_server.specs.Inside.{numbers_of}
 use Rattle.nut_server.specs.Settling.{is_unsettled, IsNextUnsettled}
 
-pub bytes_ok : (c : ℕ) (piece : List ℕ) (ks : List Session) (k : Session) → session_of c ks ≡ Some k → length piece ≤ 512 → length k.waits ≤ 0 → bytes_refusal piece (session_of c ks) ≡ None
-bytes_ok c piece ks k is short none = ap (bytes_refusal piece) is ∙ rw (le-ltb 512 (length piece) short, le-ltb 0 (length k.waits) none) refl
+pub bytes_ok : (c : ℕ) (piece : List ℕ) (ks : List Session) (k : Session) → session_of c ks ≡ Some k → length piece ≤ PIECE_MAX → length k.waits ≤ 0 → bytes_refusal piece (session_of c ks) ≡ None
+bytes_ok c piece ks k is short none = ap (bytes_refusal piece) is ∙ rw (le-ltb PIECE_MAX (length piece) short, le-ltb 0 (length k.waits) none) refl
 
 pub took_ok : (c n : ℕ) (ks : List Session) (k : Session) → session_of c ks ≡ Some k → n ≤ length k.waits → took_refusal n (session_of c ks) ≡ None
 took_ok c n ks k is le = ap (took_refusal n) is ∙ rw (le-ltb (length k.waits) n le) refl
@@ -115,7 +118,7 @@ none_waits [] le = refl
 none_waits (x ∷ xs) le = absurd (omega arith)
 
 -- a number of a connection fits
-pub fits_of : (n least : ℕ) (ks : List Session) (o : Option ℕ) → IsUpTo n (numbers_of ks) → n ≤ 4294967295 → IsNextUnsettled ks least o → IfSome o (λ c. c < 18446744073709551615)
+pub fits_of : (n least : ℕ) (ks : List Session) (o : Option ℕ) → IsUpTo n (numbers_of ks) → n ≤ OPENED_MAX → IsNextUnsettled ks least o → IfSome o (λ c. c < 18446744073709551615)
 fits_of n least ks None up few next = tt
 fits_of n least ks (Some c) up few next = omega (arith, unsettled_up_to n c ks up next.1, few)
 
@@ -123,7 +126,7 @@ pub length-below : (n : ℕ) → length (below n) ≡ n
 length-below zero = refl
 length-below (suc n) = omega (arith, length-append (below n) (n ∷ []), length-below n)
 
--- MAXCONN is at most 256
-pub most_few : (o : Option (Number 1 256)) → option_map_or (λ n. n.value) o 256 ≤ 256
+-- MAXCONN is at most CONNECTIONS_MAX
+pub most_few : (o : Option (Number 1 CONNECTIONS_MAX)) → option_map_or (λ n. n.value) o CONNECTIONS_MAX ≤ CONNECTIONS_MAX
 most_few None = omega arith
 most_few (Some n) = n.most

@@ -7,6 +7,7 @@ use Rattle.std.proofs.lemmas.List.Edits.{length-remove}
 use Rattle.std.proofs.lemmas.Option.{slice_get_read, slice_get_within, get_or_from_slice_get}
 use Rattle.std.proofs.lemmas.List.{length-set, set-get_or}
 use Rattle.std.proofs.lemmas.List.Sums.{get_or-le-sum_by, sum_by-cons, sum_by_push, sum_by-remove, sum_by-set}
+use Rattle.nut_conf.specs.declared.limits.TheConstants.{CONNECTIONS_MAX}
 use Rattle.slab.specs.Slab.{Slab, get, ContainsKey, slab_len, with_value, Updates}
 use Rattle.slab.proofs.SlabLemmas.{Updates-with_value, ContainsKey-within}
 use Rattle.nut_history.specs.Content.{Session}
@@ -337,7 +338,7 @@ pub record Are (e : Inside) (ks : List Session) : Type 0 where
   pub entries : AreEntries e
   pub sessions : sessions_of e.slots e.order.items ≡ ks
 
-pub entry_added : (e e' : Inside) (ks : List Session) (key : Key) (k : Session) → AreEntries e → sessions_of e.slots e.order.items ≡ ks → length ks < 256
+pub entry_added : (e e' : Inside) (ks : List Session) (key : Key) (k : Session) → AreEntries e → sessions_of e.slots e.order.items ≡ ks → length ks < CONNECTIONS_MAX
     → (n : ℕ) × IsUpTo n (numbers_of ks) × (n < k.number) → k.number ≡ key.number → IsAdded e e' key k → Are e' (ks ++ k ∷ [])
 entry_added e e' ks key k are view few above number done =
     let both = added e.slots e'.slots e.order.items key k are.named are.marked done.vacant number done.mark done.updates in

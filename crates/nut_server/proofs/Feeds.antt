@@ -6,6 +6,7 @@ use Rattle.std.proofs.lemmas.List.{append-nil, append_assoc, append_cancel_left,
 use Rattle.nut_words.specs.Lines.{LineText, Text, TooLong, as_line, last_of, parts, lines, rest, joined, lines_after}
 use Rattle.nut_words.proofs.LineLemmas.{joined-as_line}
 use Rattle.nut_words.proofs.StreamGrowth.{lines-append, lines_at_line_feed, rest_at_line_feed, lines_within, rest_within}
+use Rattle.nut_words.specs.declared.limits.TheConstants.{LINE_MAX}
 use Rattle.nut_history.specs.Acceptance.{front, line_feeds}
 use Rattle.nut_history.proofs.Hearing.{until_feed, first_line}
 
@@ -144,7 +145,7 @@ unbroken_rest b (c ∷ y) none =
 
 nothing_left : (y : List ℕ) → as_line y ≡ Text [] → y ≡ []
 nothing_left [] is = refl
-nothing_left (c ∷ y) is = elim (cases_Bool (nat_le (length (c ∷ y)) 512)) [ inl e ↦ let t : Text (c ∷ y) ≡ Text [] = rw e at is in cc | inr e ↦ let t : TooLong ≡ Text [] = rw e at is in absurd (cc) ]
+nothing_left (c ∷ y) is = elim (cases_Bool (nat_le (length (c ∷ y)) LINE_MAX)) [ inl e ↦ let t : Text (c ∷ y) ≡ Text [] = rw e at is in cc | inr e ↦ let t : TooLong ≡ Text [] = rw e at is in absurd (cc) ]
 
 -- ---- what a cutter that had the rest of b hands out of a piece, of which it used so much
 

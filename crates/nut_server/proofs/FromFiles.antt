@@ -18,6 +18,7 @@ use Rattle.nut_conf.specs.declared.users.User as the_user
 use Rattle.nut_conf.specs.declared.users.Commands.{Commands}
 use Rattle.nut_conf.specs.declared.users.Commands.TheVariants as commands
 use Rattle.nut_words.proofs.CutLemmas.{false-from_not_true}
+use Rattle.nut_words.specs.declared.limits.TheConstants.{UPS_NAME_MAX}
 use Rattle.nut_conf.proofs.NameLookup.{slice_get-names}
 use Rattle.nut_conf.proofs.SlotLemmas.{length-map}
 use Rattle.nut_history.specs.Configuration.{Ups, number_of_ups, user_named, covers}
@@ -32,7 +33,7 @@ bytes_eq-symm a b = by_test (bytes_eq a b) refl where
       absurd (cc)))
 
 -- the names of the UPSes are those of the file
-pub shown-names : (es : List (Name 32 × the_ups.Ups)) → map (λ u. u.name) (map ups_of (map shown es)) ≡ names_in (keys_of es)
+pub shown-names : (es : List (Name UPS_NAME_MAX × the_ups.Ups)) → map (λ u. u.name) (map ups_of (map shown es)) ≡ names_in (keys_of es)
 shown-names [] = refl
 shown-names (e ∷ es) = ap (λ (ns : List (List ℕ)). e.0.bytes.items ∷ ns) (shown-names es)
 
@@ -51,13 +52,13 @@ number-names name us =
     ∙ ap (λ k. cond (nat_lt k (length us)) (Some k) None) (sym (prefix-named name us))
 
 -- the UPS under a name
-pub ups-there : (es : List (Name 32 × the_ups.Ups)) (k : ℕ) (n m driver desc : List ℕ) (v : the_ups.Ups)
+pub ups-there : (es : List (Name UPS_NAME_MAX × the_ups.Ups)) (k : ℕ) (n m driver desc : List ℕ) (v : the_ups.Ups)
     → Some n ≡ slice_get (names_in (keys_of es)) k → Some v ≡ slice_get (values_of es) k → m ≡ n → driver ≡ driver_of v → desc ≡ desc_of v
     → Some (record { name = m; driver = driver; description = desc }) ≡ slice_get (map ups_of (map shown es)) k
 ups-there es k n m driver desc v named valued is_m is_driver is_desc =
     by_entry (slice_get es k) (named ∙ slice_get-names es k) (valued ∙ slice_get-map (λ e. e.1) es k)
     ∙ sym (slice_get-map ups_of (map shown es) k ∙ ap (option_map ups_of) (slice_get-map shown es k)) where
-      by_entry : (o : Option (Name 32 × the_ups.Ups)) → Some n ≡ option_map (λ e. e.0.bytes.items) o → Some v ≡ option_map (λ e. e.1) o
+      by_entry : (o : Option (Name UPS_NAME_MAX × the_ups.Ups)) → Some n ≡ option_map (λ e. e.0.bytes.items) o → Some v ≡ option_map (λ e. e.1) o
           → Some (record { name = m; driver = driver; description = desc }) ≡ option_map ups_of (option_map shown o)
       by_entry None named valued = absurd (cc)
       by_entry (Some e) named valued =
@@ -82,14 +83,14 @@ module _ {X : Type 0} (test : X → Bool) (xs : List X) where
       past : (k n : ℕ) → nat_lt k n ≡ false → n ≤ k
       past k n h = grind (arith, nat_tests)
 
-found_first : (name : List ℕ) (e : Name 32 × the_user.User) (es : List (Name 32 × the_user.User)) (t : Bool) → bytes_eq name e.0.bytes.items ≡ t
+found_first : (name : List ℕ) (e : Name UPS_NAME_MAX × the_user.User) (es : List (Name UPS_NAME_MAX × the_user.User)) (t : Bool) → bytes_eq name e.0.bytes.items ≡ t
     → user_named name (map user_in es) ≡ option_map (user_of name) (lookup (is_named name) es)
     → cond t (Some (user_in e)) (user_named name (map user_in es)) ≡ option_map (user_of name) (cond t (Some e.1) (lookup (is_named name) es))
 found_first name e es true h later = ap (λ n. Some (user_of n e.1)) (sym ((bytes_eq-Decides name e.0.bytes.items).0 h))
 found_first name e es false h later = later
 
 -- the user of a name is the one under this name
-pub found_user : (name : List ℕ) (es : List (Name 32 × the_user.User)) → user_named name (map user_in es) ≡ option_map (user_of name) (lookup (is_named name) es)
+pub found_user : (name : List ℕ) (es : List (Name UPS_NAME_MAX × the_user.User)) → user_named name (map user_in es) ≡ option_map (user_of name) (lookup (is_named name) es)
 found_user name [] = refl
 found_user name (e ∷ es) = rw (bytes_eq-symm e.0.bytes.items name) (found_first name e es (bytes_eq name e.0.bytes.items) refl (found_user name es))
 

@@ -6,6 +6,7 @@ use Rattle.std.specs.List.{AllByRecursion, list_all}
 use Rattle.std.proofs.lemmas.Bool.{leb-true}
 use Rattle.std.proofs.lemmas.List.{length-map}
 use Rattle.nut_words.specs.Spelling.{is_printing}
+use Rattle.nut_words.specs.declared.limits.TheConstants.{UPS_NAME_MAX}
 use Rattle.nut_conf.specs.Ups.{shown, desc_of}
 use Rattle.nut_conf.specs.Descriptions.{row_of}
 use Rattle.nut_conf.specs.declared.descriptions.Descriptions.{Descriptions}
@@ -15,6 +16,7 @@ use Rattle.nut_conf.specs.declared.ups.Ups as the_ups
 use Rattle.nut_conf.specs.declared.ups.UpsConf.{UpsConf}
 use Rattle.nut_conf.specs.declared.upsd.UpsdConf.{UpsdConf}
 use Rattle.nut_conf.specs.declared.users.UsersConf.{UsersConf}
+use Rattle.nut_conf.specs.declared.limits.TheConstants.{DESCRIPTION_MAX}
 use Rattle.nut_history.specs.Content.{Session, Content, past}
 use Rattle.nut_history.specs.Configuration.{Configuration}
 use Rattle.nut_history.specs.Event.{Event}
@@ -28,18 +30,18 @@ both : (a b : Bool) → (a && b) ≡ true → (a ≡ true) × (b ≡ true)
 both true b e = (refl, e)
 both false b e = absurd (cc)
 
-text_short : (t : Text 0 128) → length t.bytes.items ≤ 128
+text_short : (t : Text 0 DESCRIPTION_MAX) → length t.bytes.items ≤ DESCRIPTION_MAX
 text_short t =
-    let sizes = both (nat_le 0 (length t.bytes.items) && nat_le (length t.bytes.items) 128) (list_all is_printing t.bytes.items) t.bounded in
-    leb-true (length t.bytes.items) 128 (both (nat_le 0 (length t.bytes.items)) (nat_le (length t.bytes.items) 128) sizes.0).1
+    let sizes = both (nat_le 0 (length t.bytes.items) && nat_le (length t.bytes.items) DESCRIPTION_MAX) (list_all is_printing t.bytes.items) t.bounded in
+    leb-true (length t.bytes.items) DESCRIPTION_MAX (both (nat_le 0 (length t.bytes.items)) (nat_le (length t.bytes.items) DESCRIPTION_MAX) sizes.0).1
 
-description_short : (u : the_ups.Ups) → length (desc_of u) ≤ 128
+description_short : (u : the_ups.Ups) → length (desc_of u) ≤ DESCRIPTION_MAX
 description_short u = by_text u.desc where
-  by_text : (o : Option (Text 0 128)) → length (option_map_or (λ (t : Text 0 128). t.bytes.items) o (codes "Unavailable")) ≤ 128
+  by_text : (o : Option (Text 0 DESCRIPTION_MAX)) → length (option_map_or (λ (t : Text 0 DESCRIPTION_MAX). t.bytes.items) o (codes "Unavailable")) ≤ DESCRIPTION_MAX
   by_text None = omega arith
   by_text (Some t) = text_short t
 
-each_within : (es : List (Name 32 × the_ups.Ups)) → AllByRecursion IsUpsWithin (map ups_of (map shown es))
+each_within : (es : List (Name UPS_NAME_MAX × the_ups.Ups)) → AllByRecursion IsUpsWithin (map ups_of (map shown es))
 each_within [] = tt
 each_within (e ∷ es) = (record { name = e.0.named; description = description_short e.1 }, each_within es)
 

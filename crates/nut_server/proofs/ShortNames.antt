@@ -1,9 +1,10 @@
--- A user name or a password that a line gives has at most 128 bytes.
+-- A user name or a password that a line gives has at most CREDENTIAL_MAX bytes.
 use Rattle.std.proofs.Common.{◌≡◌, ℕ, ◌≤◌, Bool, true, false, List, [], ◌∷◌, length, inl, inr, Option, Some, None, arith}
 use Rattle.std.specs.Prelude.{nat_le, ◌&&◌, if◌then◌else◌}
 use Rattle.std.specs.Option.{ok_or, option_or}
 use Rattle.std.proofs.lemmas.Bool.{cases_Bool}
 use Rattle.std.proofs.lemmas.Bool.Decides.{nat_tests}
+use Rattle.nut_words.specs.declared.limits.TheConstants.{CREDENTIAL_MAX}
 use Rattle.nut_proto.specs.declared.request.Request.{Request}
 use Rattle.nut_proto.specs.declared.request.Request.TheVariants as requests
 use Rattle.nut_proto.specs.declared.request.ListQuery.TheVariants as queries
@@ -50,10 +51,10 @@ of_three made short (x ∷ y ∷ []) = tt
 of_three made short (x ∷ y ∷ z ∷ []) = short x y z
 of_three made short (x ∷ y ∷ z ∷ w ∷ ws) = tt
 
-at_most : (n : ℕ) → (nat_le 1 n && nat_le n 128) ≡ true → n ≤ 128
+at_most : (n : ℕ) → (nat_le 1 n && nat_le n CREDENTIAL_MAX) ≡ true → n ≤ CREDENTIAL_MAX
 at_most n is = grind (arith, nat_tests)
 
-of_credential : (made : List ℕ → Request) → ((x : List ℕ) → length x ≤ 128 → HasShortNames (Asks (made x))) → GivesShort (credential made)
+of_credential : (made : List ℕ → Request) → ((x : List ℕ) → length x ≤ CREDENTIAL_MAX → HasShortNames (Asks (made x))) → GivesShort (credential made)
 of_credential made short [] = tt
 of_credential made short (x ∷ []) = elim (cases_Bool (is_credential x)) [ inl e ↦ rw e (short x (at_most (length x) e)) | inr e ↦ rw e tt ]
 of_credential made short (x ∷ y ∷ ys) = tt

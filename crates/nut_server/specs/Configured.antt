@@ -2,6 +2,7 @@
 use Rattle.std.specs.Prelude.{ℕ, List, [], map, Option, Some, None}
 use Rattle.std.specs.Option.{option_map}
 use Rattle.nut_conf.specs.Descriptions.{rows_of}
+use Rattle.nut_words.specs.declared.limits.TheConstants.{UPS_NAME_MAX}
 use Rattle.nut_conf.specs.Ups.{Shown, shown_in}
 use Rattle.nut_conf.specs.Upsd.{max_age_of, max_conn_of}
 use Rattle.nut_conf.specs.declared.descriptions.Descriptions.{Descriptions}
@@ -38,7 +39,7 @@ user_of name u = record {
 }
 
 -- the user under a name
-abbrev pub user_in : Name 32 × files.User → User
+abbrev pub user_in : Name UPS_NAME_MAX × files.User → User
 user_in e = user_of e.0.bytes.items e.1
 
 -- the users of upsd.users, in the order of the file

@@ -1,5 +1,6 @@
 -- What a request does beside being answered.
 use Rattle.std.specs.Prelude.{ℕ, ◌≤◌, ◌<◌, ◌≡◌, true, List, ◌++◌, length, slice_index_or, Some, None}
+use Rattle.nut_words.specs.declared.limits.TheConstants.{CREDENTIAL_MAX}
 use Rattle.nut_proto.specs.declared.request.Request.TheVariants as requests
 use Rattle.nut_history.specs.Configuration.{Configuration}
 use Rattle.nut_history.specs.Command.{Command, Asks}
@@ -56,10 +57,10 @@ Does configuration command reply effect line =
 abbrev pub said : List ℕ → Session → Session
 said text k = record k { waits = k.waits ++ text }
 
--- a user name or a password of the command has at most 128 bytes
+-- a user name or a password of the command has at most CREDENTIAL_MAX bytes
 abbrev pub HasShortNames : Command → Type 0
-HasShortNames (Asks (requests.Username name)) = length name ≤ 128
-HasShortNames (Asks (requests.Password password)) = length password ≤ 128
+HasShortNames (Asks (requests.Username name)) = length name ≤ CREDENTIAL_MAX
+HasShortNames (Asks (requests.Password password)) = length password ≤ CREDENTIAL_MAX
 HasShortNames command = Unit {0}
 
 -- the content after an answer to a command of c, but for its unfinished line

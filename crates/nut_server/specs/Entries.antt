@@ -1,5 +1,6 @@
 -- How the open connections are kept: in the slots of a slab, and in order by keys.
 use Rattle.std.specs.Prelude.{◌≡◌, ◌≤◌, ℕ, List, [], ◌∷◌, count_by, filter_map, length, map, Some, vec_capacity}
+use Rattle.nut_conf.specs.declared.limits.TheConstants.{CONNECTIONS_MAX}
 use Rattle.slab.specs.Slab.{Slab, get, slab_len}
 use Rattle.nut_history.specs.Content.{Session}
 use Rattle.nut_history.specs.Laws.{IsRising}
@@ -32,6 +33,6 @@ pub record AreEntries (c : Inside) : Type 0 where
   pub marked : AreMarked c.slots c.order.items
   pub unsettled : c.unsettled ≡ count_by (λ key. key.unsettled) c.order.items
   pub counted : slab_len c.slots ≡ length c.order.items
-  pub few : length c.order.items ≤ 256
-  pub room : 256 ≤ c.slots.capacity
-  pub room_for_keys : 256 ≤ vec_capacity c.order
+  pub few : length c.order.items ≤ CONNECTIONS_MAX
+  pub room : CONNECTIONS_MAX ≤ c.slots.capacity
+  pub room_for_keys : CONNECTIONS_MAX ≤ vec_capacity c.order

@@ -5,14 +5,15 @@ use Rattle.nut_history.specs.Content.{Supply}
 use Rattle.nut_history.specs.Device.{absent}
 use Rattle.nut_history.specs.Laws.{IsUpTo}
 use Rattle.nut_history.specs.Limits.{IsWithin}
+use Rattle.nut_history.specs.declared.limits.TheConstants.{OPENED_MAX}
 use Rattle.nut_server.specs.Inside.{numbers_of}
 use Rattle.nut_server.specs.declared.server.Server.TheInside.{Inside}
 
--- No connection has a number above how many were opened, which fits 32 bits, there is room for all of them, the
+-- No connection has a number above how many were opened, which is at most OPENED_MAX, there is room for all of them, the
 -- configuration is within the limits of its files, and each UPS has its place.
 pub record IsOrderly (a : Inside) : Type 0 where
   pub up_to : IsUpTo a.opened (numbers_of a.connections)
-  pub few : a.opened ≤ 4_294_967_295
+  pub few : a.opened ≤ OPENED_MAX
   pub within : length (numbers_of a.connections) ≤ a.config.most_connections
   pub limits : IsWithin a.config
   pub all : length a.devices.items ≡ length a.config.upses

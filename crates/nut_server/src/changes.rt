@@ -21,6 +21,8 @@ use crate::scene::Scene;
 use crate::setting::{misfit, put_ask};
 use arrayvec::ArrayVec;
 use nut_proto::{DriverAsk, Refusal, Word};
+use nut_queue::ASKS_MAX;
+use nut_words::CREDENTIAL_MAX;
 
 /// Writes into `line` that the driver is to set a variable, if the variable takes the value and the line fits behind what
 /// waits for the driver.
@@ -28,7 +30,7 @@ fn ask_to_set(
     device: &Device,
     name: &[u8],
     value: &[u8],
-    line: &mut ArrayVec<u8, 4096>,
+    line: &mut ArrayVec<u8, ASKS_MAX>,
 ) -> Result<(), Refusal>
     ensures answer { MatchResult result
         (λ done. set_answer device.now.device name.now value.now ≡ Line replies.Accepted)
@@ -52,7 +54,7 @@ fn ask_to_set(
 
 /// Writes into `line` that the driver is to do a command, if it has the command and the line fits behind what waits for
 /// the driver.
-fn ask_to_do(device: &Device, name: &[u8], line: &mut ArrayVec<u8, 4096>) -> Result<(), Refusal>
+fn ask_to_do(device: &Device, name: &[u8], line: &mut ArrayVec<u8, ASKS_MAX>) -> Result<(), Refusal>
     ensures answer { MatchResult result
         (λ done. command_answer device.now.device name.now ≡ Line replies.Accepted)
         (λ refusal. command_answer device.now.device name.now ≡ refused refusal) }
@@ -78,7 +80,7 @@ pub fn set_variable(
     ups: &[u8],
     name: &[u8],
     value: &[u8],
-    line: &mut ArrayVec<u8, 4096>,
+    line: &mut ArrayVec<u8, ASKS_MAX>,
 ) -> Result<Effect<'static>, Refusal>
     ensures { Grants scene.now (caller_of caller.now) (Asks (requests.SetVar ups.now name.now value.now)) replies.Accepted
         result line.new.items }
@@ -94,7 +96,7 @@ pub fn give_command(
     caller: &Connection,
     ups: &[u8],
     name: &[u8],
-    line: &mut ArrayVec<u8, 4096>,
+    line: &mut ArrayVec<u8, ASKS_MAX>,
 ) -> Result<Effect<'static>, Refusal>
     ensures { Grants scene.now (caller_of caller.now) (Asks (requests.InstCmd ups.now name.now)) replies.Accepted
         result line.new.items }
@@ -106,7 +108,7 @@ pub fn give_command(
 
 /// USERNAME gives the user name, once.
 pub fn give_user<'l>(caller: &Connection, name: &'l [u8]) -> Result<Effect<'l>, Refusal>
-    requires { length name.now ≤ 128 }
+    requires { length name.now ≤ CREDENTIAL_MAX }
     ensures { (s : Scene) (line : List ℕ) → Grants s (caller_of caller.now) (Asks (requests.Username name.now)) replies.Accepted
         result line }
 {
@@ -118,7 +120,7 @@ pub fn give_user<'l>(caller: &Connection, name: &'l [u8]) -> Result<Effect<'l>, 
 
 /// PASSWORD gives the password, once.
 pub fn give_password<'l>(caller: &Connection, password: &'l [u8]) -> Result<Effect<'l>, Refusal>
-    requires { length password.now ≤ 128 }
+    requires { length password.now ≤ CREDENTIAL_MAX }
     ensures { (s : Scene) (line : List ℕ) → Grants s (caller_of caller.now) (Asks (requests.Password password.now)) replies.Accepted
         result line }
 {

@@ -9,6 +9,7 @@ ghost use Rattle.nut_server.specs.Configured.{configuration_of, upses_of, users_
 
 use nut_conf::{Action, Descriptions, Role, UpsConf, UpsdConf, UsersConf};
 use nut_proto::{command_description, variable_description};
+use nut_conf::{Action, CONNECTIONS_MAX, Role, UPSES_MAX, USERS_MAX, UpsConf, UpsdConf, UsersConf};
 use std::marker::Model;
 
 /// A UPS, lent from the configuration.
@@ -136,18 +137,18 @@ impl Config {
         &self.ups
     }
 
-    /// What upsd.users sets: at most 64 users.
+    /// What upsd.users sets: at most [`USERS_MAX`] users.
     pub fn users(&self) -> &UsersConf
         ensures value { users_of result.now ≡ self.now.users }
-        ensures few { length self.now.users ≤ 64 }
+        ensures few { length self.now.users ≤ USERS_MAX }
     {
         &self.users
     }
 
-    /// How many UPSes there are, at most 32.
+    /// How many UPSes there are, at most [`UPSES_MAX`].
     pub fn number_of_upses(&self) -> usize
         ensures len { result ≡ length self.now.upses }
-        ensures few { result ≤ 32 }
+        ensures few { result ≤ UPSES_MAX }
     {
         self.ups.len()
     }
@@ -255,11 +256,11 @@ impl Config {
         self.upsd.max_age()
     }
 
-    /// How many connections may be open at once, 1 to 256 (MAXCONN of upsd.conf(5)).
+    /// How many connections may be open at once, 1 to [`CONNECTIONS_MAX`] (MAXCONN of upsd.conf(5)).
     pub fn most_connections(&self) -> usize
         ensures value { result ≡ self.now.most_connections }
         ensures least { 1 ≤ result }
-        ensures most { result ≤ 256 }
+        ensures most { result ≤ CONNECTIONS_MAX }
     {
         self.upsd.max_conn() as usize
     }

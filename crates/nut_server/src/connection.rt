@@ -15,7 +15,7 @@ use crate::address::Address;
 use crate::credential::Credential;
 use crate::effect::Effect;
 use nut_queue::Outbox;
-use nut_words::LineCutter;
+use nut_words::{LINE_MAX, LineCutter};
 use std::alloc::{AllocError, Global};
 use std::marker::Model;
 use std::mem;
@@ -164,7 +164,7 @@ impl Connection {
     /// How many bytes are kept of an unfinished line.
     pub fn kept(&self) -> usize
         ensures value { result ≡ kept_of self.now.rest }
-        ensures within { result ≤ 512 }
+        ensures within { result ≤ LINE_MAX }
     {
         self.cutter.kept()
     }
@@ -203,7 +203,7 @@ impl Connection {
         ensures whole { IfSome result (λ line. piece.now ≡ line.now ++ 10 ∷ []) }
         ensures line { IfSome result (λ line. lines piece.now ≡ Text line.now ∷ []) }
         ensures taken { (text : List ℕ) → self.now.rest ≡ Text [] → piece.now ≡ text ++ 10 ∷ [] → All (λ b. b ≢ 10) text
-            → length text ≤ 512 → IsSome result }
+            → length text ≤ LINE_MAX → IsSome result }
     {
         self.cutter.whole_line(piece)
     }

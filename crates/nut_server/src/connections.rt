@@ -19,13 +19,11 @@ ghost use Rattle.nut_server.specs.Settling.{IsNextUnsettled, settles};
 
 use crate::connection::Connection;
 use crate::effect::Effect;
+use nut_conf::CONNECTIONS_MAX;
 use nut_words::LineCutter;
 use slab::Slab;
 use std::alloc::{AllocError, Global};
 use std::marker::Model;
-
-/// How many connections may be open at once: the greatest MAXCONN of upsd.conf(5).
-pub const MOST_OPEN: usize = 256;
 
 /// The number of an open connection, and the slot in which it stands.
 #[derive(Clone, Copy)]
@@ -70,7 +68,7 @@ fn mark(order: &mut Vec<Key>, count: &mut usize, at: usize, unsettled: bool)
     order[at] = Key { unsettled, ..key };
 }
 
-/// The open connections, by rising number, with room for [`MOST_OPEN`].
+/// The open connections, by rising number, with room for [`CONNECTIONS_MAX`].
 #[derive(Drop)]
 pub struct Connections {
     slots: Slab<Connection>,
@@ -97,8 +95,8 @@ impl Connections {
     pub fn with_room(alloc: Global) -> Result<Connections, AllocError>
         ensures { IfOk result (λ connections. connections ≡ []) }
     {
-        let slots = Slab::with_capacity(alloc, MOST_OPEN)?;
-        let order = Vec::with_capacity(alloc, MOST_OPEN)?;
+        let slots = Slab::with_capacity(alloc, CONNECTIONS_MAX as usize)?;
+        let order = Vec::with_capacity(alloc, CONNECTIONS_MAX as usize)?;
         Ok(Connections {
             slots,
             order,
@@ -109,7 +107,7 @@ impl Connections {
     /// How many are open.
     pub fn len(&self) -> usize
         ensures length { result ≡ length self.now }
-        ensures within { result ≤ MOST_OPEN }
+        ensures within { result ≤ CONNECTIONS_MAX }
     {
         self.order.len()
     }
@@ -163,7 +161,7 @@ impl Connections {
     /// How many of them are logged in to a UPS.
     pub fn logged_in(&self, u: usize) -> usize
         ensures count { result ≡ length (guests_of u (map guest_of self.now)) }
-        ensures within { result ≤ MOST_OPEN }
+        ensures within { result ≤ CONNECTIONS_MAX }
     {
         let mut count = 0;
         for index in 0..self.len() {
@@ -200,7 +198,7 @@ impl Connections {
 
     /// Adds a connection with a number above those of all others, for which there is room.
     pub fn add(&mut self, connection: Connection)
-        requires room { length self.old < MOST_OPEN }
+        requires room { length self.old < CONNECTIONS_MAX }
         requires above { (n : ℕ) × IsUpTo n (numbers_of self.old) × (n < connection.number) }
         ensures { self.new ≡ self.old ++ connection ∷ [] }
     {

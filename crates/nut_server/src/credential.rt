@@ -1,12 +1,11 @@
 //! What a client gives of itself: the name of a user, or a password.
 
 ghost use Rattle.std.specs.Prelude.{◌≡◌, ◌≤◌, List, ℕ, length};
+ghost use Rattle.nut_words.specs.declared.limits.TheConstants.{CREDENTIAL_MAX};
 
 use arrayvec::ArrayVec;
+use nut_words::CREDENTIAL_MAX;
 use std::marker::Model;
-
-/// How many bytes a user name or a password has at most.
-pub const CREDENTIAL_MAX: usize = 128;
 
 /// A user name or a password, as a request lends it.
 #[derive(Drop)]
@@ -19,13 +18,13 @@ impl<'l> Model for LentCredential<'l> {
 
     ghost view = { λ c. c.bytes.now };
 
-    ghost invariant = { λ c. length c.bytes.now ≤ 128 };
+    ghost invariant = { λ c. length c.bytes.now ≤ CREDENTIAL_MAX };
 }
 
 impl<'l> LentCredential<'l> {
     /// These bytes.
     pub fn new(bytes: &'l [u8]) -> LentCredential<'l>
-        requires { length bytes.now ≤ 128 }
+        requires { length bytes.now ≤ CREDENTIAL_MAX }
         ensures { result ≡ bytes.now }
     {
         LentCredential { bytes }
@@ -34,7 +33,7 @@ impl<'l> LentCredential<'l> {
     /// Its bytes.
     fn as_bytes(&self) -> &'l [u8]
         ensures value { result.now ≡ self.now }
-        ensures within { length result.now ≤ 128 }
+        ensures within { length result.now ≤ CREDENTIAL_MAX }
     {
         self.bytes
     }
@@ -52,7 +51,7 @@ impl<'l> LentCredential<'l> {
 /// A user name or a password that is kept, without memory of its own.
 #[derive(Drop)]
 pub struct Credential {
-    bytes: ArrayVec<u8, 128>,
+    bytes: ArrayVec<u8, CREDENTIAL_MAX>,
 }
 
 impl Model for Credential {

@@ -24,6 +24,7 @@ use crate::queries::{
 use crate::scene::Scene;
 use arrayvec::ArrayVec;
 use nut_proto::{Refusal, Reply, Request};
+use nut_queue::ASKS_MAX;
 
 /// What is decided on a request.
 #[derive(Drop)]
@@ -76,7 +77,7 @@ fn decide_request<'a, 'l>(
     scene: &'a Scene<'_>,
     caller: &Connection,
     request: &'a Request<'l>,
-    line: &mut ArrayVec<u8, 4096>,
+    line: &mut ArrayVec<u8, ASKS_MAX>,
 ) -> Decision<'a, 'l>
     requires all { length scene.now.devices ≡ length scene.now.configuration.upses }
     requires short { HasShortNames (Asks request.now) }
@@ -149,7 +150,7 @@ pub fn decide<'a, 'l>(
     scene: &'a Scene<'_>,
     caller: &Connection,
     request: &'a Result<Request<'l>, Refusal>,
-    line: &mut ArrayVec<u8, 4096>,
+    line: &mut ArrayVec<u8, ASKS_MAX>,
 ) -> Decision<'a, 'l>
     requires all { length scene.now.devices ≡ length scene.now.configuration.upses }
     requires short { HasShortNames (asked request.now) }

@@ -12,7 +12,7 @@ ghost use Rattle.nut_history.specs.Outcome.{report_takes};
 ghost use Rattle.nut_history.specs.MachineOutcome.{RunsOutOf};
 
 use nut_proto::Refusal;
-use nut_queue::AskRing;
+use nut_queue::{ASKS_MAX, AskRing};
 use nut_state::{Heard, StateFault, UpsState};
 use nut_words::{Line, LineCutter};
 use std::alloc::{AllocError, Global};
@@ -99,7 +99,7 @@ impl Device {
     /// How many bytes wait for the driver.
     pub fn waits(&self) -> usize
         ensures length { result ≡ length self.now.device.waits }
-        ensures within { result ≤ 4096 }
+        ensures within { result ≤ ASKS_MAX }
     {
         self.asks.len()
     }

@@ -13,6 +13,7 @@ mod credential;
 mod decision;
 mod device;
 mod effect;
+mod limits;
 mod lists;
 mod queries;
 mod scene;
@@ -20,7 +21,7 @@ mod server;
 mod setting;
 mod text;
 
-pub use arrival::{Arrival, PIECE_MAX};
+pub use arrival::Arrival;
 pub use config::{Config, Ups, User};
 pub use nut_history::{Place, Refused};
 pub use server::{Server, ServerFault};

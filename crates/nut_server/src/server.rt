@@ -22,16 +22,16 @@ use crate::config::Config;
 use crate::connections::Connections;
 use crate::device::Device;
 use arrayvec::ArrayVec;
-use nut_history::{Refused, waits_are_bounded};
+use nut_conf::UPSES_MAX;
+use nut_history::{OPENED_MAX, Refused, waits_are_bounded};
+use nut_queue::ASKS_MAX;
+use nut_words::LINE_MAX;
 use std::alloc::{AllocError, Global};
 use std::marker::Model;
 use thiserror::Error;
 
 mod arriving;
 mod hearing;
-
-/// How many connections a server opens in its life.
-pub(crate) const MOST_OPENED: u64 = 4_294_967_295;
 
 /// Why a server can't be made.
 #[derive(Clone, Copy, Debug, PartialEq, Eq, Error)]
@@ -58,7 +58,7 @@ pub struct Server {
     /// The answer to a request, while it is heard.
     scratch: Vec<u8>,
     /// What a request asks of a driver, while it is heard.
-    line: ArrayVec<u8, 4096>,
+    line: ArrayVec<u8, ASKS_MAX>,
     alloc: Global,
 }
 
@@ -181,10 +181,10 @@ impl Server {
         let _connections = &self.connections;
     }
 
-    /// How many connections were opened: the number of the newest, at most 4,294,967,295.
+    /// How many connections were opened: the number of the newest, at most [`OPENED_MAX`].
     pub fn opened(&self) -> u64
         ensures value { result ≡ self.now.opened }
-        ensures few { result ≤ 4_294_967_295 }
+        ensures few { result ≤ OPENED_MAX }
     {
         self.opened
     }
@@ -197,10 +197,10 @@ impl Server {
         &self.config
     }
 
-    /// How many UPSes there are, at most 32.
+    /// How many UPSes there are, at most [`UPSES_MAX`].
     pub fn number_of_upses(&self) -> usize
         ensures len { result ≡ length self.now.configuration.upses }
-        ensures few { result ≤ 32 }
+        ensures few { result ≤ UPSES_MAX }
     {
         self.config.number_of_upses()
     }
@@ -260,10 +260,10 @@ impl Server {
         }
     }
 
-    /// How many bytes are kept of a connection's unfinished line, at most 512.
+    /// How many bytes are kept of a connection's unfinished line, at most [`LINE_MAX`].
     pub fn kept(&self, c: u64) -> usize
         ensures value { result ≡ kept (session_of c self.now.sessions) }
-        ensures within { result ≤ 512 }
+        ensures within { result ≤ LINE_MAX }
     {
         match self.connections.get(c) {
             Some(connection) => connection.kept(),
@@ -281,10 +281,10 @@ impl Server {
         }
     }
 
-    /// How many bytes wait for the driver of a UPS, at most 4,096: 0 where there is no such UPS.
+    /// How many bytes wait for the driver of a UPS, at most [`ASKS_MAX`]: 0 where there is no such UPS.
     pub fn waits_for_driver(&self, u: usize) -> usize
         ensures value { result ≡ length (asks_of u self.now.supplies) }
-        ensures within { result ≤ 4096 }
+        ensures within { result ≤ ASKS_MAX }
     {
         match self.devices.get(u) {
             Some(device) => device.waits(),

@@ -11,7 +11,9 @@ ghost use Rattle.nut_history.specs.Device.{fits};
 use crate::device::Device;
 use arrayvec::ArrayVec;
 use nut_proto::{DriverAsk, Refusal, VariableKind};
-use nut_state::{Range, Text, VALUE_BYTES, Variable, whole_number};
+use nut_queue::ASKS_MAX;
+use nut_state::{Range, Text, Variable, whole_number};
+use nut_words::VALUE_MAX;
 
 /// The kind of a variable.
 pub fn kind_of(variable: &Variable) -> VariableKind
@@ -77,14 +79,14 @@ pub fn misfit(variable: &Variable, value: &[u8]) -> Option<Refusal>
     if !variable.flags().writable {
         return Some(Refusal::ReadOnly);
     }
-    if value.len() > VALUE_BYTES {
+    if value.len() > VALUE_MAX {
         return Some(Refusal::TooLong);
     }
     misfit_by(kind_of(variable), variable, value)
 }
 
 /// Writes what is asked of a driver into `line`, and says whether it fits behind what waits for the driver. Takes no memory.
-pub fn put_ask(line: &mut ArrayVec<u8, 4096>, ask: &DriverAsk<'_>, device: &Device) -> bool
+pub fn put_ask(line: &mut ArrayVec<u8, ASKS_MAX>, ask: &DriverAsk<'_>, device: &Device) -> bool
     ensures value { result ≡ fits (ask_line ask.now) device.now.device }
     ensures put { OnTrue result (line.new.items ≡ ask_line ask.now) }
 {

@@ -14,9 +14,11 @@ use crate::config::{Config, Ups};
 use crate::connection::Connection;
 use crate::connections::Connections;
 use crate::device::Device;
+use crate::limits::FORCED_VALUE_MAX;
 use arrayvec::ArrayVec;
 use nut_proto::{Reply, Word};
 use nut_state::{Name, Range, Text, Variable};
+use nut_words::VALUE_MAX;
 use std::alloc::AllocError;
 
 // ---- rows
@@ -35,8 +37,8 @@ fn shows_forced(device: &Device, variable: &Variable) -> bool
 }
 
 /// The value with `FSD ` in front.
-fn forced(value: &[u8]) -> ArrayVec<u8, 132>
-    requires { length value.now ≤ 128 }
+fn forced(value: &[u8]) -> ArrayVec<u8, FORCED_VALUE_MAX>
+    requires { length value.now ≤ VALUE_MAX }
     ensures { result.items ≡ codes "FSD " ++ value.now }
 {
     let mut shown = ArrayVec::new();

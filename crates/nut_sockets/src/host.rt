@@ -1,7 +1,7 @@
 //! The host of a server, whose addresses are dialled in turn.
 
 use crate::dialler::Dialler;
-use crate::look_ups::MOST_ADDRESSES;
+use crate::look_ups::ADDRESSES_MAX;
 use crate::pause::Pause;
 use crate::text::text_of;
 use mio::net::TcpStream;
@@ -33,7 +33,7 @@ impl Host {
     /// The host and the port of a target. An address and `localhost` need no look-up.
     pub fn new(alloc: Global, target: &Target) -> Result<Host, AllocError> {
         let name = text_of(target.host.as_bytes());
-        let mut addresses = Vec::with_capacity(alloc, MOST_ADDRESSES)?;
+        let mut addresses = Vec::with_capacity(alloc, ADDRESSES_MAX)?;
         put_addresses(name, &mut addresses)?;
         let is_named = addresses.is_empty();
         Ok(Host {

@@ -7,8 +7,11 @@ use nut_proto::{Answer, read_answer};
 use nut_words::{Line, LineCutter};
 use std::alloc::Global;
 
-/// The name of an error, or its first 64 bytes.
-pub type ErrorName = ArrayVec<u8, 64>;
+/// The greatest number of bytes of an error's name that are kept.
+const ERROR_NAME_MAX: usize = 64;
+
+/// The name of an error, or its first [`ERROR_NAME_MAX`] bytes.
+pub type ErrorName = ArrayVec<u8, ERROR_NAME_MAX>;
 
 /// What a server says to a query.
 #[derive(Debug, PartialEq, Eq, Drop)]
@@ -105,7 +108,7 @@ fn reply_in(alloc: Global, line: &[u8]) -> Reply {
     }
 }
 
-/// The name of an error, or its first 64 bytes.
+/// The name of an error, or its first bytes.
 fn first_bytes(name: &[u8]) -> ErrorName {
     let mut front = ErrorName::new();
     let length = name.len().min(front.capacity());

@@ -9,7 +9,7 @@ use crate::inquiry::Reply;
 use crate::limits::{CALM, Limits};
 use crate::link::Heard;
 use crate::look_ups::LookUps;
-use crate::ready::{Ready, SOCKETS};
+use crate::ready::{Ready, SOCKETS_MAX};
 use crate::refusals::title;
 use crate::reports::{Report, Reports};
 use crate::rounds::Rounds;
@@ -219,7 +219,7 @@ impl<'r, 'e, R: Net + Clock + Processes, E: Write> Links<'r, 'e, R, E> {
     fn look(&mut self, monitor: &Monitor, piece: &mut Piece) -> Option<Next>
         ensures goes_on { IfSome result (λ n. n ≢ next.End) }
     {
-        for _ in 0..SOCKETS {
+        for _ in 0..SOCKETS_MAX {
             let Token(i) = self.rounds.ready.take()?;
             let next = self.look_at(monitor, i, piece);
             if next.is_some() {

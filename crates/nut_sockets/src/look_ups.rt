@@ -6,24 +6,25 @@ use std::net::IpAddr;
 use std::process::{Child, Command, OpenProcess, Processes, Stdio};
 use std::{io, str};
 
-/// How many addresses of a host are kept.
-pub const MOST_ADDRESSES: usize = 16;
+/// The greatest number of addresses of a host that are kept.
+pub const ADDRESSES_MAX: usize = 16;
 
 /// How many seconds a look-up may take.
 const PATIENCE: u8 = 5;
 
-/// How many look-ups may go on at a time.
-const MOST: usize = 8;
+/// The greatest number of look-ups that go on at a time.
+const LOOK_UPS_MAX: usize = 8;
 
-/// How much of what a look-up prints is read. An address has at most 80 bytes there, in three lines.
-const OUTPUT: usize = 4096;
+/// The greatest number of bytes that are read of what a look-up prints. An address has at most 80 bytes there, in three
+/// lines.
+const OUTPUT_MAX: usize = 4096;
 
 /// What a look-up found.
 #[derive(Drop)]
 pub struct Found {
     /// The host that was looked up.
     pub name: String,
-    /// Its addresses, at most 16.
+    /// Its addresses, at most [`ADDRESSES_MAX`].
     pub addresses: Vec<IpAddr>,
     /// Why there are none, where that is so.
     pub reason: &'static str,
@@ -68,7 +69,7 @@ impl<'r, R: Processes> LookUps<'r, R> {
 
     /// Whether another one may begin.
     pub fn has_room(&self) -> bool {
-        self.going.len() < MOST
+        self.going.len() < LOOK_UPS_MAX
     }
 
     /// Begins to look a host up.
@@ -164,12 +165,12 @@ fn addresses_of<P: OpenProcess>(alloc: Global, child: &mut Child<P>) -> Vec<IpAd
 /// Reads what a look-up printed that has ended. It is there at once, and is read once, so that a process which is left of it
 /// and prints nothing isn't waited for.
 fn read_addresses(output: &mut impl Read, addresses: &mut Vec<IpAddr>) -> io::Result<()> {
-    let mut text = [0; OUTPUT];
+    let mut text = [0; OUTPUT_MAX];
     let length = output.read(&mut text)?;
     let printed = text.get(..length).unwrap_or(&[]);
     for line in printed.split(|byte| *byte == b'\n') {
         if let Some(address) = address_in(line)
-            && addresses.len() < MOST_ADDRESSES
+            && addresses.len() < ADDRESSES_MAX
         {
             addresses.push(address)?;
         }

@@ -14,11 +14,11 @@ use std::os::fd::AsRawFd;
 use std::time::Duration;
 
 /// How many bytes of a line are written at most, its line feed counted: one that is longer loses its end.
-const LINE_MAX: usize = 2048;
+const LOG_LINE_MAX: usize = 2048;
 
 /// How many bytes are written at a time: a line, and before it the note of those that were let go. Linux takes up to 4,096
 /// bytes for a pipe whole, and without a wait where the pipe is reported as ready.
-const TEXT_MAX: usize = LINE_MAX + 128;
+const TEXT_MAX: usize = LOG_LINE_MAX + 128;
 
 /// A stream of lines which never waits for its reader: a line that the stream doesn't take at once is let go. How many were
 /// is told before the next line that is taken, as `upsd: lines let go: 3`.

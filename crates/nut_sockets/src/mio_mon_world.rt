@@ -10,7 +10,7 @@ use crate::lateness::note_written;
 use crate::links::Links;
 use crate::reports::Reports;
 use arrayvec::ArrayVec;
-use nut_conf::UpsmonConf;
+use nut_conf::{MONITORS_MAX, UpsmonConf};
 use nut_monitor::{Monitor, Notice};
 use nut_serve::{Fault, Piece, Written};
 use nut_watch::{MonWorld, Next};
@@ -41,7 +41,7 @@ use std::time::Clock;
 pub struct MioMonWorld<'r, 'e, R: Processes, H, E> {
     links: Links<'r, 'e, R, E>,
     herald: H,
-    late: ArrayVec<u64, 32>,
+    late: ArrayVec<u64, MONITORS_MAX>,
     faults: u64,
 }
 

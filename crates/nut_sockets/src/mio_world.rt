@@ -12,6 +12,7 @@ use crate::reports::Reports;
 use crate::sockets::Sockets;
 use arrayvec::ArrayVec;
 use mio::net::TcpListener;
+use nut_conf::{CONNECTIONS_MAX, UPSES_MAX};
 use nut_serve::{Fault, Next, Piece, World, Written};
 use nut_server::Server;
 use std::alloc::Global;
@@ -19,6 +20,9 @@ use std::io;
 use std::io::Write;
 use std::net::Net;
 use std::time::Clock;
+
+/// The greatest number of clients that are noted as late.
+const LATE_MAX: usize = CONNECTIONS_MAX as usize;
 
 /// The world of a server whose clients come over TCP, and whose drivers listen on Unix sockets.
 ///
@@ -30,8 +34,8 @@ use std::time::Clock;
 #[derive(Drop)]
 pub struct MioWorld<'r, 'e, R, E> {
     sockets: Sockets<'r, 'e, R, E>,
-    late: ArrayVec<u64, 256>,
-    late_drivers: ArrayVec<u64, 32>,
+    late: ArrayVec<u64, LATE_MAX>,
+    late_drivers: ArrayVec<u64, UPSES_MAX>,
     faults: u64,
 }
 

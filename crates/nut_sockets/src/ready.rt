@@ -8,8 +8,8 @@ use std::alloc::{AllocError, Global};
 /// How many words of 64 bits a set has.
 const WORDS: usize = 8;
 
-/// How many sockets there are at most: their tokens are below.
-pub const SOCKETS: usize = WORDS * 64;
+/// The greatest number of sockets: their tokens are below.
+pub const SOCKETS_MAX: usize = WORDS * 64;
 
 /// The tokens of the sockets to look at, each once, in the order in which they were put there. Those of this round are
 /// taken out, and others are put behind them. So each gets its turn, however often another has more, and none waits for
@@ -18,7 +18,7 @@ pub const SOCKETS: usize = WORDS * 64;
 pub struct Ready {
     queue: HeapCircularBuffer<Token>,
     /// Which tokens stand in the queue.
-    queued: [u64; 8],
+    queued: [u64; WORDS],
     /// How many of them, from the front, are of this round.
     round: usize,
 }
@@ -27,7 +27,7 @@ impl Ready {
     /// No sockets, and room for all.
     pub fn new(alloc: Global) -> Result<Ready, AllocError> {
         Ok(Ready {
-            queue: HeapCircularBuffer::with_capacity(alloc, SOCKETS)?,
+            queue: HeapCircularBuffer::with_capacity(alloc, SOCKETS_MAX)?,
             queued: [0; WORDS],
             round: 0,
         })
@@ -54,7 +54,7 @@ impl Ready {
     /// Puts those of another set into the next round, and leaves that set empty.
     pub fn append(&mut self, other: &mut Ready) {
         other.turn();
-        for _ in 0..SOCKETS {
+        for _ in 0..SOCKETS_MAX {
             let Some(token) = other.take() else {
                 return;
             };

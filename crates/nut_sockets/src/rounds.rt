@@ -8,8 +8,8 @@ use std::io;
 use std::net::Net;
 use std::time::{Clock, Duration};
 
-/// How many events one wait gives at most.
-const EVENTS: usize = 128;
+/// The greatest number of events that one wait gives.
+const EVENTS_MAX: usize = 128;
 
 /// The wait for many sockets, which are looked at round by round, and for whole seconds.
 #[derive(Drop)]
@@ -33,7 +33,7 @@ impl Rounds {
         ready.turn();
         Ok(Rounds {
             poll: Poll::new(rt)?,
-            events: Events::with_capacity(alloc, EVENTS)?,
+            events: Events::with_capacity(alloc, EVENTS_MAX)?,
             ready,
             seconds: Seconds::start(rt)?,
             fixed,

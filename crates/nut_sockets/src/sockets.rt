@@ -9,13 +9,14 @@ use crate::clients::Clients;
 use crate::door::{Door, concerns_one};
 use crate::drivers::Driver;
 use crate::link::Heard;
-use crate::ready::{Ready, SOCKETS, may_be_read};
+use crate::ready::{Ready, SOCKETS_MAX, may_be_read};
 use crate::reports::{Report, Reports};
 use crate::rounds::Rounds;
-use crate::source::{LISTENERS, Source};
+use crate::source::Source;
 use crate::stall::Stall;
 use mio::Events;
 use mio::net::TcpListener;
+use nut_conf::LISTENERS_MAX;
 use nut_serve::{Address, Next, Piece, Written};
 use nut_server::Server;
 use std::alloc::Global;
@@ -56,7 +57,7 @@ impl<'r, 'e, R: Net + Clock, E: Write> Sockets<'r, 'e, R, E> {
         reports: Reports<'e, E>,
     ) -> io::Result<Sockets<'r, 'e, R, E>> {
         let stall = Stall::new(alloc)?;
-        let rounds = Rounds::new(rt, alloc, LISTENERS)?;
+        let rounds = Rounds::new(rt, alloc, LISTENERS_MAX)?;
         let door = Door::new(rounds.registry(), listeners)?;
         Ok(Sockets {
             rt,
@@ -166,7 +167,7 @@ impl<'r, 'e, R: Net + Clock, E: Write> Sockets<'r, 'e, R, E> {
             return Some(next);
         }
         self.end_stall();
-        for _ in 0..SOCKETS {
+        for _ in 0..SOCKETS_MAX {
             let token = self.rounds.ready.take()?;
             let next = self.look_at(server, Source::of(token), piece);
             if next.is_some() {

@@ -1,12 +1,10 @@
 //! What the sockets of a server are for.
 
 use mio::Token;
+use nut_conf::{LISTENERS_MAX, UPSES_MAX};
 
-/// How many listeners there are at most: theirs are the first tokens.
-pub const LISTENERS: usize = 16;
-
-/// How many listeners and drivers there are at most: theirs come before those of clients.
-const FIXED: usize = LISTENERS + 32;
+/// The greatest number of listeners and drivers: the tokens of listeners come first, then those of drivers.
+const FIXED_MAX: usize = LISTENERS_MAX + UPSES_MAX;
 
 /// What a socket is for, by its place among its like.
 #[derive(Clone, Copy)]
@@ -23,21 +21,22 @@ impl Source {
     /// The source with this token.
     pub fn of(token: Token) -> Source {
         let Token(n) = token;
-        if n < LISTENERS {
+        if n < LISTENERS_MAX {
             Source::Listener(n)
-        } else if n < FIXED {
-            Source::Driver(n - LISTENERS)
+        } else if n < FIXED_MAX {
+            Source::Driver(n - LISTENERS_MAX)
         } else {
-            Source::Client(n - FIXED)
+            Source::Client(n - FIXED_MAX)
         }
     }
 
-    /// The token of the source: of at most 16 listeners, 32 drivers and any clients each has its own.
+    /// The token of the source: of at most [`LISTENERS_MAX`] listeners, [`UPSES_MAX`] drivers and any
+    /// clients each has its own.
     pub fn token(self) -> Token {
         match self {
             Source::Listener(i) => Token(i),
-            Source::Driver(u) => Token(u.saturating_add(LISTENERS)),
-            Source::Client(key) => Token(key.saturating_add(FIXED)),
+            Source::Driver(u) => Token(u.saturating_add(LISTENERS_MAX)),
+            Source::Client(key) => Token(key.saturating_add(FIXED_MAX)),
         }
     }
 }

@@ -4,7 +4,7 @@ use Rattle.std.specs.Prelude.{filter, is_some, nat_le, unwrap_or}
 use Rattle.std.specs.Option.{option_or, option_to_list}
 use Rattle.std.specs.Str.{bytes_eq}
 use Rattle.std.proofs.lemmas.Slice.Eq.{bytes_eq-Decides}
-use Rattle.nut_state.specs.declared.limits.TheConstants.{VALUE_BYTES}
+use Rattle.nut_words.specs.declared.limits.TheConstants.{VALUE_MAX}
 use Rattle.nut_state.specs.declared.number.Range.{Range}
 use Rattle.nut_state.specs.Sorted.{named}
 use Rattle.nut_state.specs.Table.{Table, Entry, variable, has_command, value_of, flags_of, aux_of, enums_of, ranges_of}
@@ -178,7 +178,7 @@ effects t name (del_range n (Some range)) ok stays =
     (λ b. nothing_said name (del_range n (Some range)) refl refl refl refl (λ _. refl) refl (λ _. rw b refl))
 effects t name (set_aux n None) ok stays = cc
 effects t name (set_aux n (Some aux)) ok stays =
-    by_edit t n name (set_aux n (Some aux)) (λ v. record v { aux = aux }) (λ v. refl) (and_left (is_some (variable t n)) (nat_le aux VALUE_BYTES) ok)
+    by_edit t n name (set_aux n (Some aux)) (λ v. record v { aux = aux }) (λ v. refl) (and_left (is_some (variable t n)) (nat_le aux VALUE_MAX) ok)
     (λ b v. record { value = refl; flags = refl; aux = rw b refl; enums = all_stay (λ _. false) v.enums (λ _. refl); ranges = all_stay (λ _. false) v.ranges (λ _. refl) })
     (λ b. nothing_said name (set_aux n (Some aux)) refl refl (rw b refl) refl (λ _. refl) refl (λ _. refl))
 effects t name (set_flags n flags) ok stays =

@@ -5,9 +5,10 @@ use Rattle.std.specs.List.{list_any}
 use Rattle.std.specs.Option.{option_and_then, option_or, option_map_or, option_to_list}
 use Rattle.std.specs.Result.{result_ok}
 use Rattle.nut_words.specs.Reader.{spelled}
+use Rattle.nut_words.specs.declared.limits.TheConstants.{VALUE_MAX}
 use Rattle.std.proofs.lemmas.List.Elements.{All-nil, filter-append}
 use Rattle.std.proofs.lemmas.List.{reverse-append}
-use Rattle.nut_state.specs.declared.limits.TheConstants.{VALUE_BYTES, MAX_VARIABLES, MAX_COMMANDS}
+use Rattle.nut_state.specs.declared.limits.TheConstants.{VARIABLES_MAX, COMMANDS_MAX}
 use Rattle.nut_state.specs.Attribute.{no_flags, takes_enum, lists_enum, takes_range, lists_range}
 use Rattle.nut_state.specs.Change.{Change, set_info, del_info, add_enum, del_enum, add_range, del_range, set_aux, set_flags, add_command, del_command, dump_done, data_ok, data_stale, pong, asked, heard}
 use Rattle.nut_state.specs.Holds.{FollowsAlike, Holds, IsTable, IsWithinLimits, LooksBack}
@@ -156,7 +157,7 @@ module _ (t : Table) (changes : List Change) (table : IsTable t) (h : LooksBack 
   commands_more : (change : Change) → accepts t change ≡ true → length (changed t change).commands ≡ command_count (change ∷ changes)
   unfolding accepts changed
   commands_more (add_command name) ok =
-      let absent : has_command t name ≡ false = not_true _ (and_right (is_name name && nat_lt (length t.commands) MAX_COMMANDS) (not (has_command t name)) ok) in
+      let absent : has_command t name ≡ false = not_true _ (and_right (is_name name && nat_lt (length t.commands) COMMANDS_MAX) (not (has_command t name)) ok) in
       length-put_new (λ c. c) name name t.commands (none_there _ absent) ∙ ap suc h.commands
   commands_more (del_command name) ok = length-put_away (λ c. c) name t.commands table.commands_ascend ok ∙ ap (λ n. n - 1) h.commands
   commands_more (set_info name value) ok = h.commands
@@ -197,7 +198,7 @@ module _ (t : Table) (changes : List Change) (table : IsTable t) (h : LooksBack 
   pub accepts_same : (change : Change) → accepts t change ≡ is_accepted changes change
   unfolding accepts is_accepted
   accepts_same (set_info name value) =
-      λ j. is_name name && nat_le (length value) VALUE_BYTES && (there_is name j || nat_lt (h.variables j) MAX_VARIABLES)
+      λ j. is_name name && nat_le (length value) VALUE_MAX && (there_is name j || nat_lt (h.variables j) VARIABLES_MAX)
   accepts_same (del_info name) = there_is name
   accepts_same (add_enum name value) =
       passes_is (λ v. v.enums) (takes_enum value) (variable t name) ∙ (λ j. there_is name j && takes_enum value (h.enums name j))
@@ -210,9 +211,9 @@ module _ (t : Table) (changes : List Change) (table : IsTable t) (h : LooksBack 
   accepts_same (del_range name (Some range)) =
       passes_is (λ v. v.ranges) (lists_range range) (variable t name) ∙ (λ j. there_is name j && lists_range range (h.ranges name j))
   accepts_same (set_aux name None) = refl
-  accepts_same (set_aux name (Some aux)) = λ j. there_is name j && nat_le aux VALUE_BYTES
+  accepts_same (set_aux name (Some aux)) = λ j. there_is name j && nat_le aux VALUE_MAX
   accepts_same (set_flags name flags) = there_is name
-  accepts_same (add_command name) = λ j. is_name name && nat_lt (h.commands j) MAX_COMMANDS && not (h.command name j)
+  accepts_same (add_command name) = λ j. is_name name && nat_lt (h.commands j) COMMANDS_MAX && not (h.command name j)
   accepts_same (del_command name) = h.command name
   accepts_same dump_done = refl
   accepts_same data_ok = refl

@@ -3,7 +3,8 @@ use Rattle.std.specs.Prelude.{ℕ, ◌&&◌, Bool, false, not, List, length, nat
 use Rattle.std.specs.List.{list_any}
 use Rattle.std.specs.Str.{bytes_eq}
 use Rattle.std.specs.Ordering.{int_eq}
-use Rattle.nut_state.specs.declared.limits.TheConstants.{VALUE_BYTES, MAX_ENUMS, MAX_RANGES}
+use Rattle.nut_words.specs.declared.limits.TheConstants.{VALUE_MAX}
+use Rattle.nut_state.specs.declared.limits.TheConstants.{ENUMS_MAX, RANGES_MAX}
 use Rattle.nut_state.specs.declared.variable.Flags.{Flags}
 use Rattle.nut_state.specs.declared.number.Range.{Range}
 
@@ -21,7 +22,7 @@ lists_enum text listed = list_any (λ other. bytes_eq other text) listed
 
 -- Whether an enum value may join those that are listed: it is short enough, there is room, and it is not there yet.
 abbrev pub takes_enum : List ℕ → List (List ℕ) → Bool
-takes_enum text listed = nat_le (length text) VALUE_BYTES && nat_lt (length listed) MAX_ENUMS && not (lists_enum text listed)
+takes_enum text listed = nat_le (length text) VALUE_MAX && nat_lt (length listed) ENUMS_MAX && not (lists_enum text listed)
 
 -- Whether a range is among those that are listed.
 abbrev pub lists_range : Range → List Range → Bool
@@ -29,4 +30,4 @@ lists_range range listed = list_any (λ other. same_range other range) listed
 
 -- Whether a range may join those that are listed: there is room, and it is not there yet.
 abbrev pub takes_range : Range → List Range → Bool
-takes_range range listed = nat_lt (length listed) MAX_RANGES && not (lists_range range listed)
+takes_range range listed = nat_lt (length listed) RANGES_MAX && not (lists_range range listed)

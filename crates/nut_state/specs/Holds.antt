@@ -1,7 +1,8 @@
 -- When a table is the one that a driver's lines tell of.
 use Rattle.std.specs.Prelude.{◌≡◌, ℕ, ◌≤◌, true, List, Some, map, length}
 use Rattle.std.specs.List.{All, Contains}
-use Rattle.nut_state.specs.declared.limits.TheConstants.{VALUE_BYTES, MAX_VARIABLES, MAX_COMMANDS, MAX_ENUMS, MAX_RANGES}
+use Rattle.nut_words.specs.declared.limits.TheConstants.{VALUE_MAX}
+use Rattle.nut_state.specs.declared.limits.TheConstants.{VARIABLES_MAX, COMMANDS_MAX, ENUMS_MAX, RANGES_MAX}
 use Rattle.nut_state.specs.Change.{Change}
 use Rattle.nut_state.specs.LookBack.{last_value, last_flags, last_aux, standing_enums, standing_ranges, is_command, is_dumped, is_current, variable_count, command_count, is_accepted, adds_to, accepted}
 use Rattle.nut_state.specs.Sorted.{IsAscending}
@@ -12,19 +13,19 @@ use Rattle.nut_state.specs.Text.{is_name}
 -- A variable has a name, and nothing of it is longer or more than it may be.
 pub record IsWithinLimits (v : Entry) : Type 0 where
   pub name : is_name v.name ≡ true
-  pub value : length v.value ≤ VALUE_BYTES
-  pub aux : v.aux ≤ VALUE_BYTES
-  pub enums : length v.enums ≤ MAX_ENUMS
-  pub each_enum : All (λ text. length text ≤ VALUE_BYTES) v.enums
-  pub ranges : length v.ranges ≤ MAX_RANGES
+  pub value : length v.value ≤ VALUE_MAX
+  pub aux : v.aux ≤ VALUE_MAX
+  pub enums : length v.enums ≤ ENUMS_MAX
+  pub each_enum : All (λ text. length text ≤ VALUE_MAX) v.enums
+  pub ranges : length v.ranges ≤ RANGES_MAX
 
 -- Names ascend strictly in byte order, and nothing is more than it may be.
 pub record IsTable (t : Table) : Type 0 where
   pub variables_ascend : IsAscending (map (λ v. v.name) t.variables)
-  pub variables_within : length t.variables ≤ MAX_VARIABLES
+  pub variables_within : length t.variables ≤ VARIABLES_MAX
   pub each_within : All IsWithinLimits t.variables
   pub commands_ascend : IsAscending (map (λ command. command) t.commands)
-  pub commands_within : length t.commands ≤ MAX_COMMANDS
+  pub commands_within : length t.commands ≤ COMMANDS_MAX
   pub each_command : All (λ command. is_name command ≡ true) t.commands
 
 -- The lists of a table and its look-ups agree.

@@ -3,7 +3,8 @@ use Rattle.std.specs.Prelude.{ℕ, suc, ◌-◌, ◌&&◌, ◌||◌, Bool, true,
 use Rattle.std.specs.List.{list_any}
 use Rattle.std.specs.Option.{option_or, option_map_or, option_to_list}
 use Rattle.std.specs.Str.{bytes_eq}
-use Rattle.nut_state.specs.declared.limits.TheConstants.{VALUE_BYTES, MAX_VARIABLES, MAX_COMMANDS}
+use Rattle.nut_words.specs.declared.limits.TheConstants.{VALUE_MAX}
+use Rattle.nut_state.specs.declared.limits.TheConstants.{VARIABLES_MAX, COMMANDS_MAX}
 use Rattle.nut_state.specs.declared.number.Range.{Range}
 use Rattle.nut_state.specs.declared.variable.Flags.{Flags}
 use Rattle.nut_state.specs.Attribute.{no_flags, same_range, lists_enum, takes_enum, lists_range, takes_range}
@@ -134,7 +135,7 @@ command_count (other ∷ earlier) = command_count earlier
 -- Whether a change is accepted after these, by what they have told until then.
 unfoldable pub is_accepted : List Change → Change → Bool
 is_accepted past (set_info name value) =
-    is_name name && nat_le (length value) VALUE_BYTES && (is_there name past || nat_lt (variable_count past) MAX_VARIABLES)
+    is_name name && nat_le (length value) VALUE_MAX && (is_there name past || nat_lt (variable_count past) VARIABLES_MAX)
 is_accepted past (del_info name) = is_there name past
 is_accepted past (add_enum name value) = is_there name past && takes_enum value (standing_enums name past)
 is_accepted past (del_enum name value) = is_there name past && lists_enum value (standing_enums name past)
@@ -142,10 +143,10 @@ is_accepted past (add_range name (Some range)) = is_there name past && takes_ran
 is_accepted past (add_range name None) = false
 is_accepted past (del_range name (Some range)) = is_there name past && lists_range range (standing_ranges name past)
 is_accepted past (del_range name None) = false
-is_accepted past (set_aux name (Some aux)) = is_there name past && nat_le aux VALUE_BYTES
+is_accepted past (set_aux name (Some aux)) = is_there name past && nat_le aux VALUE_MAX
 is_accepted past (set_aux name None) = false
 is_accepted past (set_flags name flags) = is_there name past
-is_accepted past (add_command name) = is_name name && nat_lt (command_count past) MAX_COMMANDS && not (is_command name past)
+is_accepted past (add_command name) = is_name name && nat_lt (command_count past) COMMANDS_MAX && not (is_command name past)
 is_accepted past (del_command name) = is_command name past
 is_accepted past dump_done = true
 is_accepted past data_ok = true

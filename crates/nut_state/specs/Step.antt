@@ -6,7 +6,8 @@
 use Rattle.std.specs.Prelude.{ℕ, ◌&&◌, ◌||◌, Bool, true, false, not, List, [], ◌∷◌, ◌++◌, Option, Some, None, if◌then◌else◌, filter, is_some, length, nat_lt, nat_le, option_map, unwrap_or}
 use Rattle.std.specs.Option.{option_map_or, option_to_list}
 use Rattle.std.specs.Str.{bytes_eq}
-use Rattle.nut_state.specs.declared.limits.TheConstants.{VALUE_BYTES, MAX_VARIABLES, MAX_COMMANDS}
+use Rattle.nut_words.specs.declared.limits.TheConstants.{VALUE_MAX}
+use Rattle.nut_state.specs.declared.limits.TheConstants.{VARIABLES_MAX, COMMANDS_MAX}
 use Rattle.nut_state.specs.declared.number.Range.{Range}
 use Rattle.nut_state.specs.Attribute.{no_flags, same_range, takes_enum, lists_enum, takes_range, lists_range}
 use Rattle.nut_state.specs.Change.{Change, set_info, del_info, add_enum, del_enum, add_range, del_range, set_aux, set_flags, add_command, del_command, dump_done, data_ok, data_stale, pong, heard}
@@ -23,7 +24,7 @@ passes t name test = option_map_or test (variable t name) false
 -- Whether the table follows a change.
 unfoldable pub accepts : Table → Change → Bool
 accepts t (set_info name value) =
-    is_name name && nat_le (length value) VALUE_BYTES && (is_some (variable t name) || nat_lt (length t.variables) MAX_VARIABLES)
+    is_name name && nat_le (length value) VALUE_MAX && (is_some (variable t name) || nat_lt (length t.variables) VARIABLES_MAX)
 accepts t (del_info name) = is_some (variable t name)
 accepts t (add_enum name value) = passes t name (λ v. takes_enum value v.enums)
 accepts t (del_enum name value) = passes t name (λ v. lists_enum value v.enums)
@@ -31,10 +32,10 @@ accepts t (add_range name (Some range)) = passes t name (λ v. takes_range range
 accepts t (add_range name None) = false
 accepts t (del_range name (Some range)) = passes t name (λ v. lists_range range v.ranges)
 accepts t (del_range name None) = false
-accepts t (set_aux name (Some aux)) = is_some (variable t name) && nat_le aux VALUE_BYTES
+accepts t (set_aux name (Some aux)) = is_some (variable t name) && nat_le aux VALUE_MAX
 accepts t (set_aux name None) = false
 accepts t (set_flags name flags) = is_some (variable t name)
-accepts t (add_command name) = is_name name && nat_lt (length t.commands) MAX_COMMANDS && not (has_command t name)
+accepts t (add_command name) = is_name name && nat_lt (length t.commands) COMMANDS_MAX && not (has_command t name)
 accepts t (del_command name) = has_command t name
 accepts t dump_done = true
 accepts t data_ok = true

@@ -22,7 +22,7 @@ mod verb;
 
 pub use heard::{Heard, StateFault};
 pub use laws::{every_table_holds, table_limits};
-pub use limits::{MAX_COMMANDS, MAX_ENUMS, MAX_RANGES, MAX_VARIABLES, NAME_BYTES, VALUE_BYTES};
+pub use limits::{COMMANDS_MAX, ENUMS_MAX, RANGES_MAX, VARIABLES_MAX};
 pub use number::{Range, natural, whole_number};
 pub use state::UpsState;
 pub use text::{Name, Text};

@@ -10,13 +10,13 @@ ghost use Rattle.std.specs.List.{All};
 ghost use Rattle.nut_words.specs.Reader.{has_backslash};
 
 use crate::heard::{Heard, StateFault};
-use crate::limits::{MAX_COMMANDS, MAX_VARIABLES, VALUE_BYTES};
+use crate::limits::{COMMANDS_MAX, VARIABLES_MAX};
 use crate::number::{Range, natural};
 use crate::sorted::{place_of_command, place_of_variable};
 use crate::text::{Name, Text, is_name};
 use crate::variable::{Flags, Variable};
 use crate::verb::Verb;
-use nut_words::{WordFault, Words, split};
+use nut_words::{VALUE_MAX, WordFault, Words, split};
 use std::alloc::{AllocError, Global};
 use std::marker::Model;
 
@@ -51,12 +51,12 @@ impl UpsState {
         ensures err { OnErr result (self.new ≡ self.old) }
         ensures succeeds { adds self.old (set_info name.now value.now) ≡ false → IsOk result }
     {
-        if !is_name(name) || value.len() > VALUE_BYTES {
+        if !is_name(name) || value.len() > VALUE_MAX {
             return Ok(());
         }
         match place_of_variable(&self.variables, name) {
             Ok(place) => self.variables[place].set_value(value),
-            Err(place) if self.variables.len() < MAX_VARIABLES => {
+            Err(place) if self.variables.len() < VARIABLES_MAX => {
                 self.variables
                     .insert(place, Variable::new(self.alloc, name, value))?;
             }
@@ -139,7 +139,7 @@ impl UpsState {
         let Some(aux) = aux else {
             return;
         };
-        if aux > VALUE_BYTES as u32 {
+        if aux > VALUE_MAX as u32 {
             return;
         }
         if let Ok(place) = place_of_variable(&self.variables, name) {
@@ -162,7 +162,7 @@ impl UpsState {
         ensures err { OnErr result (self.new ≡ self.old) }
         ensures succeeds { adds self.old (add_command name.now) ≡ false → IsOk result }
     {
-        if !is_name(name) || self.commands.len() >= MAX_COMMANDS {
+        if !is_name(name) || self.commands.len() >= COMMANDS_MAX {
             return Ok(());
         }
         if let Err(place) = place_of_command(&self.commands, name) {
@@ -335,21 +335,21 @@ impl UpsState {
         }
     }
 
-    /// The variables, ascending by name in byte order: at most [`MAX_VARIABLES`]. A list of the table walks it once.
+    /// The variables, ascending by name in byte order: at most [`VARIABLES_MAX`]. A list of the table walks it once.
     pub fn variables(&self) -> &[Variable]
         ensures value { result.now ≡ self.now.variables }
         ensures ascending { IsAscending (map (λ v. v.name) result.now) }
-        ensures within { length result.now ≤ MAX_VARIABLES }
+        ensures within { length result.now ≤ VARIABLES_MAX }
         ensures each_within { All IsWithinLimits result.now }
     {
         &self.variables
     }
 
-    /// The commands, ascending in byte order: at most [`MAX_COMMANDS`].
+    /// The commands, ascending in byte order: at most [`COMMANDS_MAX`].
     pub fn commands(&self) -> &[Name]
         ensures value { result.now ≡ self.now.commands }
         ensures ascending { IsAscending (map (λ command. command) result.now) }
-        ensures within { length result.now ≤ MAX_COMMANDS }
+        ensures within { length result.now ≤ COMMANDS_MAX }
         ensures each_named { All (λ command. is_name command ≡ true) result.now }
     {
         &self.commands

@@ -6,11 +6,11 @@ ghost use Rattle.nut_state.specs.Verb.{says};
 ghost use Rattle.nut_state.specs.Change.{flags_named};
 ghost use Rattle.std.specs.List.{list_any};
 
-use crate::limits::{MAX_ENUMS, MAX_RANGES, NAME_BYTES, VALUE_BYTES};
+use crate::limits::{ENUMS_MAX, RANGES_MAX};
 use crate::number::Range;
 use crate::text::{Name, Text};
 use crate::verb::says;
-use nut_words::Words;
+use nut_words::{NAME_MAX, VALUE_MAX, Words};
 use std::alloc::{AllocError, Global};
 use std::marker::Model;
 
@@ -80,8 +80,8 @@ impl Model for Variable {
 impl Variable {
     /// A variable without flags and limits.
     pub(crate) fn new(alloc: Global, name: &[u8], value: &[u8]) -> Variable
-        requires name { length name.now ≤ NAME_BYTES }
-        requires value { length value.now ≤ VALUE_BYTES }
+        requires name { length name.now ≤ NAME_MAX }
+        requires value { length value.now ≤ VALUE_MAX }
         ensures { result ≡ fresh name.now value.now }
     {
         Variable {
@@ -101,10 +101,10 @@ impl Variable {
         self.name.as_bytes()
     }
 
-    /// Its value: at most [`VALUE_BYTES`] bytes.
+    /// Its value: at most [`VALUE_MAX`] bytes.
     pub fn value(&self) -> &[u8]
         ensures value { result.now ≡ self.now.value }
-        ensures fits { length result.now ≤ VALUE_BYTES }
+        ensures fits { length result.now ≤ VALUE_MAX }
     {
         self.value.as_bytes()
     }
@@ -138,7 +138,7 @@ impl Variable {
     }
 
     pub(crate) fn set_value(&mut self, value: &[u8])
-        requires { length value.now ≤ VALUE_BYTES }
+        requires { length value.now ≤ VALUE_MAX }
         ensures { self.new ≡ record self.old { value = value.now } }
     {
         self.value.set(value);
@@ -166,11 +166,11 @@ impl Variable {
     pub(crate) fn takes_enum(&self, value: &[u8]) -> bool
         ensures { result ≡ takes_enum value.now self.now.enums }
     {
-        value.len() <= VALUE_BYTES && self.enums.len() < MAX_ENUMS && !self.has_enum(value)
+        value.len() <= VALUE_MAX && self.enums.len() < ENUMS_MAX && !self.has_enum(value)
     }
 
     pub(crate) fn add_enum(&mut self, value: &[u8]) -> Result<(), AllocError>
-        requires { length value.now ≤ VALUE_BYTES }
+        requires { length value.now ≤ VALUE_MAX }
         ensures ok { OnOk result (self.new ≡ record self.old { enums = self.old.enums ++ value.now ∷ [] }) }
         ensures err { OnErr result (self.new ≡ self.old) }
     {
@@ -194,7 +194,7 @@ impl Variable {
     pub(crate) fn takes_range(&self, range: Range) -> bool
         ensures { result ≡ takes_range range self.now.ranges }
     {
-        self.ranges.len() < MAX_RANGES && !self.has_range(range)
+        self.ranges.len() < RANGES_MAX && !self.has_range(range)
     }
 
     pub(crate) fn add_range(&mut self, range: Range) -> Result<(), AllocError>

@@ -5,6 +5,7 @@ use Rattle.std.proofs.lemmas.Bool.{eqb-true}
 use Rattle.memchr.specs.Find.{Nowhere, NoneBefore, Passes, is_byte}
 use Rattle.std.specs.List.{onto_first}
 use Rattle.nut_words.specs.Lines.{LineText, Text, as_line, joined, parts, last_of, all_but_last, lines, rest}
+use Rattle.nut_words.specs.declared.limits.TheConstants.{LINE_MAX}
 
 -- more bytes behind a text that is as_line already
 pub joined-as_line : (text more : List ℕ) → joined (as_line text) more ≡ as_line (text ++ more)
@@ -120,5 +121,5 @@ lines_ended old line p k at is b e =
     ap (λ q. lines (b ++ q)) at.front ∙ lines_of_line b (take k p) at.unbroken ∙ ap (λ x. lines b ++ x ∷ []) (sym (is ∙ ap (λ x. joined x (take k p)) e))
 
 -- a line that lies in one piece
-pub joined_nothing : (p : List ℕ) (k : ℕ) → FeedAt p k → k ≤ 512 → Text (take k p) ≡ joined (Text []) (take k p)
+pub joined_nothing : (p : List ℕ) (k : ℕ) → FeedAt p k → k ≤ LINE_MAX → Text (take k p) ≡ joined (Text []) (take k p)
 joined_nothing p k at fits = grind (arith, length-take-le k p (omega (arith, at.within)))

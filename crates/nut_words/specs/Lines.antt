@@ -1,19 +1,21 @@
 -- What the lines of a stream of bytes are, what is left unfinished behind them, and how both grow with the stream.
 use Rattle.std.specs.Prelude.{ℕ, ◌==◌, List, [], ◌∷◌, ◌++◌, length, map, nat_le, if◌then◌else◌}
 use Rattle.std.specs.List.{slice_split}
+use Rattle.nut_words.specs.Bytes.{line_feed}
+use Rattle.nut_words.specs.declared.limits.TheConstants.{LINE_MAX}
 
--- a line without its line feed: its text, or the mark of one that is longer than 512 bytes
+-- a line without its line feed: its text, or the mark of one that is longer than LINE_MAX bytes
 pub data LineText : Type 0 where
   Text : List ℕ → LineText
   TooLong : LineText
 
 -- the line of this text
 abbrev pub as_line : List ℕ → LineText
-as_line text = if nat_le (length text) 512 then Text text else TooLong
+as_line text = if nat_le (length text) LINE_MAX then Text text else TooLong
 
 -- what stands between the line feeds: one part more than there are line feeds
 abbrev pub parts : List ℕ → List (List ℕ)
-parts bytes = slice_split (λ c. c == 10) bytes
+parts bytes = slice_split (λ c. c == line_feed) bytes
 
 -- the last of the parts
 abbrev pub last_of : List (List ℕ) → List ℕ

@@ -5,20 +5,22 @@
 -- `has_backslash` and `Gives`.
 use Rattle.std.specs.Prelude.{◌≡◌, ℕ, ◌==◌, ◌||◌, ◌&&◌, nat_le, nat_lt, Bool, List, [], ◌∷◌, ◌++◌, length, Result, Ok, Err, if◌then◌else◌, slice_index}
 use Rattle.std.specs.List.{list_any}
+use Rattle.nut_words.specs.Bytes.{tab, carriage_return, blank, quote, hash, equals, backslash}
 use Rattle.nut_words.specs.declared.words.WordFault.{WordFault}
 use Rattle.nut_words.specs.declared.words.WordFault.TheVariants as faults
 use Rattle.nut_words.specs.Kinds.{Kind}
 use Rattle.nut_words.specs.Kinds as kinds
+use Rattle.nut_words.specs.declared.limits.TheConstants.{WORDS_MAX}
 
 -- what a byte is to reading
 abbrev pub kind : ℕ → Kind
 kind c =
-    if c == 32 then kinds.Space else
-    if c == 9 || c == 13 then kinds.Gap else
-    if c == 34 then kinds.Quote else
-    if c == 92 then kinds.Backslash else
-    if c == 35 then kinds.Hash else
-    if c == 61 then kinds.Equals else
+    if c == blank then kinds.Space else
+    if c == tab || c == carriage_return then kinds.Gap else
+    if c == quote then kinds.Quote else
+    if c == backslash then kinds.Backslash else
+    if c == hash then kinds.Hash else
+    if c == equals then kinds.Equals else
     if nat_le 33 c && nat_le c 126 then kinds.Plain else kinds.Bad
 
 -- what the byte at a place of the line is to reading
@@ -53,7 +55,7 @@ apart most ws kinds.Gap c = Ok (Between ws)
 apart most ws kinds.Quote c = begun most ws (Quoted [] ws)
 apart most ws kinds.Backslash c = begun most ws (BareEscape [] ws)
 apart most ws kinds.Hash c = Ok (Comment ws)
-apart most ws kinds.Equals c = begun most ws (Between (ws ++ (61 ∷ []) ∷ []))
+apart most ws kinds.Equals c = begun most ws (Between (ws ++ (equals ∷ []) ∷ []))
 apart most ws kinds.Plain c = begun most ws (Bare (c ∷ []) ws)
 apart most ws kinds.Bad c = Err faults.BadByte
 
@@ -117,11 +119,11 @@ read most s (c ∷ cs) = step most s (kind c) c >>= λ t. read most t cs
 
 -- The words that a line spells, or its fault. That this is what `Spells` and `HasFault` say is the law `spelled_is_meant`.
 abbrev pub spelled : List ℕ → Result (List (List ℕ)) WordFault
-spelled line = read 32 (Between []) line
+spelled line = read WORDS_MAX (Between []) line
 
 -- whether a backslash stands in the line: only the words of such a line take memory
 abbrev pub has_backslash : List ℕ → Bool
-has_backslash line = list_any (λ c. c == 92) line
+has_backslash line = list_any (λ c. c == backslash) line
 
 -- The call gives this answer, unless memory ran out.
 abbrev pub Gives : Result (List (List ℕ)) WordFault → Result (List (List ℕ)) WordFault → Type 0

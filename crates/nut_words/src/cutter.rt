@@ -4,12 +4,10 @@ ghost use Rattle.std.specs.Borrow.{sem};
 ghost use Rattle.nut_words.specs.Lines.{Text, joined, lines, lines_after, rest, rest_after};
 ghost use Rattle.nut_words.specs.Cutter.{LeavesRest, handed_out, kept_of};
 
+use crate::limits::LINE_MAX;
 use arrayvec::ArrayVec;
 use memchr::memchr;
 use std::marker::Model;
-
-/// How many bytes a line has at most. Its line feed isn't counted, a carriage return is.
-pub const LINE_MAX: usize = 512;
 
 /// A complete line.
 #[derive(Clone, Copy)]
@@ -37,7 +35,7 @@ enum Stage {
 /// Contracts see it as the rest of the bytes fed so far.
 #[derive(Drop)]
 pub struct LineCutter {
-    kept: ArrayVec<u8, 512>,
+    kept: ArrayVec<u8, LINE_MAX>,
     stage: Stage,
 }
 
@@ -66,7 +64,6 @@ impl LineCutter {
     pub fn kept(&self) -> usize
         ensures value { result ≡ kept_of self.now }
         ensures most { result ≤ LINE_MAX }
-        ensures limit { LINE_MAX ≡ 512 }
     {
         match self.stage {
             Stage::Growing => self.kept.len(),
@@ -114,7 +111,7 @@ impl LineCutter {
         ensures whole { IfSome result (λ line. piece.now ≡ line.now ++ 10 ∷ []) }
         ensures line { IfSome result (λ line. lines piece.now ≡ Text line.now ∷ []) }
         ensures taken { (text : List ℕ) → self.now ≡ Text [] → piece.now ≡ text ++ 10 ∷ [] → All (λ b. b ≢ 10) text
-            → length text ≤ 512 → IsSome result }
+            → length text ≤ LINE_MAX → IsSome result }
     {
         if !self.is_at_start() {
             return None;

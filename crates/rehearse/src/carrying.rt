@@ -6,7 +6,7 @@ use std::io;
 use std::io::Write;
 
 /// How many pieces go at most.
-const MOST_PIECES: usize = 100_000;
+const PIECES_MAX: usize = 100_000;
 
 /// What became of a piece.
 #[derive(Clone, Copy)]
@@ -73,7 +73,7 @@ pub fn carry<W: Write>(
     size: usize,
     out: &mut W,
 ) -> io::Result<()> {
-    for _ in 0..MOST_PIECES {
+    for _ in 0..PIECES_MAX {
         match carry_piece(server, dummy, size) {
             Carried::Piece => {}
             Carried::Nothing => return write!(out, "ok"),

@@ -7,11 +7,11 @@ ghost use Rattle.nut_history.specs.Machine.{advance, ticked};
 ghost use Rattle.nut_history.specs.MachineOutcome.{Answers, content_after};
 
 use crate::address::address_of;
-use crate::arrival::PIECE_MAX;
 use crate::connection::Connection;
 use crate::device::Device;
-use crate::server::{MOST_OPENED, Server};
-use nut_history::{Place, Refused};
+use crate::server::Server;
+use nut_history::{OPENED_MAX, Place, Refused};
+use nut_words::PIECE_MAX;
 
 /// It is this time: each driver is asked whether it is there, where that is due.
 fn tick_all(devices: &mut Vec<Device>, max_age: u64, time: u64)
@@ -43,7 +43,7 @@ impl Server {
         let Some(address) = address_of(address) else {
             return Err(Refused::BadAddress);
         };
-        if self.connections.len() >= self.config.most_connections() || self.opened >= MOST_OPENED {
+        if self.connections.len() >= self.config.most_connections() || self.opened >= OPENED_MAX {
             return Err(Refused::Full);
         }
         let number = self.opened + 1;

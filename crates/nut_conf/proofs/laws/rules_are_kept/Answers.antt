@@ -17,6 +17,7 @@ use Rattle.nut_conf.specs.declared.users.UserDirective.{UserDirective}
 use Rattle.nut_conf.specs.declared.users.UserDirective.TheVariants as of_users
 use Rattle.nut_conf.proofs.KeptRules.{each_keeps_rule, keeps_rule}
 use Rattle.nut_conf.proofs.laws.rules_are_kept.Goals as goal
+use Rattle.nut_conf.specs.declared.limits.TheConstants.{UPSES_MAX, USERS_MAX}
 
 ups_found : (d : UpsDirective) → directive_of (ups_directive d).word ups_directives ≡ Some (ups_directive d)
 ups_found of_ups.Driver = refl
@@ -55,8 +56,8 @@ description_found of_descriptions.Command = refl
 
 pub returns : goal.returns
 returns c = record {
-  ups = λ file lines is d. each_keeps_rule ups_directives (ups_directive d) (ups_found d) 32 file lines is;
-  users = λ file lines is d. each_keeps_rule user_directives (user_directive d) (user_found d) 64 file lines is;
+  ups = λ file lines is d. each_keeps_rule ups_directives (ups_directive d) (ups_found d) UPSES_MAX file lines is;
+  users = λ file lines is d. each_keeps_rule user_directives (user_directive d) (user_found d) USERS_MAX file lines is;
   upsd = λ file lines is d. keeps_rule upsd_directives (upsd_directive d) (upsd_found d) file lines is;
   upsmon = λ file lines is d. keeps_rule upsmon_directives (upsmon_directive d) (upsmon_found d) file lines is;
   descriptions = λ file lines is d. keeps_rule description_directives (description_directive d) (description_found d) file lines is;
