@@ -5,7 +5,7 @@ use Rattle.nut_client.specs.declared.fault.LinkFault.{LinkFault}
 use Rattle.nut_client.specs.declared.fault.LinkFault.TheVariants.{OutOfOrder}
 use Rattle.nut_client.specs.declared.outcome.Outcome.{Outcome}
 use Rattle.nut_client.specs.Asking.{Asked}
-use Rattle.nut_client.specs.Parts.{Advances, Gives}
+use Rattle.nut_client.specs.inside.Parts.{Advances, Gives}
 use Rattle.nut_client.specs.Link.{progress_of}
 use Rattle.nut_client.specs.Matching.{next, progress}
 

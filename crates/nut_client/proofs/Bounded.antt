@@ -22,10 +22,10 @@ use Rattle.nut_client.specs.declared.fault.LinkFault.TheVariants.{OutOfOrder, Ba
 use Rattle.nut_client.specs.Asking.{Asked, is_writable, query_of}
 use Rattle.nut_client.specs.Bounds.{IsBounded, IsStageBounded, rows_in, rows_of}
 use Rattle.nut_client.specs.Hearing.{Feeds, RunsOut}
-use Rattle.nut_client.specs.Laws.{BoundsStay}
+use Rattle.nut_client.specs.laws.Laws.{BoundsStay}
 use Rattle.nut_client.specs.Link.{LinkValue, asked, fed, heard, is_idle, left_of, lines_heard, link_with, moved, on_answer, on_line, on_read, or_else, progress_of, stage_after, stage_taken, stage_without, take_fault, taken, taken_out}
 use Rattle.nut_client.specs.Matching.{Progress, Listing, Complete, first, is_heading, is_line, is_row, next, progress}
-use Rattle.nut_client.specs.Rests.{IsRest}
+use Rattle.nut_client.specs.inside.Rests.{IsRest}
 use Rattle.nut_client.proofs.Writable.{length_line}
 
 none : 0 ≤ 512

@@ -1,5 +1,5 @@
 //! Laws over all links.
-ghost use Rattle.nut_client.specs.Laws.{AllBytesDecide, BoundsStay, CutsDoNotMatter, MoreBytesAreIgnored, OkTakesNoMemory, RepliesMatch, RestsStay};
+ghost use Rattle.nut_client.specs.laws.Laws.{AllBytesDecide, BoundsStay, CutsDoNotMatter, MoreBytesAreIgnored, OkTakesNoMemory, RepliesMatch, RestsStay};
 
 /// A law, with nothing to run: however what the server sends is cut into pieces, it makes the same of a link.
 pub fn cuts_do_not_matter()

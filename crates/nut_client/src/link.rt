@@ -5,7 +5,7 @@ ghost use Rattle.nut_words.specs.Lines.{lines_after};
 ghost use Rattle.nut_client.specs.Bounds.{IsBounded};
 ghost use Rattle.nut_client.specs.Hearing.{Feeds, RunsOut, may_take_memory};
 ghost use Rattle.nut_client.specs.Link.{answer_by, ask_fault, asked, fed, fresh, link_with, outcome_of, take_fault, taken, taken_out, waits, with_exchange};
-ghost use Rattle.nut_client.specs.Rests.{IsRest};
+ghost use Rattle.nut_client.specs.inside.Rests.{IsRest};
 
 use crate::exchange::{Exchange, Stage};
 use crate::fault::LinkFault;
@@ -36,7 +36,7 @@ pub struct Link {
 impl Model for Link {
     ghost use Rattle.nut_client.specs.Bounds.{IsStageBounded};
     ghost use Rattle.nut_client.specs.Link.{LinkValue, link_with};
-    ghost use Rattle.nut_client.specs.Rests.{IsRest};
+    ghost use Rattle.nut_client.specs.inside.Rests.{IsRest};
 
     ghost Value = { LinkValue };
 

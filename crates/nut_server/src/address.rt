@@ -3,7 +3,7 @@
 ghost use Rattle.std.specs.Prelude.{◌≡◌, Some, None, option_map, if◌then◌else◌};
 ghost use Rattle.std.specs.List.{list_all};
 ghost use Rattle.nut_words.specs.Spelling.{is_bare};
-ghost use Rattle.nut_history.specs.Acceptance.{is_address};
+ghost use Rattle.nut_server_spec.specs.Acceptance.{is_address};
 
 use arrayvec::ArrayVec;
 

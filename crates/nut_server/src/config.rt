@@ -1,7 +1,7 @@
 //! What a server is made with.
 
 ghost use Rattle.std.specs.Prelude.{◌≡◌, ◌<◌, ◌≤◌, IfSome, length, slice_get};
-ghost use Rattle.nut_history.specs.Configuration.{number_of_ups, ups_named, user_named, has_password, may_act, may_command};
+ghost use Rattle.nut_server_spec.specs.Configuration.{number_of_ups, ups_named, user_named, has_password, may_act, may_command};
 ghost use Rattle.nut_server.specs.Configured.{configuration_of, upses_of, users_of};
 
 use nut_conf::{Action, Role, UpsConf, UpsdConf, UsersConf};
@@ -19,7 +19,7 @@ pub struct Ups<'a> {
 }
 
 impl<'a> Model for Ups<'a> {
-    ghost use Rattle.nut_history.specs.Configuration as definitions;
+    ghost use Rattle.nut_server_spec.specs.Configuration as definitions;
 
     ghost Value = { definitions.Ups };
 
@@ -34,7 +34,7 @@ pub struct User<'a> {
 }
 
 impl<'a> Model for User<'a> {
-    ghost use Rattle.nut_history.specs.Configuration as definitions;
+    ghost use Rattle.nut_server_spec.specs.Configuration as definitions;
     ghost use Rattle.nut_server.specs.Configured.{user_of};
 
     ghost Value = { definitions.User };
@@ -81,7 +81,7 @@ pub struct Config {
 }
 
 impl Model for Config {
-    ghost use Rattle.nut_history.specs.Configuration.{Configuration};
+    ghost use Rattle.nut_server_spec.specs.Configuration.{Configuration};
     ghost use Rattle.nut_server.specs.Configured.{configuration_of};
 
     ghost Value = { Configuration };

@@ -1,17 +1,17 @@
 //! What arrives but is said by nobody: moments, connections and links that come and go, and bytes that are taken.
 
 ghost use Rattle.std.specs.Prelude.{◌≡◌, ◌<◌, ◌≤◌, map, length, max};
-ghost use Rattle.nut_history.specs.Event.{Moment, Open, Bytes, Took, Close, DriverUp, DriverBytes, DriverTook, DriverDown};
-ghost use Rattle.nut_history.specs.Acceptance.{line_feeds};
-ghost use Rattle.nut_history.specs.Machine.{advance, ticked};
-ghost use Rattle.nut_history.specs.Outcome.{IsAnswer, content_after};
+ghost use Rattle.nut_server_spec.specs.Event.{Moment, Open, Bytes, Took, Close, DriverUp, DriverBytes, DriverTook, DriverDown};
+ghost use Rattle.nut_server_spec.specs.Acceptance.{line_feeds};
+ghost use Rattle.nut_server_spec.specs.machine.Machine.{advance, ticked};
+ghost use Rattle.nut_server_spec.specs.Outcome.{IsAnswer, content_after};
 
 use crate::address::address_of;
 use crate::arrival::PIECE_MAX;
 use crate::connection::Connection;
 use crate::device::Device;
 use crate::server::{MOST_OPENED, Server};
-use nut_history::{Place, Refused};
+use nut_server_spec::{Place, Refused};
 
 /// It is this time: each driver is asked whether it is there, where that is due.
 fn tick_all(devices: &mut Vec<Device>, max_age: u64, time: u64)
