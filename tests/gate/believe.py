@@ -18,13 +18,13 @@ PROMISES = (
     ("A server", "`Server::new` and `Server::arrive`: what a server answers, keeps and asks of its drivers", (
         ("nut_server", "server.rt", ("Server.new", "Server.arrive")),)),
     ("What a server sends", "the laws over whole histories of what connections and drivers are sent", (
-        ("nut_history", "lib.rt", ("sent_and_waiting_is_due", "sent_is_front_of_due", "driver_sent_and_waiting_is_due")),)),
+        ("nut_server_spec", "lib.rt", ("sent_and_waiting_is_due", "sent_is_front_of_due", "driver_sent_and_waiting_is_due")),)),
     ("The server's loop", "`serve`: what a world gives and takes is what a server is told and sends", (
-        ("nut_serve", "serving.rt", ("serve",)), ("nut_serve", "world.rt", ("World.*",)))),
+        ("nut_server_loop", "serving.rt", ("serve",)), ("nut_server_loop", "world.rt", ("World.*",)))),
     ("A monitor", "`Monitor::new`, `arrive`, `take_notice` and `notice_text`: what a monitor asks, tells and decides", (
         ("nut_monitor", "monitor.rt", ("Monitor.new", "Monitor.arrive", "Monitor.take_notice", "Monitor.notice_text")),)),
     ("The monitor's loop", "`watch`: what a world gives and takes is what a monitor is told and asks", (
-        ("nut_watch", "watching.rt", ("watch",)), ("nut_watch", "world.rt", ("MonWorld.*",)))),
+        ("nut_monitor_loop", "watching.rt", ("watch",)), ("nut_monitor_loop", "world.rt", ("MonWorld.*",)))),
     ("Configuration files", "`read_ups`, `read_users`, `read_upsd`, `read_descriptions`, `read_upsmon`: what a file means", (
         ("nut_conf", None, ("read_ups", "read_users", "read_upsd", "read_descriptions", "read_upsmon")),)),
     ("The tools", "`run_upsc`, `run_upsrw`, `run_upscmd` and their targets: what is asked, printed and dialed", (

@@ -2,15 +2,15 @@
 use Rattle.std.proofs.Common.{◌≡◌, ℕ, true, List, [], ◌∷◌, ◌++◌, map, reverse, get_or, Some, unwrap_or, refl, sym, ◌∙◌, ap, subst}
 use Rattle.std.proofs.lemmas.List.{reverse-append, map-append}
 use Rattle.std.proofs.lemmas.List.Quantifiers.{position-Some}
-use Rattle.nut_history.specs.Event.{Event}
-use Rattle.nut_history.specs.Event as event
-use Rattle.nut_history.specs.Content.{Content}
-use Rattle.nut_serve.specs.Memory.{may_come}
-use Rattle.nut_serve.specs.Record.{Entry, MayCome, arrival_of, tells_write, tells_request}
-use Rattle.nut_serve.specs.declared.types.Next.{Next}
-use Rattle.nut_serve.specs.declared.types.Next.TheVariants as next
-use Rattle.nut_serve.specs.declared.types.Written.{Written}
-use Rattle.nut_serve.specs.declared.types.Written.TheVariants.{Took, Later, Failed}
+use Rattle.nut_server_spec.specs.Event.{Event}
+use Rattle.nut_server_spec.specs.Event as event
+use Rattle.nut_server_spec.specs.Content.{Content}
+use Rattle.nut_server_loop.specs.Memory.{may_come}
+use Rattle.nut_server_loop.specs.Record.{Entry, MayCome, arrival_of, tells_write, tells_request}
+use Rattle.nut_server_loop.specs.declared.types.Next.{Next}
+use Rattle.nut_server_loop.specs.declared.types.Next.TheVariants as next
+use Rattle.nut_server_loop.specs.declared.types.Written.{Written}
+use Rattle.nut_server_loop.specs.declared.types.Written.TheVariants.{Took, Later, Failed}
 use Rattle.failing_world.specs.declared.deeds.Deed.{Deed}
 use Rattle.failing_world.specs.declared.rows.Row.{Row}
 use Rattle.failing_world.specs.Failing.{event_of, entry_of, entry_of_write, entry_of_request, log_of, first_coming}

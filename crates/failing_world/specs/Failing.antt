@@ -1,11 +1,11 @@
 -- A world whose devices fail: what its rows and its deeds tell.
 use Rattle.std.specs.Prelude.{ℕ, List, map, reverse, take, position, Option}
-use Rattle.nut_history.specs.Event as event
-use Rattle.nut_history.specs.Content.{Content}
-use Rattle.nut_serve.specs.Record as entry
-use Rattle.nut_serve.specs.Memory.{may_come}
-use Rattle.nut_serve.specs.declared.types.Written.{Written}
-use Rattle.nut_serve.specs.declared.types.Written.TheVariants.{Took, Later, Failed}
+use Rattle.nut_server_spec.specs.Event as event
+use Rattle.nut_server_spec.specs.Content.{Content}
+use Rattle.nut_server_loop.specs.Record as entry
+use Rattle.nut_server_loop.specs.Memory.{may_come}
+use Rattle.nut_server_loop.specs.declared.types.Written.{Written}
+use Rattle.nut_server_loop.specs.declared.types.Written.TheVariants.{Took, Later, Failed}
 use Rattle.failing_world.specs.declared.rows.Row.{Row}
 use Rattle.failing_world.specs.declared.rows.Row.TheVariants.{Moment, Open, Bytes, Close, Up, Report, Down}
 use Rattle.failing_world.specs.declared.deeds.Deed.{Deed}

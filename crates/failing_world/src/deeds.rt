@@ -4,7 +4,7 @@ ghost use Rattle.std.specs.Prelude.{◌≡◌, ◌∷◌, OnOk, OnErr};
 ghost use Rattle.failing_world.specs.Failing.{entry_of, log_of};
 
 use crate::Row;
-use nut_serve::{Fault, Written};
+use nut_server_loop::{Fault, Written};
 
 /// One thing that the world did, or that became of a write to it.
 #[derive(Drop)]

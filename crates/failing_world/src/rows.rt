@@ -1,12 +1,12 @@
 //! Arrivals, as a table of a test has them.
 
 ghost use Rattle.std.specs.Prelude.{◌≡◌, ◌<◌, Some, IfSome, IfOk, length};
-ghost use Rattle.nut_serve.specs.Record.{arrival_of};
-ghost use Rattle.nut_serve.specs.Memory.{may_come};
+ghost use Rattle.nut_server_loop.specs.Record.{arrival_of};
+ghost use Rattle.nut_server_loop.specs.Memory.{may_come};
 ghost use Rattle.failing_world.specs.Failing.{event_of, first_coming};
 
-use nut_serve::{Address, Fault, Next, Piece};
 use nut_server::Server;
+use nut_server_loop::{Address, Fault, Next, Piece};
 
 /// One thing that comes from outside.
 #[derive(Clone, Copy)]

@@ -1,14 +1,14 @@
 //! The loop over a world whose devices fail.
 
 ghost use Rattle.std.specs.Prelude.{◌≡◌, ◌<◌, ◌-◌, ◌^◌, List, [], Some, None, OnOk, OnErr};
-ghost use Rattle.nut_history.specs.Content.{content};
-ghost use Rattle.nut_serve.specs.Record.{NobodyLeaves};
-ghost use Rattle.nut_serve.specs.Served.{Ended, Served};
+ghost use Rattle.nut_server_spec.specs.Content.{content};
+ghost use Rattle.nut_server_loop.specs.Record.{NobodyLeaves};
+ghost use Rattle.nut_server_loop.specs.Served.{Ended, Served};
 ghost use Rattle.failing_world.specs.Failing.{log_of, first_coming};
 
 use crate::FailingWorld;
-use nut_serve::{ServeFault, serve};
 use nut_server::Server;
+use nut_server_loop::{ServeFault, serve};
 use std::sync::Wait;
 
 /// Serves until the world ends or a device is a fault: what `serve` promises, at this world.

@@ -1,9 +1,9 @@
 //! What is wrong with a world's devices.
 
 ghost use Rattle.std.specs.Prelude.{◌≡◌, ◌<◌, length};
-ghost use Rattle.nut_serve.specs.Record.{IsWithin};
+ghost use Rattle.nut_server_loop.specs.Record.{IsWithin};
 
-use nut_serve::Written;
+use nut_server_loop::Written;
 
 /// What is wrong with a device: with the connection 1, or with the driver of the UPS 0.
 #[derive(Clone, Copy, Debug, PartialEq, Eq)]

@@ -1,14 +1,14 @@
 //! The world itself.
 
 ghost use Rattle.std.specs.Prelude.{◌≡◌, ◌<◌, ◌&&◌, nat_eq, [], length, None, Some, Ok, IfOk, OnOk, OnErr};
-ghost use Rattle.nut_serve.specs.Record.{tells_next, tells_write, tells_request, IsWithin, MayCome};
+ghost use Rattle.nut_server_loop.specs.Record.{tells_next, tells_write, tells_request, IsWithin, MayCome};
 ghost use Rattle.failing_world.specs.Failing.{log_of, first_coming};
 
 use crate::deeds::{Deed, note};
 use crate::rows::{Row, find_coming, show};
 use crate::trouble::{Trouble, answer};
-use nut_serve::{Fault, Next, Piece, World, Written};
 use nut_server::Server;
+use nut_server_loop::{Fault, Next, Piece, World, Written};
 use std::alloc::Global;
 
 /// A world that gives rows, notes what it does, and has trouble with connection 1, with the driver of UPS 0, and with one

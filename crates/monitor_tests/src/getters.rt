@@ -1,8 +1,8 @@
 //! What a monitor says of itself: what its clauses say can't tell whether it says anything at all.
 
 use nut_conf::read_upsmon;
-use nut_decision::Communication;
 use nut_monitor::{Event, Known, LastQuery, Monitor, MonitorFault, Query, StatusFlags};
+use nut_monitor_spec::Communication;
 use std::alloc::Global;
 use std::test::Fail;
 

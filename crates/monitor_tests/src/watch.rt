@@ -1,7 +1,7 @@
 //! What no clause says: runs from outside.
 
 ghost use Rattle.std.specs.Prelude.{◌≡◌, IfOk, []};
-ghost use Rattle.nut_decision.specs.Content.{content};
+ghost use Rattle.nut_monitor_spec.specs.Content.{content};
 
 mod worlds;
 

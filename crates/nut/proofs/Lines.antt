@@ -2,7 +2,7 @@
 use Rattle.std.proofs.Common.{◌≡◌, ◌||◌, List, [], ◌∷◌, map, refl, ap}
 use Rattle.std.specs.List.{list_any}
 use Rattle.nut_conf.specs.declared.monitor.Monitored.{Monitored}
-use Rattle.nut_decision.specs.Configuration.{has_primary, line_of}
+use Rattle.nut_monitor_spec.specs.Configuration.{has_primary, line_of}
 use Rattle.nut.specs.Stopping.{is_led}
 
 pub led : (ms : List Monitored) → list_any (λ m. is_led (line_of m)) ms ≡ list_any is_led (map line_of ms)

@@ -1,7 +1,7 @@
 -- How soon a machine stops whose UPSes are on a low battery.
 use Rattle.std.specs.Prelude.{ℕ, suc, ◌+◌, Bool, false, ◌&&◌, not, nat_lt, if◌then◌else◌}
 use Rattle.std.specs.List.{list_any}
-use Rattle.nut_decision.specs.Configuration.{Configuration, Line}
+use Rattle.nut_monitor_spec.specs.Configuration.{Configuration, Line}
 use Rattle.nut_in_time.specs.Pace.{Pace}
 use Rattle.nut_in_time.specs.InTime.{seen_by, secondary_by, to_halted}
 

@@ -1,7 +1,7 @@
 //! upsd: a server over sockets, or over standard streams.
 
 ghost use Rattle.std.specs.Prelude.{◌≡◌, ◌<◌, ◌-◌, ◌^◌, [], IfSome};
-ghost use Rattle.nut_history.specs.Content.{content};
+ghost use Rattle.nut_server_spec.specs.Content.{content};
 
 use crate::command_line::upsd_command;
 use crate::configuration::{Settings, read_options, read_settings};
@@ -15,8 +15,8 @@ use crate::warning::{readable_file, warn};
 use clap::ArgMatches;
 use mio::net::TcpListener;
 use nut_conf::UsersConf;
-use nut_serve::{ServeFault, World, serve};
 use nut_server::{Config, Server};
+use nut_server_loop::{ServeFault, World, serve};
 use nut_sockets::{Driver, MioWorld, Report, Reports};
 use std::alloc::{Alloc, AllocError, Global};
 use std::convert::AsStr;

@@ -1,6 +1,6 @@
 //! Why a program ends before its work is done.
 
-use nut_serve::ServeFault;
+use nut_server_loop::ServeFault;
 use std::alloc::{AllocError, AllocFailed};
 use std::fmt::Display;
 use std::io;

@@ -34,12 +34,12 @@ pub use daemon::run_upsd;
 pub use dummy::run_dummy_ups;
 pub use failure::{Failure, OwnFault};
 pub use monitor::run_upsmon;
-pub use nut_serve::{
+pub use nut_monitor_loop::{MemoryMonWorld, MonWorld, watch, watch_memory};
+pub use nut_server_loop::{
     Address, Fault, Given, MemoryWorld, Next, Note, Piece, ServeFault, StreamWorld, World, Written,
     serve, serve_memory,
 };
 pub use nut_sockets::{Driver, LossyLines, MioWorld, Report, Reports};
-pub use nut_watch::{MemoryMonWorld, MonWorld, watch, watch_memory};
 pub use stdio::run_stdio;
 pub use stopping::{Stopping, stops_within};
 pub use ups_option::{add_ups_option, read_ups_options};

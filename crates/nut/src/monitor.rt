@@ -1,7 +1,7 @@
 //! upsmon: a monitor that decides when to halt its machine.
 
 ghost use Rattle.std.specs.Prelude.{◌≡◌, ◌<◌, ◌-◌, ◌^◌, [], IfSome};
-ghost use Rattle.nut_decision.specs.Content.{content};
+ghost use Rattle.nut_monitor_spec.specs.Content.{content};
 
 use crate::arguments::refuse_start;
 use crate::command_line::upsmon_command;
@@ -19,8 +19,8 @@ use crate::warning::{Warning, readable_file, warn};
 use clap::ArgMatches;
 use nut_conf::{Role, UpsmonConf};
 use nut_monitor::{Monitor, Phase};
+use nut_monitor_loop::{MonWorld, watch};
 use nut_sockets::{Herald, LossyLines, MioMonWorld, Report, Reports, text_of};
-use nut_watch::{MonWorld, watch};
 use std::alloc::{Alloc, AllocError, Global};
 use std::convert::AsStr;
 use std::env::Env;

@@ -2,7 +2,7 @@
 
 ghost use Rattle.std.specs.Prelude.{◌≡◌, ◌<◌, ◌^◌, max};
 ghost use Rattle.std.specs.List.{list_any};
-ghost use Rattle.nut_decision.specs.Configuration.{configuration_of, has_primary as some_primary, line_of};
+ghost use Rattle.nut_monitor_spec.specs.Configuration.{configuration_of, has_primary as some_primary, line_of};
 ghost use Rattle.nut_in_time.specs.InTime.{seen_by, to_halted};
 ghost use Rattle.nut.specs.Stopping.{begins_within, is_led, prompt, stops_within as seconds_of};
 

@@ -3,8 +3,8 @@
 use crate::conf_file::FileFault;
 use crate::failure::{Failure, OwnFault};
 use nut_conf::FaultKind;
-use nut_serve::Stream;
 use nut_server::ServerFault;
+use nut_server_loop::Stream;
 use std::fmt;
 
 /// What upsd alone meets: before anybody is served, or over standard streams.

@@ -9,7 +9,7 @@ use Rattle.clap.specs.declared.builder.Arg.{Arg}
 use Rattle.clap.specs.declared.error.ErrorKind.{ErrorKind}
 use Rattle.clap.specs.declared.ArgMatches.{ArgMatches}
 use Rattle.nut_client.specs.CommandLine.{CommandLine, Options, line_by, read_by, upsc_tool, upsrw_tool, upscmd_tool}
-use Rattle.nut_client.specs.Reading.{IsRead, IsReadBy}
+use Rattle.nut_client.specs.inside.Reading.{IsRead, IsReadBy}
 use Rattle.nut_client.specs.declared.command_line.Options.{Options as Read}
 use Rattle.nut_client.specs.declared.command_line.Refusal.{Refusal}
 use Rattle.nut_client.specs.declared.command_line.Refusal.TheVariants.{Usage, Failed}

@@ -4,7 +4,7 @@ use Rattle.std.proofs.lemmas.List.{append_assoc, append-nil}
 use Rattle.std.specs.Io.KnownBytes.{prepend_known}
 use Rattle.nut_words.specs.Lines.{LineText, lines, lines_after, rest}
 use Rattle.nut_words.proofs.StreamGrowth.{lines-append}
-use Rattle.nut_client.specs.Laws.{AllBytesDecide, MoreBytesAreIgnored}
+use Rattle.nut_client.specs.laws.Laws.{AllBytesDecide, MoreBytesAreIgnored}
 use Rattle.nut_client.specs.Script.{Script}
 use Rattle.nut_client.specs.Tool.{Failed, Printed, Standing, Waits, after, begin, ending, is_over, run_of}
 use Rattle.nut_client.specs.declared.failure.Failure.{Failure}

@@ -15,13 +15,13 @@ use Rattle.nut_link.specs.declared.fault.LinkFault.{LinkFault}
 use Rattle.nut_link.specs.declared.fault.LinkFault.TheVariants.{Memory}
 use Rattle.nut_link.specs.declared.outcome.Outcome.{Outcome}
 use Rattle.nut_link.specs.Asking.{is_writable}
-use Rattle.nut_client.specs.Conversation.{Answered, Hears, HearsPart, IsListening, IsReadFor, IsWaiting, Listens, Sends, link_sent}
+use Rattle.nut_client.specs.inside.Conversation.{Answered, Hears, HearsPart, IsListening, IsReadFor, IsWaiting, Listens, Sends, link_sent}
 use Rattle.nut_link.specs.Hearing.{Feeds}
 use Rattle.nut_link.specs.Link.{LinkValue, answer_by, fed, outcome_in, outcome_of, stage_without, taken_out, with_exchange}
-use Rattle.nut_link.specs.Rests.{IsRest}
+use Rattle.nut_link.specs.inside.Rests.{IsRest}
 use Rattle.nut_client.specs.Script.{Script, Asks}
 use Rattle.nut_client.specs.Tool.{Failed, Waits, after, begin, breaks_off, ending, is_over, sent}
-use Rattle.nut_client.specs.Unread.{IsLinePart, IsUnbroken, IsWhole}
+use Rattle.nut_client.specs.inside.Unread.{IsLinePart, IsUnbroken, IsWhole}
 use Rattle.nut_client.proofs.Runs.{append_none, begun, comes, fails, grows, prepend_none, prepend_twice, rest_waits, still_waits, waiting_run}
 
 none_at : (o : Option LinkFault) → Ok tt ≡ answer_by o → o ≡ None

@@ -14,12 +14,12 @@ use Rattle.nut_link.specs.declared.exchange.Stage.TheVariants as stages
 use Rattle.nut_client.specs.declared.failure.Failure.TheVariants as failures
 use Rattle.nut_link.specs.declared.fault.LinkFault.{LinkFault}
 use Rattle.nut_link.specs.declared.outcome.Outcome.{Outcome}
-use Rattle.nut_client.specs.Conversation.{IsWaiting}
+use Rattle.nut_client.specs.inside.Conversation.{IsWaiting}
 use Rattle.nut_link.specs.Link.{LinkValue, fed, heard, left_of, lines_heard, moved, on_line, outcome_in, outcome_of}
 use Rattle.nut_link.specs.Asking.{is_writable}
 use Rattle.nut_client.specs.Script.{Script, Prints, Fails, Asks}
 use Rattle.nut_client.specs.Tool.{Run, Waits, Failed, after, begin, sent, failure_of, goes_on, hears}
-use Rattle.nut_client.specs.Unread.{IsUnbroken, IsWhole}
+use Rattle.nut_client.specs.inside.Unread.{IsUnbroken, IsWhole}
 
 pub after-append : (xs ys : List LineText) (run : Run) → after (xs ++ ys) run ≡ after ys (after xs run)
 after-append [] ys run = refl

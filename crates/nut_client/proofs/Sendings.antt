@@ -4,7 +4,7 @@ use Rattle.std.proofs.lemmas.List.{append_assoc, take-append-drop}
 use Rattle.std.specs.Io.KnownBytes.{append_known}
 use Rattle.nut_proto.specs.declared.request.Request.{Request}
 use Rattle.nut_link.specs.Link.{LinkValue, taken, waits, with_exchange}
-use Rattle.nut_client.specs.Sending.{IsSending, link_sending}
+use Rattle.nut_client.specs.inside.Sending.{IsSending, link_sending}
 use Rattle.nut_client.proofs.Runs.{append_twice}
 
 -- what the link is once more of the query was taken

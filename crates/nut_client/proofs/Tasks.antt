@@ -15,7 +15,7 @@ use Rattle.nut_client.specs.declared.wanted.Wanted.TheVariants as wanteds
 use Rattle.nut_proto.specs.declared.request.Request.{Request}
 use Rattle.nut_proto.specs.declared.request.Request.TheVariants as requests
 use Rattle.nut_client.specs.Script.{Script, Asks, Prints, deed_query, does, gives_password, line, on_done, script, word}
-use Rattle.nut_client.specs.Task.{Leads, Says, answered, first_query, first_question, left_at, row_query, showing, showing_of}
+use Rattle.nut_client.specs.inside.Task.{Leads, Says, answered, first_query, first_question, left_at, row_query, showing, showing_of}
 
 -- what is left of rows from one of them on
 pub drop_at : {A : Type 0} (xs ys : List A) (n : ℕ) (x : A) → ys ≡ xs → n < length ys → x ≡ get_or ys n x → drop n xs ≡ x ∷ drop (n + 1) xs

@@ -9,11 +9,11 @@ use Rattle.nut_proto.specs.Requests.{request_line}
 use Rattle.nut_client.specs.declared.failure.Failure.{Failure}
 use Rattle.nut_client.specs.declared.failure.Failure.TheVariants as failures
 use Rattle.nut_link.specs.declared.outcome.Outcome.{Outcome}
-use Rattle.nut_client.specs.Between.{IsBetween}
-use Rattle.nut_client.specs.Conversation.{Answered, IsReadFor}
+use Rattle.nut_client.specs.inside.Between.{IsBetween}
+use Rattle.nut_client.specs.inside.Conversation.{Answered, IsReadFor}
 use Rattle.nut_link.specs.Link.{LinkValue, fresh}
 use Rattle.nut_client.specs.Script.{Script, Prints, Asks}
-use Rattle.nut_client.specs.Task.{FailsBy, answered}
+use Rattle.nut_client.specs.inside.Task.{FailsBy, answered}
 use Rattle.nut_client.specs.Tool.{Ends, IsReadInTime, WasWrittenBy, after, begin, breaks_off, ending, is_over, run_of}
 use Rattle.nut_client.proofs.Runs.{after-append, append_twice, begin_more, append_none, prepend_none, prepend_twice}
 

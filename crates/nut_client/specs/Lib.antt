@@ -1,14 +1,9 @@
 pub mod Stream
 pub mod Output
-pub mod Unread
 pub mod Json
 pub mod Script
 pub mod CommandLine
 pub mod Tool
-pub mod Reading
-pub mod Task
-pub mod Conversation
-pub mod Sending
-pub mod Between
-pub mod Laws
-pub mod Examples
+pub mod inside
+pub mod laws
+pub mod examples

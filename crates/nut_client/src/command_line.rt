@@ -3,7 +3,7 @@ ghost use Rattle.std.specs.Prelude.{◌≡◌, ◌==◌, ◌<◌, IfOk, IfSome, 
 ghost use Rattle.clap.specs.Words.{App, app_of, first_of, found_of, is_simple_and_free, rows_of, rule_of};
 ghost use Rattle.nut_conf.specs.Target.{parted as parted_at};
 ghost use Rattle.nut_client.specs.CommandLine.{CommandLine, Options as OptionsMeant, argument as argument_rule, dialed, flag as flag_rule, is_given as given, names_server as server_named, options_of as options_meant, target_of, valued as valued_rule};
-ghost use Rattle.nut_client.specs.Reading.{AreOptions, IsRead, IsReadBy, IsRefusalOf};
+ghost use Rattle.nut_client.specs.inside.Reading.{AreOptions, IsRead, IsReadBy, IsRefusalOf};
 ghost use Rattle.nut_client.specs.declared.command_line.Refusal.TheVariants.{Failed};
 ghost use Rattle.nut_client.specs.declared.failure.Failure.{Failure as FailureValue};
 ghost use Rattle.nut_client.specs.declared.failure.Failure.TheVariants.{Memory};

@@ -1,9 +1,9 @@
 //! Asking queries over a connection, one after the other.
 ghost use Rattle.std.specs.Prelude.{◌≡◌, [], IfErr, OnOk};
 ghost use Rattle.std.specs.Io.KnownBytes.{prepend_known};
-ghost use Rattle.nut_client.specs.Conversation.{Answered, Hears, IsWaiting, Sends};
+ghost use Rattle.nut_client.specs.inside.Conversation.{Answered, Hears, IsWaiting, Sends};
 ghost use Rattle.nut_link.specs.Link.{fresh};
-ghost use Rattle.nut_link.specs.Rests.{IsRest};
+ghost use Rattle.nut_link.specs.inside.Rests.{IsRest};
 ghost use Rattle.nut_client.specs.declared.failure.Failure.TheVariants.{ConnectionLost};
 
 use crate::failure::Failure;

@@ -1,7 +1,7 @@
 //! Where a tool finds its server.
 ghost use Rattle.std.specs.Prelude.{◌≡◌, option_map};
 ghost use Rattle.nut_client.specs.CommandLine.{at_server};
-ghost use Rattle.nut_client.specs.Reading.{IsTarget};
+ghost use Rattle.nut_client.specs.inside.Reading.{IsTarget};
 ghost use Rattle.nut_conf.specs.Target.{target};
 
 use crate::failure::Failure;

@@ -1,5 +1,5 @@
 //! Laws over all runs of a tool.
-ghost use Rattle.nut_client.specs.Laws.{AllBytesDecide, MoreBytesAreIgnored};
+ghost use Rattle.nut_client.specs.laws.Laws.{AllBytesDecide, MoreBytesAreIgnored};
 
 /// A law, with nothing to run: what a server sends behind a tool's last answer changes nothing.
 pub fn more_bytes_are_ignored()

@@ -33,9 +33,9 @@ pub use failure::Failure;
 pub use laws::{all_bytes_decide, more_bytes_are_ignored};
 pub use nut_conf::{NameFault, Target, split_name};
 pub use nut_link::{
-    Exchange, Expected, Fields, Heading, Link, LinkFault, More, Name, Outcome, QUERY_MAX, Query, Rows,
-    Stage, Text, bounds_stay, cuts_do_not_matter, ok_takes_no_memory, query_limits, replies_match,
-    rests_stay,
+    Exchange, Expected, Fields, Heading, Link, LinkFault, More, Name, Outcome, QUERY_MAX, Query,
+    Rows, Stage, Text, bounds_stay, cuts_do_not_matter, ok_takes_no_memory, query_limits,
+    replies_match, rests_stay,
 };
 pub use output::{Output, WriterOutput};
 pub use printing::{Form, Values};

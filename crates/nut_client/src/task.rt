@@ -2,7 +2,7 @@
 ghost use Rattle.std.specs.Prelude.{◌≡◌, ◌∷◌, List, ℕ, [], codes};
 ghost use Rattle.nut_client.specs.Json.{json_object};
 ghost use Rattle.nut_client.specs.Script.{Prints, deed_query, line, on_done, on_rows, on_words, row_lines, script, word};
-ghost use Rattle.nut_client.specs.Task.{GivesRows, GivesWords, GoesOn, IsDone, Leads, Says, ShowsRow, answered, first_query, first_question, left_at, left_of, row_query, showing, showing_of};
+ghost use Rattle.nut_client.specs.inside.Task.{GivesRows, GivesWords, GoesOn, IsDone, Leads, Says, ShowsRow, answered, first_query, first_question, left_at, left_of, row_query, showing, showing_of};
 
 use crate::failure::Failure;
 use crate::json::put_object;

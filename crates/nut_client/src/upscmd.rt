@@ -3,7 +3,7 @@ ghost use Rattle.std.specs.Prelude.{◌≡◌, IfOk, map, option_map};
 ghost use Rattle.clap.specs.Words.{app_of, found_of, rows_of};
 ghost use Rattle.nut_client.specs.CommandLine.{dialed, target_of, upscmd_line, upscmd_options, upscmd_tool, upscmd_wanted};
 ghost use Rattle.nut_client.specs.Output.{written};
-ghost use Rattle.nut_client.specs.Reading.{AreOptions, IsRead};
+ghost use Rattle.nut_client.specs.inside.Reading.{AreOptions, IsRead};
 ghost use Rattle.nut_client.specs.Tool.{EndsBy, IsUnused, RunsAs};
 
 use crate::command_line::{

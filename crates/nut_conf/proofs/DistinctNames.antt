@@ -10,7 +10,7 @@ use Rattle.nut_conf.specs.Values.{Words, name}
 use Rattle.nut_conf.specs.Settings.{fault_of}
 use Rattle.nut_conf.specs.Files.{LineFault, words_of, unless, with_line, at_line, read_lines, read_file, lines_of}
 use Rattle.nut_conf.specs.Sections.{Section, section_name, sections, last, is_name_of, opens, sectioned_fault}
-use Rattle.nut_conf.specs.Laws.{HasDistinctNames}
+use Rattle.nut_conf.specs.laws.Laws.{HasDistinctNames}
 use Rattle.nut_conf.specs.declared.fault.FaultKind.{FaultKind}
 use Rattle.nut_conf.specs.declared.fault.FaultKind.TheVariants.{OutsideSection, Repeated, PastLimit}
 use Rattle.nut_words.proofs.CutLemmas.{false-from_not_true}

@@ -11,7 +11,7 @@ use Rattle.nut_conf.specs.Values.{Words, nth}
 use Rattle.nut_conf.specs.Settings.{Directive, Rule, Setting, accepts, added, directive_of, fault_of, is_full, line_fault, names, setting, settings}
 use Rattle.nut_conf.specs.Files.{read_file}
 use Rattle.nut_conf.specs.Sections.{Section, last, opens, section_name, sectioned_fault, sections}
-use Rattle.nut_conf.specs.Laws.{AreApart, AreFew, EachKeepsRule, KeepRule}
+use Rattle.nut_conf.specs.laws.Laws.{AreApart, AreFew, EachKeepsRule, KeepRule}
 use Rattle.nut_conf.specs.declared.fault.FaultKind.{FaultKind}
 use Rattle.nut_conf.specs.declared.fault.FaultKind.TheVariants.{OutsideSection, PastLimit, Repeated, UnknownDirective}
 use Rattle.nut_conf.proofs.DraftLemmas.{settings-more, settings-other}

@@ -2,7 +2,6 @@ pub mod Faults
 pub mod Values
 pub mod Hosts
 pub mod Settings
-pub mod Drafts
 pub mod Files
 pub mod Memory
 pub mod Sections
@@ -14,5 +13,5 @@ pub mod Notices
 pub mod Upsmon
 pub mod Descriptions
 pub mod Spares
-pub mod FirstFault
-pub mod Laws
+pub mod laws
+pub mod inside

@@ -1,6 +1,6 @@
 //! Configurations that grow line by line.
 ghost use Rattle.std.specs.Prelude.{◌≡◌, ◌∷◌, ◌++◌, ℕ, Bool, List, [], Option, Err, IsTrue};
-ghost use Rattle.nut_conf.specs.Drafts.{Takes};
+ghost use Rattle.nut_conf.specs.inside.Drafts.{Takes};
 ghost use Rattle.nut_conf.specs.declared.fault.FaultKind.{FaultKind};
 
 use crate::fault::FaultKind;

@@ -1,9 +1,9 @@
 //! Laws of every file, over the definitions alone.
 ghost use Rattle.std.specs.Prelude.{◌≡◌, ℕ, List, [], Ok, Err};
 ghost use Rattle.nut_conf.specs.Values.{Words};
-ghost use Rattle.nut_conf.specs.FirstFault.{IsFirstFault};
+ghost use Rattle.nut_conf.specs.laws.FirstFault.{IsFirstFault};
 ghost use Rattle.nut_conf.specs.Files.{LineFault, read_file, read_lines};
-ghost use Rattle.nut_conf.specs.Laws.{BlankChangesNothing, EachKeepsRule, HasDistinctNames, KeepRule};
+ghost use Rattle.nut_conf.specs.laws.Laws.{BlankChangesNothing, EachKeepsRule, HasDistinctNames, KeepRule};
 ghost use Rattle.nut_conf.specs.Sections.{sections};
 ghost use Rattle.nut_conf.specs.Settings.{settings};
 ghost use Rattle.nut_conf.specs.Descriptions.{description_directive, descriptions_fault};

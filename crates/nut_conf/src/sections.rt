@@ -36,7 +36,7 @@ fn section_name<'a>(line: &'a Line<'_>) -> Option<&'a [u8]>
 }
 
 impl<S: Draft, const MOST: usize> Sections<S, MOST> {
-    ghost use Rattle.nut_conf.specs.Drafts.{Takes};
+    ghost use Rattle.nut_conf.specs.inside.Drafts.{Takes};
     ghost use Rattle.nut_conf.specs.Settings.{fault_of};
     ghost use Rattle.nut_conf.specs.Sections.{AllHold, Section, opens};
     ghost use Rattle.std.specs.Prelude.{List};

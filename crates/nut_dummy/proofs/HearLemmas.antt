@@ -7,7 +7,7 @@ use Rattle.std.proofs.lemmas.List.Splits.{length-slice_split}
 use Rattle.std.proofs.lemmas.List.Sums.{count_by-le-length}
 use Rattle.nut_words.specs.Lines.{LineText, lines, rest, parts, completed, all_but_last, as_line, lines_after}
 use Rattle.nut_words.proofs.StreamGrowth.{lines-append}
-use Rattle.nut_dummy.specs.Teller.{Teller, heard, heard_all}
+use Rattle.nut_dummy.specs.machine.Teller.{Teller, heard, heard_all}
 use Rattle.std.proofs.lemmas.List.{length-map}
 
 pub heard_all-append : (ls ms : List LineText) (t : Teller) → heard_all (ls ++ ms) t ≡ heard_all ms (heard_all ls t)

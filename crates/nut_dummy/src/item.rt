@@ -5,7 +5,7 @@ ghost use Rattle.nut_words.specs.Spelling.{is_comment};
 ghost use Rattle.nut_words.specs.Reader.{has_backslash, spelled};
 ghost use Rattle.nut_dummy.specs.Item.{is_skipped, timer, timed, setting, item};
 ghost use Rattle.nut_dummy.specs.Memory.{IsEscaped};
-ghost use Rattle.nut_dummy.specs.Read.{item_of};
+ghost use Rattle.nut_dummy.specs.inside.Read.{item_of};
 ghost use Rattle.nut_dummy.specs.Script.{Gives};
 
 use crate::fault::ScriptFaultKind;

@@ -4,7 +4,7 @@ ghost use Rattle.nut_state.specs.Sorted.{IsAscending};
 ghost use Rattle.nut_dummy.specs.Item as said;
 ghost use Rattle.nut_dummy.specs.Memory.{MayRunOut, MayTake};
 ghost use Rattle.nut_dummy.specs.Script.{has_room, read_script, no_script, timeline, with_step, taken_in, with_line, whole, Means, Fails, Gives};
-ghost use Rattle.nut_dummy.specs.Read.{item_of};
+ghost use Rattle.nut_dummy.specs.inside.Read.{item_of};
 
 use crate::fault::{ScriptFault, ScriptFaultKind};
 use crate::item::{Item, ScriptKind, is_skipped, read_item};

@@ -3,9 +3,9 @@ ghost use Rattle.std.specs.Prelude.{◌≡◌, ◌<◌, [], false, length, take,
 ghost use Rattle.nut_words.specs.Lines.{lines_after, rest_after};
 ghost use Rattle.nut_words.specs.Cutter.{line_of};
 ghost use Rattle.nut_queue.specs.Front.{IsFrontPart};
-ghost use Rattle.nut_dummy.specs.Teller.{changed, dumped_all, answered, heard, heard_all, relinked};
-ghost use Rattle.nut_dummy.specs.Changes.{change_of};
-ghost use Rattle.nut_dummy.specs.Dummy.{IsRest};
+ghost use Rattle.nut_dummy.specs.machine.Teller.{changed, dumped_all, answered, heard, heard_all, relinked};
+ghost use Rattle.nut_dummy.specs.inside.Changes.{change_of};
+ghost use Rattle.nut_dummy.specs.machine.Dummy.{IsRest};
 
 use crate::command::Command;
 use crate::telling::{dump, follow_all, forget_link, mark_all_dumped, say_all};
@@ -26,7 +26,7 @@ pub struct Teller {
 }
 
 impl Model for Teller {
-    ghost use Rattle.nut_dummy.specs.Teller.{Teller as TellerValue};
+    ghost use Rattle.nut_dummy.specs.machine.Teller.{Teller as TellerValue};
 
     ghost Value = { TellerValue };
 

@@ -2,8 +2,8 @@
 ghost use Rattle.std.specs.Prelude.{◌≡◌, ◌++◌, true, map, OnOk};
 ghost use Rattle.std.specs.List.{flat_map};
 ghost use Rattle.nut_dummy.specs.Telling.{text, closing_messages};
-ghost use Rattle.nut_dummy.specs.Teller.{says, followed, lines_of, dump, dumped, untold};
-ghost use Rattle.nut_dummy.specs.Changes.{change_of};
+ghost use Rattle.nut_dummy.specs.machine.Teller.{says, followed, lines_of, dump, dumped, untold};
+ghost use Rattle.nut_dummy.specs.inside.Changes.{change_of};
 
 use crate::variable::{Change, Variable};
 use std::alloc::AllocError;

@@ -3,9 +3,9 @@ ghost use Rattle.std.specs.Prelude.{◌≡◌, ◌++◌, [], ◌∷◌, false, t
 ghost use Rattle.nut_dummy.specs.Item.{is_value};
 ghost use Rattle.nut_dummy.specs.Due.{at_start};
 ghost use Rattle.nut_dummy.specs.Telling.{text, limits, variable_messages};
-ghost use Rattle.nut_dummy.specs.Teller.{value_after, is_assigned, differ, is_told, lines_of, says, followed, dumped, untold};
-ghost use Rattle.nut_dummy.specs.Changes.{change_of};
-ghost use Rattle.nut_dummy.specs.Dummy.{begun};
+ghost use Rattle.nut_dummy.specs.machine.Teller.{value_after, is_assigned, differ, is_told, lines_of, says, followed, dumped, untold};
+ghost use Rattle.nut_dummy.specs.inside.Changes.{change_of};
+ghost use Rattle.nut_dummy.specs.machine.Dummy.{begun};
 
 use crate::due::latest;
 use crate::text::{Name, Text};
@@ -47,7 +47,7 @@ pub struct Variable {
 }
 
 impl Model for Variable {
-    ghost use Rattle.nut_dummy.specs.Teller.{Variable as VariableValue};
+    ghost use Rattle.nut_dummy.specs.machine.Teller.{Variable as VariableValue};
 
     ghost Value = { VariableValue };
 

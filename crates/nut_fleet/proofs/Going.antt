@@ -5,31 +5,31 @@ use Rattle.std.proofs.lemmas.Bool.{cases_Bool, cases_eq, and_parts, eqb-true, eq
 use Rattle.std.specs.Prelude.{nat_lt}
 use Rattle.nut_words.specs.Quoting.{Begins}
 use Rattle.nut_words.specs.declared.limits.TheConstants.{PIECE_MAX}
-use Rattle.nut_history.specs.Event as arrivals
-use Rattle.nut_history.specs.Content as server
-use Rattle.nut_history.specs.Acceptance as server_tests
-use Rattle.nut_history.specs.Machine as server_machine
-use Rattle.nut_history.specs.Trace.{opened}
-use Rattle.nut_history.proofs.Kept as server_kept
-use Rattle.nut_history.proofs.Sent.{sent-step}
-use Rattle.nut_history.proofs.Others.{closed-stays}
-use Rattle.nut_decision.specs.declared.Notice.{Notice}
-use Rattle.nut_decision.specs.Configuration.{Configuration}
-use Rattle.nut_decision.specs.Event as events
-use Rattle.nut_decision.specs.Content as knowledge
-use Rattle.nut_decision.specs.Acceptance as monitor_tests
-use Rattle.nut_decision.specs.Machine as monitor_machine
-use Rattle.nut_decision.specs.Trace.{linked, trace, notices_waiting}
-use Rattle.nut_decision.specs.Trace as monitor
-use Rattle.nut_decision.proofs.Kept as monitor_kept
-use Rattle.nut_decision.proofs.Lists.{get_at}
+use Rattle.nut_server_spec.specs.Event as arrivals
+use Rattle.nut_server_spec.specs.Content as server
+use Rattle.nut_server_spec.specs.Acceptance as server_tests
+use Rattle.nut_server_spec.specs.machine.Machine as server_machine
+use Rattle.nut_server_spec.specs.Trace.{opened}
+use Rattle.nut_server_spec.proofs.Kept as server_kept
+use Rattle.nut_server_spec.proofs.Sent.{sent-step}
+use Rattle.nut_server_spec.proofs.Others.{closed-stays}
+use Rattle.nut_monitor_spec.specs.declared.Notice.{Notice}
+use Rattle.nut_monitor_spec.specs.Configuration.{Configuration}
+use Rattle.nut_monitor_spec.specs.Event as events
+use Rattle.nut_monitor_spec.specs.Content as knowledge
+use Rattle.nut_monitor_spec.specs.Acceptance as monitor_tests
+use Rattle.nut_monitor_spec.specs.machine.Machine as monitor_machine
+use Rattle.nut_monitor_spec.specs.Trace.{linked, trace, notices_waiting}
+use Rattle.nut_monitor_spec.specs.Trace as monitor
+use Rattle.nut_monitor_spec.proofs.Kept as monitor_kept
+use Rattle.nut_monitor_spec.proofs.Lists.{get_at}
 use Rattle.nut_fleet.specs.Schedule.{Step, ServerClock, MonitorClock, Up, Driver, Down, Link, Out, Reach, Back, Land, CutServer, CutMonitor}
 use Rattle.nut_fleet.specs.World.{Setup, World, Deed, Skip, Tell, Inform, Join, monitor_of, seen, served, known, is_open, is_linked, to_server, to_monitor, server_waits, monitor_waits, tell, inform, carried, counted, moved, address_of, has_link, is_fit, deed, deed_of, all_taken, informed, for_monitor, after, world}
 use Rattle.nut_fleet.specs.Fleet.{IsSetup}
 use Rattle.nut_fleet.specs.Log.{Noticed, turned, news, news_of}
-use Rattle.nut_fleet.specs.Moves.{reached, sent_off, landed, put_in, makes, ContentsTell}
+use Rattle.nut_fleet.specs.machine.Moves.{reached, sent_off, landed, put_in, makes, ContentsTell}
 use Rattle.nut_fleet.specs.Seen.{Ends, Fleet, Stands, open_seen, linked_seen, tell_seen, inform_seen, deed_by}
-use Rattle.nut_fleet.specs.Going.{KeepsLink, Keeps, what_counts, told_on, hushed, informed_on, with_ends, put_on, ends_reached, ends_back, ends_out, ends_landed, ends_made, moved_by, moved_on, heard_news, news_by, news_seen, FleetsGoOn}
+use Rattle.nut_fleet.specs.machine.Going.{KeepsLink, Keeps, what_counts, told_on, hushed, informed_on, with_ends, put_on, ends_reached, ends_back, ends_out, ends_landed, ends_made, moved_by, moved_on, heard_news, news_by, news_seen, FleetsGoOn}
 use Rattle.nut_fleet.proofs.Sound.{Sound, IsLawful}
 use Rattle.nut_fleet.proofs.Steps.{for-own, for-other, line-within, zero-closed, is_none-true, some-there}
 use Rattle.nut_fleet.proofs.Worlds.{sound}

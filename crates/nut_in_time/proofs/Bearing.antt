@@ -2,11 +2,11 @@
 use Rattle.std.proofs.Common.{◌≡◌, ◌⊎◌, ℕ, suc, ◌+◌, ◌<◌, ◌≤◌, ◌&&◌, inl, inr, List, ◌∷◌, length, Bool, true, false, not, Option, Some, None, is_some, refl, sym, ◌∙◌, ap, subst, arith}
 use Rattle.std.specs.Prelude.{nat_lt}
 use Rattle.std.proofs.lemmas.Bool.{cases_Bool, and_parts, eq-eqb, lt-ltb, ltb-false, ltb-true, not-true}
-use Rattle.nut_decision.specs.Configuration.{Configuration}
-use Rattle.nut_decision.specs.Decision.{power_where}
-use Rattle.nut_decision.specs.Event.{Event, NoticeTaken}
-use Rattle.nut_decision.specs.Query.{status_in}
-use Rattle.nut_decision.specs.Trace.{Asked, Entry, clock, at_status, status, status_of_answer, newest_answer, polled, gives_status, is_short, begun, has_begun, answer_of, entry_of, notices_waiting, trace}
+use Rattle.nut_monitor_spec.specs.Configuration.{Configuration}
+use Rattle.nut_monitor_spec.specs.Decision.{power_where}
+use Rattle.nut_monitor_spec.specs.Event.{Event, NoticeTaken}
+use Rattle.nut_monitor_spec.specs.Query.{status_in}
+use Rattle.nut_monitor_spec.specs.Trace.{Asked, Entry, clock, at_status, status, status_of_answer, newest_answer, polled, gives_status, is_short, begun, has_begun, answer_of, entry_of, notices_waiting, trace}
 use Rattle.nut_fleet.specs.Schedule.{Step, IsFront}
 use Rattle.nut_fleet.specs.World.{Setup, monitor_of, line_of, world}
 use Rattle.nut_fleet.specs.Fleet.{IsSetup, IsReason, Cause}

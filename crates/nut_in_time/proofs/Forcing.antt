@@ -2,14 +2,14 @@
 use Rattle.std.proofs.Common.{◌≡◌, ◌⊎◌, ℕ, zero, suc, ◌+◌, ◌<◌, ◌≤◌, ◌||◌, ◌&&◌, inl, inr, List, [], ◌∷◌, length, Bool, true, false, not, Option, Some, is_some, is_none, refl, sym, ◌∙◌, ap, arith}
 use Rattle.std.specs.Prelude.{if◌then◌else◌}
 use Rattle.std.proofs.lemmas.Bool.{cases_Bool, and_parts, or_cases, ltb-true, not-true}
-use Rattle.nut_decision.specs.declared.LastQuery.{LastQuery}
-use Rattle.nut_decision.specs.declared.Phase.{Phase}
-use Rattle.nut_decision.specs.declared.Phase.TheVariants.{Watching, Forcing}
-use Rattle.nut_decision.specs.declared.Query.TheVariants.{Status, Fsd}
-use Rattle.nut_decision.specs.Configuration.{Configuration, Line, line_in}
-use Rattle.nut_decision.specs.Decision.{each_primary, is_alone, is_over_by, is_past, next_query, phase_at}
-use Rattle.nut_decision.specs.Event.{Event}
-use Rattle.nut_decision.specs.Trace.{Asked, Answer, Entry, clock, clock_after, moment_of, linked, is_any, may_ask, last_in, last_query, forced, logins, alone, phase, begun, has_begun, is_short, ended, has_ended, is_over_at, answer_of, came, query_put, entry_of}
+use Rattle.nut_monitor_spec.specs.declared.LastQuery.{LastQuery}
+use Rattle.nut_monitor_spec.specs.declared.Phase.{Phase}
+use Rattle.nut_monitor_spec.specs.declared.Phase.TheVariants.{Watching, Forcing}
+use Rattle.nut_monitor_spec.specs.declared.Query.TheVariants.{Status, Fsd}
+use Rattle.nut_monitor_spec.specs.Configuration.{Configuration, Line, line_in}
+use Rattle.nut_monitor_spec.specs.Decision.{each_primary, is_alone, is_over_by, is_past, next_query, phase_at}
+use Rattle.nut_monitor_spec.specs.Event.{Event}
+use Rattle.nut_monitor_spec.specs.Trace.{Asked, Answer, Entry, clock, clock_after, moment_of, linked, is_any, may_ask, last_in, last_query, forced, logins, alone, phase, begun, has_begun, is_short, ended, has_ended, is_over_at, answer_of, came, query_put, entry_of}
 use Rattle.nut_fleet.proofs.Entries.{entry-linked, is_made}
 use Rattle.nut_in_time.specs.Pace.{Pace, IsPrompt}
 use Rattle.nut_in_time.proofs.Asking.{Waits, Rests, answer-is, wait-comes, rest-stays, waits-on, waits-outstanding, rests-none, phase-came, next-queries, next-answers}

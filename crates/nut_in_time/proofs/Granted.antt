@@ -5,23 +5,23 @@ use Rattle.nut_words.specs.Lines.{LineText}
 use Rattle.nut_proto.specs.declared.refusal.Refusal.{Refusal}
 use Rattle.nut_proto.specs.declared.refusal.Refusal.TheVariants as refusals
 use Rattle.nut_proto.specs.declared.reply.Reply.TheVariants as replies
-use Rattle.nut_history.specs.Configuration.{Configuration, User, number_of_ups, user_named, has_password}
-use Rattle.nut_history.specs.Command.{Asks, command_of}
-use Rattle.nut_history.specs.Event.{Event, Moment, Open, Bytes, Took, Close, WriteFailed, DriverUp, DriverBytes, DriverTook, DriverDown, Step, Clock, Opened, Said, Gone, Up, Reported, Drained, Down, steps, with_lines, with_reports, brought, input, driver_input}
-use Rattle.nut_history.specs.Content.{past}
-use Rattle.nut_history.specs.Answer.{Answer, Line as OneLine, Scene, Caller, refused, require, check, once, with_right, has_right, may_be_primary, may_force}
-use Rattle.nut_history.specs.Effect.{user_then, password_then, forced_then, at_target, target}
-use Rattle.nut_history.specs.Trace.{Entry, trace, configuration, user, password, logged_out, forced, scene, caller, answer_to}
-use Rattle.nut_history.proofs.Requests.{require-case, check-case}
-use Rattle.nut_history.proofs.Waiting.{configuration_stays}
-use Rattle.nut_decision.specs.declared.Query.{Query}
-use Rattle.nut_decision.specs.declared.Query.TheVariants.{Username, Password, Login, Primary, Status, Fsd, NumLogins}
-use Rattle.nut_decision.specs.Configuration.{Line}
-use Rattle.nut_decision.specs.Query.{request}
+use Rattle.nut_server_spec.specs.Configuration.{Configuration, User, number_of_ups, user_named, has_password}
+use Rattle.nut_server_spec.specs.Command.{Asks, command_of}
+use Rattle.nut_server_spec.specs.Event.{Event, Moment, Open, Bytes, Took, Close, WriteFailed, DriverUp, DriverBytes, DriverTook, DriverDown, Step, Clock, Opened, Said, Gone, Up, Reported, Drained, Down, steps, with_lines, with_reports, brought, input, driver_input}
+use Rattle.nut_server_spec.specs.Content.{past}
+use Rattle.nut_server_spec.specs.Answer.{Answer, Line as OneLine, Scene, Caller, refused, require, check, once, with_right, has_right, may_be_primary, may_force}
+use Rattle.nut_server_spec.specs.Effect.{user_then, password_then, forced_then, at_target, target}
+use Rattle.nut_server_spec.specs.Trace.{Entry, trace, configuration, user, password, logged_out, forced, scene, caller, answer_to}
+use Rattle.nut_server_spec.proofs.Requests.{require-case, check-case}
+use Rattle.nut_server_spec.proofs.Waiting.{configuration_stays}
+use Rattle.nut_monitor_spec.specs.declared.Query.{Query}
+use Rattle.nut_monitor_spec.specs.declared.Query.TheVariants.{Username, Password, Login, Primary, Status, Fsd, NumLogins}
+use Rattle.nut_monitor_spec.specs.Configuration.{Line}
+use Rattle.nut_monitor_spec.specs.Query.{request}
 use Rattle.nut_fleet.specs.Schedule.{Step as Playing}
 use Rattle.nut_fleet.specs.World.{Setup, line_of, world}
 use Rattle.nut_fleet.specs.Shown.{query_line}
-use Rattle.nut_fleet.specs.Exchange.{Exchange, exchanges}
+use Rattle.nut_fleet.specs.machine.Exchange.{Exchange, exchanges}
 use Rattle.nut_fleet.specs.Fleet.{IsSpoken, IsAnswered, Exists}
 use Rattle.nut_fleet.proofs.Sound.{IsOwn, AreOwn}
 use Rattle.nut_fleet.proofs.Reading.{answer-said, reply-same}

@@ -1,13 +1,13 @@
 -- What holds of each query as it is put holds of the one that waits for its answer.
 use Rattle.std.proofs.Common.{◌≡◌, ◌⊎◌, ℕ, suc, ◌<◌, ◌≤◌, ◌==◌, inl, inr, List, ◌∷◌, length, true, false, Option, Some, None, refl, sym, ◌∙◌, ap, subst, arith}
 use Rattle.std.proofs.lemmas.Bool.{cases_Bool}
-use Rattle.nut_decision.specs.declared.Query.{Query}
-use Rattle.nut_decision.specs.Acceptance.{IsAccepted}
-use Rattle.nut_decision.specs.Configuration.{Configuration}
-use Rattle.nut_decision.specs.Event.{Event, NoticeTaken}
-use Rattle.nut_decision.specs.Trace.{Asked, clock, clock_after, linked, queries, answers, outstanding, number, came, query_put, answer_of, answered_in, notices_waiting, trace}
-use Rattle.nut_decision.proofs.Lists.{number-none}
-use Rattle.nut_decision.proofs.Putting.{come-alone, come-in-turn}
+use Rattle.nut_monitor_spec.specs.declared.Query.{Query}
+use Rattle.nut_monitor_spec.specs.Acceptance.{IsAccepted}
+use Rattle.nut_monitor_spec.specs.Configuration.{Configuration}
+use Rattle.nut_monitor_spec.specs.Event.{Event, NoticeTaken}
+use Rattle.nut_monitor_spec.specs.Trace.{Asked, clock, clock_after, linked, queries, answers, outstanding, number, came, query_put, answer_of, answered_in, notices_waiting, trace}
+use Rattle.nut_monitor_spec.proofs.Lists.{number-none}
+use Rattle.nut_monitor_spec.proofs.Putting.{come-alone, come-in-turn}
 use Rattle.nut_fleet.specs.World.{informed}
 use Rattle.nut_fleet.proofs.Entries.{entry-linked, is_made}
 use Rattle.nut_in_time.proofs.Asking.{not-made, answer-cases, midway-queries, midway-answers, next-queries, next-answers}

@@ -1,8 +1,8 @@
 -- Machines with more UPSes than they need.
 use Rattle.std.proofs.Common.{◌≡◌, ℕ, zero, suc, ◌<◌, ◌≤◌, ◌==◌, List, [], ◌∷◌, length, Bool, true, not, refl, subst, sym, arith}
 use Rattle.std.proofs.lemmas.Bool.{eqb-true, eq-eqb}
-use Rattle.nut_decision.specs.Configuration.{Line, line_in}
-use Rattle.nut_decision.specs.Decision.{power_where}
+use Rattle.nut_monitor_spec.specs.Configuration.{Line, line_in}
+use Rattle.nut_monitor_spec.specs.Decision.{power_where}
 use Rattle.nut_fleet.specs.Schedule.{Step}
 use Rattle.nut_fleet.specs.World.{Setup, monitor_of}
 use Rattle.nut_fleet.specs.Fleet.{IsSetup}

@@ -2,24 +2,24 @@
 use Rattle.std.proofs.Common.{◌≡◌, ◌⊎◌, ℕ, zero, suc, ◌+◌, ◌<◌, ◌≤◌, ◌||◌, ◌&&◌, inl, inr, List, [], ◌∷◌, length, Bool, true, false, Option, Some, None, is_some, refl, sym, ◌∙◌, ap, subst, arith, Contains}
 use Rattle.std.specs.Prelude.{nat_lt, if◌then◌else◌}
 use Rattle.std.proofs.lemmas.Bool.{cases_Bool, cases_eq, lt-ltb}
-use Rattle.nut_state.specs.Holds.{EveryTableHolds}
-use Rattle.nut_history.specs.Acceptance as server_tests
-use Rattle.nut_history.specs.Configuration.{number_of_ups}
-use Rattle.nut_history.specs.Content.{past as happened}
-use Rattle.nut_history.specs.Content as server
-use Rattle.nut_history.specs.Trace.{forced}
-use Rattle.nut_decision.specs.declared.LastQuery.{LastQuery}
-use Rattle.nut_decision.specs.declared.Phase.{Phase}
-use Rattle.nut_decision.specs.declared.Phase.TheVariants.{Watching, Forcing, Halted}
-use Rattle.nut_decision.specs.declared.Query.TheVariants.{Login, Status}
-use Rattle.nut_decision.specs.Configuration.{Configuration, Line, has_primary, line_in}
-use Rattle.nut_decision.specs.Decision.{phase_at}
-use Rattle.nut_decision.specs.Event.{Event, NoticeTaken}
-use Rattle.nut_decision.specs.Query.{logins_in}
-use Rattle.nut_decision.specs.Trace.{Asked, Entry, gives, clock, moment_of, latest, earliest, is_any, last_in, queries, phase, begun, has_begun, is_short, ended, has_ended, is_over_at, notices_waiting, entry_of, trace}
+use Rattle.nut_state.specs.laws.Holds.{EveryTableHolds}
+use Rattle.nut_server_spec.specs.Acceptance as server_tests
+use Rattle.nut_server_spec.specs.Configuration.{number_of_ups}
+use Rattle.nut_server_spec.specs.Content.{past as happened}
+use Rattle.nut_server_spec.specs.Content as server
+use Rattle.nut_server_spec.specs.Trace.{forced}
+use Rattle.nut_monitor_spec.specs.declared.LastQuery.{LastQuery}
+use Rattle.nut_monitor_spec.specs.declared.Phase.{Phase}
+use Rattle.nut_monitor_spec.specs.declared.Phase.TheVariants.{Watching, Forcing, Halted}
+use Rattle.nut_monitor_spec.specs.declared.Query.TheVariants.{Login, Status}
+use Rattle.nut_monitor_spec.specs.Configuration.{Configuration, Line, has_primary, line_in}
+use Rattle.nut_monitor_spec.specs.Decision.{phase_at}
+use Rattle.nut_monitor_spec.specs.Event.{Event, NoticeTaken}
+use Rattle.nut_monitor_spec.specs.Query.{logins_in}
+use Rattle.nut_monitor_spec.specs.Trace.{Asked, Entry, gives, clock, moment_of, latest, earliest, is_any, last_in, queries, phase, begun, has_begun, is_short, ended, has_ended, is_over_at, notices_waiting, entry_of, trace}
 use Rattle.nut_fleet.specs.Schedule.{Step, IsFront}
 use Rattle.nut_fleet.specs.World.{Setup, World, Deed, Skip, Rest, Tell, Inform, Join, after, deed, has_link, line_of, monitor_of, world}
-use Rattle.nut_fleet.specs.Exchange.{exchanges}
+use Rattle.nut_fleet.specs.machine.Exchange.{exchanges}
 use Rattle.nut_fleet.specs.Fleet.{Exists, IsSetup, WasAlone, at_count}
 use Rattle.nut_fleet.specs.Shown.{logins}
 use Rattle.nut_fleet.proofs.Entries.{length-trace}

@@ -4,19 +4,19 @@ use Rattle.std.specs.Prelude.{if◌then◌else◌}
 use Rattle.std.specs.List.{AllByRecursion}
 use Rattle.nut_words.specs.Lines.{lines}
 use Rattle.nut_words.specs.Quoting.{Begins}
-use Rattle.nut_history.specs.Event as arrivals
-use Rattle.nut_history.specs.Content.{past as happened}
-use Rattle.nut_history.specs.Content as server
-use Rattle.nut_history.specs.Trace.{due as server_due}
-use Rattle.nut_decision.specs.declared.Query.{Query}
-use Rattle.nut_decision.specs.Configuration.{Configuration, Line}
-use Rattle.nut_decision.specs.Event.{Event, NoticeTaken}
-use Rattle.nut_decision.specs.Trace.{Asked, clock, queries, answers, outstanding, due, joined_queries, taken, notices_waiting, trace}
-use Rattle.nut_decision.specs.Trace as monitor
-use Rattle.nut_decision.proofs.Lists.{number-none}
+use Rattle.nut_server_spec.specs.Event as arrivals
+use Rattle.nut_server_spec.specs.Content.{past as happened}
+use Rattle.nut_server_spec.specs.Content as server
+use Rattle.nut_server_spec.specs.Trace.{due as server_due}
+use Rattle.nut_monitor_spec.specs.declared.Query.{Query}
+use Rattle.nut_monitor_spec.specs.Configuration.{Configuration, Line}
+use Rattle.nut_monitor_spec.specs.Event.{Event, NoticeTaken}
+use Rattle.nut_monitor_spec.specs.Trace.{Asked, clock, queries, answers, outstanding, due, joined_queries, taken, notices_waiting, trace}
+use Rattle.nut_monitor_spec.specs.Trace as monitor
+use Rattle.nut_monitor_spec.proofs.Lists.{number-none}
 use Rattle.nut_fleet.specs.Schedule.{Step, IsFront}
 use Rattle.nut_fleet.specs.World.{Setup, monitor_of, line_of, world, informed, has_link}
-use Rattle.nut_fleet.specs.Exchange.{Exchange, exchanges}
+use Rattle.nut_fleet.specs.machine.Exchange.{Exchange, exchanges}
 use Rattle.nut_fleet.specs.Fleet.{IsSetup}
 use Rattle.nut_fleet.proofs.Entries.{entry-taken, length-trace}
 use Rattle.nut_fleet.proofs.Exchanges.{said-lines}

@@ -3,12 +3,12 @@ use Rattle.std.proofs.Common.{◌≡◌, ◌⊎◌, ℕ, ◌≤◌, ◌==◌, �
 use Rattle.std.proofs.lemmas.Bool.{cases_Bool, cases_eq, and_parts, not-true, eq-eqb, ne_eqb}
 use Rattle.nut_words.specs.Quoting.{Begins}
 use Rattle.nut_words.specs.declared.limits.TheConstants.{PIECE_MAX}
-use Rattle.nut_history.specs.Event as arrivals
-use Rattle.nut_history.specs.Acceptance as server_tests
-use Rattle.nut_history.specs.Content as server
-use Rattle.nut_decision.specs.Acceptance as monitor_tests
-use Rattle.nut_decision.specs.Event.{Event, Moment, Linked, LinkBytes, LinkLost, LinkTook, OutOfMemory, NoticeTaken}
-use Rattle.nut_decision.specs.Trace.{taken_after}
+use Rattle.nut_server_spec.specs.Event as arrivals
+use Rattle.nut_server_spec.specs.Acceptance as server_tests
+use Rattle.nut_server_spec.specs.Content as server
+use Rattle.nut_monitor_spec.specs.Acceptance as monitor_tests
+use Rattle.nut_monitor_spec.specs.Event.{Event, Moment, Linked, LinkBytes, LinkLost, LinkTook, OutOfMemory, NoticeTaken}
+use Rattle.nut_monitor_spec.specs.Trace.{taken_after}
 use Rattle.nut_fleet.specs.Schedule.{Step, IsFront, ServerClock, MonitorClock, Up, Driver, Down, Link, Out, Reach, Back, Land, CutServer, CutMonitor}
 use Rattle.nut_fleet.specs.World.{Setup, World, Deed, Skip, Rest, Tell, Inform, Join, served, known, is_open, is_linked, to_server, to_monitor, server_waits, monitor_waits, tell, inform, carried, counted, moved, address_of, is_fit, deed, deed_of, after, world}
 use Rattle.nut_fleet.specs.Fleet.{IsSetup}

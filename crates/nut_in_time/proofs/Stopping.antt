@@ -5,21 +5,21 @@ use Rattle.std.proofs.lemmas.Bool.{cases_Bool, ltb-false, ltb-true, or_cases}
 use Rattle.nut_link.specs.declared.outcome.Outcome.{Outcome}
 use Rattle.nut_proto.specs.declared.reply.Reply.{Reply}
 use Rattle.nut_proto.specs.declared.reply.Reply.TheVariants as replies
-use Rattle.nut_history.specs.Answer.{Line as OneLine}
-use Rattle.nut_history.specs.Configuration.{number_of_ups}
-use Rattle.nut_history.specs.Content.{past}
-use Rattle.nut_history.specs.Event as arrivals
-use Rattle.nut_history.specs.Trace.{answer_to}
-use Rattle.nut_decision.specs.declared.Query.{Query}
-use Rattle.nut_decision.specs.declared.Query.TheVariants.{Username, Password, Login, Primary, Status, Fsd, NumLogins}
-use Rattle.nut_decision.specs.Configuration.{Configuration, Line, has_primary, line_in}
-use Rattle.nut_decision.specs.Decision.{is_alone, power_where}
-use Rattle.nut_decision.specs.Event.{Event, NoticeTaken}
-use Rattle.nut_decision.specs.Query.{logins_in}
-use Rattle.nut_decision.specs.Trace.{Answer, Entry, clock, newest_answer, logins_of_answer, logins, status, critical, begun, has_begun, came, notices_waiting, trace}
+use Rattle.nut_server_spec.specs.Answer.{Line as OneLine}
+use Rattle.nut_server_spec.specs.Configuration.{number_of_ups}
+use Rattle.nut_server_spec.specs.Content.{past}
+use Rattle.nut_server_spec.specs.Event as arrivals
+use Rattle.nut_server_spec.specs.Trace.{answer_to}
+use Rattle.nut_monitor_spec.specs.declared.Query.{Query}
+use Rattle.nut_monitor_spec.specs.declared.Query.TheVariants.{Username, Password, Login, Primary, Status, Fsd, NumLogins}
+use Rattle.nut_monitor_spec.specs.Configuration.{Configuration, Line, has_primary, line_in}
+use Rattle.nut_monitor_spec.specs.Decision.{is_alone, power_where}
+use Rattle.nut_monitor_spec.specs.Event.{Event, NoticeTaken}
+use Rattle.nut_monitor_spec.specs.Query.{logins_in}
+use Rattle.nut_monitor_spec.specs.Trace.{Answer, Entry, clock, newest_answer, logins_of_answer, logins, status, critical, begun, has_begun, came, notices_waiting, trace}
 use Rattle.nut_fleet.specs.Schedule.{Step, IsFront}
 use Rattle.nut_fleet.specs.World.{Setup, has_link, informed, line_of, monitor_of, world}
-use Rattle.nut_fleet.specs.Exchange.{exchanges}
+use Rattle.nut_fleet.specs.machine.Exchange.{exchanges}
 use Rattle.nut_fleet.specs.Fleet.{Exists, IsAnswered, IsSetup}
 use Rattle.nut_fleet.specs.Shown.{query_line}
 use Rattle.nut_fleet.proofs.Entries.{entry-answer, forced-by, forced-entry, length-trace}

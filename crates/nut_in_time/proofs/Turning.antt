@@ -2,7 +2,7 @@
 use Rattle.std.proofs.Common.{◌≡◌, ◌⊎◌, ℕ, zero, suc, ◌+◌, ◌≤◌, ◌==◌, ◌&&◌, nat_le, inl, inr, List, [], ◌∷◌, ◌++◌, Bool, true, false, sym, subst, arith}
 use Rattle.std.specs.Prelude.{if◌then◌else◌}
 use Rattle.std.proofs.lemmas.Bool.{cases_Bool, and_parts, eqb-true, leb-true, ltb-false}
-use Rattle.nut_decision.specs.Trace.{clock, outstanding}
+use Rattle.nut_monitor_spec.specs.Trace.{clock, outstanding}
 use Rattle.nut_fleet.specs.Schedule.{Step, IsFront}
 use Rattle.nut_fleet.specs.World.{Setup, is_open, is_linked, monitor_waits, to_server, server_waits, to_monitor, world}
 use Rattle.nut_fleet.specs.Fleet.{IsSetup}

@@ -1,8 +1,8 @@
 -- Nobody halts who needn't.
 use Rattle.std.specs.Prelude.{ℕ, ◌≡◌, ◌+◌, ◌<◌, ◌≤◌, ◌&&◌, Bool, true, false, not, List, length, Some, is_some}
-use Rattle.nut_decision.specs.Configuration.{Configuration}
-use Rattle.nut_decision.specs.Decision.{power_where}
-use Rattle.nut_decision.specs.Trace.{Entry, clock, begun, has_begun, polled, status}
+use Rattle.nut_monitor_spec.specs.Configuration.{Configuration}
+use Rattle.nut_monitor_spec.specs.Decision.{power_where}
+use Rattle.nut_monitor_spec.specs.Trace.{Entry, clock, begun, has_begun, polled, status}
 use Rattle.nut_fleet.specs.Schedule.{Step, IsFront}
 use Rattle.nut_fleet.specs.World.{Setup, monitor_of, line_of}
 use Rattle.nut_in_time.specs.Pace.{Pace, IsSteady, IsWatched, seen_at, shown_at}

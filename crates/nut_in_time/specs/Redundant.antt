@@ -1,7 +1,7 @@
 -- Machines with more UPSes than they need.
 use Rattle.std.specs.Prelude.{ℕ, suc, ◌≡◌, ◌+◌, ◌<◌, ◌≤◌, true, List, length, Bool, is_some}
-use Rattle.nut_decision.specs.Configuration.{Configuration, line_in}
-use Rattle.nut_decision.specs.Trace.{Entry, clock, begun, has_begun, status}
+use Rattle.nut_monitor_spec.specs.Configuration.{Configuration, line_in}
+use Rattle.nut_monitor_spec.specs.Trace.{Entry, clock, begun, has_begun, status}
 use Rattle.nut_fleet.specs.Schedule.{Step, IsFront}
 use Rattle.nut_fleet.specs.World.{Setup, monitor_of, line_of}
 use Rattle.nut_in_time.specs.Pace.{Pace, IsSteady, IsWatched, seen_at}

@@ -1,17 +1,17 @@
 -- A room with one UPS: its primary and any number of other machines, from a low battery to the last halt.
 use Rattle.std.specs.Prelude.{ℕ, suc, ◌≡◌, ◌+◌, ◌-◌, ◌<◌, ◌≤◌, max, Bool, true, false, List, length, Some}
 use Rattle.nut_proto.specs.declared.reply.Reply.TheVariants.{Accepted}
-use Rattle.nut_history.specs.Answer.{Line as OneLine}
-use Rattle.nut_history.specs.Configuration.{number_of_ups}
-use Rattle.nut_history.specs.Content.{past}
-use Rattle.nut_history.specs.Trace.{forced}
-use Rattle.nut_decision.specs.declared.Query.{Query}
-use Rattle.nut_decision.specs.declared.Query.TheVariants.{Login, Primary}
-use Rattle.nut_decision.specs.Configuration.{Configuration, Line}
-use Rattle.nut_decision.specs.Trace.{clock, has_begun, has_ended, phase}
+use Rattle.nut_server_spec.specs.Answer.{Line as OneLine}
+use Rattle.nut_server_spec.specs.Configuration.{number_of_ups}
+use Rattle.nut_server_spec.specs.Content.{past}
+use Rattle.nut_server_spec.specs.Trace.{forced}
+use Rattle.nut_monitor_spec.specs.declared.Query.{Query}
+use Rattle.nut_monitor_spec.specs.declared.Query.TheVariants.{Login, Primary}
+use Rattle.nut_monitor_spec.specs.Configuration.{Configuration, Line}
+use Rattle.nut_monitor_spec.specs.Trace.{clock, has_begun, has_ended, phase}
 use Rattle.nut_fleet.specs.Schedule.{Step, IsFront}
 use Rattle.nut_fleet.specs.World.{Setup, is_open, line_of, monitor_of, world}
-use Rattle.nut_fleet.specs.Exchange.{Exchange, exchanges}
+use Rattle.nut_fleet.specs.machine.Exchange.{Exchange, exchanges}
 use Rattle.nut_fleet.specs.Fleet.{Exists}
 use Rattle.nut_fleet.specs.Shown.{query_line}
 use Rattle.nut_in_time.specs.Pace.{Pace, FromOn, IsPolled, IsSteady, KeepsPace, Says, seen_at, shown_at}

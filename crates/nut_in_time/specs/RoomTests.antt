@@ -1,6 +1,6 @@
 -- The premises of a room that stops as tests, for schedules that are written down: the newest steps behind `start`.
 use Rattle.std.specs.Prelude.{ℕ, ◌+◌, nat_le, Bool, true, ◌&&◌, ◌||◌, List}
-use Rattle.nut_decision.specs.Trace.{clock}
+use Rattle.nut_monitor_spec.specs.Trace.{clock}
 use Rattle.nut_fleet.specs.Schedule.{Step}
 use Rattle.nut_fleet.specs.World.{Setup, is_open, world}
 use Rattle.nut_in_time.specs.Pace.{Pace, seen_at, shown_at}

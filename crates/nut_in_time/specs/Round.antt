@@ -1,6 +1,6 @@
 -- Where the pace of a link comes from when it is never quiet: its bytes go there and come back.
 use Rattle.std.specs.Prelude.{ℕ, suc, ◌≡◌, ◌+◌, ◌≤◌, ◌<◌, ◌⊎◌, ◌==◌, ◌&&◌, nat_lt, if◌then◌else◌, Bool, true, List, [], ◌∷◌, ◌++◌, length, Some}
-use Rattle.nut_decision.specs.Trace.{Asked, Entry, clock, outstanding}
+use Rattle.nut_monitor_spec.specs.Trace.{Asked, Entry, clock, outstanding}
 use Rattle.nut_fleet.specs.Schedule.{Step, IsFront}
 use Rattle.nut_fleet.specs.World.{Setup, has_link, is_open, is_linked, monitor_waits, to_server, server_waits, to_monitor, world}
 use Rattle.nut_in_time.specs.Pace.{Pace, FromOn, KeepsPace, seen_at}

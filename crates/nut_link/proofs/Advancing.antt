@@ -5,7 +5,7 @@ use Rattle.nut_link.specs.declared.fault.LinkFault.{LinkFault}
 use Rattle.nut_link.specs.declared.fault.LinkFault.TheVariants.{OutOfOrder}
 use Rattle.nut_link.specs.declared.outcome.Outcome.{Outcome}
 use Rattle.nut_link.specs.Asking.{Asked}
-use Rattle.nut_link.specs.Parts.{Advances, Gives}
+use Rattle.nut_link.specs.inside.Parts.{Advances, Gives}
 use Rattle.nut_link.specs.Link.{progress_of}
 use Rattle.nut_link.specs.Matching.{next, progress}
 

@@ -10,7 +10,7 @@ use Rattle.nut_link.specs.declared.fault.LinkFault.{LinkFault}
 use Rattle.nut_link.specs.declared.fault.LinkFault.TheVariants.{Memory}
 use Rattle.nut_link.specs.Hearing.{Feeds, Hears, RunsOut}
 use Rattle.nut_link.specs.Link.{answer_by, failed, fed, heard, lines_heard, link_with, moved, on_line}
-use Rattle.nut_link.specs.Laws.{CutsDoNotMatter, RestsStay}
+use Rattle.nut_link.specs.laws.Laws.{CutsDoNotMatter, RestsStay}
 
 pub lines_heard-append : (xs ys : List LineText) (e : Exchange) → lines_heard (xs ++ ys) e ≡ lines_heard ys (lines_heard xs e)
 lines_heard-append [] ys e = refl

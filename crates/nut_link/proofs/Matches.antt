@@ -10,7 +10,7 @@ use Rattle.nut_proto.specs.Answers.{answer_of}
 use Rattle.nut_proto.specs.declared.request.ListQuery.{ListQuery}
 use Rattle.nut_proto.specs.declared.request.ListQuery.TheVariants as queries
 use Rattle.nut_link.specs.Hearing.{Feeds, may_take_memory}
-use Rattle.nut_link.specs.Laws.{OkTakesNoMemory, RepliesMatch}
+use Rattle.nut_link.specs.laws.Laws.{OkTakesNoMemory, RepliesMatch}
 use Rattle.nut_link.specs.Link.{LinkValue, fed}
 use Rattle.nut_link.specs.Matching.{Listing, Complete, listing, next, progress}
 use Rattle.nut_proto.specs.declared.answer.Answer.TheVariants as answers

@@ -2,7 +2,7 @@
 ghost use Rattle.std.specs.Prelude.{◌≡◌, None, is_some};
 ghost use Rattle.nut_words.specs.Cutter.{line_of};
 ghost use Rattle.nut_link.specs.Hearing.{Hears, keeps_words, may_take_memory};
-ghost use Rattle.nut_link.specs.Parts.{Moves};
+ghost use Rattle.nut_link.specs.inside.Parts.{Moves};
 ghost use Rattle.nut_link.specs.Link.{answer_by, ask_fault, asked, failed, is_idle, on_answer, on_line, outcome_in, outcome_of, take_fault, taken, taken_out, waits};
 
 use crate::fault::LinkFault;

@@ -5,7 +5,7 @@ ghost use Rattle.std.specs.List.{list_all, list_any};
 ghost use Rattle.nut_proto.specs.Lines.{message_words};
 ghost use Rattle.nut_proto.specs.Requests.{query_parts, request_parts};
 ghost use Rattle.nut_proto.specs.declared.answer.Answer.TheVariants as answers;
-ghost use Rattle.nut_link.specs.Parts.{Gives};
+ghost use Rattle.nut_link.specs.inside.Parts.{Gives};
 ghost use Rattle.nut_link.specs.Matching.{expected, first, listing, has_more, is_count, is_line, is_long};
 
 use crate::copied::Fields;

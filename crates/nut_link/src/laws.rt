@@ -1,5 +1,5 @@
 //! Laws over all links.
-ghost use Rattle.nut_link.specs.Laws.{BoundsStay, CutsDoNotMatter, OkTakesNoMemory, RepliesMatch, RestsStay};
+ghost use Rattle.nut_link.specs.laws.Laws.{BoundsStay, CutsDoNotMatter, OkTakesNoMemory, RepliesMatch, RestsStay};
 
 /// A law, with nothing to run: however what the server sends is cut into pieces, it makes the same of a link.
 pub fn cuts_do_not_matter()

@@ -5,7 +5,7 @@ ghost use Rattle.nut_words.specs.Lines.{lines_after};
 ghost use Rattle.nut_link.specs.Bounds.{IsBounded};
 ghost use Rattle.nut_link.specs.Hearing.{Feeds, RunsOut, may_take_memory};
 ghost use Rattle.nut_link.specs.Link.{answer_by, ask_fault, asked, fed, fresh, link_with, outcome_of, take_fault, taken, taken_out, waits, with_exchange};
-ghost use Rattle.nut_link.specs.Rests.{IsRest};
+ghost use Rattle.nut_link.specs.inside.Rests.{IsRest};
 
 use crate::exchange::{Exchange, Stage};
 use crate::fault::LinkFault;
@@ -37,7 +37,7 @@ pub struct Link {
 impl Model for Link {
     ghost use Rattle.nut_link.specs.Bounds.{IsStageBounded};
     ghost use Rattle.nut_link.specs.Link.{LinkValue, link_with};
-    ghost use Rattle.nut_link.specs.Rests.{IsRest};
+    ghost use Rattle.nut_link.specs.inside.Rests.{IsRest};
 
     ghost Value = { LinkValue };
 

@@ -3,7 +3,7 @@ ghost use Rattle.std.specs.Prelude.{◌≡◌, ◌<◌, ◌≤◌, ◌⊎◌, �
 ghost use Rattle.std.specs.List.{list_all};
 ghost use Rattle.nut_words.specs.Spelling.{is_printing};
 ghost use Rattle.nut_link.specs.Asking.{query_of, is_writable};
-ghost use Rattle.nut_link.specs.Parts.{Advances, Gives};
+ghost use Rattle.nut_link.specs.inside.Parts.{Advances, Gives};
 ghost use Rattle.nut_link.specs.Matching.{first, next};
 ghost use Rattle.nut_link.specs.declared.fault.LinkFault.TheVariants.{BadLine, Memory};
 

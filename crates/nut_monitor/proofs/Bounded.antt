@@ -17,15 +17,15 @@ use Rattle.nut_link.specs.declared.fault.LinkFault.{LinkFault}
 use Rattle.nut_link.proofs.Bounded.{bounds_stay, fed_within}
 use Rattle.nut_link.proofs.Writable.{length_line}
 use Rattle.nut_link.specs.declared.limits.TheConstants.{QUERY_MAX}
-use Rattle.nut_decision.specs.Configuration.{Configuration, Line, line_of}
-use Rattle.nut_decision.specs.Content.{Watch}
-use Rattle.nut_decision.specs.Machine.{all_asked, all_silent, goes_on, is_silent, link_after, link_asked, link_took, lost, made, put, silent, took, watch_answered, watch_heard}
-use Rattle.nut_decision.specs.Query.{request}
-use Rattle.nut_decision.specs.declared.Phase.{Phase}
-use Rattle.nut_decision.specs.declared.Query.{Query}
-use Rattle.nut_decision.proofs.Writables.{query_writable}
-use Rattle.nut_monitor.specs.Inside.{unwatched}
-use Rattle.nut_monitor.specs.Kept.{AreLinksBounded, IsLinkBounded}
+use Rattle.nut_monitor_spec.specs.Configuration.{Configuration, Line, line_of}
+use Rattle.nut_monitor_spec.specs.Content.{Watch}
+use Rattle.nut_monitor_spec.specs.machine.Machine.{all_asked, all_silent, goes_on, is_silent, link_after, link_asked, link_took, lost, made, put, silent, took, watch_answered, watch_heard}
+use Rattle.nut_monitor_spec.specs.Query.{request}
+use Rattle.nut_monitor_spec.specs.declared.Phase.{Phase}
+use Rattle.nut_monitor_spec.specs.declared.Query.{Query}
+use Rattle.nut_monitor_spec.proofs.Writables.{query_writable}
+use Rattle.nut_monitor.specs.inside.Inside.{unwatched}
+use Rattle.nut_monitor.specs.inside.Kept.{AreLinksBounded, IsLinkBounded}
 
 -- ---- one link
 

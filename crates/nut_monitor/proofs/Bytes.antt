@@ -8,17 +8,17 @@ use Rattle.nut_link.specs.Link.{LinkValue, answer_by, failed}
 use Rattle.nut_link.specs.declared.fault.LinkFault.{LinkFault}
 use Rattle.nut_link.specs.declared.fault.LinkFault.TheVariants.{NotMine, BadLine, OutOfOrder, Memory, BadQuery, TooMuchTaken}
 use Rattle.nut_words.specs.declared.limits.TheConstants.{PIECE_MAX}
-use Rattle.nut_decision.specs.Acceptance.{is_linked, refusal, watch_at}
-use Rattle.nut_decision.specs.Content.{Watch, Content}
-use Rattle.nut_decision.specs.Event.{LinkBytes, OutOfMemory}
-use Rattle.nut_decision.specs.Machine.{advance, settled, told_heard, watch_heard}
-use Rattle.nut_decision.specs.Outcome.{IsRefusal, MayRunOut, MayRunOutIn}
-use Rattle.nut_decision.specs.declared.MonitorFault.TheVariants as refusals
-use Rattle.nut_decision.specs.declared.Notice.{Notice}
+use Rattle.nut_monitor_spec.specs.Acceptance.{is_linked, refusal, watch_at}
+use Rattle.nut_monitor_spec.specs.Content.{Watch, Content}
+use Rattle.nut_monitor_spec.specs.Event.{LinkBytes, OutOfMemory}
+use Rattle.nut_monitor_spec.specs.machine.Machine.{advance, settled, told_heard, watch_heard}
+use Rattle.nut_monitor_spec.specs.Outcome.{IsRefusal, MayRunOut, MayRunOutIn}
+use Rattle.nut_monitor_spec.specs.declared.MonitorFault.TheVariants as refusals
+use Rattle.nut_monitor_spec.specs.declared.Notice.{Notice}
 use Rattle.nut_monitor.specs.declared.answer.Scene.{Scene}
-use Rattle.nut_monitor.specs.Hearing.{HearsPiece}
-use Rattle.nut_monitor.specs.Sound.{is_memory, lacks_memory}
-use Rattle.nut_monitor.specs.Kept.{AreLinksBounded, IsLinkBounded}
+use Rattle.nut_monitor.specs.inside.Hearing.{HearsPiece}
+use Rattle.nut_monitor.specs.inside.Sound.{is_memory, lacks_memory}
+use Rattle.nut_monitor.specs.inside.Kept.{AreLinksBounded, IsLinkBounded}
 use Rattle.nut_monitor.proofs.Bounded.{at_bounded, heard_bounded}
 use Rattle.nut_monitor.proofs.Links.{ran_out}
 use Rattle.nut_monitor.proofs.Steps.{bytes_accepted, heard_content, here, linked_here, out_content}

@@ -7,10 +7,10 @@ use Rattle.std.specs.List.{list_all}
 use Rattle.nut_link.specs.declared.outcome.Outcome.TheVariants as outcomes
 use Rattle.nut_conf.specs.Values.{decimal, is_digit, is_numeral, number}
 use Rattle.nut_conf.specs.declared.fault.FaultKind.{FaultKind}
-use Rattle.nut_decision.specs.Machine.{newer}
-use Rattle.nut_decision.specs.Query.{logins_in}
-use Rattle.nut_decision.specs.declared.Query.TheVariants.{NumLogins}
-use Rattle.nut_monitor.specs.Sound.{IsCount}
+use Rattle.nut_monitor_spec.specs.machine.Machine.{newer}
+use Rattle.nut_monitor_spec.specs.Query.{logins_in}
+use Rattle.nut_monitor_spec.specs.declared.Query.TheVariants.{NumLogins}
+use Rattle.nut_monitor.specs.inside.Sound.{IsCount}
 
 pub left_true : (x y : Bool) → (x && y) ≡ true → x ≡ true
 left_true true y h = refl

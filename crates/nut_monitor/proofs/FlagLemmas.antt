@@ -4,8 +4,8 @@ use Rattle.std.specs.List.{list_any}
 use Rattle.std.specs.Str.{bytes_eq}
 use Rattle.std.specs.Prelude.{codes}
 use Rattle.std.proofs.lemmas.List.Folds.{list_any-append}
-use Rattle.nut_decision.specs.Query.{flags_of}
-use Rattle.nut_monitor.specs.Sound.{with_word}
+use Rattle.nut_monitor_spec.specs.Query.{flags_of}
+use Rattle.nut_monitor.specs.inside.Sound.{with_word}
 
 or_false : (b : Bool) → (b || false) ≡ b
 or_false true = refl

@@ -23,11 +23,11 @@ use Rattle.nut_link.specs.declared.outcome.Outcome.{Outcome}
 use Rattle.nut_link.specs.declared.outcome.Outcome.TheVariants as outcomes
 use Rattle.nut_proto.specs.declared.limits.TheConstants.{ROWS_MAX}
 use Rattle.nut_conf.specs.Values.{is_numeral}
-use Rattle.nut_decision.specs.declared.LastQuery.{LastQuery}
-use Rattle.nut_decision.specs.declared.Query.{Query}
-use Rattle.nut_decision.specs.declared.Query.TheVariants.{Username, Password, Login, Primary, Status, Fsd, NumLogins}
-use Rattle.nut_monitor.specs.Hearing.{IsFed}
-use Rattle.nut_monitor.specs.Sound.{ExpectsCount, IsCount, IsCountAfter, IsSound, IsSoundLink, IsSoundStage}
+use Rattle.nut_monitor_spec.specs.declared.LastQuery.{LastQuery}
+use Rattle.nut_monitor_spec.specs.declared.Query.{Query}
+use Rattle.nut_monitor_spec.specs.declared.Query.TheVariants.{Username, Password, Login, Primary, Status, Fsd, NumLogins}
+use Rattle.nut_monitor.specs.inside.Hearing.{IsFed}
+use Rattle.nut_monitor.specs.inside.Sound.{ExpectsCount, IsCount, IsCountAfter, IsSound, IsSoundLink, IsSoundStage}
 use Rattle.nut_monitor.proofs.Counts.{left_true, right_true}
 
 -- ---- counts

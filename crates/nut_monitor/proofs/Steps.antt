@@ -12,20 +12,20 @@ use Rattle.nut_words.specs.declared.limits.TheConstants.{PIECE_MAX}
 use Rattle.nut_conf.specs.declared.monitor.Monitored.{Monitored}
 use Rattle.nut_conf.specs.declared.upsmon.UpsmonConf.{UpsmonConf}
 use Rattle.nut_conf.specs.declared.limits.TheConstants.{MONITORS_MAX}
-use Rattle.nut_decision.specs.Acceptance.{bytes_refusal, is_linked, linked_refusal, lost_refusal, took_refusal, waits_on, watch_at}
-use Rattle.nut_decision.specs.Configuration.{Configuration, Line, configuration_of, line_of}
-use Rattle.nut_decision.specs.Content.{Watch, Content}
-use Rattle.nut_decision.specs.Decision.{loss_notices}
-use Rattle.nut_decision.specs.Machine.{all_asked, all_silent, answer_told, asked_next, bytes_heard, given, goes_on, heard_before, known_after, link_after, link_lost, link_made, loss_told, lost, made, memory_out, piece_heard, piece_out, put, silences_heard, silences_told, told_heard, told_out, took, update, watch_answered, watch_heard, watch_out, with_watch}
-use Rattle.nut_decision.specs.declared.Communication.TheVariants.{Bad}
-use Rattle.nut_decision.specs.declared.Known.{Known}
-use Rattle.nut_decision.specs.declared.Notice.{Notice}
-use Rattle.nut_decision.specs.declared.Phase.{Phase}
-use Rattle.nut_decision.specs.declared.Query.{Query}
-use Rattle.nut_decision.specs.Decision.{is_bad}
+use Rattle.nut_monitor_spec.specs.Acceptance.{bytes_refusal, is_linked, linked_refusal, lost_refusal, took_refusal, waits_on, watch_at}
+use Rattle.nut_monitor_spec.specs.Configuration.{Configuration, Line, configuration_of, line_of}
+use Rattle.nut_monitor_spec.specs.Content.{Watch, Content}
+use Rattle.nut_monitor_spec.specs.Decision.{loss_notices}
+use Rattle.nut_monitor_spec.specs.machine.Machine.{all_asked, all_silent, answer_told, asked_next, bytes_heard, given, goes_on, heard_before, known_after, link_after, link_lost, link_made, loss_told, lost, made, memory_out, piece_heard, piece_out, put, silences_heard, silences_told, told_heard, told_out, took, update, watch_answered, watch_heard, watch_out, with_watch}
+use Rattle.nut_monitor_spec.specs.declared.Communication.TheVariants.{Bad}
+use Rattle.nut_monitor_spec.specs.declared.Known.{Known}
+use Rattle.nut_monitor_spec.specs.declared.Notice.{Notice}
+use Rattle.nut_monitor_spec.specs.declared.Phase.{Phase}
+use Rattle.nut_monitor_spec.specs.declared.Query.{Query}
+use Rattle.nut_monitor_spec.specs.Decision.{is_bad}
 use Rattle.nut_monitor.specs.Answers.{beginning}
-use Rattle.nut_monitor.specs.Inside.{IsOrderly, to_lose, to_shut, unwatched}
-use Rattle.nut_monitor.specs.Kept.{AreLinksBounded, IsLinkBounded}
+use Rattle.nut_monitor.specs.inside.Inside.{IsOrderly, to_lose, to_shut, unwatched}
+use Rattle.nut_monitor.specs.inside.Kept.{AreLinksBounded, IsLinkBounded}
 use Rattle.nut_monitor.proofs.Bounded.{AreWritable, asked_bounded, set_bounded, unwatched_bounded}
 
 -- ---- one line

@@ -1,5 +1,5 @@
 -- What the events of the code are in the definitions.
-use Rattle.nut_decision.specs.Event as E
+use Rattle.nut_monitor_spec.specs.Event as E
 use Rattle.nut_monitor.specs.declared.event.Event.{Event}
 use Rattle.nut_monitor.specs.declared.event.Event.TheVariants as events
 

@@ -1,8 +1,8 @@
 -- What contracts see of a monitor.
 use Rattle.nut_conf.specs.declared.upsmon.UpsmonConf.{UpsmonConf}
 use Rattle.std.specs.Prelude.{Option, Some, None}
-use Rattle.nut_decision.specs.declared.LastQuery.{LastQuery}
-use Rattle.nut_decision.specs.Content.{Content, Watch}
+use Rattle.nut_monitor_spec.specs.declared.LastQuery.{LastQuery}
+use Rattle.nut_monitor_spec.specs.Content.{Content, Watch}
 
 -- What it was made with, and its content.
 pub record MonitorValue : Type 0 where

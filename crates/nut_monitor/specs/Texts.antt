@@ -5,7 +5,7 @@ use Rattle.nut_conf.specs.Upsmon.{message_of}
 use Rattle.nut_conf.specs.declared.notice.Notice.{Notice as Kind}
 use Rattle.nut_conf.specs.declared.notice.Notice.TheVariants as kinds
 use Rattle.nut_conf.specs.declared.upsmon.UpsmonConf.{UpsmonConf}
-use Rattle.nut_decision.specs.declared.Notice.{Notice}
+use Rattle.nut_monitor_spec.specs.declared.Notice.{Notice}
 
 -- the text begins with `%s`
 abbrev pub is_mark : List ℕ → Bool

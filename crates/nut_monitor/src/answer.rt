@@ -1,20 +1,20 @@
 //! What an answer does to what is known of a UPS, and what it tells.
 ghost use Rattle.std.specs.Prelude.{◌≡◌, ◌+◌, ◌≤◌, ◌++◌, [], if◌then◌else◌, length};
-ghost use Rattle.nut_decision.specs.declared.Query.TheVariants as queries;
+ghost use Rattle.nut_monitor_spec.specs.declared.Query.TheVariants as queries;
 ghost use Rattle.nut_link.specs.declared.outcome.Outcome.TheVariants as outcomes;
-ghost use Rattle.nut_decision.specs.Configuration.{configuration_of};
-ghost use Rattle.nut_decision.specs.Decision.{answer_notices, had, is_bad as bad, loss_notices, status_notices, tells_replace, told};
-ghost use Rattle.nut_decision.specs.Machine.{known_answered, newer};
-ghost use Rattle.nut_decision.specs.Query.{logins_in};
-ghost use Rattle.nut_monitor.specs.Sound.{IsCount, with_flags};
-ghost use Rattle.nut_decision.specs.declared.Communication.TheVariants as communications;
+ghost use Rattle.nut_monitor_spec.specs.Configuration.{configuration_of};
+ghost use Rattle.nut_monitor_spec.specs.Decision.{answer_notices, had, is_bad as bad, loss_notices, status_notices, tells_replace, told};
+ghost use Rattle.nut_monitor_spec.specs.machine.Machine.{known_answered, newer};
+ghost use Rattle.nut_monitor_spec.specs.Query.{logins_in};
+ghost use Rattle.nut_monitor.specs.inside.Sound.{IsCount, with_flags};
+ghost use Rattle.nut_monitor_spec.specs.declared.Communication.TheVariants as communications;
 
 use crate::flags::{no_flags, read_flags};
 use crate::notices::Notices;
 use crate::time::is_over;
-use nut_link::{Fields, Outcome};
 use nut_conf::{Notice as Kind, Number, UpsmonConf};
-use nut_decision::{Communication, Known, Notice, Query, StatusFlags};
+use nut_link::{Fields, Outcome};
+use nut_monitor_spec::{Communication, Known, Notice, Query, StatusFlags};
 
 /// Where and when an answer is heard.
 #[derive(Clone, Copy)]

@@ -1,9 +1,9 @@
 //! What the words of a status say.
 ghost use Rattle.std.specs.Prelude.{◌≡◌, []};
-ghost use Rattle.nut_decision.specs.Query.{flags_of, parted};
-ghost use Rattle.nut_monitor.specs.Sound.{with_word};
+ghost use Rattle.nut_monitor_spec.specs.Query.{flags_of, parted};
+ghost use Rattle.nut_monitor.specs.inside.Sound.{with_word};
 
-use nut_decision::StatusFlags;
+use nut_monitor_spec::StatusFlags;
 use nut_words::cut;
 
 /// What no words say.

@@ -15,4 +15,4 @@ mod time;
 
 pub use event::Event;
 pub use monitor::Monitor;
-pub use nut_decision::{Known, LastQuery, MonitorFault, Notice, Phase, Query, StatusFlags};
+pub use nut_monitor_spec::{Known, LastQuery, MonitorFault, Notice, Phase, Query, StatusFlags};

@@ -3,23 +3,23 @@ ghost use Rattle.std.specs.Prelude.{◌≡◌, ◌+◌, ◌≤◌, ◌++◌, [],
 ghost use Rattle.nut_link.specs.Link.{LinkValue, is_idle, with_exchange};
 ghost use Rattle.nut_link.specs.Asking.{query_of};
 ghost use Rattle.nut_link.specs.declared.exchange.Stage.TheVariants as stages;
-ghost use Rattle.nut_decision.specs.Query.{request as request_of};
+ghost use Rattle.nut_monitor_spec.specs.Query.{request as request_of};
 ghost use Rattle.nut_conf.specs.declared.notice.Notice.TheVariants as kinds;
-ghost use Rattle.nut_decision.specs.Acceptance.{waits_on};
-ghost use Rattle.nut_decision.specs.Configuration.{configuration_of, line_of};
-ghost use Rattle.nut_decision.specs.Decision.{tells_silence, told as told_of, when};
-ghost use Rattle.nut_decision.specs.Machine.{answer_told, asked_next, is_silent, known_after, loss_told, lost, made, silent, took as taken_by};
-ghost use Rattle.nut_monitor.specs.Hearing.{HearsPiece, IsFed};
-ghost use Rattle.nut_monitor.specs.Inside.{to_lose, unwatched};
-ghost use Rattle.nut_monitor.specs.Sound.{IsCountAfter, IsSound};
+ghost use Rattle.nut_monitor_spec.specs.Acceptance.{waits_on};
+ghost use Rattle.nut_monitor_spec.specs.Configuration.{configuration_of, line_of};
+ghost use Rattle.nut_monitor_spec.specs.Decision.{tells_silence, told as told_of, when};
+ghost use Rattle.nut_monitor_spec.specs.machine.Machine.{answer_told, asked_next, is_silent, known_after, loss_told, lost, made, silent, took as taken_by};
+ghost use Rattle.nut_monitor.specs.inside.Hearing.{HearsPiece, IsFed};
+ghost use Rattle.nut_monitor.specs.inside.Inside.{to_lose, unwatched};
+ghost use Rattle.nut_monitor.specs.inside.Sound.{IsCountAfter, IsSound};
 
 use crate::answer::{Scene, disturbed, hear, on_line, tell_disturbed};
 use crate::notices::Notices;
 use crate::query::{next_query, request};
 use crate::time::{is_over, is_past};
-use nut_link::{Link, LinkFault, Outcome};
 use nut_conf::{Monitored, Notice as Kind, UpsmonConf};
-use nut_decision::{Communication, Known, LastQuery, Phase, Query};
+use nut_link::{Link, LinkFault, Outcome};
+use nut_monitor_spec::{Communication, Known, LastQuery, Phase, Query};
 use std::alloc::Global;
 use std::marker::Model;
 
@@ -32,8 +32,8 @@ pub struct MonitorLine {
 }
 
 impl Model for MonitorLine {
-    ghost use Rattle.nut_decision.specs.Content.{Watch};
-    ghost use Rattle.nut_monitor.specs.Sound.{IsSound};
+    ghost use Rattle.nut_monitor_spec.specs.Content.{Watch};
+    ghost use Rattle.nut_monitor.specs.inside.Sound.{IsSound};
 
     ghost Value = { Watch };
 

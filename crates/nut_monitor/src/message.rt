@@ -4,7 +4,7 @@ ghost use Rattle.std.specs.Option.{option_map};
 ghost use Rattle.nut_monitor.specs.Texts.{filled_if, is_mark, place_of, target_for, text_of};
 
 use nut_conf::{Notice as Kind, UpsmonConf};
-use nut_decision::Notice;
+use nut_monitor_spec::Notice;
 use std::alloc::AllocError;
 
 /// Whether a text begins with `%s`.

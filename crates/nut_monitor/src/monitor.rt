@@ -1,19 +1,19 @@
 //! The monitor.
 ghost use Rattle.std.specs.Prelude.{◌≡◌, ◌++◌, List, Some, None, Err, IfOk, IfErr, OnOk, OnErr, [], drop, length, ◌<◌, ◌≤◌, ◌+◌, vec_capacity, vec_len};
-ghost use Rattle.nut_decision.specs.declared.MonitorFault.{MonitorFault as AnyFault};
-ghost use Rattle.nut_decision.specs.declared.MonitorFault.TheVariants as faults;
-ghost use Rattle.nut_decision.specs.Acceptance.{Tells, is_linked, refusal, waiting_on, watch_at};
-ghost use Rattle.nut_decision.specs.Configuration.{Configuration, configuration_of};
-ghost use Rattle.nut_decision.specs.Content.{content, phase_of};
-ghost use Rattle.nut_decision.specs.Event.{Event as Events};
-ghost use Rattle.nut_decision.specs.Handing.{after_asking};
-ghost use Rattle.nut_decision.specs.Outcome.{IsAnswer, after};
-ghost use Rattle.nut_decision.specs.MachineOutcome.{content_after};
-ghost use Rattle.nut_decision.specs.Trace.{linked as is_there, trace, waits};
+ghost use Rattle.nut_monitor_spec.specs.declared.MonitorFault.{MonitorFault as AnyFault};
+ghost use Rattle.nut_monitor_spec.specs.declared.MonitorFault.TheVariants as faults;
+ghost use Rattle.nut_monitor_spec.specs.Acceptance.{Tells, is_linked, refusal, waiting_on, watch_at};
+ghost use Rattle.nut_monitor_spec.specs.Configuration.{Configuration, configuration_of};
+ghost use Rattle.nut_monitor_spec.specs.Content.{content, phase_of};
+ghost use Rattle.nut_monitor_spec.specs.Event.{Event as Events};
+ghost use Rattle.nut_monitor_spec.specs.Handing.{after_asking};
+ghost use Rattle.nut_monitor_spec.specs.Outcome.{IsAnswer, after};
+ghost use Rattle.nut_monitor_spec.specs.MachineOutcome.{content_after};
+ghost use Rattle.nut_monitor_spec.specs.Trace.{linked as is_there, trace, waits};
 ghost use Rattle.nut_monitor.specs.Answers.{beginning};
 ghost use Rattle.nut_monitor.specs.Events.{event_of};
-ghost use Rattle.nut_monitor.specs.Kept.{KeepsLittle};
-ghost use Rattle.nut_monitor.specs.Sound.{first_of};
+ghost use Rattle.nut_monitor.specs.inside.Kept.{KeepsLittle};
+ghost use Rattle.nut_monitor.specs.inside.Sound.{first_of};
 ghost use Rattle.nut_monitor.specs.Texts.{text_of};
 ghost use Rattle.nut_monitor.specs.Monitors.{last_on};
 ghost use Rattle.std.specs.Option.{option_map};
@@ -22,7 +22,7 @@ use crate::event::Event;
 use crate::message::put_text;
 use crate::state::State;
 use nut_conf::{MONITORS_MAX, UpsmonConf};
-use nut_decision::{Known, LastQuery, MonitorFault, Notice, Phase};
+use nut_monitor_spec::{Known, LastQuery, MonitorFault, Notice, Phase};
 use std::alloc::{AllocError, Global};
 use std::marker::Model;
 
@@ -39,9 +39,9 @@ impl Model for Monitor {
 
     ghost Value = { MonitorValue };
 
-    ghost use Rattle.nut_monitor.specs.Steps.{content_in};
-    ghost use Rattle.nut_decision.specs.Configuration.{configuration_of};
-    ghost use Rattle.nut_monitor.specs.Inside.{IsOrderly};
+    ghost use Rattle.nut_monitor.specs.inside.Steps.{content_in};
+    ghost use Rattle.nut_monitor_spec.specs.Configuration.{configuration_of};
+    ghost use Rattle.nut_monitor.specs.inside.Inside.{IsOrderly};
 
     ghost view = { λ m. record { config = m.config; content = content_in (configuration_of m.config) m.state } };
 

@@ -1,9 +1,9 @@
 //! Notices that wait.
 ghost use Rattle.std.specs.Prelude.{◌≡◌, ◌+◌, ◌<◌, ◌≤◌, ◌==◌, ◌++◌, [], IfOk, drop, length};
-ghost use Rattle.nut_decision.specs.Decision.{when};
-ghost use Rattle.nut_monitor.specs.Sound.{first_of};
+ghost use Rattle.nut_monitor_spec.specs.Decision.{when};
+ghost use Rattle.nut_monitor.specs.inside.Sound.{first_of};
 
-use nut_decision::{NOTICES_MAX, Notice};
+use nut_monitor_spec::{NOTICES_MAX, Notice};
 use std::alloc::{AllocError, Global};
 use std::collections::VecDeque;
 use std::marker::Model;
@@ -17,8 +17,8 @@ pub struct Notices {
 impl Model for Notices {
     ghost use Rattle.std.specs.Prelude.{◌≤◌, List};
     ghost use Rattle.std.specs.VecDeque.{deque_capacity};
-    ghost use Rattle.nut_decision.specs.declared.Notice.{Notice};
-    ghost use Rattle.nut_decision.specs.declared.limits.TheConstants.{NOTICES_MAX};
+    ghost use Rattle.nut_monitor_spec.specs.declared.Notice.{Notice};
+    ghost use Rattle.nut_monitor_spec.specs.declared.limits.TheConstants.{NOTICES_MAX};
 
     ghost Value = { List Notice };
 

@@ -1,13 +1,13 @@
 //! What a monitor asks on a link, and when.
 ghost use Rattle.std.specs.Prelude.{◌≡◌, true};
 ghost use Rattle.nut_link.specs.Asking.{is_writable};
-ghost use Rattle.nut_decision.specs.Configuration.{configuration_of, line_of};
-ghost use Rattle.nut_decision.specs.Decision.{interval as interval_of, is_early as too_early, is_same as same, next_query as next_of, opening as opening_of, wanted as wanted_in};
-ghost use Rattle.nut_decision.specs.Query.{request as request_of};
+ghost use Rattle.nut_monitor_spec.specs.Configuration.{configuration_of, line_of};
+ghost use Rattle.nut_monitor_spec.specs.Decision.{interval as interval_of, is_early as too_early, is_same as same, next_query as next_of, opening as opening_of, wanted as wanted_in};
+ghost use Rattle.nut_monitor_spec.specs.Query.{request as request_of};
 
 use crate::time::is_within;
 use nut_conf::{Monitored, Role, UpsmonConf};
-use nut_decision::{LastQuery, Phase, Query};
+use nut_monitor_spec::{LastQuery, Phase, Query};
 use nut_proto::{Request, Word};
 
 /// Whether this machine shuts the UPS of a line down, last of all.

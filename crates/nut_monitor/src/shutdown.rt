@@ -1,16 +1,16 @@
 //! Whether a shutdown begins and goes on, by what is known of all UPSes.
 ghost use Rattle.std.specs.Prelude.{◌≡◌, length, nat_lt};
 ghost use Rattle.std.specs.List.{list_any};
-ghost use Rattle.nut_decision.specs.Configuration.{configuration_of, has_primary as some_primary, line_of};
-ghost use Rattle.nut_decision.specs.Decision.{is_critical as critical, is_over_by, phase_at};
-ghost use Rattle.nut_decision.specs.Machine.{all_alone, supply_of};
-ghost use Rattle.nut_monitor.specs.Inside.{lets_halt, power_of};
+ghost use Rattle.nut_monitor_spec.specs.Configuration.{configuration_of, has_primary as some_primary, line_of};
+ghost use Rattle.nut_monitor_spec.specs.Decision.{is_critical as critical, is_over_by, phase_at};
+ghost use Rattle.nut_monitor_spec.specs.machine.Machine.{all_alone, supply_of};
+ghost use Rattle.nut_monitor.specs.inside.Inside.{lets_halt, power_of};
 
 use crate::line::MonitorLine;
 use crate::query::is_primary;
 use crate::time::{is_past, is_within};
 use nut_conf::{Monitored, UpsmonConf};
-use nut_decision::{Known, Phase};
+use nut_monitor_spec::{Known, Phase};
 
 /// Whether the last status of a line's UPS, if there is one, makes it critical.
 fn is_critical(config: &UpsmonConf, line: &Monitored, clock: u64, known: Known) -> bool

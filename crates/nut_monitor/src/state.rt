@@ -1,15 +1,15 @@
 //! What a monitor knows and has decided, and how events move it.
 ghost use Rattle.std.specs.Prelude.{◌≡◌, ◌≤◌, ◌<◌, ◌+◌, ◌++◌, Some, IfOk, MatchResult, is_none, length, map};
 ghost use Rattle.std.specs.Option.{option_map};
-ghost use Rattle.nut_decision.specs.Acceptance.{is_linked, waiting_on, watch_at};
-ghost use Rattle.nut_decision.specs.Configuration.{Configuration, configuration_of};
-ghost use Rattle.nut_decision.specs.Content.{phase_of};
-ghost use Rattle.nut_decision.specs.Event as E;
-ghost use Rattle.nut_decision.specs.Machine.{all_asked, all_silent, clock_set, phase_moved, settled, shutdown_judged, silences_heard, silences_told};
+ghost use Rattle.nut_monitor_spec.specs.Acceptance.{is_linked, waiting_on, watch_at};
+ghost use Rattle.nut_monitor_spec.specs.Configuration.{Configuration, configuration_of};
+ghost use Rattle.nut_monitor_spec.specs.Content.{phase_of};
+ghost use Rattle.nut_monitor_spec.specs.Event as E;
+ghost use Rattle.nut_monitor_spec.specs.machine.Machine.{all_asked, all_silent, clock_set, phase_moved, settled, shutdown_judged, silences_heard, silences_told};
 ghost use Rattle.nut_monitor.specs.Answers.{beginning};
-ghost use Rattle.nut_monitor.specs.Inside.{IsOrderly, unwatched};
-ghost use Rattle.nut_monitor.specs.Sound.{lacks_memory};
-ghost use Rattle.nut_monitor.specs.Steps.{Steps, checked_fault, content_in};
+ghost use Rattle.nut_monitor.specs.inside.Inside.{IsOrderly, unwatched};
+ghost use Rattle.nut_monitor.specs.inside.Sound.{lacks_memory};
+ghost use Rattle.nut_monitor.specs.inside.Steps.{Steps, checked_fault, content_in};
 ghost use Rattle.nut_monitor.specs.Monitors.{last_on};
 
 use crate::answer::Scene;
@@ -17,9 +17,9 @@ use crate::event::Event;
 use crate::line::MonitorLine;
 use crate::notices::Notices;
 use crate::shutdown::{is_alone, is_forced, is_short, phase};
-use nut_link::LinkFault;
 use nut_conf::{Monitored, Notice as Kind, UpsmonConf};
-use nut_decision::{Known, LastQuery, MonitorFault, NOTICES_MAX, Notice, Phase};
+use nut_link::LinkFault;
+use nut_monitor_spec::{Known, LastQuery, MonitorFault, NOTICES_MAX, Notice, Phase};
 use nut_words::PIECE_MAX;
 use std::alloc::{AllocError, Global};
 

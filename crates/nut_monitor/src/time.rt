@@ -1,6 +1,6 @@
 //! Seconds that have passed.
 ghost use Rattle.std.specs.Prelude.{◌≡◌, ◌+◌, nat_lt};
-ghost use Rattle.nut_decision.specs.Decision.{is_over as over, is_past as past};
+ghost use Rattle.nut_monitor_spec.specs.Decision.{is_over as over, is_past as past};
 
 /// Whether more than so many seconds have passed since a moment.
 pub fn is_past(seconds: u64, clock: u64, moment: u64) -> bool

@@ -3,14 +3,14 @@ use Rattle.std.proofs.Common.{◌≡◌, ◌<◌, ◌≤◌, ◌++◌, ℕ, zero
 use Rattle.std.specs.Prelude.{if◌then◌else◌}
 use Rattle.std.proofs.lemmas.List.{map-append, append_assoc}
 use Rattle.std.proofs.lemmas.Bool.{le-ltb}
-use Rattle.nut_decision.specs.declared.Phase.{Phase}
-use Rattle.nut_decision.specs.Event.{Event, Linked, LinkTook}
-use Rattle.nut_decision.specs.Content.{Watch, Content, phase_of}
-use Rattle.nut_decision.specs.Acceptance.{refusal, linked_refusal, took_refusal, watch_at, waits_on, is_linked, waiting_on}
-use Rattle.nut_decision.specs.Machine.{advance}
+use Rattle.nut_monitor_spec.specs.declared.Phase.{Phase}
+use Rattle.nut_monitor_spec.specs.Event.{Event, Linked, LinkTook}
+use Rattle.nut_monitor_spec.specs.Content.{Watch, Content, phase_of}
+use Rattle.nut_monitor_spec.specs.Acceptance.{refusal, linked_refusal, took_refusal, watch_at, waits_on, is_linked, waiting_on}
+use Rattle.nut_monitor_spec.specs.machine.Machine.{advance}
 use Rattle.nut_fleet.specs.World.{Inform, Skip}
 use Rattle.nut_fleet.specs.Log.{News, Logged, logged, turned, Noticed, Moved}
-use Rattle.nut_play.specs.Kept.{inform_by, told_news, linked_by, waits_by}
+use Rattle.nut_play.specs.machine.Kept.{inform_by, told_news, linked_by, waits_by}
 
 logged-append : (k : ℕ) (xs ys : List News) → logged k (xs ++ ys) ≡ logged k xs ++ logged k ys
 logged-append k xs ys = map-append (λ n. let l : Logged = record { step = k; news = n } in l) xs ys

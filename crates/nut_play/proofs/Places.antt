@@ -1,6 +1,6 @@
 -- What stands at a place of a list, and is changed there.
 use Rattle.std.proofs.Common.{◌≡◌, ◌<◌, ℕ, zero, suc, List, [], ◌∷◌, length, map, slice_get, slice_set, slice_index_or, Some, refl, sym, ◌∙◌, ap, arith}
-use Rattle.nut_play.specs.Kept.{changed_at}
+use Rattle.nut_play.specs.machine.Kept.{changed_at}
 
 -- what is read at a place and written back there is the change
 pub changed-written : {A : Type 0} (i : ℕ) (change : A → A) (xs : List A) (x y : A) → i < length xs → x ≡ slice_index_or xs i x → y ≡ change x → slice_set xs i y ≡ changed_at i change xs

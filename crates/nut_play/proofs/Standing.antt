@@ -5,18 +5,18 @@ use Rattle.std.specs.List.{AllByRecursion}
 use Rattle.std.proofs.lemmas.List.{length-map}
 use Rattle.nut_words.specs.declared.limits.TheConstants.{PIECE_MAX}
 use Rattle.nut_conf.specs.declared.upsmon.UpsmonConf.{UpsmonConf}
-use Rattle.nut_history.specs.Configuration.{Configuration as ServerConfiguration}
-use Rattle.nut_history.specs.Content as server
-use Rattle.nut_history.proofs.Waiting.{configuration_stays}
-use Rattle.nut_decision.specs.Configuration.{Configuration, Line, configuration_of}
-use Rattle.nut_decision.specs.Content as knowledge
-use Rattle.nut_decision.specs.Content.{for_each_line}
+use Rattle.nut_server_spec.specs.Configuration.{Configuration as ServerConfiguration}
+use Rattle.nut_server_spec.specs.Content as server
+use Rattle.nut_server_spec.proofs.Waiting.{configuration_stays}
+use Rattle.nut_monitor_spec.specs.Configuration.{Configuration, Line, configuration_of}
+use Rattle.nut_monitor_spec.specs.Content as knowledge
+use Rattle.nut_monitor_spec.specs.Content.{for_each_line}
 use Rattle.nut_fleet.specs.Schedule.{Step, ServerClock, MonitorClock, Up, Driver, Down, Link, Out, Reach, Back, Land, CutServer, CutMonitor}
 use Rattle.nut_fleet.specs.World.{Setup, World, no_monitor, monitor_of, world, nothing, is_fit, has_link, has_ups}
 use Rattle.nut_fleet.specs.Fleet.{IsMonitor, ConfigurationsAreSpoken}
 use Rattle.nut_fleet.specs.Log.{logged, log, news}
-use Rattle.nut_fleet.specs.Going.{KeepsLink, FleetsGoOn}
-use Rattle.nut_play.specs.Kept.{Seat, Kept, fleet_of, no_ends, ends_at, links_in, known_in, known_of, changed_at, next, fits, fits_link, fresh_seat, fresh_fleet, IsFleet, reach_seat, back_seat, out_seat, land_seat, join_seat}
+use Rattle.nut_fleet.specs.machine.Going.{KeepsLink, FleetsGoOn}
+use Rattle.nut_play.specs.machine.Kept.{Seat, Kept, fleet_of, no_ends, ends_at, links_in, known_in, known_of, changed_at, next, fits, fits_link, fresh_seat, fresh_fleet, IsFleet, reach_seat, back_seat, out_seat, land_seat, join_seat}
 use Rattle.nut_play.specs.Play.{told_at, run, run_log, AreFit}
 use Rattle.nut_play.proofs.Changes.{map-changed, length-changed}
 use Rattle.nut_play.proofs.Stepping.{goes, same-keeps}

@@ -4,12 +4,12 @@ use Rattle.std.specs.Option.{option_map}
 use Rattle.std.proofs.Math.Seq.{take-add}
 use Rattle.std.proofs.lemmas.List.{append_assoc}
 use Rattle.std.proofs.lemmas.Bool.{cases_Bool, le-ltb}
-use Rattle.nut_history.specs.Event.{Took}
-use Rattle.nut_history.specs.Content.{Session, Content}
-use Rattle.nut_history.specs.Acceptance.{refusal, took_refusal, session_of, waiting_of, waiting_in}
-use Rattle.nut_history.specs.Machine.{advance, update}
-use Rattle.nut_history.proofs.Sessions.{session_of-update}
-use Rattle.nut_fleet.specs.Going.{put_on}
+use Rattle.nut_server_spec.specs.Event.{Took}
+use Rattle.nut_server_spec.specs.Content.{Session, Content}
+use Rattle.nut_server_spec.specs.Acceptance.{refusal, took_refusal, session_of, waiting_of, waiting_in}
+use Rattle.nut_server_spec.specs.machine.Machine.{advance, update}
+use Rattle.nut_server_spec.proofs.Sessions.{session_of-update}
+use Rattle.nut_fleet.specs.machine.Going.{put_on}
 
 took : ℕ → Session → Session
 took n k = record k { waits = drop n k.waits }

@@ -1,7 +1,7 @@
 -- Where memory may be lacking at a step.
 use Rattle.std.specs.Prelude.{Bool, true, false, ◌||◌, List, [], ◌∷◌}
-use Rattle.nut_history.specs.Event as arrivals
-use Rattle.nut_decision.specs.Event as events
+use Rattle.nut_server_spec.specs.Event as arrivals
+use Rattle.nut_monitor_spec.specs.Event as events
 use Rattle.nut_fleet.specs.Schedule.{Step, Driver, Out, Reach, Back, Land}
 use Rattle.nut_fleet.specs.Log.{News}
 

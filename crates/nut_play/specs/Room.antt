@@ -2,8 +2,8 @@
 use Rattle.std.specs.Prelude.{ℕ, ◌≡◌, ◌+◌, ◌++◌, true, false, List, map, take, slice_get, Some}
 use Rattle.std.specs.List.{AllByRecursion}
 use Rattle.nut_conf.specs.declared.upsmon.UpsmonConf.{UpsmonConf}
-use Rattle.nut_history.specs.Configuration.{Configuration as ServerConfiguration}
-use Rattle.nut_decision.specs.Configuration.{configuration_of}
+use Rattle.nut_server_spec.specs.Configuration.{Configuration as ServerConfiguration}
+use Rattle.nut_monitor_spec.specs.Configuration.{configuration_of}
 use Rattle.nut_fleet.specs.Schedule as S
 use Rattle.nut_fleet.specs.World.{Setup, is_fit, world}
 use Rattle.nut_fleet.specs.Log.{Logged, log, news}
@@ -12,7 +12,7 @@ use Rattle.nut_play.specs.declared.types.Step.{Step}
 use Rattle.nut_play.specs.declared.types.FleetFault.{FleetFault}
 use Rattle.nut_play.specs.declared.types.FleetFault.TheVariants.{BadStep, Memory, Failed}
 use Rattle.nut_play.specs.Lack.{may_lack}
-use Rattle.nut_play.specs.Kept.{Kept, IsFleet}
+use Rattle.nut_play.specs.machine.Kept.{Kept, IsFleet}
 use Rattle.nut_play.specs.Steps.{step_of, steps_of}
 
 -- what a fleet is made with

@@ -9,7 +9,7 @@ use Rattle.nut_proto.specs.declared.keyword.Subject.{Subject}
 use Rattle.nut_proto.specs.declared.keyword.Subject.TheVariants as subjects
 use Rattle.nut_proto.specs.Keywords.{command_of, subject_of}
 use Rattle.nut_proto.specs.Forms.{first_fit, forms, meaning}
-use Rattle.nut_proto.specs.Steps.{get_about, list_about, set_about, request_of}
+use Rattle.nut_proto.specs.inside.Steps.{get_about, list_about, set_about, request_of}
 
 alone : (request : Option Request) → request ≡ option_or request None
 alone (Some request) = refl

@@ -11,7 +11,7 @@ use Rattle.nut_proto.specs.declared.request.ListQuery.TheVariants as queries
 use Rattle.nut_proto.specs.Lines.{line, part_text}
 use Rattle.nut_proto.specs.Requests.{begin_line, end_line}
 use Rattle.nut_proto.specs.Replies.{reply_line}
-use Rattle.nut_proto.specs.Bounds.{IsName, IsVariable, variable_rows, variable_list, RowsAreBounded, ListsAreBounded, ForcedListsAreBounded}
+use Rattle.nut_proto.specs.laws.Bounds.{IsName, IsVariable, variable_rows, variable_list, RowsAreBounded, ListsAreBounded, ForcedListsAreBounded}
 
 -- the bytes of parts, each with a blank before it
 abbrev width : List Part → ℕ

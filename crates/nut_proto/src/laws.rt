@@ -1,6 +1,6 @@
 //! Laws over all messages: what is written is read back, and how long it is.
-ghost use Rattle.nut_proto.specs.Bounds.{RowsAreBounded, ListsAreBounded, ForcedListsAreBounded};
-ghost use Rattle.nut_proto.specs.ReadBack.{MessagesSpell, RequestsAreRead, RepliesAreRead, ListsAreRead, AsksAreRead};
+ghost use Rattle.nut_proto.specs.laws.Bounds.{RowsAreBounded, ListsAreBounded, ForcedListsAreBounded};
+ghost use Rattle.nut_proto.specs.laws.ReadBack.{MessagesSpell, RequestsAreRead, RepliesAreRead, ListsAreRead, AsksAreRead};
 
 /// Each line that a side writes is read by the other as what was meant.
 ///

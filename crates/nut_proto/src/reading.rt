@@ -1,7 +1,7 @@
 //! What a client's line asks for.
 ghost use Rattle.std.specs.Prelude.{◌≡◌};
 ghost use Rattle.nut_proto.specs.Forms.{meaning};
-ghost use Rattle.nut_proto.specs.Steps.{get_about, get_request, list_about, list_request, request_of, set_request};
+ghost use Rattle.nut_proto.specs.inside.Steps.{get_about, get_request, list_about, list_request, request_of, set_request};
 
 use crate::cursor::Cursor;
 use crate::keyword::{Command, Subject};

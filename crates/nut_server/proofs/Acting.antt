@@ -2,10 +2,10 @@
 use Rattle.std.proofs.Common.{◌≡◌, ℕ, zero, suc, ◌<◌, true, List, [], ◌∷◌, ◌++◌, length, refl, sym, ◌∙◌, ap, arith, inl, inr, Option, Some, None, slice_set, slice_index_or}
 use Rattle.std.specs.Prelude.{map}
 use Rattle.std.proofs.lemmas.Bool.{cases_Bool}
-use Rattle.nut_history.specs.Content.{Supply}
-use Rattle.nut_history.specs.Device.{Device, absent}
-use Rattle.nut_history.specs.Machine.{act_on, requested, update_at}
-use Rattle.nut_server.specs.Effects.{requesting}
+use Rattle.nut_server_spec.specs.Content.{Supply}
+use Rattle.nut_server_spec.specs.Device.{Device, absent}
+use Rattle.nut_server_spec.specs.machine.Machine.{act_on, requested, update_at}
+use Rattle.nut_server.specs.inside.Effects.{requesting}
 
 pub requested_none : (d : Device) → requested None d ≡ d.waits
 requested_none d = elim (cases_Bool d.connected) [ inl e ↦ rw e refl | inr e ↦ rw e refl ]

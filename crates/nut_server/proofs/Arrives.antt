@@ -4,22 +4,22 @@ use Rattle.std.specs.Prelude.{IsTrue}
 use Rattle.std.specs.Option.{option_map_or}
 use Rattle.nut_conf.specs.declared.text.Number.{Number}
 use Rattle.nut_conf.specs.declared.limits.TheConstants.{CONNECTIONS_MAX}
-use Rattle.nut_history.specs.Trace.{below}
+use Rattle.nut_server_spec.specs.Trace.{below}
 use Rattle.std.proofs.lemmas.Bool.{cases_Bool, eqb-true, false≢true, le-ltb}
 use Rattle.nut_words.specs.declared.limits.TheConstants.{PIECE_MAX}
-use Rattle.nut_history.specs.declared.Refused.{Refused}
-use Rattle.nut_history.specs.declared.Refused.TheVariants.{NoSuchConnection, NotConnected, PieceTooLong, Busy, TooMuchTaken, BadAddress, Full, Memory}
-use Rattle.nut_history.specs.Configuration.{Configuration}
-use Rattle.nut_history.specs.Event.{Event}
-use Rattle.nut_history.specs.Content.{Session, Supply, Content}
-use Rattle.nut_history.specs.Acceptance.{Tells, refusal, session_of, bytes_refusal, took_refusal, close_refusal, asks_of}
-use Rattle.nut_history.specs.Machine.{without, down, update_at}
-use Rattle.nut_history.specs.Laws.{IsUpTo}
-use Rattle.nut_history.specs.Outcome.{IsAnswer, after}
-use Rattle.nut_history.specs.MachineOutcome.{Answers, content_after}
-use Rattle.nut_history.proofs.Tells.{answers-told, tells-after}
-use Rattle.nut_history.specs.declared.limits.TheConstants.{OPENED_MAX}
-use Rattle.nut_server.specs.Inside.{numbers_of}
+use Rattle.nut_server_spec.specs.declared.Refused.{Refused}
+use Rattle.nut_server_spec.specs.declared.Refused.TheVariants.{NoSuchConnection, NotConnected, PieceTooLong, Busy, TooMuchTaken, BadAddress, Full, Memory}
+use Rattle.nut_server_spec.specs.Configuration.{Configuration}
+use Rattle.nut_server_spec.specs.Event.{Event}
+use Rattle.nut_server_spec.specs.Content.{Session, Supply, Content}
+use Rattle.nut_server_spec.specs.Acceptance.{Tells, refusal, session_of, bytes_refusal, took_refusal, close_refusal, asks_of}
+use Rattle.nut_server_spec.specs.machine.Machine.{without, down, update_at}
+use Rattle.nut_server_spec.specs.Laws.{IsUpTo}
+use Rattle.nut_server_spec.specs.Outcome.{IsAnswer, after}
+use Rattle.nut_server_spec.specs.MachineOutcome.{Answers, content_after}
+use Rattle.nut_server_spec.proofs.Tells.{answers-told, tells-after}
+use Rattle.nut_server_spec.specs.declared.limits.TheConstants.{OPENED_MAX}
+use Rattle.nut_server.specs.inside.Inside.{numbers_of}
 use Rattle.nut_server.specs.Settling.{is_unsettled, IsNextUnsettled}
 
 pub bytes_ok : (c : ℕ) (piece : List ℕ) (ks : List Session) (k : Session) → session_of c ks ≡ Some k → length piece ≤ PIECE_MAX → length k.waits ≤ 0 → bytes_refusal piece (session_of c ks) ≡ None

@@ -4,21 +4,21 @@ use Rattle.std.specs.Prelude.{MatchResult, map}
 use Rattle.std.proofs.lemmas.Bool.{cases_Bool}
 use Rattle.nut_proto.specs.declared.refusal.Refusal.{Refusal}
 use Rattle.nut_proto.specs.declared.reply.Reply.{Reply}
-use Rattle.nut_history.specs.Answer.{Answer, Scene, Caller, Line, refused, device_at, on_data, unless}
-use Rattle.nut_history.specs.Command.{Command, Blank, Asks}
-use Rattle.nut_history.specs.Content.{Supply}
+use Rattle.nut_server_spec.specs.Answer.{Answer, Scene, Caller, Line, refused, device_at, on_data, unless}
+use Rattle.nut_server_spec.specs.Command.{Command, Blank, Asks}
+use Rattle.nut_server_spec.specs.Content.{Supply}
 use Rattle.nut_proto.specs.declared.refusal.Refusal.TheVariants.{DriverNotConnected}
 use Rattle.nut_proto.specs.declared.reply.Reply.TheVariants as replies
 use Rattle.nut_proto.specs.declared.request.Request.TheVariants as requests
 use Rattle.nut_proto.specs.declared.driver_ask.DriverAsk.TheVariants as asks
 use Rattle.nut_proto.specs.DriverAsks.{ask_line}
-use Rattle.nut_history.specs.Configuration.{Configuration, number_of_ups}
-use Rattle.nut_history.specs.Effect.{target}
-use Rattle.nut_history.specs.Device.{Device, absent, trouble}
-use Rattle.nut_history.specs.Machine.{acted, requested}
-use Rattle.nut_server.specs.Answers.{given}
-use Rattle.nut_server.specs.Decisions.{Answers, Decides, Grants}
-use Rattle.nut_server.specs.Effects.{Does, forced}
+use Rattle.nut_server_spec.specs.Configuration.{Configuration, number_of_ups}
+use Rattle.nut_server_spec.specs.Effect.{target}
+use Rattle.nut_server_spec.specs.Device.{Device, absent, trouble}
+use Rattle.nut_server_spec.specs.machine.Machine.{acted, requested}
+use Rattle.nut_server.specs.inside.Answers.{given}
+use Rattle.nut_server.specs.inside.Decisions.{Answers, Decides, Grants}
+use Rattle.nut_server.specs.inside.Effects.{Does, forced}
 use Rattle.nut_server.specs.declared.decision.Decision.{Decision}
 use Rattle.nut_server.specs.declared.effect.Effect.{Effect}
 use Rattle.nut_server.specs.declared.effect.Effect.TheVariants as effects

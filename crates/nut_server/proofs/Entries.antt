@@ -10,15 +10,15 @@ use Rattle.std.proofs.lemmas.List.Sums.{get_or-le-sum_by, sum_by-cons, sum_by_pu
 use Rattle.nut_conf.specs.declared.limits.TheConstants.{CONNECTIONS_MAX}
 use Rattle.slab.specs.Slab.{Slab, get, ContainsKey, slab_len, with_value, Updates}
 use Rattle.slab.proofs.SlabLemmas.{Updates-with_value, ContainsKey-within}
-use Rattle.nut_history.specs.Content.{Session}
-use Rattle.nut_history.specs.Acceptance.{session_of}
-use Rattle.nut_history.specs.Laws.{IsBelow, IsRising, IsUpTo}
-use Rattle.nut_history.specs.Machine.{without}
+use Rattle.nut_server_spec.specs.Content.{Session}
+use Rattle.nut_server_spec.specs.Acceptance.{session_of}
+use Rattle.nut_server_spec.specs.Laws.{IsBelow, IsRising, IsUpTo}
+use Rattle.nut_server_spec.specs.machine.Machine.{without}
 use Rattle.nut_server.specs.declared.connections.Key.{Key}
 use Rattle.nut_server.specs.declared.connections.Connections.TheInside.{Inside}
-use Rattle.nut_server.specs.Inside.{numbers_of}
-use Rattle.nut_server.specs.Place.{IsPlace, Stands}
-use Rattle.nut_server.specs.Entries.{sessions_of, key_numbers, AreNamed, AreMarked, AreEntries}
+use Rattle.nut_server.specs.inside.Inside.{numbers_of}
+use Rattle.nut_server.specs.inside.Place.{IsPlace, Stands}
+use Rattle.nut_server.specs.inside.Entries.{sessions_of, key_numbers, AreNamed, AreMarked, AreEntries}
 use Rattle.nut_server.specs.Settling.{is_unsettled, settles}
 use Rattle.nut_server.proofs.Orderly.{IsRising-without, IsRising-push, none_below}
 

@@ -7,8 +7,8 @@ use Rattle.nut_words.specs.Lines.{LineText, Text, TooLong, as_line, last_of, par
 use Rattle.nut_words.proofs.LineLemmas.{joined-as_line}
 use Rattle.nut_words.proofs.StreamGrowth.{lines-append, lines_at_line_feed, rest_at_line_feed, lines_within, rest_within}
 use Rattle.nut_words.specs.declared.limits.TheConstants.{LINE_MAX}
-use Rattle.nut_history.specs.Acceptance.{front, line_feeds}
-use Rattle.nut_history.proofs.Hearing.{until_feed, first_line}
+use Rattle.nut_server_spec.specs.Acceptance.{front, line_feeds}
+use Rattle.nut_server_spec.proofs.Hearing.{until_feed, first_line}
 
 -- ---- fronts
 

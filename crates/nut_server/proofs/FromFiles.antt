@@ -21,7 +21,7 @@ use Rattle.nut_words.proofs.CutLemmas.{false-from_not_true}
 use Rattle.nut_words.specs.declared.limits.TheConstants.{UPS_NAME_MAX}
 use Rattle.nut_conf.proofs.NameLookup.{slice_get-names}
 use Rattle.nut_conf.proofs.SlotLemmas.{length-map}
-use Rattle.nut_history.specs.Configuration.{Ups, number_of_ups, user_named, covers}
+use Rattle.nut_server_spec.specs.Configuration.{Ups, number_of_ups, user_named, covers}
 use Rattle.nut_server.specs.Configured.{ups_of, user_of, user_in, command_of}
 
 bytes_eq-symm : (a b : List ℕ) → bytes_eq a b ≡ bytes_eq b a

@@ -2,17 +2,17 @@
 use Rattle.std.proofs.Common.{◌≡◌, ℕ, zero, suc, eqb, List, [], ◌∷◌, refl, sym, ◌∙◌, ap, subst, Option, Some, slice_get}
 use Rattle.std.specs.Prelude.{option_map, IsTrue}
 use Rattle.nut_words.specs.Lines.{LineText, Text}
-use Rattle.nut_history.specs.Answer.{Answer}
-use Rattle.nut_history.specs.Command.{Command}
-use Rattle.nut_history.specs.Content.{Session, Content}
-use Rattle.nut_history.specs.Effect.{target}
-use Rattle.nut_history.specs.Acceptance.{session_of}
-use Rattle.nut_history.specs.Event.{Close}
-use Rattle.nut_history.specs.Machine.{update, with_rest, with_sessions, answered, act_on, acted, after_answer, without, advance}
-use Rattle.nut_history.proofs.Hearing.{update-update, with_unfinished, with_unfinished-same}
-use Rattle.nut_history.proofs.Sessions.{KeepsNumber, session_of-update, without-update}
-use Rattle.nut_server.specs.Effects.{answered_by}
-use Rattle.nut_server.specs.Place.{IsPlace, Stands}
+use Rattle.nut_server_spec.specs.Answer.{Answer}
+use Rattle.nut_server_spec.specs.Command.{Command}
+use Rattle.nut_server_spec.specs.Content.{Session, Content}
+use Rattle.nut_server_spec.specs.Effect.{target}
+use Rattle.nut_server_spec.specs.Acceptance.{session_of}
+use Rattle.nut_server_spec.specs.Event.{Close}
+use Rattle.nut_server_spec.specs.machine.Machine.{update, with_rest, with_sessions, answered, act_on, acted, after_answer, without, advance}
+use Rattle.nut_server_spec.proofs.Hearing.{update-update, with_unfinished, with_unfinished-same}
+use Rattle.nut_server_spec.proofs.Sessions.{KeepsNumber, session_of-update, without-update}
+use Rattle.nut_server.specs.inside.Effects.{answered_by}
+use Rattle.nut_server.specs.inside.Place.{IsPlace, Stands}
 use Rattle.nut_server.proofs.Places.{place_within, place_session, found_session}
 
 place_updated : (c : ℕ) (change : Session → Session) (ks : List Session) (at : ℕ) → KeepsNumber change → IsPlace c ks at → IsPlace c (update c change ks) at

@@ -17,12 +17,12 @@ use Rattle.nut_conf.specs.declared.ups.UpsConf.{UpsConf}
 use Rattle.nut_conf.specs.declared.upsd.UpsdConf.{UpsdConf}
 use Rattle.nut_conf.specs.declared.users.UsersConf.{UsersConf}
 use Rattle.nut_conf.specs.declared.limits.TheConstants.{DESCRIPTION_MAX}
-use Rattle.nut_history.specs.Content.{Session, Content, past}
-use Rattle.nut_history.specs.Configuration.{Configuration}
-use Rattle.nut_history.specs.Event.{Event}
-use Rattle.nut_history.specs.Acceptance.{Tells, session_of}
-use Rattle.nut_history.specs.Limits.{IsTextWithin, IsUpsWithin, IsWithin, WaitsAreBounded, most_waits}
-use Rattle.nut_history.proofs.Waiting.{configuration_stays}
+use Rattle.nut_server_spec.specs.Content.{Session, Content, past}
+use Rattle.nut_server_spec.specs.Configuration.{Configuration}
+use Rattle.nut_server_spec.specs.Event.{Event}
+use Rattle.nut_server_spec.specs.Acceptance.{Tells, session_of}
+use Rattle.nut_server_spec.specs.laws.Limits.{IsTextWithin, IsUpsWithin, IsWithin, WaitsAreBounded, most_waits}
+use Rattle.nut_server_spec.proofs.Waiting.{configuration_stays}
 use Rattle.nut_server.specs.Configured.{command_texts_of, configuration_of, ups_of, variable_texts_of}
 use Rattle.nut_server.proofs.Arrives.{most_few}
 

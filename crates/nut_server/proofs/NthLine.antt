@@ -7,14 +7,14 @@ use Rattle.std.proofs.lemmas.Bool.{cases_Bool}
 use Rattle.std.proofs.lemmas.List.{append_assoc}
 use Rattle.nut_words.specs.Lines.{LineText, Text, TooLong, as_line, all_but_last, completed, joined, lines_after, parts}
 use Rattle.nut_words.proofs.LineLemmas.{is_some_parts, joined-as_line}
-use Rattle.nut_history.specs.Acceptance.{front, line_feeds, session_of}
-use Rattle.nut_history.specs.Content.{Session, Supply, Content}
-use Rattle.nut_history.specs.Machine.{after_answer, answered, answer_in, byte_heard, bytes_heard, byte_reported, bytes_reported, line_heard, reported_by, update, with_rest}
-use Rattle.nut_history.specs.Command.{command_of}
-use Rattle.nut_history.specs.Outcome.{line_takes, report_takes, unfinished_of}
-use Rattle.nut_history.specs.MachineOutcome.{RunsOut, RunsOutOf}
-use Rattle.nut_history.proofs.Hearing.{first_line, until_feed, with_unfinished}
-use Rattle.nut_history.proofs.Sessions.{session_of-update}
+use Rattle.nut_server_spec.specs.Acceptance.{front, line_feeds, session_of}
+use Rattle.nut_server_spec.specs.Content.{Session, Supply, Content}
+use Rattle.nut_server_spec.specs.machine.Machine.{after_answer, answered, answer_in, byte_heard, bytes_heard, byte_reported, bytes_reported, line_heard, reported_by, update, with_rest}
+use Rattle.nut_server_spec.specs.Command.{command_of}
+use Rattle.nut_server_spec.specs.Outcome.{line_takes, report_takes, unfinished_of}
+use Rattle.nut_server_spec.specs.MachineOutcome.{RunsOut, RunsOutOf}
+use Rattle.nut_server_spec.proofs.Hearing.{first_line, until_feed, with_unfinished}
+use Rattle.nut_server_spec.proofs.Sessions.{session_of-update}
 use Rattle.nut_server.proofs.Feeds.{behind}
 use Rattle.nut_server.proofs.Reports.{with_report}
 

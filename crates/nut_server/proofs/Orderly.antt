@@ -3,11 +3,11 @@ use Rattle.std.proofs.Common.{◌≡◌, ℕ, ◌+◌, ◌<◌, ◌≤◌, Bool,
 use Rattle.std.specs.Prelude.{find, option_map, IsTrue}
 use Rattle.std.proofs.lemmas.Bool.{cases_Bool, eqb-true, eq-eqb, ne_eqb, false≢true}
 use Rattle.std.proofs.lemmas.Bool.Decides.{nat_tests}
-use Rattle.nut_history.specs.Content.{Session}
-use Rattle.nut_history.specs.Acceptance.{session_of}
-use Rattle.nut_history.specs.Laws.{IsBelow, IsRising, IsUpTo}
-use Rattle.nut_history.specs.Machine.{update, without}
-use Rattle.nut_server.specs.Inside.{numbers_of}
+use Rattle.nut_server_spec.specs.Content.{Session}
+use Rattle.nut_server_spec.specs.Acceptance.{session_of}
+use Rattle.nut_server_spec.specs.Laws.{IsBelow, IsRising, IsUpTo}
+use Rattle.nut_server_spec.specs.machine.Machine.{update, without}
+use Rattle.nut_server.specs.inside.Inside.{numbers_of}
 use Rattle.nut_server.specs.Settling.{is_unsettled, settles, IsNextUnsettled}
 
 -- a change leaves the number

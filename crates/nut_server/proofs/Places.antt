@@ -1,9 +1,9 @@
 -- Laws of the place of a connection.
 use Rattle.std.proofs.Common.{◌≡◌, ℕ, zero, suc, ◌<◌, true, eqb, List, [], ◌∷◌, length, refl, sym, ◌∙◌, ap, arith, Some, slice_get, slice_set, slice_index_or}
-use Rattle.nut_history.specs.Content.{Session}
-use Rattle.nut_history.specs.Acceptance.{session_of}
-use Rattle.nut_history.specs.Machine.{update, without}
-use Rattle.nut_server.specs.Place.{IsPlace, Stands}
+use Rattle.nut_server_spec.specs.Content.{Session}
+use Rattle.nut_server_spec.specs.Acceptance.{session_of}
+use Rattle.nut_server_spec.specs.machine.Machine.{update, without}
+use Rattle.nut_server.specs.inside.Place.{IsPlace, Stands}
 
 pub place_within : (c : ℕ) (ks : List Session) (at : ℕ) → IsPlace c ks at → at < length ks
 place_within c [] at place = absurd place

@@ -6,11 +6,11 @@ use Rattle.nut_proto.specs.declared.request.ListQuery.TheVariants as queries
 use Rattle.nut_proto.specs.declared.reply.Reply.TheVariants as replies
 use Rattle.std.specs.Prelude.{map, filter}
 use Rattle.nut_state.specs.Table.{Entry, variable, has_command}
-use Rattle.nut_history.specs.Answer.{Answer, Scene, require, check, unless, on_device, on_ups, on_data, on_variable, on_command, ups_number, device_at, described, list_answer, Listing, var_row, rw_row, guests_of}
-use Rattle.nut_history.specs.Command.{Blank}
-use Rattle.nut_history.specs.Configuration.{Configuration, Ups}
-use Rattle.nut_history.specs.Device.{Device, trouble}
-use Rattle.nut_history.specs.Effect.{login_then, logged_out_then}
+use Rattle.nut_server_spec.specs.Answer.{Answer, Scene, require, check, unless, on_device, on_ups, on_data, on_variable, on_command, ups_number, device_at, described, list_answer, Listing, var_row, rw_row, guests_of}
+use Rattle.nut_server_spec.specs.Command.{Blank}
+use Rattle.nut_server_spec.specs.Configuration.{Configuration, Ups}
+use Rattle.nut_server_spec.specs.Device.{Device, trouble}
+use Rattle.nut_server_spec.specs.Effect.{login_then, logged_out_then}
 
 -- the answer leaves its session logged in, and not logged out
 abbrev pub IsQuiet : Answer → Type 0

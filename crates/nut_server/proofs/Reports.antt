@@ -4,10 +4,10 @@ use Rattle.std.proofs.lemmas.Bool.{cases_Bool, false≢true}
 use Rattle.std.proofs.lemmas.List.{append-nil, append_assoc}
 use Rattle.nut_words.specs.Lines.{LineText, rest, joined}
 use Rattle.nut_words.proofs.StreamGrowth.{rest_within}
-use Rattle.nut_history.specs.Content.{Supply}
-use Rattle.nut_history.specs.Acceptance.{front, line_feeds}
-use Rattle.nut_history.specs.Machine.{reported_by, byte_reported, bytes_reported}
-use Rattle.nut_history.proofs.Hearing.{first_line, until_feed}
+use Rattle.nut_server_spec.specs.Content.{Supply}
+use Rattle.nut_server_spec.specs.Acceptance.{front, line_feeds}
+use Rattle.nut_server_spec.specs.machine.Machine.{reported_by, byte_reported, bytes_reported}
+use Rattle.nut_server_spec.proofs.Hearing.{first_line, until_feed}
 use Rattle.nut_server.proofs.Feeds.{joined_rest, joined_next}
 
 -- a UPS with this unfinished line of its driver

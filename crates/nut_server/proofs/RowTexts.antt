@@ -8,11 +8,11 @@ use Rattle.nut_state.specs.Table.{Entry}
 use Rattle.nut_proto.specs.declared.reply.Reply.{Reply}
 use Rattle.nut_proto.specs.declared.reply.Reply.TheVariants as replies
 use Rattle.nut_proto.specs.Replies.{reply_line}
-use Rattle.nut_history.specs.Answer.{Guest, guests_of, is_logged_in, rw_row}
-use Rattle.nut_history.specs.Content.{Session}
-use Rattle.nut_history.specs.Device.{Device}
-use Rattle.nut_history.specs.Machine.{guest_of}
-use Rattle.nut_server.specs.Rows.{writable_text, client_text}
+use Rattle.nut_server_spec.specs.Answer.{Guest, guests_of, is_logged_in, rw_row}
+use Rattle.nut_server_spec.specs.Content.{Session}
+use Rattle.nut_server_spec.specs.Device.{Device}
+use Rattle.nut_server_spec.specs.machine.Machine.{guest_of}
+use Rattle.nut_server.specs.inside.Rows.{writable_text, client_text}
 
 -- the text of the first i and the one behind them
 pub one_more : {X A : Type 0} (f : X → List A) (xs : List X) (i : ℕ) (x : X) → slice_get xs i ≡ Some x →

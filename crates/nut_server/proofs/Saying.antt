@@ -3,14 +3,14 @@ use Rattle.std.proofs.Common.{◌≡◌, ℕ, List, [], ◌∷◌, ◌++◌, tru
 use Rattle.std.proofs.lemmas.Bool.{cases_Bool}
 use Rattle.std.proofs.lemmas.List.{append-nil}
 use Rattle.nut_proto.specs.declared.request.Request.TheVariants as requests
-use Rattle.nut_history.specs.Command.{Command, Blank, Asks}
-use Rattle.nut_history.specs.Configuration.{Configuration}
-use Rattle.nut_history.specs.Answer.{Answer, Silence, text_of}
-use Rattle.nut_history.specs.Content.{Session, Supply, Content}
-use Rattle.nut_history.specs.Effect.{target}
-use Rattle.nut_history.specs.Machine.{update, acted, answer_in, answered}
+use Rattle.nut_server_spec.specs.Command.{Command, Blank, Asks}
+use Rattle.nut_server_spec.specs.Configuration.{Configuration}
+use Rattle.nut_server_spec.specs.Answer.{Answer, Silence, text_of}
+use Rattle.nut_server_spec.specs.Content.{Session, Supply, Content}
+use Rattle.nut_server_spec.specs.Effect.{target}
+use Rattle.nut_server_spec.specs.machine.Machine.{update, acted, answer_in, answered}
 use Rattle.nut_server.specs.declared.effect.Effect.{Effect}
-use Rattle.nut_server.specs.Effects.{affected, acting, said, Does, answered_by}
+use Rattle.nut_server.specs.inside.Effects.{affected, acting, said, Does, answered_by}
 use Rattle.nut_server.proofs.Acting.{act_idle}
 use Rattle.nut_server.proofs.Deciding.{at_rest}
 

@@ -15,8 +15,8 @@ use Rattle.nut_proto.specs.declared.keyword.Subject.TheVariants as subjects
 use Rattle.nut_proto.specs.Keywords.{subject_of, is_subject, is_command, command_of}
 use Rattle.nut_proto.specs.Rules.{none, one, two, three, credential, is_credential}
 use Rattle.nut_proto.specs.Forms.{Rule, Form, about, forms, first_fit, meaning_by, meaning}
-use Rattle.nut_history.specs.Command.{Asks, asked}
-use Rattle.nut_server.specs.Effects.{HasShortNames}
+use Rattle.nut_server_spec.specs.Command.{Asks, asked}
+use Rattle.nut_server.specs.inside.Effects.{HasShortNames}
 
 abbrev IsShort : Option Request → Type 0
 IsShort None = Unit {0}

@@ -3,15 +3,15 @@ use Rattle.std.proofs.Common.{◌≡◌, ℕ, suc, ◌<◌, List, [], ◌∷◌,
 use Rattle.std.specs.Prelude.{option_map, IsTrue}
 use Rattle.std.proofs.lemmas.Bool.{cases_Bool}
 use Rattle.nut_words.specs.Lines.{Text, lines}
-use Rattle.nut_history.specs.Acceptance.{front, line_feeds, session_of}
-use Rattle.nut_history.specs.Command.{command_of}
-use Rattle.nut_history.specs.Content.{Session, Content}
-use Rattle.nut_history.specs.Machine.{after_answer, answer_in, answered, bytes_heard}
-use Rattle.nut_history.specs.Outcome.{line_takes}
-use Rattle.nut_history.specs.MachineOutcome.{RunsOut}
-use Rattle.nut_history.proofs.Hearing.{with_unfinished-same, line_heard_front}
-use Rattle.nut_history.proofs.Sessions.{session_of-update}
-use Rattle.nut_server.specs.Effects.{answered_by}
+use Rattle.nut_server_spec.specs.Acceptance.{front, line_feeds, session_of}
+use Rattle.nut_server_spec.specs.Command.{command_of}
+use Rattle.nut_server_spec.specs.Content.{Session, Content}
+use Rattle.nut_server_spec.specs.machine.Machine.{after_answer, answer_in, answered, bytes_heard}
+use Rattle.nut_server_spec.specs.Outcome.{line_takes}
+use Rattle.nut_server_spec.specs.MachineOutcome.{RunsOut}
+use Rattle.nut_server_spec.proofs.Hearing.{with_unfinished-same, line_heard_front}
+use Rattle.nut_server_spec.proofs.Sessions.{session_of-update}
+use Rattle.nut_server.specs.inside.Effects.{answered_by}
 use Rattle.nut_server.proofs.Feeds.{handed_is, has_feed, line_feeds-append, one_feed, take_all}
 use Rattle.nut_server.proofs.Heard.{answered_then}
 use Rattle.nut_server.proofs.NthLine.{may_run_out}

@@ -1,5 +1,5 @@
 -- What an arrival tells.
-use Rattle.nut_history.specs.Event as E
+use Rattle.nut_server_spec.specs.Event as E
 use Rattle.nut_server.specs.declared.arrival.Arrival.{Arrival}
 use Rattle.nut_server.specs.declared.arrival.Arrival.TheVariants as arrival
 

@@ -13,7 +13,7 @@ use Rattle.nut_conf.specs.declared.users.User as files
 use Rattle.nut_conf.specs.declared.users.UsersConf.{UsersConf}
 use Rattle.nut_conf.specs.declared.users.Commands.{Commands}
 use Rattle.nut_conf.specs.declared.users.Commands.TheVariants as commands
-use Rattle.nut_history.specs.Configuration.{Configuration, Ups, User}
+use Rattle.nut_server_spec.specs.Configuration.{Configuration, Ups, User}
 
 -- a UPS of ups.conf
 abbrev pub ups_of : Shown → Ups

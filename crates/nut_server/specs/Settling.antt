@@ -1,7 +1,7 @@
 -- Which connections have to be written to or closed.
 use Rattle.std.specs.Prelude.{◌≡◌, ℕ, ◌<◌, ◌≤◌, nat_lt, nat_le, Bool, false, ◌||◌, ◌&&◌, IsTrue, List, [], length, Option, Some, None}
-use Rattle.nut_history.specs.Content.{Session, Supply}
-use Rattle.nut_history.specs.Acceptance.{session_of, waiting_in, leaves, asks_of}
+use Rattle.nut_server_spec.specs.Content.{Session, Supply}
+use Rattle.nut_server_spec.specs.Acceptance.{session_of, waiting_in, leaves, asks_of}
 
 -- bytes wait for it, or it leaves
 abbrev pub is_unsettled : Option Session → Bool

@@ -1,11 +1,11 @@
 //! Who may do what.
 
 ghost use Rattle.std.specs.Prelude.{◌≡◌, ◌<◌, ℕ, Some, MatchResult, length};
-ghost use Rattle.nut_history.specs.Answer as definitions;
-ghost use Rattle.nut_history.specs.Answer.{has_right, is_primary, refused, ups_number, with_right};
-ghost use Rattle.nut_history.specs.Configuration.{user_named};
-ghost use Rattle.nut_history.specs.Machine.{caller_of};
-ghost use Rattle.nut_server.specs.Access.{allows};
+ghost use Rattle.nut_server_spec.specs.Answer as definitions;
+ghost use Rattle.nut_server_spec.specs.Answer.{has_right, is_primary, refused, ups_number, with_right};
+ghost use Rattle.nut_server_spec.specs.Configuration.{user_named};
+ghost use Rattle.nut_server_spec.specs.machine.Machine.{caller_of};
+ghost use Rattle.nut_server.specs.inside.Access.{allows};
 
 use crate::config::{Config, User};
 use crate::connection::Connection;

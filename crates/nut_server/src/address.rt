@@ -3,10 +3,10 @@
 ghost use Rattle.std.specs.Prelude.{◌≡◌, Some, None, option_map, if◌then◌else◌};
 ghost use Rattle.std.specs.List.{list_all};
 ghost use Rattle.nut_words.specs.Spelling.{is_bare};
-ghost use Rattle.nut_history.specs.Acceptance.{is_address};
+ghost use Rattle.nut_server_spec.specs.Acceptance.{is_address};
 
 use arrayvec::ArrayVec;
-use nut_history::ADDRESS_MAX;
+use nut_server_spec::ADDRESS_MAX;
 
 /// The address that a client connects from, without memory of its own.
 pub type Address = ArrayVec<u8, ADDRESS_MAX>;

@@ -6,7 +6,7 @@
 pub enum Arrival<'a> {
     /// It is so many seconds since the start.
     Moment(u64),
-    /// A client connects from this address, of 1 to [`ADDRESS_MAX`](nut_history::ADDRESS_MAX) bytes that may stand in a
+    /// A client connects from this address, of 1 to [`ADDRESS_MAX`](nut_server_spec::ADDRESS_MAX) bytes that may stand in a
     /// bare word.
     Open(&'a [u8]),
     /// A piece of the bytes that a connection sends, of at most [`PIECE_MAX`](nut_words::PIECE_MAX) bytes.

@@ -5,11 +5,11 @@ ghost use Rattle.nut_proto.specs.declared.driver_ask.DriverAsk.TheVariants as as
 ghost use Rattle.nut_proto.specs.declared.reply.Reply.TheVariants as replies;
 ghost use Rattle.nut_proto.specs.declared.request.Request.TheVariants as requests;
 ghost use Rattle.nut_proto.specs.DriverAsks.{ask_line};
-ghost use Rattle.nut_history.specs.Answer.{Line, Scene, command_answer, refused, set_answer};
-ghost use Rattle.nut_history.specs.Command.{Asks};
-ghost use Rattle.nut_history.specs.Device.{fits};
-ghost use Rattle.nut_history.specs.Machine.{caller_of};
-ghost use Rattle.nut_server.specs.Decisions.{Grants};
+ghost use Rattle.nut_server_spec.specs.Answer.{Line, Scene, command_answer, refused, set_answer};
+ghost use Rattle.nut_server_spec.specs.Command.{Asks};
+ghost use Rattle.nut_server_spec.specs.Device.{fits};
+ghost use Rattle.nut_server_spec.specs.machine.Machine.{caller_of};
+ghost use Rattle.nut_server.specs.inside.Decisions.{Grants};
 
 use crate::access::{Right, authorize};
 use crate::connection::Connection;

@@ -4,12 +4,14 @@ ghost use Rattle.std.specs.Prelude.{◌≡◌, ◌<◌, ◌≤◌, IfSome, None,
 ghost use Rattle.std.specs.Option.{option_map};
 ghost use Rattle.nut_conf.specs.Descriptions.{rows_of};
 ghost use Rattle.nut_proto.specs.Descriptions.{beside, command_description, told, variable_description};
-ghost use Rattle.nut_history.specs.Configuration.{number_of_ups, ups_named, user_named, has_password, may_act, may_command};
+ghost use Rattle.nut_server_spec.specs.Configuration.{number_of_ups, ups_named, user_named, has_password, may_act, may_command};
 ghost use Rattle.nut_server.specs.Configured.{configuration_of, upses_of, users_of};
 
-use nut_conf::{Action, Descriptions, Role, UpsConf, UpsdConf, UsersConf};
+use nut_conf::{
+    Action, Action, CONNECTIONS_MAX, Descriptions, Role, Role, UPSES_MAX, USERS_MAX, UpsConf,
+    UpsConf, UpsdConf, UpsdConf, UsersConf, UsersConf,
+};
 use nut_proto::{command_description, variable_description};
-use nut_conf::{Action, CONNECTIONS_MAX, Role, UPSES_MAX, USERS_MAX, UpsConf, UpsdConf, UsersConf};
 use std::marker::Model;
 
 /// A UPS, lent from the configuration.
@@ -24,7 +26,7 @@ pub struct Ups<'a> {
 }
 
 impl<'a> Model for Ups<'a> {
-    ghost use Rattle.nut_history.specs.Configuration as definitions;
+    ghost use Rattle.nut_server_spec.specs.Configuration as definitions;
 
     ghost Value = { definitions.Ups };
 
@@ -39,7 +41,7 @@ pub struct User<'a> {
 }
 
 impl<'a> Model for User<'a> {
-    ghost use Rattle.nut_history.specs.Configuration as definitions;
+    ghost use Rattle.nut_server_spec.specs.Configuration as definitions;
     ghost use Rattle.nut_server.specs.Configured.{user_of};
 
     ghost Value = { definitions.User };
@@ -100,7 +102,7 @@ pub struct Config {
 }
 
 impl Model for Config {
-    ghost use Rattle.nut_history.specs.Configuration.{Configuration};
+    ghost use Rattle.nut_server_spec.specs.Configuration.{Configuration};
     ghost use Rattle.nut_server.specs.Configured.{configuration_of};
 
     ghost Value = { Configuration };

@@ -3,12 +3,12 @@
 ghost use Rattle.std.specs.Prelude.{◌≡◌, ◌≢◌, ◌≤◌, ◌++◌, ℕ, List, [], ◌∷◌, true, Some, None, All, IfSome, IsSome, OnSome, drop, length, map, option_map, OnOk, OnErr};
 ghost use Rattle.nut_words.specs.Cutter.{kept_of};
 ghost use Rattle.nut_queue.specs.Front.{IsFrontPart};
-ghost use Rattle.nut_history.specs.Acceptance.{may_read, leaves};
-ghost use Rattle.nut_history.specs.Answer.{is_logged_in};
+ghost use Rattle.nut_server_spec.specs.Acceptance.{may_read, leaves};
+ghost use Rattle.nut_server_spec.specs.Answer.{is_logged_in};
 ghost use Rattle.nut_words.specs.Lines.{Text, lines};
-ghost use Rattle.nut_history.specs.Machine.{fresh, with_rest};
-ghost use Rattle.nut_server.specs.Effects.{affected, said};
-ghost use Rattle.nut_server.specs.Inside.{IsRest};
+ghost use Rattle.nut_server_spec.specs.machine.Machine.{fresh, with_rest};
+ghost use Rattle.nut_server.specs.inside.Effects.{affected, said};
+ghost use Rattle.nut_server.specs.inside.Inside.{IsRest};
 ghost use Rattle.nut_server.specs.Settling.{is_unsettled};
 
 use crate::address::Address;
@@ -35,8 +35,8 @@ pub struct Connection {
 }
 
 impl Model for Connection {
-    ghost use Rattle.nut_history.specs.Content.{Session};
-    ghost use Rattle.nut_server.specs.Inside.{IsRest};
+    ghost use Rattle.nut_server_spec.specs.Content.{Session};
+    ghost use Rattle.nut_server.specs.inside.Inside.{IsRest};
 
     ghost Value = { Session };
 

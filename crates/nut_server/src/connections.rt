@@ -6,15 +6,15 @@
 
 ghost use Rattle.std.specs.Prelude.{◌≡◌, ◌<◌, ◌≤◌, ℕ, [], ◌∷◌, ◌++◌, Some, None, IfOk, IfNone, IfSome, OnOk, OnErr, cond, count_by, drop, find, length, map, nat_le, ◌&&◌, option_map, slice_get, slice_set, vec_capacity};
 ghost use Rattle.nut_words.specs.Lines.{Text};
-ghost use Rattle.nut_history.specs.Content.{Session};
-ghost use Rattle.nut_history.specs.Acceptance.{session_of};
-ghost use Rattle.nut_history.specs.Answer.{guests_of};
-ghost use Rattle.nut_history.specs.Laws.{IsRising, IsUpTo};
-ghost use Rattle.nut_history.specs.Machine.{guest_of, update, with_rest, without};
+ghost use Rattle.nut_server_spec.specs.Content.{Session};
+ghost use Rattle.nut_server_spec.specs.Acceptance.{session_of};
+ghost use Rattle.nut_server_spec.specs.Answer.{guests_of};
+ghost use Rattle.nut_server_spec.specs.Laws.{IsRising, IsUpTo};
+ghost use Rattle.nut_server_spec.specs.machine.Machine.{guest_of, update, with_rest, without};
 ghost use Rattle.nut_server.specs.declared.connections.Key.{Key};
-ghost use Rattle.nut_server.specs.Effects.{affected, said};
-ghost use Rattle.nut_server.specs.Inside.{IsRest, numbers_of};
-ghost use Rattle.nut_server.specs.Place.{Stands};
+ghost use Rattle.nut_server.specs.inside.Effects.{affected, said};
+ghost use Rattle.nut_server.specs.inside.Inside.{IsRest, numbers_of};
+ghost use Rattle.nut_server.specs.inside.Place.{Stands};
 ghost use Rattle.nut_server.specs.Settling.{IsNextUnsettled, settles};
 
 use crate::connection::Connection;
@@ -80,8 +80,8 @@ pub struct Connections {
 
 impl Model for Connections {
     ghost use Rattle.std.specs.Prelude.{List};
-    ghost use Rattle.nut_history.specs.Content.{Session};
-    ghost use Rattle.nut_server.specs.Entries.{AreEntries, sessions_of};
+    ghost use Rattle.nut_server_spec.specs.Content.{Session};
+    ghost use Rattle.nut_server.specs.inside.Entries.{AreEntries, sessions_of};
 
     ghost Value = { List Session };
 

@@ -2,13 +2,13 @@
 
 ghost use Rattle.std.specs.Prelude.{◌≡◌, length, MatchResult};
 ghost use Rattle.nut_proto.specs.declared.refusal.Refusal.TheVariants as refusals;
-ghost use Rattle.nut_history.specs.Answer.{refused};
-ghost use Rattle.nut_history.specs.Answer as definitions;
-ghost use Rattle.nut_history.specs.Command.{Asks, asked};
-ghost use Rattle.nut_history.specs.Machine.{caller_of};
-ghost use Rattle.nut_server.specs.Answers.{given, outcome};
-ghost use Rattle.nut_server.specs.Decisions.{Decides};
-ghost use Rattle.nut_server.specs.Effects.{HasShortNames};
+ghost use Rattle.nut_server_spec.specs.Answer.{refused};
+ghost use Rattle.nut_server_spec.specs.Answer as definitions;
+ghost use Rattle.nut_server_spec.specs.Command.{Asks, asked};
+ghost use Rattle.nut_server_spec.specs.machine.Machine.{caller_of};
+ghost use Rattle.nut_server.specs.inside.Answers.{given, outcome};
+ghost use Rattle.nut_server.specs.inside.Decisions.{Decides};
+ghost use Rattle.nut_server.specs.inside.Effects.{HasShortNames};
 ghost use Rattle.nut_server.specs.declared.effect.Effect.TheVariants as effects;
 
 use crate::answer::Answer;

@@ -5,11 +5,11 @@ ghost use Rattle.std.specs.Option.{option_map_or};
 ghost use Rattle.nut_queue.specs.Front.{IsFrontPart};
 ghost use Rattle.nut_words.specs.Lines.{Text};
 ghost use Rattle.nut_words.specs.Cutter.{line_of};
-ghost use Rattle.nut_history.specs.Acceptance.{front, line_feeds};
-ghost use Rattle.nut_history.specs.Device.{absent, fits, is_past, needs_ping, trouble};
-ghost use Rattle.nut_history.specs.Machine.{up, down, drained, ticked, reported_by, bytes_reported};
-ghost use Rattle.nut_history.specs.Outcome.{report_takes};
-ghost use Rattle.nut_history.specs.MachineOutcome.{RunsOutOf};
+ghost use Rattle.nut_server_spec.specs.Acceptance.{front, line_feeds};
+ghost use Rattle.nut_server_spec.specs.Device.{absent, fits, is_past, needs_ping, trouble};
+ghost use Rattle.nut_server_spec.specs.machine.Machine.{up, down, drained, ticked, reported_by, bytes_reported};
+ghost use Rattle.nut_server_spec.specs.Outcome.{report_takes};
+ghost use Rattle.nut_server_spec.specs.MachineOutcome.{RunsOutOf};
 
 use nut_proto::Refusal;
 use nut_queue::{ASKS_MAX, AskRing};
@@ -38,8 +38,8 @@ pub struct Device {
 }
 
 impl Model for Device {
-    ghost use Rattle.nut_history.specs.Content.{Supply};
-    ghost use Rattle.nut_server.specs.Inside.{IsRest};
+    ghost use Rattle.nut_server_spec.specs.Content.{Supply};
+    ghost use Rattle.nut_server.specs.inside.Inside.{IsRest};
 
     ghost Value = { Supply };
 

@@ -1,7 +1,7 @@
 //! What a request does beside being answered.
 
 ghost use Rattle.std.specs.Prelude.{◌≡◌, length, map};
-ghost use Rattle.nut_server.specs.Effects.{acting, IsPossible};
+ghost use Rattle.nut_server.specs.inside.Effects.{acting, IsPossible};
 
 use crate::credential::LentCredential;
 use crate::device::Device;

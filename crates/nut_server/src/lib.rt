@@ -23,5 +23,5 @@ mod text;
 
 pub use arrival::Arrival;
 pub use config::{Config, Ups, User};
-pub use nut_history::{Place, Refused};
+pub use nut_server_spec::{Place, Refused};
 pub use server::{Server, ServerFault};

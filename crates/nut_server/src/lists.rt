@@ -2,8 +2,8 @@
 
 ghost use Rattle.std.specs.Prelude.{◌≡◌};
 ghost use Rattle.nut_proto.specs.declared.request.ListQuery.TheVariants as queries;
-ghost use Rattle.nut_history.specs.Answer.{list_answer};
-ghost use Rattle.nut_server.specs.Answers.{outcome};
+ghost use Rattle.nut_server_spec.specs.Answer.{list_answer};
+ghost use Rattle.nut_server.specs.inside.Answers.{outcome};
 
 use crate::answer::{Answer, Rows};
 use crate::queries::variable_of;

@@ -2,8 +2,8 @@
 
 ghost use Rattle.std.specs.Prelude.{◌≡◌, ◌<◌, None, Some, MatchResult, length};
 ghost use Rattle.nut_proto.specs.declared.refusal.Refusal.TheVariants as refusals;
-ghost use Rattle.nut_history.specs.Answer.{ups_number, device_at};
-ghost use Rattle.nut_history.specs.Device.{trouble};
+ghost use Rattle.nut_server_spec.specs.Answer.{ups_number, device_at};
+ghost use Rattle.nut_server_spec.specs.Device.{trouble};
 
 use crate::config::Config;
 use crate::connections::Connections;
@@ -22,8 +22,8 @@ pub struct Scene<'a> {
 
 impl<'a> Model for Scene<'a> {
     ghost use Rattle.std.specs.Prelude.{map};
-    ghost use Rattle.nut_history.specs.Answer as definitions;
-    ghost use Rattle.nut_history.specs.Machine.{guest_of};
+    ghost use Rattle.nut_server_spec.specs.Answer as definitions;
+    ghost use Rattle.nut_server_spec.specs.machine.Machine.{guest_of};
 
     ghost Value = { definitions.Scene };
 

@@ -2,18 +2,18 @@
 
 ghost use Rattle.std.specs.Prelude.{◌≡◌, ◌<◌, ◌≤◌, ℕ, List, [], Some, None, Result, Ok, Err, IfOk, IfSome, map, length};
 ghost use Rattle.nut_queue.specs.Front.{IsFrontPart};
-ghost use Rattle.nut_history.specs.Configuration.{Configuration};
-ghost use Rattle.nut_history.specs.Event.{Event, Moment, Open, Bytes, Took, Close, DriverUp, DriverBytes, DriverTook, DriverDown};
-ghost use Rattle.nut_history.specs.Content.{content};
-ghost use Rattle.nut_history.specs.Trace.{below};
-ghost use Rattle.nut_server.specs.Server.{unheard};
-ghost use Rattle.nut_history.specs.Acceptance.{Tells, refusal, session_of, supply_of, waiting_of, asks_of, may_read, leaves, kept, is_connected};
-ghost use Rattle.nut_history.specs.Laws.{HasFewConnections};
-ghost use Rattle.nut_history.specs.Limits.{IsWithin, most_waits};
-ghost use Rattle.nut_history.specs.Outcome.{IsAnswer, after};
-ghost use Rattle.nut_history.specs.MachineOutcome.{Answers, content_after};
+ghost use Rattle.nut_server_spec.specs.Configuration.{Configuration};
+ghost use Rattle.nut_server_spec.specs.Event.{Event, Moment, Open, Bytes, Took, Close, DriverUp, DriverBytes, DriverTook, DriverDown};
+ghost use Rattle.nut_server_spec.specs.Content.{content};
+ghost use Rattle.nut_server_spec.specs.Trace.{below};
+ghost use Rattle.nut_server.specs.inside.Server.{unheard};
+ghost use Rattle.nut_server_spec.specs.Acceptance.{Tells, refusal, session_of, supply_of, waiting_of, asks_of, may_read, leaves, kept, is_connected};
+ghost use Rattle.nut_server_spec.specs.Laws.{HasFewConnections};
+ghost use Rattle.nut_server_spec.specs.laws.Limits.{IsWithin, most_waits};
+ghost use Rattle.nut_server_spec.specs.Outcome.{IsAnswer, after};
+ghost use Rattle.nut_server_spec.specs.MachineOutcome.{Answers, content_after};
 ghost use Rattle.nut_server.specs.Arrival.{event_of};
-ghost use Rattle.nut_server.specs.Login.{has_login};
+ghost use Rattle.nut_server.specs.inside.Login.{has_login};
 ghost use Rattle.nut_server.specs.Settling.{IsNextUnsettled, IsNextWaiting};
 
 use crate::address::address_of;
@@ -23,8 +23,8 @@ use crate::connections::Connections;
 use crate::device::Device;
 use arrayvec::ArrayVec;
 use nut_conf::UPSES_MAX;
-use nut_history::{OPENED_MAX, Refused, waits_are_bounded};
 use nut_queue::ASKS_MAX;
+use nut_server_spec::{OPENED_MAX, Refused, waits_are_bounded};
 use nut_words::LINE_MAX;
 use std::alloc::{AllocError, Global};
 use std::marker::Model;
@@ -63,8 +63,8 @@ pub struct Server {
 }
 
 impl Model for Server {
-    ghost use Rattle.nut_history.specs.Content.{Content};
-    ghost use Rattle.nut_server.specs.Server.{IsOrderly};
+    ghost use Rattle.nut_server_spec.specs.Content.{Content};
+    ghost use Rattle.nut_server.specs.inside.Server.{IsOrderly};
 
     ghost Value = { Content };
 

@@ -5,8 +5,8 @@ ghost use Rattle.std.specs.Bool.{OnTrue};
 ghost use Rattle.std.specs.List.{list_any};
 ghost use Rattle.nut_proto.specs.DriverAsks.{ask_line};
 ghost use Rattle.nut_state.specs.Attribute.{lists_enum};
-ghost use Rattle.nut_history.specs.Answer.{is_in_range, is_in_ranges, kind_of, misfit, misfit_by};
-ghost use Rattle.nut_history.specs.Device.{fits};
+ghost use Rattle.nut_server_spec.specs.Answer.{is_in_range, is_in_ranges, kind_of, misfit, misfit_by};
+ghost use Rattle.nut_server_spec.specs.Device.{fits};
 
 use crate::device::Device;
 use arrayvec::ArrayVec;

@@ -4,10 +4,10 @@ ghost use Rattle.std.specs.Prelude.{◌≡◌, ◌≤◌, ◌&&◌, ◌++◌, On
 ghost use Rattle.std.specs.Str.{bytes_eq};
 ghost use Rattle.nut_proto.specs.declared.reply.Reply.TheVariants as replies;
 ghost use Rattle.nut_proto.specs.Replies.{reply_line};
-ghost use Rattle.nut_history.specs.Answer.{guests_of, rw_row, text_of, var_row};
-ghost use Rattle.nut_history.specs.Machine.{guest_of};
-ghost use Rattle.nut_server.specs.Answers.{given, rows_of};
-ghost use Rattle.nut_server.specs.Rows.{writable_text, client_text};
+ghost use Rattle.nut_server_spec.specs.Answer.{guests_of, rw_row, text_of, var_row};
+ghost use Rattle.nut_server_spec.specs.machine.Machine.{guest_of};
+ghost use Rattle.nut_server.specs.inside.Answers.{given, rows_of};
+ghost use Rattle.nut_server.specs.inside.Rows.{writable_text, client_text};
 
 use crate::answer::{Answer, Rows};
 use crate::config::{Config, Ups};
@@ -258,7 +258,7 @@ fn put_rows(out: &mut Vec<u8>, rows: &Rows<'_>) -> Result<(), AllocError>
 }
 
 /// Appends the bytes of an answer. An `Err` is for want of memory: then `out` may have a part of them.
-#[tactic(auto, unfolding(nut_history::specs::Answer::text_of))]
+#[tactic(auto, unfolding(nut_server_spec::specs::Answer::text_of))]
 pub fn put_answer(out: &mut Vec<u8>, answer: &Answer<'_>) -> Result<(), AllocError>
     ensures { OnOk result (out.new.items ≡ out.old.items ++ text_of (given answer.now)) }
 {

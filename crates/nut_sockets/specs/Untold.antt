@@ -1,7 +1,7 @@
 -- The records of worlds that tell nothing.
 use Rattle.std.specs.Prelude.{List, Option, None}
-use Rattle.nut_serve.specs.Record as server
-use Rattle.nut_watch.specs.Record as monitor
+use Rattle.nut_server_loop.specs.Record as server
+use Rattle.nut_monitor_loop.specs.Record as monitor
 
 -- that of a server's world
 abbrev pub untold : Option (List server.Entry)

@@ -1,14 +1,14 @@
 //! The socket of a client.
 
 ghost use Rattle.std.specs.Prelude.{length};
-ghost use Rattle.nut_serve.specs.Record.{IsWithin};
+ghost use Rattle.nut_server_loop.specs.Record.{IsWithin};
 
 use crate::batches::Batches;
 use crate::link::{Heard, Link};
 use mio::event::Event;
 use mio::net::TcpStream;
-use nut_serve::{Piece, Written};
 use nut_server::Server;
+use nut_server_loop::{Piece, Written};
 use std::net::IpAddr;
 
 /// For how many seconds a client may be silent.

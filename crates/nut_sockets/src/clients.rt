@@ -1,7 +1,7 @@
 //! The sockets of clients.
 
 ghost use Rattle.std.specs.Prelude.{length};
-ghost use Rattle.nut_serve.specs.Record.{IsWithin};
+ghost use Rattle.nut_server_loop.specs.Record.{IsWithin};
 
 use crate::client::Client;
 use crate::door::Guest;
@@ -10,8 +10,8 @@ use crate::link::Heard;
 use crate::source::Source;
 use mio::event::Event;
 use mio::{Interest, Registry};
-use nut_serve::{Piece, Written};
 use nut_server::Server;
+use nut_server_loop::{Piece, Written};
 use slab::Slab;
 use std::alloc::Global;
 use std::collections::HashMap;

@@ -1,14 +1,14 @@
 //! The links to the drivers.
 
 ghost use Rattle.std.specs.Prelude.{length};
-ghost use Rattle.nut_serve.specs.Record.{IsWithin};
+ghost use Rattle.nut_server_loop.specs.Record.{IsWithin};
 
 use crate::link::{Heard, Link};
 use crate::text::text_of;
 use mio::event::Event;
 use mio::net::UnixStream;
 use mio::{Interest, Registry, Token};
-use nut_serve::{Piece, Written};
+use nut_server_loop::{Piece, Written};
 use std::alloc::{AllocError, Global};
 use std::io;
 use std::net::Net;

@@ -5,7 +5,7 @@ use crate::seconds::Seconds;
 use mio::net::{UnixListener, UnixStream};
 use mio::{Events, Interest, Poll, Token};
 use nut_dummy::Dummy;
-use nut_serve::{Piece, Written};
+use nut_server_loop::{Piece, Written};
 use std::alloc::Global;
 use std::io;
 use std::io::{Read, Write};

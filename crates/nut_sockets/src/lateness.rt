@@ -2,11 +2,11 @@
 
 ghost use Rattle.std.specs.Prelude.{◌≡◌, ◌==◌, ◌||◌, ◌<◌, ℕ, true, false};
 ghost use Rattle.arrayvec.specs.ArrayVec.{array_vec_len};
-ghost use Rattle.nut_serve.specs.Record.{IsWithin, late_after};
+ghost use Rattle.nut_server_loop.specs.Record.{IsWithin, late_after};
 ghost use Rattle.nut_sockets.specs.Late.{is_noted, is_among};
 
 use arrayvec::ArrayVec;
-use nut_serve::Written;
+use nut_server_loop::Written;
 
 /// What became of a write to the one with this number, who is noted as late where it is to come later. One more than the
 /// list has room for is given up: no more connections, drivers or links than that are open, and if there were, that would be

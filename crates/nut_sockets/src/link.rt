@@ -1,10 +1,10 @@
 //! One end of a connection, whose reads and writes don't wait.
 
 ghost use Rattle.std.specs.Prelude.{length};
-ghost use Rattle.nut_serve.specs.Record.{IsWithin};
+ghost use Rattle.nut_server_loop.specs.Record.{IsWithin};
 
 use mio::event::Event;
-use nut_serve::{Piece, Written, read_piece, write_some};
+use nut_server_loop::{Piece, Written, read_piece, write_some};
 use std::io::{ErrorKind, Read, Write};
 
 /// What a read found.

@@ -1,8 +1,8 @@
 //! All the links of a monitor, watched by one poll.
 
 ghost use Rattle.std.specs.Prelude.{◌≡◌, ◌≢◌, length, IfSome, IfOk, Some, None};
-ghost use Rattle.nut_serve.specs.Record.{IsWithin};
-ghost use Rattle.nut_watch.specs.declared.types.Next.TheVariants as next;
+ghost use Rattle.nut_server_loop.specs.Record.{IsWithin};
+ghost use Rattle.nut_monitor_loop.specs.declared.types.Next.TheVariants as next;
 
 use crate::dialler::Dialler;
 use crate::inquiry::Reply;
@@ -18,8 +18,8 @@ use crate::upstream::Upstream;
 use mio::{Events, Token};
 use nut_conf::UpsmonConf;
 use nut_monitor::{Monitor, Phase, Query};
-use nut_serve::{Piece, Written};
-use nut_watch::Next;
+use nut_monitor_loop::Next;
+use nut_server_loop::{Piece, Written};
 use std::alloc::Global;
 use std::io;
 use std::io::Write;

@@ -1,7 +1,7 @@
 //! The world of a monitor's links.
 
 ghost use Rattle.std.specs.Prelude.{◌≡◌, ◌<◌, ℕ, length, IsOk, IfOk, OnOk, OnErr};
-ghost use Rattle.nut_watch.specs.Record.{WasClosed, WasTold, tells, tells_write, IsWithin, late_after};
+ghost use Rattle.nut_monitor_loop.specs.Record.{WasClosed, WasTold, tells, tells_write, IsWithin, late_after};
 ghost use Rattle.nut_sockets.specs.Late.{is_noted};
 ghost use Rattle.nut_sockets.specs.Untold.{untold_watch};
 
@@ -12,8 +12,8 @@ use crate::reports::Reports;
 use arrayvec::ArrayVec;
 use nut_conf::{MONITORS_MAX, UpsmonConf};
 use nut_monitor::{Monitor, Notice};
-use nut_serve::{Fault, Piece, Written};
-use nut_watch::{MonWorld, Next};
+use nut_monitor_loop::{MonWorld, Next};
+use nut_server_loop::{Fault, Piece, Written};
 use std::alloc::Global;
 use std::io;
 use std::io::Write;

@@ -1,8 +1,8 @@
 //! The world of sockets.
 
 ghost use Rattle.std.specs.Prelude.{◌≡◌, ◌<◌, ℕ, length, IsOk, IfOk, OnOk, OnErr};
-ghost use Rattle.nut_serve.specs.Record.{tells, tells_write, tells_request, IsWithin, late_after};
-ghost use Rattle.nut_serve.specs.Record as entry;
+ghost use Rattle.nut_server_loop.specs.Record.{tells, tells_write, tells_request, IsWithin, late_after};
+ghost use Rattle.nut_server_loop.specs.Record as entry;
 ghost use Rattle.nut_sockets.specs.Late.{is_noted};
 ghost use Rattle.nut_sockets.specs.Untold.{untold};
 
@@ -13,8 +13,8 @@ use crate::sockets::Sockets;
 use arrayvec::ArrayVec;
 use mio::net::TcpListener;
 use nut_conf::{CONNECTIONS_MAX, UPSES_MAX};
-use nut_serve::{Fault, Next, Piece, World, Written};
 use nut_server::Server;
+use nut_server_loop::{Fault, Next, Piece, World, Written};
 use std::alloc::Global;
 use std::io;
 use std::io::Write;

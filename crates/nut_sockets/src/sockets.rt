@@ -1,9 +1,9 @@
 //! All the sockets of a server, watched by one poll.
 
 ghost use Rattle.std.specs.Prelude.{◌≢◌, length, IfSome, IfOk};
-ghost use Rattle.nut_serve.specs.Record.{IsWithin, MayCome};
-ghost use Rattle.nut_serve.specs.declared.types.Next.TheVariants as next;
-ghost use Rattle.nut_history.specs.Content.{Content};
+ghost use Rattle.nut_server_loop.specs.Record.{IsWithin, MayCome};
+ghost use Rattle.nut_server_loop.specs.declared.types.Next.TheVariants as next;
+ghost use Rattle.nut_server_spec.specs.Content.{Content};
 
 use crate::clients::Clients;
 use crate::door::{Door, concerns_one};
@@ -17,8 +17,8 @@ use crate::stall::Stall;
 use mio::Events;
 use mio::net::TcpListener;
 use nut_conf::LISTENERS_MAX;
-use nut_serve::{Address, Next, Piece, Written};
 use nut_server::Server;
+use nut_server_loop::{Address, Next, Piece, Written};
 use std::alloc::Global;
 use std::io;
 use std::io::{ErrorKind, Write};

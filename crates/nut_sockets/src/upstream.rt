@@ -1,7 +1,7 @@
 //! The link to the server of a UPS that is monitored.
 
 ghost use Rattle.std.specs.Prelude.{length};
-ghost use Rattle.nut_serve.specs.Record.{IsWithin};
+ghost use Rattle.nut_server_loop.specs.Record.{IsWithin};
 
 use crate::dialler::Dialler;
 use crate::host::Host;
@@ -16,7 +16,7 @@ use mio::event::Event;
 use mio::net::TcpStream;
 use nut_conf::Monitored;
 use nut_monitor::Query;
-use nut_serve::{Piece, Written};
+use nut_server_loop::{Piece, Written};
 use std::alloc::{AllocError, Global};
 use std::io::ErrorKind;
 use std::net::{IpAddr, Net};

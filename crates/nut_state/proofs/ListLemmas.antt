@@ -6,7 +6,7 @@ use Rattle.std.proofs.lemmas.List.{get_or_default}
 use Rattle.std.specs.declared.cmp.Ordering.TheVariants.{Equal}
 use Rattle.nut_state.specs.Sorted.{name_cmp, named, IsAscending}
 use Rattle.nut_state.specs.Table.{Table, has_command}
-use Rattle.nut_state.specs.Holds.{IsTable, ListsAgree}
+use Rattle.nut_state.specs.laws.Holds.{IsTable, ListsAgree}
 use Rattle.nut_state.proofs.SortedLemmas.{found, name_itself, equal}
 use Rattle.nut_state.proofs.PutLemmas.{name-named}
 use Rattle.nut_state.proofs.TableLemmas.{either}

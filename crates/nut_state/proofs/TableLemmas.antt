@@ -15,7 +15,7 @@ use Rattle.nut_state.specs.Step.{fresh, with_value, without_enum, without_range,
 use Rattle.nut_state.specs.Attribute.{same_range, takes_enum, takes_range}
 use Rattle.nut_state.specs.Change.{Change, set_info, del_info, add_enum, del_enum, add_range, del_range, set_aux, set_flags, add_command, del_command, dump_done, data_ok, data_stale, pong}
 use Rattle.nut_state.specs.Text.{is_name}
-use Rattle.nut_state.specs.Holds.{IsTable, IsWithinLimits}
+use Rattle.nut_state.specs.laws.Holds.{IsTable, IsWithinLimits}
 use Rattle.nut_state.proofs.PutLemmas.{HasName, ascending-put, length-put, length-put_found, length-put_none, All-put, name-named, All-named}
 
 -- a value of an `Option` and the equation that it is that

@@ -1,6 +1,6 @@
 //! What is true of the table after any lines, and how much it holds.
 ghost use Rattle.std.specs.Prelude.{◌≡◌};
-ghost use Rattle.nut_state.specs.Holds.{EveryTableHolds};
+ghost use Rattle.nut_state.specs.laws.Holds.{EveryTableHolds};
 
 use crate::limits::{COMMANDS_MAX, ENUMS_MAX, RANGES_MAX, VARIABLES_MAX};
 

@@ -3,7 +3,7 @@ ghost use Rattle.std.specs.Prelude.{◌≡◌, ◌≤◌, ◌∷◌, [], List, �
 ghost use Rattle.nut_state.specs.Table.{empty, variable, has_command, value_of, flags_of, aux_of, enums_of, ranges_of};
 ghost use Rattle.nut_state.specs.Step.{after, adds, applied, line_adds};
 ghost use Rattle.nut_state.specs.Change.{set_info, del_info, add_enum, del_enum, add_range, del_range, set_aux, set_flags, add_command, del_command, asked_by, heard};
-ghost use Rattle.nut_state.specs.Holds.{Holds, IsWithinLimits};
+ghost use Rattle.nut_state.specs.laws.Holds.{Holds, IsWithinLimits};
 ghost use Rattle.nut_state.specs.Sorted.{IsAscending};
 ghost use Rattle.nut_state.specs.Text.{is_name};
 ghost use Rattle.std.specs.List.{All};
@@ -34,7 +34,7 @@ pub struct UpsState {
 
 impl Model for UpsState {
     ghost use Rattle.nut_state.specs.Table.{Table};
-    ghost use Rattle.nut_state.specs.Holds.{IsTable};
+    ghost use Rattle.nut_state.specs.laws.Holds.{IsTable};
 
     ghost Value = { Table };
 

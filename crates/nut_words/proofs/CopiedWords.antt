@@ -5,7 +5,7 @@ use Rattle.std.specs.Borrow.{Bor}
 use Rattle.std.proofs.Math.Seq.{set-append_seam}
 use Rattle.nut_words.specs.declared.words.CopiedWord.{CopiedWord}
 use Rattle.nut_words.specs.declared.words.Words.TheInside.{Inside}
-use Rattle.nut_words.specs.WordsInside.{with_copied, texts_inside, HavePlaces}
+use Rattle.nut_words.specs.inside.WordsInside.{with_copied, texts_inside, HavePlaces}
 
 pub length-with_copied : (copied : List CopiedWord) (words : List (List ℕ)) → length (with_copied copied words) ≡ length words
 length-with_copied [] words = refl

@@ -44,7 +44,7 @@ impl Model for LineCutter {
 
     ghost Value = { LineText };
 
-    ghost use Rattle.nut_words.specs.Inside.{rest_inside};
+    ghost use Rattle.nut_words.specs.inside.Inside.{rest_inside};
 
     ghost view = { rest_inside };
 }

@@ -12,7 +12,7 @@
 //! bytes for each link, and the oldest notice.
 
 ghost use Rattle.std.specs.Prelude.{◌≡◌, IfOk, []};
-ghost use Rattle.nut_decision.specs.Content.{content};
+ghost use Rattle.nut_monitor_spec.specs.Content.{content};
 
 use crate::failure::Failure;
 use crate::monitor::show_notice;
@@ -20,8 +20,8 @@ use crate::played::Played;
 use crate::text::{decode, parted, put};
 use nut_conf::read_upsmon;
 use nut_monitor::{Monitor, Phase};
-use nut_serve::{Piece, ServeFault};
-use nut_watch::{Given, MemoryMonWorld, Note, watch_memory};
+use nut_monitor_loop::{Given, MemoryMonWorld, Note, watch_memory};
+use nut_server_loop::{Piece, ServeFault};
 use std::alloc::Global;
 use std::io::Write;
 use std::sync::Wait;

@@ -1,16 +1,16 @@
 //! What arrives but is said by nobody: moments, connections and links that come and go, and bytes that are taken.
 
 ghost use Rattle.std.specs.Prelude.{◌≡◌, ◌<◌, ◌≤◌, map, length, max};
-ghost use Rattle.nut_history.specs.Event.{Moment, Open, Bytes, Took, Close, DriverUp, DriverBytes, DriverTook, DriverDown};
-ghost use Rattle.nut_history.specs.Acceptance.{line_feeds};
-ghost use Rattle.nut_history.specs.Machine.{advance, ticked};
-ghost use Rattle.nut_history.specs.MachineOutcome.{Answers, content_after};
+ghost use Rattle.nut_server_spec.specs.Event.{Moment, Open, Bytes, Took, Close, DriverUp, DriverBytes, DriverTook, DriverDown};
+ghost use Rattle.nut_server_spec.specs.Acceptance.{line_feeds};
+ghost use Rattle.nut_server_spec.specs.machine.Machine.{advance, ticked};
+ghost use Rattle.nut_server_spec.specs.MachineOutcome.{Answers, content_after};
 
 use crate::address::address_of;
 use crate::connection::Connection;
 use crate::device::Device;
 use crate::server::Server;
-use nut_history::{OPENED_MAX, Place, Refused};
+use nut_server_spec::{OPENED_MAX, Place, Refused};
 use nut_words::PIECE_MAX;
 
 /// It is this time: each driver is asked whether it is there, where that is due.

@@ -1,12 +1,12 @@
 //! The loop over a world whose devices are slow, late or broken.
 
 ghost use Rattle.std.specs.Prelude.{◌≡◌, []};
-ghost use Rattle.nut_history.specs.Content.{content};
+ghost use Rattle.nut_server_spec.specs.Content.{content};
 
 use super::room::{fresh_server, let_server_go};
 use failing_world::{Deed, FailingWorld, Row, Trouble, serve_failing};
-use nut_serve::{World, Written};
 use nut_server::Server;
+use nut_server_loop::{World, Written};
 use std::alloc::{AllocError, Global};
 use std::sync::Wait;
 use std::test::Fail;

@@ -1,7 +1,7 @@
 //! The server of the tests: one UPS, a user who may set and one who monitors, and two connections.
 
 ghost use Rattle.std.specs.Prelude.{◌≡◌, [], IfOk};
-ghost use Rattle.nut_history.specs.Content.{content};
+ghost use Rattle.nut_server_spec.specs.Content.{content};
 
 use nut_conf::{UsersConf, read_ups, read_upsd, read_users};
 use nut_server::{Config, Server};

@@ -1,13 +1,13 @@
 //! The loop over worlds in memory.
 
 ghost use Rattle.std.specs.Prelude.{◌≡◌, []};
-ghost use Rattle.nut_history.specs.Content.{content};
+ghost use Rattle.nut_server_spec.specs.Content.{content};
 
 use super::room::{fresh_server, let_server_go};
 use super::{ROWS, ROWS_ANSWERED};
 use failing_world::Row;
-use nut_serve::{Address, Given, MemoryWorld, Note, Piece, serve_memory};
 use nut_server::Server;
+use nut_server_loop::{Address, Given, MemoryWorld, Note, Piece, serve_memory};
 use std::alloc::{AllocError, Global};
 use std::sync::Wait;
 use std::test::Fail;

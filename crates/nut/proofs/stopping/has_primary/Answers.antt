@@ -1,5 +1,5 @@
 use Rattle.std.proofs.Common.{◌∙◌, ap, map}
-use Rattle.nut_decision.specs.Configuration.{has_primary, line_of}
+use Rattle.nut_monitor_spec.specs.Configuration.{has_primary, line_of}
 use Rattle.nut.proofs.Lines.{primaries}
 use Rattle.nut.proofs.stopping.has_primary.Goals as goal
 

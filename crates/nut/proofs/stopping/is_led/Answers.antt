@@ -1,6 +1,6 @@
 use Rattle.std.proofs.Common.{◌∙◌, ap, map}
 use Rattle.std.specs.List.{list_any}
-use Rattle.nut_decision.specs.Configuration.{line_of}
+use Rattle.nut_monitor_spec.specs.Configuration.{line_of}
 use Rattle.nut.specs.Stopping.{is_led}
 use Rattle.nut.proofs.Lines.{led}
 use Rattle.nut.proofs.stopping.is_led.Goals as goal

@@ -1,5 +1,5 @@
 use Rattle.std.proofs.Common.{◌≡◌, ◌++◌, List, ℕ}
-use Rattle.nut_decision.specs.Query.{flags_of, parted}
+use Rattle.nut_monitor_spec.specs.Query.{flags_of, parted}
 use Rattle.nut_words.proofs.CutLemmas.{pending, left}
 use Rattle.nut_monitor.proofs.flags.read_flags.Given as goal
 

@@ -2,11 +2,11 @@ use Rattle.std.proofs.Common.{◌∙◌, ap, subst, refl, length}
 use Rattle.nut_proto.specs.declared.reply.Reply.TheVariants as replies
 use Rattle.nut_proto.specs.declared.request.Request.TheVariants as requests
 use Rattle.nut_proto.specs.Descriptions.{variable_description, command_description}
-use Rattle.nut_history.specs.Answer.{Line, described, guests_of, type_reply, var_row}
-use Rattle.nut_history.specs.Command.{Asks}
-use Rattle.nut_history.specs.Configuration.{ups_named}
-use Rattle.nut_history.specs.Machine.{caller_of}
-use Rattle.nut_server.specs.Decisions.{Grants}
+use Rattle.nut_server_spec.specs.Answer.{Line, described, guests_of, type_reply, var_row}
+use Rattle.nut_server_spec.specs.Command.{Asks}
+use Rattle.nut_server_spec.specs.Configuration.{ups_named}
+use Rattle.nut_server_spec.specs.machine.Machine.{caller_of}
+use Rattle.nut_server.specs.inside.Decisions.{Grants}
 use Rattle.nut_server.proofs.Deciding.{tells, grants, refusable_set, refusable_command, refusable_fsd}
 use Rattle.nut_server.proofs.Quiet.{of_ups, of_described, of_variable, of_command, of_list}
 use Rattle.nut_server.proofs.decision.decide_request.Goals as goal

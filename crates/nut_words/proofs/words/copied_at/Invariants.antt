@@ -1,5 +1,5 @@
 use Rattle.std.proofs.Common.{◌≡◌, ℕ, ◌≤◌, List, [], length, take, get_or}
-use Rattle.nut_words.specs.WordsInside.{with_copied}
+use Rattle.nut_words.specs.inside.WordsInside.{with_copied}
 use Rattle.nut_words.proofs.words.copied_at.Given as goal
 
 -- No copy behind those that are left has the place.

@@ -1,8 +1,8 @@
 use Rattle.std.proofs.Common.{◌≡◌, ◌≤◌, length, true, false, sym, ◌∙◌, ap, arith, length-set}
 use Rattle.nut_words.specs.declared.limits.TheConstants.{PIECE_MAX}
-use Rattle.nut_decision.specs.Configuration.{configuration_of}
-use Rattle.nut_monitor.specs.Sound.{lacks_memory}
-use Rattle.nut_monitor.specs.Steps.{content_in}
+use Rattle.nut_monitor_spec.specs.Configuration.{configuration_of}
+use Rattle.nut_monitor.specs.inside.Sound.{lacks_memory}
+use Rattle.nut_monitor.specs.inside.Steps.{content_in}
 use Rattle.nut_monitor.proofs.Steps.{anew_orderly}
 use Rattle.nut_monitor.proofs.Bounded.{set_bounded}
 use Rattle.nut_monitor.proofs.Bytes.{piece_bounded, bytes_done, bytes_free, bytes_lack, bytes_out}

@@ -2,7 +2,7 @@ use Rattle.std.proofs.Common.{◌≤◌, sym, subst, arith}
 use Rattle.nut_words.specs.Lines.{LineText, last_of, parts}
 use Rattle.nut_words.specs.Cutter.{kept_of}
 use Rattle.nut_words.specs.declared.limits.TheConstants.{LINE_MAX}
-use Rattle.nut_history.proofs.Bounds.{line-bound}
+use Rattle.nut_server_spec.proofs.Bounds.{line-bound}
 use Rattle.nut_server.proofs.connection.Connection.kept.Goals as goal
 
 pub returns-clause-within : goal.returns-clause-within

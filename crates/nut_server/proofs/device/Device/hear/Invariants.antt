@@ -1,7 +1,7 @@
 use Rattle.std.proofs.Common.{◌≡◌, ℕ, List, length}
 use Rattle.nut_words.specs.Lines.{rest}
-use Rattle.nut_history.specs.Acceptance.{front}
-use Rattle.nut_history.specs.Machine.{bytes_reported}
+use Rattle.nut_server_spec.specs.Acceptance.{front}
+use Rattle.nut_server_spec.specs.machine.Machine.{bytes_reported}
 use Rattle.nut_server.proofs.Feeds.{behind}
 use Rattle.nut_server.proofs.Reports.{with_report}
 use Rattle.nut_server.proofs.device.Device.hear.Given as goal

@@ -1,9 +1,9 @@
 use Rattle.std.proofs.Common.{◌≡◌, ℕ, List, length}
 use Rattle.nut_words.specs.Lines.{rest}
-use Rattle.nut_history.specs.Acceptance.{front}
-use Rattle.nut_history.specs.Machine.{bytes_heard}
-use Rattle.nut_history.proofs.Hearing.{with_unfinished}
-use Rattle.nut_server.specs.Place.{Stands}
+use Rattle.nut_server_spec.specs.Acceptance.{front}
+use Rattle.nut_server_spec.specs.machine.Machine.{bytes_heard}
+use Rattle.nut_server_spec.proofs.Hearing.{with_unfinished}
+use Rattle.nut_server.specs.inside.Place.{Stands}
 use Rattle.nut_server.proofs.Feeds.{behind}
 use Rattle.nut_server.proofs.server.Server.hear_lines.Given as goal
 

@@ -1,10 +1,10 @@
 use Rattle.std.proofs.Common.{length, subst, sym, ap, ◌∙◌, arith}
 use Rattle.std.proofs.lemmas.List.{length-map}
-use Rattle.nut_history.specs.Laws.{IsUpTo}
-use Rattle.nut_history.specs.Limits.{IsWithin}
-use Rattle.nut_history.specs.Trace.{below}
-use Rattle.nut_server.specs.Inside.{numbers_of}
-use Rattle.nut_server.specs.Server.{unheard}
+use Rattle.nut_server_spec.specs.Laws.{IsUpTo}
+use Rattle.nut_server_spec.specs.laws.Limits.{IsWithin}
+use Rattle.nut_server_spec.specs.Trace.{below}
+use Rattle.nut_server.specs.inside.Inside.{numbers_of}
+use Rattle.nut_server.specs.inside.Server.{unheard}
 use Rattle.nut_server.proofs.Arrives.{length-below}
 use Rattle.nut_server.proofs.Limited.{config_within}
 use Rattle.nut_server.proofs.server.Server.new.Goals as goal

@@ -1,5 +1,5 @@
 use Rattle.std.proofs.Common.{◌≡◌, ◌<◌, ◌≤◌, ℕ, []}
-use Rattle.nut_history.specs.Acceptance.{asks_of}
+use Rattle.nut_server_spec.specs.Acceptance.{asks_of}
 use Rattle.nut_server.proofs.server.Server.next_driver_waiting.Given as goal
 
 -- for none before it do bytes wait

@@ -1,6 +1,6 @@
 use Rattle.std.proofs.Common.{◌+◌, [], ◌∷◌, length, subst, sym, ap, arith, length-append}
-use Rattle.nut_history.specs.Laws.{IsUpTo}
-use Rattle.nut_server.specs.Inside.{numbers_of}
+use Rattle.nut_server_spec.specs.Laws.{IsUpTo}
+use Rattle.nut_server.specs.inside.Inside.{numbers_of}
 use Rattle.nut_server.proofs.Orderly.{IsUpTo-push}
 use Rattle.nut_server.proofs.Arrives.{numbers-length}
 use Rattle.nut_server.proofs.server.Server.open.Goals as goal

@@ -1,7 +1,7 @@
 use Rattle.std.proofs.Common.{◌≡◌, true, length, sym, subst, ◌∙◌, inl, inr, arith}
 use Rattle.std.specs.Prelude.{nat_lt}
 use Rattle.nut_state.specs.Sorted.{IsFound, IsFree}
-use Rattle.nut_state.specs.Holds.{IsTable}
+use Rattle.nut_state.specs.laws.Holds.{IsTable}
 use Rattle.nut_state.specs.contracts.state.UpsState.{the_view}
 use Rattle.nut_state.specs.declared.limits.TheConstants.{COMMANDS_MAX}
 use Rattle.nut_state.specs.Text.{is_name}

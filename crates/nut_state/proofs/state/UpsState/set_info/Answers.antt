@@ -2,7 +2,7 @@ use Rattle.std.proofs.Common.{◌≡◌, true, length, sym, subst, ◌∙◌, in
 use Rattle.std.specs.Prelude.{slice_set, nat_le}
 use Rattle.nut_words.specs.declared.limits.TheConstants.{VALUE_MAX}
 use Rattle.nut_state.specs.Sorted.{IsFound, IsFree}
-use Rattle.nut_state.specs.Holds.{IsTable}
+use Rattle.nut_state.specs.laws.Holds.{IsTable}
 use Rattle.nut_state.specs.contracts.state.UpsState.{the_view}
 use Rattle.nut_state.specs.Text.{is_name}
 use Rattle.nut_state.specs.Step.{after, adds}

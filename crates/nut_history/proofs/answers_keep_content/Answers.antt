@@ -1,5 +1,0 @@
-use Rattle.nut_history.proofs.Tells.{answers-told, tells-after}
-use Rattle.nut_history.proofs.answers_keep_content.Goals as goal
-
-pub returns : goal.returns
-returns c = λ first h s e r told is. (answers-told first h s e r told is, tells-after first h s e r told is)

@@ -1,0 +1,37 @@
+-- What the parts of the loop leave as it was.
+use Rattle.std.specs.Prelude.{◌≡◌, ◌≢◌, ◌<◌, ℕ, Bool, true, List, length}
+use Rattle.nut_monitor_spec.specs.Content.{Watch}
+use Rattle.nut_server_loop.specs.declared.types.Written.{Written}
+use Rattle.nut_server_loop.specs.declared.types.Written.TheVariants.{Took, Later, Failed}
+use Rattle.nut_monitor_loop.specs.Record.{waiting_of, IsSettled}
+
+-- There are as many links as before, and no more or less waits on any other than link i.
+pub record OnlyAt (i : ℕ) (old new : List Watch) : Type 0 where
+  pub as_many : length new ≡ length old
+  pub others : (j : ℕ) → j ≢ i → waiting_of j new ≡ waiting_of j old
+
+-- which links are late stay so
+abbrev pub StaysLate : (ℕ → Bool) → (ℕ → Bool) → Type 0
+StaysLate old new = (j : ℕ) → old j ≡ true → new j ≡ true
+
+-- late are those that were
+abbrev pub KeepsLate : (ℕ → Bool) → (ℕ → Bool) → Type 0
+KeepsLate old new = (j : ℕ) → new j ≡ old j
+
+-- where bytes were taken, less waits
+abbrev pub Less : Written → ℕ → List Watch → List Watch → Type 0
+Less (Took n) i old new = length (waiting_of i new) < length (waiting_of i old)
+Less Later i old new = Unit {0}
+Less Failed i old new = Unit {0}
+
+-- a link on which a write is to come later is late
+abbrev pub Settles : Written → (ℕ → Bool) → List Watch → ℕ → Type 0
+Settles (Took n) late watches i = Unit {0}
+Settles Later late watches i = IsSettled late watches i
+Settles Failed late watches i = Unit {0}
+
+-- where no write failed, no other link changes
+abbrev pub Unbroken : Written → ℕ → List Watch → List Watch → Type 0
+Unbroken (Took n) i old new = OnlyAt i old new
+Unbroken Later i old new = OnlyAt i old new
+Unbroken Failed i old new = Unit {0}

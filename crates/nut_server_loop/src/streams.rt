@@ -1,0 +1,178 @@
+//! A world over a reader and a writer, for one client.
+
+ghost use Rattle.std.specs.Prelude.{◌≡◌, true, false, List, None, OnErr};
+ghost use Rattle.std.specs.Prelude.{◌<◌, ◌≤◌, length, IfOk};
+ghost use Rattle.nut_server_loop.specs.declared.streams.Stage.{Stage};
+ghost use Rattle.nut_server_loop.specs.declared.streams.Stage.TheVariants.{Ended};
+
+use crate::{Address, Fault, Next, Piece, World, Written};
+use nut_server::Server;
+use nut_words::PIECE_MAX;
+use std::io;
+use std::io::{ErrorKind, Read, Write};
+
+/// The number of the one connection: the first that a server accepts.
+const CLIENT: u64 = 1;
+
+/// The address of the one client.
+const ADDRESS: &[u8] = b"stdio";
+
+/// How far the one client has come.
+#[derive(Clone, Copy, Debug, PartialEq, Eq)]
+enum Stage {
+    Arriving,
+    Present,
+    Ended,
+}
+
+/// A stream of a world over standard streams.
+#[derive(Clone, Copy, Debug, PartialEq, Eq)]
+pub enum Stream {
+    /// The reader that the client's bytes come from.
+    Input,
+    /// The writer that replies go to.
+    Output,
+}
+
+/// A world with one client and no drivers. The client's bytes come from a reader, and replies go to a writer at once.
+///
+/// It ends where the client may be read no more, and at the end of the input. A failed read or write is a fault.
+/// The writer isn't flushed: it should be one that keeps no bytes back. It tells no record.
+#[derive(Drop)]
+pub struct StreamWorld<'a, R, T> {
+    input: &'a mut R,
+    output: &'a mut T,
+    stage: Stage,
+    faults: u64,
+    failed: Option<Stream>,
+}
+
+impl<'a, R: Read, T: Write> StreamWorld<'a, R, T> {
+    /// A world whose client is about to connect.
+    pub fn new(input: &'a mut R, output: &'a mut T) -> Self
+        ensures faults { result.faults ≡ 0 }
+        ensures failed { result.failed ≡ None }
+    {
+        StreamWorld {
+            input,
+            output,
+            stage: Stage::Arriving,
+            faults: 0,
+            failed: None,
+        }
+    }
+
+    /// The stream that failed last, if one did.
+    pub fn failed(&self) -> Option<Stream>
+        ensures { result ≡ self.now.failed }
+    {
+        self.failed
+    }
+}
+
+impl<'a, R: Read, T: Write> World for StreamWorld<'a, R, T> {
+    ghost log = { λ w. None };
+
+    ghost late = { λ w d. false };
+
+    ghost driver_late = { λ w u. false };
+
+    ghost fault_count = { λ w. w.faults };
+
+    ghost has_ended = { λ w s. w.stage ≡ Ended };
+
+    ghost reached = { λ a b. Unit {0} };
+
+    ghost reached_self = { λ w. tt };
+
+    ghost reached_on = { λ a b c first second. tt };
+
+    fn faults(&self) -> u64 {
+        self.faults
+    }
+
+    fn next(&mut self, server: &Server, piece: &mut Piece) -> Result<Next, Fault> {
+        if self.stage == Stage::Arriving {
+            self.stage = Stage::Present;
+            return Ok(Next::Open(address()));
+        }
+        if self.stage == Stage::Ended || !server.may_read(CLIENT) {
+            self.stage = Stage::Ended;
+            return Ok(Next::End);
+        }
+        match read_piece(self.input, piece) {
+            Ok(0) => {
+                self.stage = Stage::Ended;
+                Ok(Next::End)
+            }
+            Ok(_) => Ok(Next::Bytes(CLIENT)),
+            Err(_) => {
+                self.failed = Some(Stream::Input);
+                self.faults += 1;
+                Err(Fault)
+            }
+        }
+    }
+
+    fn write(&mut self, _c: u64, bytes: &[u8]) -> Result<Written, Fault> {
+        match write_some(self.output, bytes) {
+            Ok(n) if n > 0 => Ok(Written::Took(n)),
+            _ => {
+                self.failed = Some(Stream::Output);
+                self.faults += 1;
+                Err(Fault)
+            }
+        }
+    }
+
+    fn write_driver(&mut self, _u: usize, _bytes: &[u8]) -> Result<Written, Fault> {
+        self.faults += 1;
+        Err(Fault)
+    }
+
+    fn close(&mut self, _c: u64) -> Result<(), Fault> {
+        self.stage = Stage::Ended;
+        Ok(())
+    }
+
+    fn close_driver(&mut self, _u: usize) -> Result<(), Fault> {
+        Ok(())
+    }
+}
+
+/// The address of the one client.
+fn address() -> Address {
+    let mut address = Address::new();
+    let _ = address.try_extend_from_slice(ADDRESS);
+    address
+}
+
+/// Reads one piece, and says how long it is: 0 at the end of the input.
+pub fn read_piece<R: Read>(input: &mut R, piece: &mut Piece) -> io::Result<usize> {
+    *piece = Piece::from([0; PIECE_MAX]);
+    for _ in 0..u64::MAX {
+        match input.read(piece.as_mut_slice()) {
+            Ok(n) => {
+                piece.truncate(n);
+                return Ok(n);
+            }
+            Err(e) if e.kind() == ErrorKind::Interrupted => {}
+            Err(e) => return Err(e),
+        }
+    }
+    Err(io::Error::from(ErrorKind::Interrupted))
+}
+
+/// Writes what the writer takes at once, and says how much that was.
+pub fn write_some<T: Write>(output: &mut T, bytes: &[u8]) -> io::Result<usize>
+    ensures { IfOk result (λ n. n ≤ length bytes.now) }
+{
+    for _ in 0..u64::MAX {
+        match output.write(bytes) {
+            Ok(n) => return Ok(n),
+            Err(e) if e.kind() == ErrorKind::Interrupted => {}
+            Err(e) => return Err(e),
+        }
+    }
+    Err(io::Error::from(ErrorKind::Interrupted))
+}
