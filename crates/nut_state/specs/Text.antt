@@ -3,6 +3,6 @@ use Rattle.std.specs.Prelude.{ℕ, Bool, List}
 use Rattle.nut_words.specs.Name.{is_name as is_name_upto}
 use Rattle.nut_state.specs.declared.limits.TheConstants.{NAME_BYTES}
 
--- A name has at most NAME_BYTES bytes.
+-- Whether the text is a name of at most NAME_BYTES bytes.
 abbrev pub is_name : List ℕ → Bool
 is_name text = is_name_upto NAME_BYTES text

@@ -1,4 +1,4 @@
-//! How much a table holds: this project's own limits, all in this one place.
+//! How much a table holds: this project's own limits, all in this module.
 
 /// The greatest length of a name of a variable or a command, in bytes.
 pub const NAME_BYTES: usize = 64;
