@@ -1,4 +1,4 @@
-//! Texts for people, by the names of variables and commands. They are this project's own.
+//! Descriptions of variables and commands for people. The texts are this project's own.
 ghost use Rattle.std.specs.Prelude.{◌≡◌, ◌≤◌, IsTrue, length};
 ghost use Rattle.std.specs.List.{list_all};
 ghost use Rattle.std.specs.Str.{bytes_eq};
@@ -11,8 +11,8 @@ fn is_name(name: &[u8], known: &[u8]) -> bool
     name == known
 }
 
-/// What a variable tells, for people to read: at most 31 bytes, of printing bytes only.
-/// A name that is not known gives `Description unavailable`.
+/// Returns the description of a variable: at most 31 bytes, all printing. A name that isn't listed here gives
+/// `Description unavailable`.
 #[tactic(auto, unfolding(crate::specs::Descriptions::variable_description))]
 pub fn variable_description(name: &[u8]) -> &'static [u8]
     ensures value { result.now ≡ variable_description name.now }
@@ -42,8 +42,8 @@ pub fn variable_description(name: &[u8]) -> &'static [u8]
     }
 }
 
-/// What a command does, for people to read: at most 31 bytes, of printing bytes only.
-/// A name that is not known gives `Description unavailable`.
+/// Returns the description of a command: at most 31 bytes, all printing. A name that isn't listed here gives
+/// `Description unavailable`.
 #[tactic(auto, unfolding(crate::specs::Descriptions::command_description))]
 pub fn command_description(name: &[u8]) -> &'static [u8]
     ensures value { result.now ≡ command_description name.now }

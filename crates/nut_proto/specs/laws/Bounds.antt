@@ -1,4 +1,4 @@
--- How long messages are where names and values are within their limits.
+-- How long messages are, if names and values are within their limits.
 use Rattle.std.specs.Prelude.{ℕ, ◌+◌, ◌≤◌, List, ◌∷◌, ◌++◌, length, codes, IsTrue}
 use Rattle.std.specs.List.{flat_map, AllByRecursion}
 use Rattle.nut_words.specs.Quoting.{stands_bare}
@@ -7,15 +7,15 @@ use Rattle.nut_proto.specs.declared.request.ListQuery.TheVariants as queries
 use Rattle.nut_proto.specs.Requests.{begin_line, end_line}
 use Rattle.nut_proto.specs.Replies.{reply_line}
 
--- A name stands bare, and has at most so many bytes.
+-- The name can be written bare and has at most `most` bytes.
 abbrev pub IsName : ℕ → List ℕ → Type 0
 IsName most name = IsTrue (stands_bare name) × (length name ≤ most)
 
--- A variable's name has at most 64 bytes, and its value at most 128.
+-- The variable's name has at most 64 bytes and can be written bare, and its value has at most 128 bytes.
 abbrev pub IsVariable : List ℕ × List ℕ → Type 0
 IsVariable row = IsName 64 row.0 × (length row.1 ≤ 128)
 
--- the rows of LIST VAR, of names with their values
+-- the rows of LIST VAR, for these names and values
 abbrev pub variable_rows : List ℕ → List (List ℕ × List ℕ) → List ℕ
 variable_rows ups rows = flat_map (λ row. reply_line (replies.Var ups row.0 row.1)) rows
 
@@ -27,13 +27,13 @@ variable_list ups rows = begin_line (queries.Var ups) ++ (variable_rows ups rows
 abbrev pub RowsAreBounded : Type 0
 RowsAreBounded = (ups name value : List ℕ) → IsName 32 ups → IsVariable (name, value) → length (reply_line (replies.Var ups name value)) ≤ 361
 
--- The reply to LIST VAR, 512 variables at most, has at most 184,926 bytes.
+-- If a table has at most 512 variables, the reply to LIST VAR has at most 184,926 bytes.
 abbrev pub ListsAreBounded : Type 0
 ListsAreBounded =
     (ups : List ℕ) (rows : List (List ℕ × List ℕ)) →
     IsName 32 ups → AllByRecursion IsVariable rows → length rows ≤ 512 → length (variable_list ups rows) ≤ 184926
 
--- Where one value is shown with `FSD ` in front, it has at most 184,930.
+-- The same reply, with `FSD ` put before one value, has at most 184,930 bytes.
 abbrev pub ForcedListsAreBounded : Type 0
 ForcedListsAreBounded =
     (ups name value : List ℕ) (before after : List (List ℕ × List ℕ)) →

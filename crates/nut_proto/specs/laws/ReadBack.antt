@@ -1,4 +1,4 @@
--- What is written is read back as it was meant.
+-- What one side writes, the other reads as it was meant.
 use Rattle.std.specs.Prelude.{◌≡◌, ◌≤◌, List, [], ◌∷◌, length, Ok, Some, codes, IsTrue}
 use Rattle.nut_words.specs.Reader.{spelled}
 use Rattle.nut_proto.specs.declared.part.Part.{Part}
@@ -19,24 +19,24 @@ use Rattle.nut_proto.specs.Replies.{reply_parts}
 use Rattle.nut_proto.specs.DriverAsks.{ask_parts, ask_of}
 use Rattle.nut_proto.specs.Answers.{answer_in}
 
--- At most 32 parts spell their words.
+-- The text of at most 32 parts spells their words.
 abbrev pub MessagesSpell : Type 0
 MessagesSpell = (parts : List Part) → AreWritable parts → length parts ≤ 32 → spelled (message parts) ≡ Ok (message_words parts)
 
--- A user name and a password have 1 to 128 bytes; no other word of a request has a bound of its own.
+-- A user name and a password have 1 to 128 bytes. The law sets no limit for any other word of a request.
 abbrev pub IsReadable : Request → Type 0
 IsReadable (requests.Username name) = IsTrue (is_credential name)
 IsReadable (requests.Password password) = IsTrue (is_credential password)
 IsReadable request = Unit {0}
 
--- A request is written as words that mean it.
+-- The line of a request spells words that mean this request.
 abbrev pub RequestsAreRead : Type 0
 RequestsAreRead =
     (request : Request) → AreWritable (request_parts request) → IsReadable request →
     (spelled (message (request_parts request)) ≡ Ok (message_words (request_parts request))) ×
     (meaning (message_words (request_parts request)) ≡ Ok request)
 
--- the answer as which a reply is read: a success, the name of a refusal, or else a row
+-- what a reply is read as: a success, the name of a refusal, or else a row
 abbrev pub answer_to : Reply → Answer
 answer_to replies.Accepted = answers.Ok []
 answer_to replies.FsdSet = answers.Ok (codes "FSD-SET" ∷ [])
@@ -44,17 +44,18 @@ answer_to replies.Goodbye = answers.Ok (codes "Goodbye" ∷ [])
 answer_to (replies.Refused refusal) = answers.Err (refusal_name refusal)
 answer_to reply = answers.Row (message_words (reply_parts reply))
 
+-- The line of a reply is read as `answer_to` that reply.
 abbrev pub RepliesAreRead : Type 0
 RepliesAreRead = (reply : Reply) → AreWritable (reply_parts reply) → answer_in (message (reply_parts reply)) ≡ Ok (answer_to reply)
 
--- The lines round a list are read as its beginning and its end, with the words of the query.
+-- The lines before and after the rows of a list are read as its beginning and its end, with the words of the query.
 abbrev pub ListsAreRead : Type 0
 ListsAreRead =
     (query : ListQuery) → AreWritable (query_parts query) →
     (answer_in (message (begin_parts query)) ≡ Ok (answers.Begin (message_words (query_parts query)))) ×
     (answer_in (message (end_parts query)) ≡ Ok (answers.End (message_words (query_parts query))))
 
--- What a driver is asked is written as words that ask it.
+-- The line of a request to a driver spells words that make this request.
 abbrev pub AsksAreRead : Type 0
 AsksAreRead =
     (ask : DriverAsk) → AreWritable (ask_parts ask) →
