@@ -1,4 +1,4 @@
-//! The lines of upsmon.conf that name a UPS.
+//! The MONITOR lines of upsmon.conf.
 ghost use Rattle.std.specs.Prelude.{◌≤◌, length};
 
 use crate::fault::FaultKind;
@@ -8,7 +8,7 @@ use crate::slot::listed_apart;
 use crate::values::Form;
 use std::alloc::Global;
 
-/// At most 32 of them, in the order of the file; of a file that was read, no two with the same target.
+/// At most 32 MONITOR lines, in the order of the file. In a file that was read, no two have the same target.
 #[derive(Drop)]
 pub struct Monitors {
     pub lines: Vec<Monitored>,
@@ -21,7 +21,7 @@ impl Monitors {
     ghost use Rattle.nut_conf.specs.Upsmon.{monitor_setting, monitor_value, same_target};
     ghost use Rattle.nut_conf.specs.declared.values.Form.TheVariants.{Plain};
 
-    /// No lines.
+    /// Returns an empty list.
     pub(crate) fn new(alloc: Global) -> Self
         ensures { result.lines.items ≡ [] }
     {
@@ -30,7 +30,7 @@ impl Monitors {
         }
     }
 
-    /// Puts one more line behind the others.
+    /// Adds the line at the end.
     pub(crate) fn put(&mut self, line: &Line<'_>) -> Result<(), FaultKind>
         ensures { Puts (distinct same_target (Some 32) Plain monitor_value) (map monitor_setting self.old.lines.items) line.now.words result (map monitor_setting self.new.lines.items) }
     {

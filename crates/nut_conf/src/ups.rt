@@ -20,7 +20,7 @@ use crate::values::Form;
 use nut_words::are_printing;
 use std::alloc::Global;
 
-/// A UPS: a section of ups.conf. What isn't set has its default.
+/// A UPS: a section of ups.conf. A directive that isn't set has its default.
 #[derive(Debug, Drop)]
 pub struct Ups {
     pub driver: Option<Name<32>>,
@@ -35,7 +35,7 @@ pub struct UpsConf {
 }
 
 impl Ups {
-    /// The name of the driver's program; where none is set, `dummy-ups`.
+    /// Returns the name of the driver's program: `dummy-ups` if none is set.
     pub fn driver(&self) -> &[u8]
         ensures value { result.now ≡ driver_of self.now }
         ensures named { IsTrue (is_name 32 result.now) }
@@ -47,7 +47,7 @@ impl Ups {
         }
     }
 
-    /// What the driver is to open; where none is set, empty.
+    /// Returns the port, which says what the driver opens: empty if none is set.
     pub fn port(&self) -> &[u8]
         ensures value { result.now ≡ port_of self.now }
         ensures bounded { IsTrue (is_text 0 128 result.now) }
@@ -59,7 +59,7 @@ impl Ups {
         }
     }
 
-    /// What people call the UPS; where none is set, `Unavailable`.
+    /// Returns the description of the UPS: `Unavailable` if none is set.
     pub fn desc(&self) -> &[u8]
         ensures value { result.now ≡ desc_of self.now }
         ensures bounded { IsTrue (is_text 0 128 result.now) }
@@ -72,13 +72,13 @@ impl Ups {
     }
 }
 
-/// How many UPSes there are at most.
+/// The most UPSes in a configuration.
 const UPS_MAX: usize = 32;
-/// How many bytes a description has at most.
+/// The most bytes in a description.
 const DESC_MAX: usize = 128;
 
 impl UpsConf {
-    /// A configuration without a UPS, as that of an empty file.
+    /// Returns a configuration without UPSes, like that of an empty file.
     pub fn new(alloc: Global) -> Self
         ensures shown { shown_in result ≡ [] }
         ensures holds { UpsConfHolds result [] }
@@ -88,20 +88,21 @@ impl UpsConf {
         }
     }
 
-    /// Puts a UPS behind the others, with this description, the default driver and the default port. The others stay as they
+    /// Adds a UPS at the end, with this description, the default driver and the default port. The others stay as they
     /// are.
     ///
     /// # Errors
     ///
-    /// The first test that fails, in this order: `BadName` where the name is empty or has a byte that may not stand
-    /// there; `PastLimit` where it has more than 32 bytes, the description has more than 128, or there are 32 UPSes;
-    /// `Repeated` where one has this name; `Unreadable` where a byte of the description isn't printing; `Memory`.
-    /// Nothing changes then.
+    /// The first of these that applies. Nothing changes then.
+    ///
+    /// `BadName` if the name is empty or has a byte that names can't have. `PastLimit` if the name has more than 32
+    /// bytes, the description has more than 128, or there are 32 UPSes. `Repeated` if a UPS has this name. `Unreadable`
+    /// if a byte of the description isn't printing. `Memory` if memory cannot be allocated.
     pub fn add(&mut self, name: &[u8], desc: &[u8]) -> Result<(), FaultKind>
         ensures added { Gives (λ _. shown_in self.new) result (with_ups (shown_in self.old) name.now desc.now) }
         ensures unchanged { OnErr result (shown_in self.new ≡ shown_in self.old) }
 
-        // Memory may run out only where all tests pass.
+        // Memory can run out only if all tests pass.
         ensures memory { result ≡ Err FaultKind.Memory → IsOk (with_ups (shown_in self.old) name.now desc.now) }
     {
         let name = Name::read(name)?;
@@ -123,7 +124,7 @@ impl UpsConf {
         Ok(())
     }
 
-    /// How many UPSes there are, at most 32.
+    /// Returns the number of UPSes, at most 32.
     pub fn len(&self) -> usize
         ensures len { result ≡ length (names_of self.now) }
         ensures few { result ≤ 32 }
@@ -138,9 +139,9 @@ impl UpsConf {
         self.ups.by_name.len() == 0
     }
 
-    /// The number of the UPS with this name, counted from 0 in the order of the file.
+    /// Returns the number of the UPS with this name, counted from 0 in the order of the file.
     ///
-    /// Takes no memory, and no longer for many UPSes.
+    /// Allocates no memory. The time it takes doesn't grow with the number of UPSes.
     pub fn find(&self, name: &[u8]) -> Option<usize>
         ensures number { result ≡ number_of name.now self.now }
         ensures within { IfSome result (λ number. number < length (names_of self.now)) }
@@ -151,7 +152,7 @@ impl UpsConf {
         }
     }
 
-    /// The name of the UPS with this number.
+    /// Returns the name of the UPS with this number.
     pub fn name(&self, number: usize) -> Option<&Name<32>>
         ensures { option_map (λ name. name.now.bytes.items) result ≡ slice_get (names_of self.now) number }
     {
@@ -161,7 +162,7 @@ impl UpsConf {
         }
     }
 
-    /// The UPS with this number.
+    /// Returns the UPS with this number.
     pub fn get(&self, number: usize) -> Option<&Ups>
         ensures { option_copied result ≡ ups_at self.now number }
     {
@@ -172,7 +173,7 @@ impl UpsConf {
     }
 }
 
-/// What may stand in a section.
+/// The directives of a section.
 #[derive(Clone, Copy)]
 pub enum UpsDirective {
     Driver,
@@ -224,10 +225,13 @@ impl Draft for Ups {
     }
 }
 
-/// Reads ups.conf (NUT man page ups.conf(5), the directives `driver`, `port` and `desc`).
+/// Reads ups.conf (NUT manual page ups.conf(5), the directives `driver`, `port` and `desc`). Returns the configuration
+/// that its lines set.
 ///
-/// Gives the configuration that its lines set, or the first line with a fault and the first fault in it. Memory may run
-/// out only at a line with a backslash, or at one without a fault that begins a section.
+/// # Errors
+///
+/// The first fault of the first line that has one. `Memory` comes only at a line with a backslash, or at a line without
+/// a fault that begins a section.
 pub fn read_ups(alloc: Global, bytes: &[u8]) -> Result<UpsConf, ConfFault>
     ensures means { Means (read_file ups_fault bytes.now) UpsConfHolds result }
     ensures memory { IfErr result (λ fault. fault.kind ≡ FaultKind.Memory → MayRunOut ups_fault ups_conf_grows bytes.now fault.line) }
