@@ -1,4 +1,4 @@
--- How long the lines of answers are, where names and values are within their limits.
+-- How long the lines of answers are, if names and values are within their limits.
 use Rattle.std.proofs.Common.{◌≡◌, ℕ, ◌+◌, ◌<◌, ◌≤◌, ◌^◌, Bool, true, false, List, [], ◌∷◌, ◌++◌, length, refl, arith, length-append, codes, decimal}
 use Rattle.std.specs.Prelude.{ℤ, if◌then◌else◌}
 use Rattle.std.specs.Fmt.{signed_decimal}
@@ -22,7 +22,7 @@ use Rattle.nut_proto.specs.Replies.{reply_line, kind_part}
 use Rattle.nut_proto.specs.Requests.{begin_line, end_line}
 use Rattle.nut_server_spec.proofs.Lengths.{length-line, length-quoted, length-word, length-name}
 
--- ---- lines that are always the same
+-- ---- lines that never vary
 
 name-refused : (r : Refusal) → length (refusal_name r) ≤ 22
 unfolding refusal_name
@@ -189,7 +189,7 @@ pub length-client : (ups address : List ℕ) → length ups ≤ 32 → length ad
 unfolding reply_line
 length-client ups address u a = omega (arith, length-line (Word (codes "CLIENT")) (Word ups ∷ Word address ∷ []), length-word ups, length-word address)
 
--- ---- the lines around a list, where the names that its query has are within their limits
+-- ---- the lines around a list, if the names of its query are within their limits
 
 pub length-marks_var : (ups : List ℕ) → IsName 32 ups → length (begin_line (queries.Var ups)) + length (end_line (queries.Var ups)) ≤ 94
 unfolding begin_line end_line
