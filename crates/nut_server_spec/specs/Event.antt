@@ -2,8 +2,8 @@
 use Rattle.std.specs.Prelude.{ℕ, ◌==◌, if◌then◌else◌, ◌+◌, List, [], ◌∷◌, ◌++◌, drop, length}
 use Rattle.nut_words.specs.Lines.{LineText, lines}
 
--- The number of a connection begins at 1 and is never used again. The number of a UPS, and of its driver, is its place
--- in the file, counted from 0.
+-- Connections are numbered from 1 in the order in which they are opened, and no number is used again. The number of a
+-- UPS, and of its driver, is its place in the file, counted from 0.
 pub data Event : Type 0 where
   -- t seconds have passed since the start
   Moment : (t : ℕ) → Event

@@ -151,7 +151,7 @@ abbrev pub heard_at : ℕ → List Entry → ℕ
 heard_at u [] = 0
 heard_at u (e ∷ past) = heard_after u e.step (clock past) (heard_at u past)
 
--- the moment of the last PING after a moment: that one if a PING is sent
+-- the moment of the last PING: `time` if a PING is sent at it, else the moment before
 abbrev pub pinged_then : Option (List ℕ) → ℕ → Option ℕ → Option ℕ
 pinged_then None time before = before
 pinged_then (Some line) time before = Some time

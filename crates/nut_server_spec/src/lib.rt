@@ -57,13 +57,14 @@ pub fn machine_keeps_content()
     ensures { KeepsContent }
 {}
 
-/// States a law and does nothing when called: the bytes of a connection lead to the same content in one piece and in
-/// two.
+/// States a law and does nothing when called: a connection's bytes lead to the same content whether they come as one
+/// piece or cut into two.
 pub fn cuts_do_not_matter()
     ensures { CutsDoNotMatter }
 {}
 
-/// States a law and does nothing when called: the bytes of a driver lead to the same content in one piece and in two.
+/// States a law and does nothing when called: a driver's bytes lead to the same content whether they come as one piece
+/// or cut into two.
 pub fn driver_cuts_do_not_matter()
     ensures { DriverCutsDoNotMatter }
 {}

@@ -211,7 +211,7 @@ advance s (DriverBytes u piece) = with_supplies (update_at u (bytes_reported s.c
 advance s (DriverTook u n) = with_supplies (update_at u (drained n) s.supplies) s
 advance s (DriverDown u) = with_supplies (update_at u down s.supplies) s
 
--- The machine keeps the content of every history of accepted events: the content after an event depends only on the
--- content before it and the event.
+-- The machine keeps the content of every history of accepted events: the content after an event is what `advance` makes
+-- of the content before it.
 abbrev pub KeepsContent : Type 0
 KeepsContent = (first : Configuration) (h : List Event) (e : Event) → IsAccepted first (e ∷ h) → content first (e ∷ h) ≡ advance (content first h) e
