@@ -1,4 +1,4 @@
-//! The addresses of clients.
+//! Addresses of clients.
 
 ghost use Rattle.std.specs.Prelude.{◌≡◌, Some, None, option_map, if◌then◌else◌};
 ghost use Rattle.std.specs.List.{list_all};
@@ -7,7 +7,7 @@ ghost use Rattle.nut_server_spec.specs.Acceptance.{is_address};
 
 use arrayvec::ArrayVec;
 
-/// The address that a client connects from, without memory of its own.
+/// The address of a client, stored in place.
 pub type Address = ArrayVec<u8, 64>;
 
 /// Whether a byte may stand in a bare word.
@@ -23,7 +23,7 @@ fn has_bare_bytes(text: &[u8]) -> bool
     text.iter().all(|byte| is_bare(*byte))
 }
 
-/// The address, where it is one: 1 to 64 bytes, each of which may stand in a bare word.
+/// Reads an address: 1 to 64 bytes, each of which may stand in a bare word. Returns `None` for anything else.
 pub fn address_of(text: &[u8]) -> Option<Address>
     ensures { option_map (λ address. address.items) result ≡ (if is_address text.now then Some text.now else None) }
 {

@@ -1,4 +1,4 @@
-//! What a server is made with.
+//! The configuration that a server is made with.
 
 ghost use Rattle.std.specs.Prelude.{◌≡◌, ◌<◌, ◌≤◌, IfSome, length, slice_get};
 ghost use Rattle.nut_server_spec.specs.Configuration.{number_of_ups, ups_named, user_named, has_password, may_act, may_command};
@@ -7,14 +7,14 @@ ghost use Rattle.nut_server.specs.Configured.{configuration_of, upses_of, users_
 use nut_conf::{Action, Role, UpsConf, UpsdConf, UsersConf};
 use std::marker::Model;
 
-/// A UPS, lent from the configuration.
+/// A UPS, borrowed from the configuration.
 #[derive(Drop)]
 pub struct Ups<'a> {
-    /// The name by which clients ask for it.
+    /// The name by which clients refer to it.
     pub name: &'a [u8],
     /// The program of its driver.
     pub driver: &'a [u8],
-    /// What people call it.
+    /// The description that clients see.
     pub description: &'a [u8],
 }
 
@@ -26,7 +26,7 @@ impl<'a> Model for Ups<'a> {
     ghost view = { λ u. record { name = u.name.now; driver = u.driver.now; description = u.description.now } };
 }
 
-/// A user, lent from the configuration.
+/// A user, borrowed from the configuration.
 #[derive(Drop)]
 pub struct User<'a> {
     name: &'a [u8],
@@ -43,7 +43,7 @@ impl<'a> Model for User<'a> {
 }
 
 impl<'a> User<'a> {
-    /// Whether the user's password is this one. A user without a password has none.
+    /// Whether this is the user's password. If the user has no password, no password is right.
     pub fn has_password(&self, password: &[u8]) -> bool
         ensures { result ≡ has_password password.now self.now }
     {
@@ -64,7 +64,7 @@ impl<'a> User<'a> {
         self.entry.may_command(name)
     }
 
-    /// What the user's monitor is to a UPS, if it may be a monitor.
+    /// Returns the role of the user's monitor, if the user may have one.
     pub fn role(&self) -> Option<Role>
         ensures { result ≡ self.now.role }
     {
@@ -90,21 +90,21 @@ impl Model for Config {
 }
 
 impl Config {
-    /// What these three files set.
+    /// Returns the configuration that these three files set.
     pub fn new(ups: UpsConf, users: UsersConf, upsd: UpsdConf) -> Config
         ensures { result ≡ configuration_of ups users upsd }
     {
         Config { ups, users, upsd }
     }
 
-    /// What ups.conf sets.
+    /// Returns what ups.conf sets.
     pub fn ups(&self) -> &UpsConf
         ensures { upses_of result.now ≡ self.now.upses }
     {
         &self.ups
     }
 
-    /// What upsd.users sets: at most 64 users.
+    /// Returns what upsd.users sets: at most 64 users.
     pub fn users(&self) -> &UsersConf
         ensures value { users_of result.now ≡ self.now.users }
         ensures few { length self.now.users ≤ 64 }
@@ -112,7 +112,7 @@ impl Config {
         &self.users
     }
 
-    /// How many UPSes there are, at most 32.
+    /// Returns the number of UPSes, at most 32.
     pub fn number_of_upses(&self) -> usize
         ensures len { result ≡ length self.now.upses }
         ensures few { result ≤ 32 }
@@ -120,9 +120,9 @@ impl Config {
         self.ups.len()
     }
 
-    /// The number of the first UPS of this name, counted from 0 in the order of the file.
+    /// Returns the number of the first UPS with this name, counted from 0 in the order of the file.
     ///
-    /// Takes no memory, and no longer for many UPSes.
+    /// Allocates no memory. The time it takes doesn't grow with the number of UPSes.
     pub fn find_ups(&self, name: &[u8]) -> Option<usize>
         ensures number { result ≡ number_of_ups name.now self.now.upses }
         ensures within { IfSome result (λ u. u < length self.now.upses) }
@@ -130,7 +130,7 @@ impl Config {
         self.ups.find(name)
     }
 
-    /// The UPS with this number.
+    /// Returns the UPS with this number.
     pub fn ups_at(&self, u: usize) -> Option<Ups<'_>>
         ensures { result ≡ slice_get self.now.upses u }
     {
@@ -147,7 +147,8 @@ impl Config {
         })
     }
 
-    /// The first UPS of this name. Takes no memory, and no longer for many UPSes.
+    /// Returns the first UPS with this name. Allocates no memory. The time it takes doesn't grow with the number of
+    /// UPSes.
     pub fn ups_named(&self, name: &[u8]) -> Option<Ups<'_>>
         ensures { result ≡ ups_named name.now self.now.upses }
     {
@@ -157,7 +158,8 @@ impl Config {
         }
     }
 
-    /// The first user of this name. Takes no memory, and no longer for many users.
+    /// Returns the first user with this name. Allocates no memory. The time it takes doesn't grow with the number of
+    /// users.
     pub fn find_user<'a>(&'a self, name: &'a [u8]) -> Option<User<'a>>
         ensures { result ≡ user_named name.now self.now.users }
     {
@@ -167,8 +169,8 @@ impl Config {
         }
     }
 
-    /// After how many seconds without a word from its driver the data of a UPS is stale, 1 to 86,400 (MAXAGE of
-    /// upsd.conf(5)).
+    /// Returns MAXAGE of upsd.conf(5): after this many seconds without a word from its driver, the data of a UPS are
+    /// stale. It is 1 to 86,400.
     pub fn max_age(&self) -> u32
         ensures value { result ≡ self.now.max_age }
         ensures least { 1 ≤ result }
@@ -177,7 +179,7 @@ impl Config {
         self.upsd.max_age()
     }
 
-    /// How many connections may be open at once, 1 to 256 (MAXCONN of upsd.conf(5)).
+    /// Returns MAXCONN of upsd.conf(5): how many connections may be open at once. It is 1 to 256.
     pub fn most_connections(&self) -> usize
         ensures value { result ≡ self.now.most_connections }
         ensures least { 1 ≤ result }

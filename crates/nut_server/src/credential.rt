@@ -1,14 +1,14 @@
-//! What a client gives of itself: the name of a user, or a password.
+//! User names and passwords that clients give.
 
 ghost use Rattle.std.specs.Prelude.{◌≡◌, ◌≤◌, List, ℕ, length};
 
 use arrayvec::ArrayVec;
 use std::marker::Model;
 
-/// How many bytes a user name or a password has at most.
+/// The most bytes in a user name or a password.
 pub const CREDENTIAL_MAX: usize = 128;
 
-/// A user name or a password, as a request lends it.
+/// A user name or a password, borrowed from a request.
 #[derive(Drop)]
 pub struct LentCredential<'l> {
     bytes: &'l [u8],
@@ -23,7 +23,7 @@ impl<'l> Model for LentCredential<'l> {
 }
 
 impl<'l> LentCredential<'l> {
-    /// These bytes.
+    /// Returns the credential with these bytes.
     pub fn new(bytes: &'l [u8]) -> LentCredential<'l>
         requires { length bytes.now ≤ 128 }
         ensures { result ≡ bytes.now }
@@ -31,7 +31,7 @@ impl<'l> LentCredential<'l> {
         LentCredential { bytes }
     }
 
-    /// Its bytes.
+    /// Returns the bytes.
     fn as_bytes(&self) -> &'l [u8]
         ensures value { result.now ≡ self.now }
         ensures within { length result.now ≤ 128 }
@@ -39,7 +39,7 @@ impl<'l> LentCredential<'l> {
         self.bytes
     }
 
-    /// The same bytes, to keep.
+    /// Returns a copy that can be kept.
     pub fn copied(&self) -> Credential
         ensures { result ≡ self.now }
     {
@@ -49,7 +49,7 @@ impl<'l> LentCredential<'l> {
     }
 }
 
-/// A user name or a password that is kept, without memory of its own.
+/// A user name or a password, stored in place.
 #[derive(Drop)]
 pub struct Credential {
     bytes: ArrayVec<u8, 128>,
@@ -62,7 +62,7 @@ impl Model for Credential {
 }
 
 impl Credential {
-    /// Its bytes.
+    /// Returns the bytes.
     pub fn as_bytes(&self) -> &[u8]
         ensures { result.now ≡ self.now }
     {

@@ -1,4 +1,4 @@
-//! What GET and LIST are answered (RFC 9271).
+//! Answers GET (RFC 9271).
 
 ghost use Rattle.std.specs.Prelude.{◌≡◌, None, Some, MatchResult, length, map, filter};
 ghost use Rattle.nut_proto.specs.declared.refusal.Refusal.TheVariants as refusals;
@@ -17,7 +17,7 @@ use crate::setting::kind_of;
 use nut_proto::{ListQuery, Refusal, Reply, Word, command_description, variable_description};
 use nut_state::Variable;
 
-/// The variable of this name, where the UPS has it.
+/// Returns the variable with this name, or `VarNotSupported` if the UPS has none.
 pub fn variable_of<'a>(device: &'a Device, name: &[u8]) -> Result<&'a Variable, Refusal>
     ensures { MatchResult result
         (λ v. variable device.now.device.table name.now ≡ Some v.now)
@@ -29,7 +29,7 @@ pub fn variable_of<'a>(device: &'a Device, name: &[u8]) -> Result<&'a Variable, 
         .ok_or(Refusal::VarNotSupported)
 }
 
-/// How many clients are logged in to a UPS.
+/// Answers `GET NUMLOGINS`: how many clients are logged in to a UPS.
 pub fn count_logins<'a>(scene: &'a Scene<'_>, ups: &'a [u8]) -> Result<Answer<'a>, Refusal>
     ensures { outcome result ≡ on_ups scene.now ups.now (λ u. on_data scene.now u (λ d. Line (replies.NumLogins ups.now (length (guests_of u scene.now.guests))))) }
 {
@@ -41,7 +41,7 @@ pub fn count_logins<'a>(scene: &'a Scene<'_>, ups: &'a [u8]) -> Result<Answer<'a
     }))
 }
 
-/// What people call a UPS.
+/// Answers `GET UPSDESC`: the description in ups.conf.
 pub fn describe_ups<'a>(scene: &'a Scene<'_>, ups: &'a [u8]) -> Result<Answer<'a>, Refusal>
     ensures { outcome result ≡ described ups.now (ups_named ups.now scene.now.configuration.upses) }
 {
@@ -54,7 +54,7 @@ pub fn describe_ups<'a>(scene: &'a Scene<'_>, ups: &'a [u8]) -> Result<Answer<'a
     }))
 }
 
-/// The value of a variable.
+/// Answers `GET VAR`: the value of a variable.
 pub fn show_variable<'a>(
     scene: &'a Scene<'_>,
     ups: &'a [u8],
@@ -67,7 +67,7 @@ pub fn show_variable<'a>(
     Ok(Answer::Value(ups, device, variable))
 }
 
-/// Whether a variable may be set, and what values it takes.
+/// Answers `GET TYPE`: whether a variable may be set, and which values it allows.
 pub fn show_type<'a>(
     scene: &'a Scene<'_>,
     ups: &'a [u8],
@@ -85,7 +85,7 @@ pub fn show_type<'a>(
     }))
 }
 
-/// What a variable tells.
+/// Answers `GET DESC`: the description of a variable.
 pub fn describe_variable<'a>(
     scene: &'a Scene<'_>,
     ups: &'a [u8],
@@ -102,7 +102,7 @@ pub fn describe_variable<'a>(
     }))
 }
 
-/// What a command does.
+/// Answers `GET CMDDESC`: the description of a command.
 pub fn describe_command<'a>(
     scene: &'a Scene<'_>,
     ups: &'a [u8],

@@ -1,4 +1,4 @@
--- What always holds inside a server.
+-- What always holds of the fields of a server.
 use Rattle.std.specs.Prelude.{◌≡◌, ◌≤◌, [], length}
 use Rattle.nut_words.specs.Lines.{Text}
 use Rattle.nut_server_spec.specs.Content.{Supply}
@@ -8,8 +8,9 @@ use Rattle.nut_server_spec.specs.laws.Limits.{IsWithin}
 use Rattle.nut_server.specs.inside.Inside.{numbers_of}
 use Rattle.nut_server.specs.declared.server.Server.TheInside.{Inside}
 
--- No connection has a number above how many were opened, which fits 32 bits, there is room for all of them, the
--- configuration is within the limits of its files, and each UPS has its place.
+-- No connection has a number greater than the number of connections opened, which is at most 4,294,967,295. At most as
+-- many are open as the configuration allows. The configuration is within the limits of its files. There are as many
+-- UPSes as the configuration has.
 pub record IsOrderly (a : Inside) : Type 0 where
   pub up_to : IsUpTo a.opened (numbers_of a.connections)
   pub few : a.opened ≤ 4_294_967_295
@@ -17,6 +18,6 @@ pub record IsOrderly (a : Inside) : Type 0 where
   pub limits : IsWithin a.config
   pub all : length a.devices.items ≡ length a.config.upses
 
--- a UPS of which nothing was told
+-- a UPS whose driver was never connected
 abbrev pub unheard : Supply
 unheard = record { device = absent; rest = Text [] }
