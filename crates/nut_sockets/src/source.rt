@@ -1,14 +1,14 @@
-//! What the sockets of a server are for.
+//! The sources: what the sockets of a server are for.
 
 use mio::Token;
 
-/// How many listeners there are at most: theirs are the first tokens.
+/// The most listeners. They have the first tokens.
 pub const LISTENERS: usize = 16;
 
-/// How many listeners and drivers there are at most: theirs come before those of clients.
+/// The most listeners and drivers. Their tokens come before those of clients.
 const FIXED: usize = LISTENERS + 32;
 
-/// What a socket is for, by its place among its like.
+/// What a socket is for, and its number among those for the same purpose.
 #[derive(Clone, Copy)]
 pub enum Source {
     /// A listener.
@@ -20,7 +20,7 @@ pub enum Source {
 }
 
 impl Source {
-    /// The source with this token.
+    /// Returns the source with this token.
     pub fn of(token: Token) -> Source {
         let Token(n) = token;
         if n < LISTENERS {
@@ -32,7 +32,7 @@ impl Source {
         }
     }
 
-    /// The token of the source: of at most 16 listeners, 32 drivers and any clients each has its own.
+    /// Returns the token of the source. With at most 16 listeners and 32 drivers, each source has a token of its own.
     pub fn token(self) -> Token {
         match self {
             Source::Listener(i) => Token(i),
