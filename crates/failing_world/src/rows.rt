@@ -17,7 +17,7 @@ pub enum Row {
     Open(&'static [u8]),
     /// The connection with this number sends these bytes.
     Bytes(u64, &'static [u8]),
-    /// The connection with this number is closed by its client.
+    /// The connection with this number is closed.
     Close(u64),
     /// The driver of the UPS with this number is connected.
     Up(usize),

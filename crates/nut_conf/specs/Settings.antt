@@ -119,11 +119,12 @@ Puts r old ws (Err e) new = Refuses e (accepts r old ws)
 abbrev pub once : Form → (Words → Result Setting FaultKind) → Rule
 once form reads = record { form = form; reads = reads; clashes = always; most = None }
 
--- the rule of a directive that is allowed `most` times, or any number of times
+-- the rule of a directive that is allowed at most `most` times, or any number of times if that is none
 abbrev pub listed : Option ℕ → Form → (Words → Result Setting FaultKind) → Rule
 listed most form reads = record { form = form; reads = reads; clashes = never; most = most }
 
--- the rule of a directive that is allowed `most` times, or any number of times, if no two settings are alike
+-- the rule of a directive no two settings of which may be alike, and which is allowed at most `most` times, or any
+-- number of times if that is none
 abbrev pub distinct : (Setting → Setting → Bool) → Option ℕ → Form → (Words → Result Setting FaultKind) → Rule
 distinct alike most form reads = record { form = form; reads = reads; clashes = alike; most = most }
 

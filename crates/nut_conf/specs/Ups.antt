@@ -35,11 +35,11 @@ ups_settings u Driver = option_to_list (option_map (λ n. Text n.bytes.items) u.
 ups_settings u Port = option_to_list (option_map (λ t. Text t.bytes.items) u.port)
 ups_settings u Desc = option_to_list (option_map (λ t. Text t.bytes.items) u.desc)
 
--- no line within a section adds to a list
+-- whether a line within a section adds to a list: none does
 abbrev pub ups_grows : Words → Bool
 ups_grows ws = false
 
--- only a section line allocates memory for what it sets
+-- whether a line allocates memory for what it sets: only a section line does
 abbrev pub ups_conf_grows : Words → Bool
 ups_conf_grows = sectioned_grows ups_grows
 

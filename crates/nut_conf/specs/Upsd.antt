@@ -46,7 +46,7 @@ upsd_settings c directives.Listen = map endpoint_setting c.listen.items
 upsd_settings c directives.MaxAge = option_to_list (option_map (λ n. Number n.value) c.max_age)
 upsd_settings c directives.MaxConn = option_to_list (option_map (λ n. Number n.value) c.max_conn)
 
--- only a LISTEN line adds to a list, and so allocates memory for what it sets
+-- whether a line adds to a list, and so allocates memory for what it sets: only a LISTEN line does
 abbrev pub upsd_grows : Words → Bool
 upsd_grows ws = bytes_eq (nth ws 0) (codes "LISTEN")
 

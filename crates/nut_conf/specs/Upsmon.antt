@@ -95,7 +95,8 @@ upsmon_settings c directives.FinalDelay = option_to_list (option_map (λ n. Numb
 upsmon_settings c directives.NotifyMsg = map message_setting c.messages.items
 upsmon_settings c directives.NotifyFlag = map handling_setting c.handlings.items
 
--- only MONITOR, NOTIFYMSG and NOTIFYFLAG lines add to a list, and so allocate memory for what they set
+-- whether a line adds to a list, and so allocates memory for what it sets: only MONITOR, NOTIFYMSG and NOTIFYFLAG lines
+-- do
 abbrev pub upsmon_grows : Words → Bool
 upsmon_grows ws = bytes_eq (nth ws 0) (codes "MONITOR") || bytes_eq (nth ws 0) (codes "NOTIFYMSG") || bytes_eq (nth ws 0) (codes "NOTIFYFLAG")
 

@@ -76,11 +76,11 @@ user_settings u Actions = map action_setting u.actions.items
 user_settings u Instcmds = map commands_setting u.instcmds.items
 user_settings u Upsmon = option_to_list (option_map role_setting u.upsmon)
 
--- only `actions` and `instcmds` lines add to a list within a section
+-- whether a line within a section adds to a list: only `actions` and `instcmds` lines do
 abbrev pub user_grows : Words → Bool
 user_grows ws = bytes_eq (nth ws 0) (codes "actions") || bytes_eq (nth ws 0) (codes "instcmds")
 
--- only these lines and section lines allocate memory for what they set
+-- whether a line allocates memory for what it sets: only these lines and section lines do
 abbrev pub users_conf_grows : Words → Bool
 users_conf_grows = sectioned_grows user_grows
 

@@ -152,7 +152,7 @@ impl UpsConf {
         }
     }
 
-    /// Returns the name of the UPS with this number.
+    /// Returns the name of the UPS with this number, if there is one.
     pub fn name(&self, number: usize) -> Option<&Name<32>>
         ensures { option_map (λ name. name.now.bytes.items) result ≡ slice_get (names_of self.now) number }
     {
@@ -162,7 +162,7 @@ impl UpsConf {
         }
     }
 
-    /// Returns the UPS with this number.
+    /// Returns the UPS with this number, if there is one.
     pub fn get(&self, number: usize) -> Option<&Ups>
         ensures { option_copied result ≡ ups_at self.now number }
     {

@@ -2,7 +2,7 @@
 use Rattle.std.specs.Prelude.{ℕ, Bool, ◌&&◌, List, [], ◌∷◌, length, Option, Some, None, nat_le, if◌then◌else◌}
 use Rattle.std.specs.Option.{option_and, option_and_then, option_map}
 
--- The words are none, one, two or three, exactly.
+-- The words, if there are exactly none, one, two or three of them; else `None`.
 abbrev pub no_word : List (List ℕ) → Option (Unit {0})
 no_word [] = Some tt
 no_word (x ∷ xs) = None
@@ -33,7 +33,7 @@ is_credential x = nat_le 1 (length x) && nat_le (length x) 128
 abbrev pub credential_word : List (List ℕ) → Option (List ℕ)
 credential_word words = option_and_then (λ x. if is_credential x then Some x else None) (one_word words)
 
--- What exactly no word, one, two or three words, or one user name or password make.
+-- What the words make, if there are exactly none, one, two or three of them, or one user name or password; else `None`.
 abbrev pub none : {A : Type 0} → A → List (List ℕ) → Option A
 none made words = option_and (no_word words) (Some made)
 

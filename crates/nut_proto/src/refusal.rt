@@ -2,10 +2,10 @@
 ghost use Rattle.std.specs.Prelude.{◌≡◌};
 ghost use Rattle.nut_proto.specs.Refusals.{refusal_name};
 
-/// Why the server refuses a request: the errors of RFC 9271.
+/// Why the server refuses a request (RFC 9271).
 #[derive(Clone, Copy, Debug, PartialEq, Eq)]
 pub enum Refusal {
-    /// The connection lacks the user, the password or the right that the request needs.
+    /// There is no such user, the password is wrong, or the user lacks the right.
     AccessDenied,
     /// No UPS has the name.
     UnknownUps,

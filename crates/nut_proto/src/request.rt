@@ -68,7 +68,7 @@ pub enum Request<'a> {
     Login {
         ups: Word<'a>,
     },
-    /// `PRIMARY`: asks for the right to shut the UPS down.
+    /// `PRIMARY`: asks whether the client may be the primary, which shuts the UPS down.
     Primary {
         ups: Word<'a>,
     },

@@ -139,12 +139,12 @@ impl Server {
     /// `Memory`.
     ///
     /// Only `Bytes` and `DriverBytes` can allocate memory. A client's line does so only if it isn't blank or holds a
-    /// backslash, and the client hasn't logged out. A driver's line does so only if it adds a variable, an enum value,
-    /// a range or a command, or holds a backslash.
+    /// backslash, and never after the client has logged out. A driver's line does so only if it adds a variable, an
+    /// enum value, a range or a command, or holds a backslash.
     ///
     /// # Errors
     ///
-    /// The first of these tests that fails. Nothing changes then, except for `Memory`.
+    /// The first of these tests that fails. Nothing changes then.
     ///
     /// Of `Open`: `BadAddress`, `Full`. Of `Bytes`, `Took`, `Close` and `WriteFailed`: `NoSuchConnection`; then of
     /// `Bytes` `PieceTooLong` and `Busy`, and of `Took` `TooMuchTaken`. Of the arrivals of drivers: `NotConnected`,

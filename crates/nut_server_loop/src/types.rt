@@ -19,7 +19,7 @@ pub enum Next {
     Open(Address),
     /// The connection with this number sent the bytes in the piece.
     Bytes(u64),
-    /// The connection with this number was closed by its client.
+    /// The connection with this number was closed, by its client or by the world.
     Close(u64),
     /// The driver of the UPS with this number was connected, or connected anew.
     DriverUp(usize),
@@ -66,7 +66,7 @@ pub enum Given {
     Open(Address),
     /// The connection with this number sends these bytes.
     Bytes(u64, Piece),
-    /// The connection with this number is closed by its client.
+    /// The connection with this number is closed.
     Close(u64),
     /// The driver of the UPS with this number is connected.
     DriverUp(usize),

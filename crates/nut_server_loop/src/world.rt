@@ -27,7 +27,7 @@ pub trait World {
     /// Nothing more comes as long as the server has this content.
     ghost has_ended: { Self → Content → Type 0 };
 
-    /// The state that calls may lead to.
+    /// Calls may lead from the first state to the second.
     ghost reached: { Self → Self → Type 0 };
 
     /// Returns how many calls have returned a fault.

@@ -79,7 +79,7 @@ impl Inquiry {
         self.is_outstanding && seconds < self.waited
     }
 
-    /// Reads a piece, and returns the answer to the query, if a line in the piece completes it.
+    /// Reads a piece. Returns the answer to the outstanding query, if the piece completes a line.
     pub fn hear(&mut self, alloc: Global, piece: &[u8]) -> Option<Reply> {
         let (line, used) = self.cutter.feed(piece);
         let reply = match line? {

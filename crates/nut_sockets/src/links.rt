@@ -101,8 +101,8 @@ impl<'r, 'e, R: Net + Clock + Processes, E: Write> Links<'r, 'e, R, E> {
 
     /// Returns what comes next, after at most one wait.
     ///
-    /// A second is told only after the sockets were looked at once it was over, so that what had arrived by then is
-    /// heard first.
+    /// A second is told only after the sockets have been looked at since its end, so what had arrived by then is heard
+    /// first.
     ///
     /// # Errors
     ///

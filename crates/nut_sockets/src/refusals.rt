@@ -7,7 +7,7 @@ use std::mem;
 /// Which refusals of a server were reported.
 #[derive(Drop)]
 pub struct Refusals {
-    /// Whether a refusal of USERNAME, PASSWORD, LOGIN, PRIMARY and FSD was reported.
+    /// For USERNAME, PASSWORD, LOGIN, PRIMARY and FSD, in this order: whether a refusal was reported.
     told: [bool; 5],
     /// The error with which the last query for the status was refused.
     status: Option<ErrorName>,

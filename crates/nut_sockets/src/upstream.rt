@@ -202,7 +202,7 @@ impl Upstream {
         }
     }
 
-    /// Returns the answer to the query, if a line in the piece that was read completes it.
+    /// Returns the answer to the outstanding query, if the piece that was read completes a line.
     pub fn reply_in(&mut self, alloc: Global, piece: &[u8]) -> Option<Reply> {
         match &mut self.stage {
             Stage::Up(_, inquiry) => inquiry.hear(alloc, piece),

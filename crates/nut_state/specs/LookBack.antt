@@ -172,7 +172,7 @@ abbrev pub accepted : List (List ℕ) → List Change
 accepted [] = []
 accepted (line ∷ earlier) = accepted_after (accepted earlier) (heard line) ++ accepted earlier
 
--- ---- what may take memory
+-- ---- what may allocate memory
 
 -- Whether a change adds a variable, an enum value, a range or a command to what these changes lead to.
 unfoldable pub adds_to : List Change → Change → Bool

@@ -17,7 +17,7 @@ is_natural text = nat_lt 0 (length text) && nat_le (length text) 9 && list_all i
 abbrev pub natural : List ℕ → Option ℕ
 natural text = if is_natural text then Some (digits_value text) else None
 
--- The number that the text says, if it says one, which may follow a minus sign (the byte 45).
+-- The number that the text says, if it says one. Its digits may follow a minus sign, the byte 45.
 abbrev pub whole_number : List ℕ → Option ℤ
 whole_number [] = None
 whole_number (byte ∷ rest) =

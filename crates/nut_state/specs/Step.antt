@@ -100,7 +100,7 @@ abbrev pub table_of : List (List ℕ) → Table
 table_of [] = empty
 table_of (line ∷ earlier) = applied (table_of earlier) line
 
--- ---- what may take memory
+-- ---- what may allocate memory
 
 -- Whether a change adds a variable, an enum value, a range or a command.
 unfoldable pub adds : Table → Change → Bool

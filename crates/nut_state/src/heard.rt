@@ -1,7 +1,7 @@
 //! What the table answers to a line.
 use std::alloc::AllocError;
 
-/// Whether a line of the driver was understood.
+/// The result of a line of the driver: heard or ignored.
 #[derive(Clone, Copy, Debug, PartialEq, Eq)]
 pub enum Heard {
     /// It reads as words, its first word is known, and it has as many words as that word takes. It may or may not have

@@ -254,8 +254,7 @@ impl UpsState {
         // If the table holds what these lines say, the newest first, it then holds what they and this line say.
         ensures looks_back { (lines : List (List ℕ)) → Holds self.old lines → OnOk result (Holds self.new (line.now ∷ lines)) }
 
-        // What allocates no memory succeeds. `Holds` says of what a line adds that looking back over the lines gives
-        // the same.
+        // A line that allocates no memory succeeds. `Holds` says that `adds` agrees with looking back over the lines.
         ensures succeeds { has_backslash line.now ≡ false → line_adds self.old line.now ≡ false → IsOk result }
     {
         let words = match split(self.alloc, line) {
@@ -270,8 +269,8 @@ impl UpsState {
         Ok(Heard::Heard)
     }
 
-    /// Returns the variable with this name, if there is one. It saves repeated searches: each look-up below makes its
-    /// own.
+    /// Returns the variable with this name, if there is one. It saves searches if more than one of the look-ups below
+    /// is needed: each of them searches anew.
     pub fn variable(&self, name: &[u8]) -> Option<&Variable>
         ensures { MatchOption result (variable self.now name.now ≡ None) (λ v. variable self.now name.now ≡ Some v.now) }
     {

@@ -1,5 +1,4 @@
-//! Handles arrivals that nobody says: moments, connections and drivers that come and go, and bytes that were taken. It
-//! also tests the pieces that clients and drivers send.
+//! Handles each kind of arrival, with the tests that refuse it. What the lines of clients do is in `hearing`.
 
 ghost use Rattle.std.specs.Prelude.{◌≡◌, ◌<◌, ◌≤◌, map, length, max};
 ghost use Rattle.nut_server_spec.specs.Event.{Moment, Open, Bytes, Took, Close, DriverUp, DriverBytes, DriverTook, DriverDown};

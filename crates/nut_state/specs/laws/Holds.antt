@@ -9,7 +9,7 @@ use Rattle.nut_state.specs.Step.{accepts, adds, table_of}
 use Rattle.nut_state.specs.Table.{Table, Entry, variable, has_command, value_of, flags_of, aux_of, enums_of, ranges_of}
 use Rattle.nut_state.specs.Text.{is_name}
 
--- The variable's name is a name, its value and each enum value are at most VALUE_BYTES long, its aux is at most
+-- The variable's name is a name, its value and each enum value have at most VALUE_BYTES bytes, its aux is at most
 -- VALUE_BYTES, and it has at most MAX_ENUMS enum values and MAX_RANGES ranges.
 pub record IsWithinLimits (v : Entry) : Type 0 where
   pub name : is_name v.name ≡ true
@@ -53,14 +53,14 @@ pub record LooksBack (t : Table) (changes : List Change) : Type 0 where
   pub variables : length t.variables ≡ variable_count changes
   pub commands : length t.commands ≡ command_count changes
 
--- For each change, the table accepts it if, and only if, looking back over these changes does. The same holds of what a
--- change adds.
+-- For each change, `accepts` of the table agrees with `is_accepted` after these changes, and `adds` with `adds_to`.
 pub record FollowsAlike (t : Table) (changes : List Change) : Type 0 where
   pub accepted_alike : (change : Change) → accepts t change ≡ is_accepted changes change
   pub added_alike : (change : Change) → adds t change ≡ adds_to changes change
 
 -- The table holds what the lines say, the newest line first: it is in order, its lists and look-ups agree, each look-up
--- gives what looking back over the lines gives, and so does the test of whether it accepts a further change.
+-- gives what looking back over the lines gives, and a further change is accepted, and adds to the table, as looking
+-- back says.
 pub record Holds (t : Table) (lines : List (List ℕ)) : Type 0 where
   pub in_order : IsTable t
   pub agrees : ListsAgree t
