@@ -72,7 +72,7 @@ module _ (directives : List Directive) (d : Directive) (found : directive_of d.w
     none None = tt
     none (Some n) = omega arith
 
-  -- the same of each section
+  -- The settings of each section keep the rule when one line is added.
   opened : (ss : List Section) (n : List ℕ) → EachKeepsRule d ss → EachKeepsRule d (ss ++ (n, []) ∷ [])
   opened [] n all = (record { apart = tt; few = none d.rule.most }, tt) where
     none : (most : Option ℕ) → AreFew most []

@@ -25,7 +25,7 @@ pub record Form : Type 0 where
 abbrev pub form : Command → Rule → Form
 form command rule = record { command = command; rule = rule }
 
--- the rule for the words after a subject, if the first word names that subject
+-- a rule for words the first of which names this subject: the others are read by `rule`
 abbrev pub about : Subject → Rule → Rule
 about subject rule [] = None
 about subject rule (word ∷ words) = if is_subject subject (subject_of word) then rule words else None

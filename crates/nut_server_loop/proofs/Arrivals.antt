@@ -162,7 +162,7 @@ gave first o o' s s' n items found arrival r served more stands is answer leads 
     let same : arrival_of n items ≡ Some e = sym stands ∙ ap (λ a. option_map event_of a) is in
     gave_event first o o' s s' e r served (more ∙ ap (λ a. tells_arrival a o) same) (given_next n items e same) answer leads
 
--- the same, if the answer is known to have ended this
+-- What `next` gave was told to the server, and the answer is known to have ended this.
 pub gave_ending : {U : Type 0} (first : Configuration) (o' : Option (List Entry)) (s s' : Content) (n : Next) (items : List ℕ) (found : Option Arrival) (arrival : Arrival) (r : Result U Refused) (lack known : Option Place)
     → ServedBefore first o' s n items → option_map event_of found ≡ arrival_of n items → found ≡ Some arrival
     → IsAnswer s (event_of arrival) r → Leads s (event_of arrival) r s' → ended_by r ≡ ended_in lack → lack ≡ known → Served first o' s' (ended_in known)

@@ -100,6 +100,6 @@ OnlyAtDriver u old new = (new.sessions ≡ old.sessions) × ((v : ℕ) → v ≢
 abbrev pub StaysLate : (ℕ → Bool) → (ℕ → Bool) → Type 0
 StaysLate old new = (d : ℕ) → old d ≡ true → new d ≡ true
 
--- The same are late as before.
+-- Exactly those who were late are late.
 abbrev pub KeepsLate : (ℕ → Bool) → (ℕ → Bool) → Type 0
 KeepsLate old new = (d : ℕ) → new d ≡ old d

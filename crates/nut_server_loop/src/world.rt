@@ -36,8 +36,8 @@ pub trait World {
 
     /// Returns the next arrival. The bytes of a `Next::Bytes` or a `Next::DriverBytes` are then in the piece.
     ///
-    /// It is called only if each connection and each driver with waiting bytes is late, and each connection that is to
-    /// be closed has been. It gives bytes only of connections that may be read. Afterwards nobody is late.
+    /// The caller asks only if each connection and each driver with waiting bytes is late, and each connection that is
+    /// to be closed has been. The world gives bytes only of connections that may be read. Afterwards nobody is late.
     fn next(&mut self, server: &Server, piece: &mut Piece) -> Result<Next, Fault>
         requires few { fault_count self.old < 2 ^ 64 - 1 }
         requires withheld { NothingIsWithheld (late self.old) server.now }

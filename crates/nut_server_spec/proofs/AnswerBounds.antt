@@ -19,7 +19,7 @@ use Rattle.nut_server_spec.proofs.AnswerLengths.{IsFit, IsShortScene, answer_fit
 use Rattle.nut_server_spec.proofs.Tables.{IsShortTable, table_short}
 use Rattle.nut_server_spec.proofs.Waiting.{configuration_stays, few_history}
 
--- There are at most this many open connections, and the address of each has at most 64 bytes.
+-- At most 256 connections are open, and the address of each has at most 64 bytes.
 record IsShortPast (t : List Entry) : Type 0 where
   few : length (open_numbers t) ≤ 256
   addresses : AllByRecursion (λ c. length (address c t) ≤ 64) (open_numbers t)

@@ -87,7 +87,7 @@ numbers-rise first h =
     let P : List ℕ → Type 0 = λ ns. IsBelow 0 ns × IsRising ns × IsUpTo (opened (past first h)) ns in
     subst P (sym (numbers_are first h)) (open_numbers_above (past first h), open_numbers_rise (past first h), numbers_up_to (past first h))
 
--- the same for what a server holds
+-- The numbers of the connections that a server holds rise, too.
 pub numbers-rise_told : (first : Configuration) (h : List Event) (s : Content) → Tells first h s → IsBelow 0 (numbers s) × IsRising (numbers s) × IsUpTo s.opened (numbers s)
 numbers-rise_told first h s told =
     let P : Content → Type 0 = λ x. IsBelow 0 (numbers x) × IsRising (numbers x) × IsUpTo x.opened (numbers x) in

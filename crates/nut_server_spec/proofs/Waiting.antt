@@ -31,7 +31,7 @@ use Rattle.nut_server_spec.proofs.Tables.{IsShortTable, table_short}
 
 -- ---- open connections
 
--- There are at most this many open connections, and the address of each has at most 64 bytes.
+-- At most m connections are open, and the address of each has at most 64 bytes.
 pub record AreFew (m : ℕ) (ks : List Session) : Type 0 where
   pub few : length ks ≤ m
   pub addresses : AllByRecursion (λ k. length k.address ≤ 64) ks

@@ -18,7 +18,7 @@ impl<'a, N: Net> Dialler<'a, N> {
     ///
     /// # Errors
     ///
-    /// That of the connect or of the registration.
+    /// The error of the connect or of the registration.
     pub fn dial(&self, address: SocketAddr) -> io::Result<TcpStream> {
         let mut stream = TcpStream::connect(self.net, address)?;
         let _ = stream.set_nodelay(true);

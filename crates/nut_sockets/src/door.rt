@@ -37,7 +37,7 @@ impl Door {
     ///
     /// # Errors
     ///
-    /// That of a registration.
+    /// The error of a registration.
     pub fn new(registry: &Registry, mut listeners: Vec<TcpListener>) -> io::Result<Door> {
         for (i, listener) in listeners.iter_mut().enumerate() {
             let token = Source::Listener(i).token();

@@ -67,7 +67,7 @@ impl Driver {
     ///
     /// # Errors
     ///
-    /// That of the connect or of the registration.
+    /// The error of the connect or of the registration.
     pub fn dial(&mut self, net: &impl Net, registry: &Registry, token: Token) -> io::Result<()> {
         let mut stream = UnixStream::connect(net, self.path.as_str())?;
         let both = Interest::READABLE | Interest::WRITABLE;

@@ -42,7 +42,7 @@ impl DummyDriver {
     ///
     /// # Errors
     ///
-    /// That of the poll or of the clock, or a lack of memory.
+    /// The error of the poll or of the clock, or a lack of memory.
     pub fn new(
         rt: &(impl Net + Clock),
         alloc: Global,
@@ -70,7 +70,7 @@ impl DummyDriver {
     ///
     /// # Errors
     ///
-    /// That of the wait or of the clock. A failure between the driver and its server only ends their link.
+    /// The error of the wait or of the clock. A failure between the driver and its server only ends their link.
     pub fn turn(&mut self, clock: &impl Clock) -> io::Result<()> {
         self.wait(clock)?;
         self.let_in();

@@ -105,7 +105,7 @@ impl Host {
     ///
     /// # Errors
     ///
-    /// That of the last address, or `error` if no address is left. A named host is then to be looked up again.
+    /// The error of the last address, or `error` if no address is left. A named host is then to be looked up again.
     pub fn dial(
         &mut self,
         dialler: &Dialler<'_, impl Net>,

@@ -73,7 +73,7 @@ impl<'r, 'e, R: Net + Clock + Processes, E: Write> Links<'r, 'e, R, E> {
     ///
     /// # Errors
     ///
-    /// That of the poll or of the clock, or a lack of memory.
+    /// The error of the poll or of the clock, or a lack of memory.
     pub fn new(
         rt: &'r R,
         alloc: Global,
@@ -106,7 +106,7 @@ impl<'r, 'e, R: Net + Clock + Processes, E: Write> Links<'r, 'e, R, E> {
     ///
     /// # Errors
     ///
-    /// That of the wait or of the clock.
+    /// The error of the wait or of the clock.
     pub fn next(&mut self, monitor: &Monitor, piece: &mut Piece) -> io::Result<Next>
         ensures goes_on { IfOk result (λ n. n ≢ next.End) }
     {

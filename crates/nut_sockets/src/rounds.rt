@@ -30,7 +30,7 @@ impl Rounds {
     ///
     /// # Errors
     ///
-    /// That of the poll or of the clock, or a lack of memory.
+    /// The error of the poll or of the clock, or a lack of memory.
     pub fn new(rt: &(impl Net + Clock), alloc: Global, fixed: usize) -> io::Result<Rounds> {
         let mut ready = Ready::new(alloc)?;
         ready.insert_first(fixed);

@@ -51,7 +51,7 @@ impl<'r, 'e, R: Net + Clock, E: Write> Sockets<'r, 'e, R, E> {
     ///
     /// # Errors
     ///
-    /// That of the poll or of the clock, or a lack of memory.
+    /// The error of the poll or of the clock, or a lack of memory.
     pub fn new(
         rt: &'r R,
         alloc: Global,
@@ -82,7 +82,7 @@ impl<'r, 'e, R: Net + Clock, E: Write> Sockets<'r, 'e, R, E> {
     ///
     /// # Errors
     ///
-    /// That of the wait or of the clock.
+    /// The error of the wait or of the clock.
     pub fn next(&mut self, server: &Server, piece: &mut Piece) -> io::Result<Next>
         ensures may { IfOk result (λ n. MayCome n server.now) }
         ensures goes_on { IfOk result (λ n. n ≢ next.End) }

@@ -139,7 +139,7 @@ impl Upstream {
     ///
     /// # Errors
     ///
-    /// That of the last address: the call has failed.
+    /// The error of the last address: the call has failed.
     pub fn reach(&mut self, dialler: &Dialler<'_, impl Net>) -> io::Result<bool> {
         match mem::replace(&mut self.stage, Stage::Down) {
             Stage::Down => {

@@ -1,4 +1,4 @@
--- What a variable has beside its name and value: flags, enum values and ranges.
+-- What a variable has besides its name and value: flags, enum values and ranges.
 use Rattle.std.specs.Prelude.{ℕ, ◌&&◌, Bool, false, not, List, length, nat_lt, nat_le}
 use Rattle.std.specs.List.{list_any}
 use Rattle.std.specs.Str.{bytes_eq}

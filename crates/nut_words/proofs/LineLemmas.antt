@@ -6,7 +6,7 @@ use Rattle.memchr.specs.Find.{Nowhere, NoneBefore, Passes, is_byte}
 use Rattle.std.specs.List.{onto_first}
 use Rattle.nut_words.specs.Lines.{LineText, Text, as_line, joined, parts, last_of, all_but_last, lines, rest}
 
--- more bytes behind a text that `as_line` has made a line already
+-- more bytes after a text that `as_line` has made a line already
 pub joined-as_line : (text more : List ℕ) → joined (as_line text) more ≡ as_line (text ++ more)
 joined-as_line text more = grind (arith, length-append text more)
 

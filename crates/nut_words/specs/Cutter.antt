@@ -27,7 +27,7 @@ kept_of TooLong = 0
 abbrev pub Follows : LineText → LineText → List ℕ → Type 0
 Follows old new used = (b : List ℕ) → old ≡ rest b → new ≡ rest (b ++ used)
 
--- When the borrow of the returned line ends, the cutter holds the rest of the stream behind the used bytes. If a line
+-- When the borrow of the returned line ends, the cutter holds the rest of the stream after the used bytes. If a line
 -- was returned, that rest is the empty line: a line is returned only at its line feed.
 abbrev pub LeavesRest : MutBor LineCutter → List ℕ → Option Line → Fml
 LeavesRest c used line = Rests the_row c (λ new. Follows c.now new used × OnSome line (new ≡ Text []))

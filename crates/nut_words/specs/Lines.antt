@@ -40,22 +40,22 @@ abbrev pub joined : LineText → List ℕ → LineText
 joined (Text text) more = as_line (text ++ more)
 joined TooLong more = TooLong
 
--- the lines that these parts complete behind an unfinished line, which the first part continues
+-- the lines that these parts complete after an unfinished line, which the first part continues
 abbrev pub completed : LineText → List (List ℕ) → List LineText
 completed old [] = []
 completed old (t ∷ []) = []
 completed old (t ∷ u ∷ ts) = joined old t ∷ map as_line (all_but_last (u ∷ ts))
 
--- the unfinished line behind these parts
+-- the unfinished line after these parts, given the one before them
 abbrev pub unfinished : LineText → List (List ℕ) → LineText
 unfinished old [] = old
 unfinished old (t ∷ []) = joined old t
 unfinished old (t ∷ u ∷ ts) = as_line (last_of (u ∷ ts))
 
--- The lines that more bytes complete behind this unfinished line.
+-- The lines that more bytes complete after this unfinished line.
 abbrev pub lines_after : LineText → List ℕ → List LineText
 lines_after old more = completed old (parts more)
 
--- The unfinished line that more bytes leave behind this unfinished line.
+-- The unfinished line after more bytes, given the one before them.
 abbrev pub rest_after : LineText → List ℕ → LineText
 rest_after old more = unfinished old (parts more)

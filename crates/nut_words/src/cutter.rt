@@ -34,7 +34,7 @@ enum Stage {
 /// Cuts a stream of bytes into lines, whatever pieces the stream arrives in.
 ///
 /// It keeps at most [`LINE_MAX`] bytes of the unfinished line, in itself: it allocates no memory. In contracts its
-/// value is the rest of the stream: the unfinished line behind the bytes fed so far.
+/// value is the rest of the stream: the unfinished line after the bytes fed so far.
 #[derive(Drop)]
 pub struct LineCutter {
     kept: ArrayVec<u8, 512>,

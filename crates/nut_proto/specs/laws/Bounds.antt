@@ -23,17 +23,20 @@ variable_rows ups rows = flat_map (λ row. reply_line (replies.Var ups row.0 row
 abbrev pub variable_list : List ℕ → List (List ℕ × List ℕ) → List ℕ
 variable_list ups rows = begin_line (queries.Var ups) ++ (variable_rows ups rows ++ end_line (queries.Var ups))
 
--- A row of LIST VAR has at most 361 bytes.
+-- If the name of the UPS can be written bare and has at most 32 bytes, and the variable is within its limits, its row
+-- in LIST VAR has at most 361 bytes.
 abbrev pub RowsAreBounded : Type 0
 RowsAreBounded = (ups name value : List ℕ) → IsName 32 ups → IsVariable (name, value) → length (reply_line (replies.Var ups name value)) ≤ 361
 
--- If a table has at most 512 variables, the reply to LIST VAR has at most 184,926 bytes.
+-- If the name of the UPS can be written bare and has at most 32 bytes, and there are at most 512 variables, each within
+-- its limits, the reply to LIST VAR has at most 184,926 bytes.
 abbrev pub ListsAreBounded : Type 0
 ListsAreBounded =
     (ups : List ℕ) (rows : List (List ℕ × List ℕ)) →
     IsName 32 ups → AllByRecursion IsVariable rows → length rows ≤ 512 → length (variable_list ups rows) ≤ 184926
 
--- The same reply, with `FSD ` put before one value, has at most 184,930 bytes.
+-- If the name of the UPS can be written bare and has at most 32 bytes, and there are at most 512 variables, each within
+-- its limits, the reply to LIST VAR with `FSD ` put before one value has at most 184,930 bytes.
 abbrev pub ForcedListsAreBounded : Type 0
 ForcedListsAreBounded =
     (ups name value : List ℕ) (before after : List (List ℕ × List ℕ)) →

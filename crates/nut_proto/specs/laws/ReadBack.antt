@@ -19,7 +19,7 @@ use Rattle.nut_proto.specs.Replies.{reply_parts}
 use Rattle.nut_proto.specs.DriverAsks.{ask_parts, ask_of}
 use Rattle.nut_proto.specs.Answers.{answer_in}
 
--- The text of at most 32 parts spells their words.
+-- If at most 32 parts are writable, their text spells their words.
 abbrev pub MessagesSpell : Type 0
 MessagesSpell = (parts : List Part) → AreWritable parts → length parts ≤ 32 → spelled (message parts) ≡ Ok (message_words parts)
 
@@ -29,7 +29,7 @@ IsReadable (requests.Username name) = IsTrue (is_credential name)
 IsReadable (requests.Password password) = IsTrue (is_credential password)
 IsReadable request = Unit {0}
 
--- The line of a request spells words that mean this request.
+-- If its parts are writable and it is readable, the line of a request spells words that mean this request.
 abbrev pub RequestsAreRead : Type 0
 RequestsAreRead =
     (request : Request) → AreWritable (request_parts request) → IsReadable request →
@@ -44,18 +44,19 @@ answer_to replies.Goodbye = answers.Ok (codes "Goodbye" ∷ [])
 answer_to (replies.Refused refusal) = answers.Err (refusal_name refusal)
 answer_to reply = answers.Row (message_words (reply_parts reply))
 
--- The line of a reply is read as `answer_to` that reply.
+-- If its parts are writable, the line of a reply is read as `answer_to` that reply.
 abbrev pub RepliesAreRead : Type 0
 RepliesAreRead = (reply : Reply) → AreWritable (reply_parts reply) → answer_in (message (reply_parts reply)) ≡ Ok (answer_to reply)
 
--- The lines before and after the rows of a list are read as its beginning and its end, with the words of the query.
+-- If the parts of a query are writable, the lines before and after the rows of its list are read as the beginning and
+-- the end of a list, with the words of the query.
 abbrev pub ListsAreRead : Type 0
 ListsAreRead =
     (query : ListQuery) → AreWritable (query_parts query) →
     (answer_in (message (begin_parts query)) ≡ Ok (answers.Begin (message_words (query_parts query)))) ×
     (answer_in (message (end_parts query)) ≡ Ok (answers.End (message_words (query_parts query))))
 
--- The line of a request to a driver spells words that make this request.
+-- If its parts are writable, the line of a request to a driver spells words that make this request.
 abbrev pub AsksAreRead : Type 0
 AsksAreRead =
     (ask : DriverAsk) → AreWritable (ask_parts ask) →
