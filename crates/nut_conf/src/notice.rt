@@ -210,7 +210,11 @@ impl NoticeFlags {
         Ok(())
     }
 
-    /// Reads flags with plus signs between them. Returns `UnknownWord` for anything else.
+    /// Reads flags with plus signs between them.
+    ///
+    /// # Errors
+    ///
+    /// `UnknownWord` for anything else.
     pub fn read(bytes: &[u8]) -> Result<Self, FaultKind>
         ensures { Reads (λ f. f) result (flags bytes.now) }
     {

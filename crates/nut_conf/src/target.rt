@@ -108,8 +108,11 @@ fn local_host() -> Host
 }
 
 impl Target {
-    /// Reads `ups[@host[:port]]`, cut at its first `@` and after that at the first `:`. Returns the faults of
-    /// [`split_name`].
+    /// Reads `ups[@host[:port]]`, cut at its first `@` and after that at the first `:`.
+    ///
+    /// # Errors
+    ///
+    /// The first of these that applies: [`NameFault::BadUps`], [`NameFault::BadHost`], [`NameFault::BadPort`].
     pub fn read(bytes: &[u8]) -> Result<Self, NameFault>
         ensures { Reads target_view result (target bytes.now) }
     {

@@ -73,8 +73,12 @@ fn decimal(digits: &[u8]) -> u32
 }
 
 impl<const MOST: usize> Name<MOST> {
-    /// Reads a name. Returns `BadName` if it is empty or has a byte that names can't have, and `PastLimit` if it is
-    /// longer than `MOST` bytes.
+    /// Reads a name.
+    ///
+    /// # Errors
+    ///
+    /// `BadName` if it is empty or has a byte that names can't have; else `PastLimit` if it is longer than `MOST`
+    /// bytes.
     pub fn read(bytes: &[u8]) -> Result<Self, FaultKind>
         ensures { Reads (λ n. n.bytes.items) result (name MOST bytes.now) }
     {
@@ -98,7 +102,11 @@ impl<const MOST: usize> Name<MOST> {
 }
 
 impl<const LEAST: usize, const MOST: usize> Text<LEAST, MOST> {
-    /// Reads a text of printing bytes. Returns `PastLimit` if there are fewer than `LEAST` or more than `MOST`.
+    /// Reads a text of printing bytes.
+    ///
+    /// # Errors
+    ///
+    /// `PastLimit` if there are fewer bytes than `LEAST` or more than `MOST`.
     pub fn read(bytes: &[u8]) -> Result<Self, FaultKind>
         requires { IsTrue (list_all is_printing bytes.now) }
         ensures { Reads (λ t. t.bytes.items) result (bounded_text LEAST MOST bytes.now) }
@@ -123,7 +131,11 @@ impl<const LEAST: usize, const MOST: usize> Text<LEAST, MOST> {
 }
 
 impl<const LEAST: u32, const MOST: u32> Number<LEAST, MOST> {
-    /// Reads one to nine digits. Returns `BadNumber` for anything else, or if the number is out of range.
+    /// Reads one to nine digits.
+    ///
+    /// # Errors
+    ///
+    /// `BadNumber` for anything else, or if the number isn't `LEAST` to `MOST`.
     pub fn read(bytes: &[u8]) -> Result<Self, FaultKind>
         ensures { Reads (λ n. n.value) result (number LEAST MOST bytes.now) }
     {
@@ -140,7 +152,11 @@ impl<const LEAST: u32, const MOST: u32> Number<LEAST, MOST> {
 }
 
 impl Port {
-    /// Reads a port. Returns `BadNumber` if it isn't a number from 1 to 65,535.
+    /// Reads a port.
+    ///
+    /// # Errors
+    ///
+    /// `BadNumber` if it isn't one to nine digits, or not a number from 1 to 65,535.
     pub fn read(bytes: &[u8]) -> Result<Self, FaultKind>
         ensures { Reads (λ p. p.number) result (number 1 65535 bytes.now) }
     {

@@ -205,7 +205,11 @@ impl Role {
     ghost use Rattle.nut_conf.specs.Values.{one_of};
     ghost use Rattle.nut_conf.specs.Users.{role_word};
 
-    /// Reads `primary` or `secondary`. Returns `UnknownWord` for anything else.
+    /// Reads `primary` or `secondary`.
+    ///
+    /// # Errors
+    ///
+    /// `UnknownWord` for anything else.
     pub fn read(word: &[u8]) -> Result<Self, FaultKind>
         ensures { Reads role_word result (one_of (codes "primary" ∷ codes "secondary" ∷ []) word.now) }
     {

@@ -22,6 +22,7 @@ impl<'a, 'l> Model for Cursor<'a, 'l> {
 }
 
 impl<'a, 'l> Cursor<'a, 'l> {
+    /// Returns a cursor before the first word.
     pub fn new(words: &'a Words<'l>) -> Cursor<'a, 'l>
         ensures { result ≡ words.now }
     {

@@ -26,18 +26,21 @@ pub enum Part<'a> {
     StringOf(u32),
 }
 
+/// Returns the part for a word of the protocol: bare if it can be, else quoted.
 pub fn text(bytes: &[u8]) -> Part<'_>
     ensures { result ≡ Part.Word bytes.now }
 {
     Part::Word(Word::new(bytes))
 }
 
+/// Returns the part for a name: bare if it can be, else quoted.
 pub fn word<'a>(word: &Word<'a>) -> Part<'a>
     ensures { result ≡ Part.Word word.now }
 {
     Part::Word(Word::new(word.as_bytes()))
 }
 
+/// Returns the part for a value or a description, which is always quoted.
 pub fn quoted<'a>(word: &Word<'a>) -> Part<'a>
     ensures { result ≡ Part.Quoted word.now }
 {

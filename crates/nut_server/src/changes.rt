@@ -72,6 +72,13 @@ fn ask_to_do(device: &Device, name: &[u8], line: &mut ArrayVec<u8, 4096>) -> Res
 }
 
 /// Decides on SET VAR: the driver is asked to set the variable, by a request that is written into `line`.
+///
+/// # Errors
+///
+/// The errors of [`authorize`](crate::access::authorize); then `DriverNotConnected` or `DataStale` if the data of the UPS
+/// can't be relied on, `VarNotSupported` if it has no such variable, `ReadOnly`, `TooLong` or `InvalidValue` if the
+/// variable can't be set to the value, and `SetFailed` if the request doesn't fit behind those that wait for the
+/// driver.
 pub fn set_variable(
     scene: &Scene<'_>,
     caller: &Connection,
@@ -89,6 +96,12 @@ pub fn set_variable(
 }
 
 /// Decides on INSTCMD: the driver is asked to run the command, by a request that is written into `line`.
+///
+/// # Errors
+///
+/// The errors of [`authorize`](crate::access::authorize); then `DriverNotConnected` or `DataStale` if the data of the UPS
+/// can't be relied on, `CmdNotSupported` if it has no such command, and `InstCmdFailed` if the request doesn't fit
+/// behind those that wait for the driver.
 pub fn give_command(
     scene: &Scene<'_>,
     caller: &Connection,
@@ -105,6 +118,10 @@ pub fn give_command(
 }
 
 /// Decides on USERNAME: the client may give a user name once.
+///
+/// # Errors
+///
+/// `AlreadySetUsername` if the client has given one.
 pub fn give_user<'l>(caller: &Connection, name: &'l [u8]) -> Result<Effect<'l>, Refusal>
     requires { length name.now ≤ 128 }
     ensures { (s : Scene) (line : List ℕ) → Grants s (caller_of caller.now) (Asks (requests.Username name.now)) replies.Accepted
@@ -117,6 +134,10 @@ pub fn give_user<'l>(caller: &Connection, name: &'l [u8]) -> Result<Effect<'l>, 
 }
 
 /// Decides on PASSWORD: the client may give a password once.
+///
+/// # Errors
+///
+/// `AlreadySetPassword` if the client has given one.
 pub fn give_password<'l>(caller: &Connection, password: &'l [u8]) -> Result<Effect<'l>, Refusal>
     requires { length password.now ≤ 128 }
     ensures { (s : Scene) (line : List ℕ) → Grants s (caller_of caller.now) (Asks (requests.Password password.now)) replies.Accepted
@@ -129,6 +150,10 @@ pub fn give_password<'l>(caller: &Connection, password: &'l [u8]) -> Result<Effe
 }
 
 /// Decides on LOGIN: the client may log in to one UPS, once.
+///
+/// # Errors
+///
+/// The errors of [`authorize`](crate::access::authorize); then `AlreadyLoggedIn` if the client is logged in to any UPS.
 pub fn log_in(
     scene: &Scene<'_>,
     caller: &Connection,
@@ -145,6 +170,10 @@ pub fn log_in(
 }
 
 /// Decides on PRIMARY: whether the client may be primary of the UPS. Nothing changes.
+///
+/// # Errors
+///
+/// The errors of [`authorize`](crate::access::authorize).
 pub fn become_primary(
     scene: &Scene<'_>,
     caller: &Connection,
@@ -158,6 +187,10 @@ pub fn become_primary(
 }
 
 /// Decides on FSD: a shutdown of the UPS is forced.
+///
+/// # Errors
+///
+/// The errors of [`authorize`](crate::access::authorize).
 pub fn force(scene: &Scene<'_>, caller: &Connection, ups: &[u8]) -> Result<Effect<'static>, Refusal>
     requires { length scene.now.devices ≡ length scene.now.configuration.upses }
     ensures { (line : List ℕ) → Grants scene.now (caller_of caller.now) (Asks (requests.Fsd ups.now)) replies.FsdSet

@@ -71,6 +71,7 @@ impl Connection {
         }
     }
 
+    /// Returns the number of the connection.
     pub fn number(&self) -> u64
         ensures { result ≡ self.now.number }
     {
@@ -142,12 +143,14 @@ impl Connection {
         self.outbox.front()
     }
 
+    /// Whether the connection may be read from: nothing waits for the client, and it hasn't logged out.
     pub fn may_read(&self) -> bool
         ensures { result ≡ may_read (Some self.now) }
     {
         self.waits() == 0 && !self.logged_out
     }
 
+    /// Whether the connection is to be closed: the client has logged out, and nothing waits for it.
     pub fn leaves(&self) -> bool
         ensures { result ≡ leaves (Some self.now) }
     {

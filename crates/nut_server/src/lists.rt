@@ -90,6 +90,11 @@ fn list_clients<'a>(scene: &'a Scene<'_>, ups: &'a [u8]) -> Result<Answer<'a>, R
 }
 
 /// Answers LIST: the rows that the query asks for, or the refusal.
+///
+/// # Errors
+///
+/// `UnknownUps` if there is no such UPS; then `DriverNotConnected` or `DataStale` if its data can't be relied on; then
+/// `VarNotSupported` if it has no such variable. LIST UPS is never refused.
 pub fn list_answer<'a>(
     scene: &'a Scene<'_>,
     query: &'a ListQuery<'_>,

@@ -30,6 +30,10 @@ pub fn variable_of<'a>(device: &'a Device, name: &[u8]) -> Result<&'a Variable, 
 }
 
 /// Answers `GET NUMLOGINS`: how many clients are logged in to a UPS.
+///
+/// # Errors
+///
+/// `UnknownUps` if there is no such UPS; then `DriverNotConnected` or `DataStale` if its data can't be relied on.
 pub fn count_logins<'a>(scene: &'a Scene<'_>, ups: &'a [u8]) -> Result<Answer<'a>, Refusal>
     ensures { outcome result ≡ on_ups scene.now ups.now (λ u. on_data scene.now u (λ d. Line (replies.NumLogins ups.now (length (guests_of u scene.now.guests))))) }
 {
@@ -42,6 +46,10 @@ pub fn count_logins<'a>(scene: &'a Scene<'_>, ups: &'a [u8]) -> Result<Answer<'a
 }
 
 /// Answers `GET UPSDESC`: the description in ups.conf.
+///
+/// # Errors
+///
+/// `UnknownUps` if there is no such UPS.
 pub fn describe_ups<'a>(scene: &'a Scene<'_>, ups: &'a [u8]) -> Result<Answer<'a>, Refusal>
     ensures { outcome result ≡ described ups.now (ups_named ups.now scene.now.configuration.upses) }
 {
@@ -55,6 +63,11 @@ pub fn describe_ups<'a>(scene: &'a Scene<'_>, ups: &'a [u8]) -> Result<Answer<'a
 }
 
 /// Answers `GET VAR`: the value of a variable.
+///
+/// # Errors
+///
+/// `UnknownUps` if there is no such UPS; then `DriverNotConnected` or `DataStale` if its data can't be relied on; then
+/// `VarNotSupported` if it has no such variable.
 pub fn show_variable<'a>(
     scene: &'a Scene<'_>,
     ups: &'a [u8],
@@ -68,6 +81,11 @@ pub fn show_variable<'a>(
 }
 
 /// Answers `GET TYPE`: whether a variable may be set, and which values it allows.
+///
+/// # Errors
+///
+/// `UnknownUps` if there is no such UPS; then `DriverNotConnected` or `DataStale` if its data can't be relied on; then
+/// `VarNotSupported` if it has no such variable.
 pub fn show_type<'a>(
     scene: &'a Scene<'_>,
     ups: &'a [u8],
@@ -86,6 +104,11 @@ pub fn show_type<'a>(
 }
 
 /// Answers `GET DESC`: the description of a variable.
+///
+/// # Errors
+///
+/// `UnknownUps` if there is no such UPS; then `DriverNotConnected` or `DataStale` if its data can't be relied on; then
+/// `VarNotSupported` if it has no such variable.
 pub fn describe_variable<'a>(
     scene: &'a Scene<'_>,
     ups: &'a [u8],
@@ -103,6 +126,11 @@ pub fn describe_variable<'a>(
 }
 
 /// Answers `GET CMDDESC`: the description of a command.
+///
+/// # Errors
+///
+/// `UnknownUps` if there is no such UPS; then `DriverNotConnected` or `DataStale` if its data can't be relied on; then
+/// `CmdNotSupported` if it has no such command.
 pub fn describe_command<'a>(
     scene: &'a Scene<'_>,
     ups: &'a [u8],

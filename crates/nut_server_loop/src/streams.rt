@@ -147,6 +147,10 @@ fn address() -> Address {
 }
 
 /// Reads one piece, and returns its length: 0 at the end of the input. A read that is interrupted is tried again.
+///
+/// # Errors
+///
+/// The error of the reader.
 pub fn read_piece<R: Read>(input: &mut R, piece: &mut Piece) -> io::Result<usize> {
     *piece = Piece::from([0; 512]);
     for _ in 0..u64::MAX {
@@ -164,6 +168,10 @@ pub fn read_piece<R: Read>(input: &mut R, piece: &mut Piece) -> io::Result<usize
 
 /// Writes what the writer takes at once, and returns how many bytes that was. A write that is interrupted is tried
 /// again.
+///
+/// # Errors
+///
+/// The error of the writer.
 pub fn write_some<T: Write>(output: &mut T, bytes: &[u8]) -> io::Result<usize>
     ensures { IfOk result (λ n. n ≤ length bytes.now) }
 {

@@ -25,6 +25,10 @@ pub struct Ready {
 
 impl Ready {
     /// Returns an empty set, with room for all sockets.
+    ///
+    /// # Errors
+    ///
+    /// [`AllocError`] if memory cannot be allocated.
     pub fn new(alloc: Global) -> Result<Ready, AllocError> {
         Ok(Ready {
             queue: HeapCircularBuffer::with_capacity(alloc, SOCKETS)?,

@@ -50,12 +50,20 @@ impl Rounds {
     }
 
     /// Waits until an event comes or a second is over, or not at all if there is more to look at.
+    ///
+    /// # Errors
+    ///
+    /// The error of the wait.
     pub fn wait(&mut self) -> io::Result<()> {
         let ahead = self.seconds.ahead();
         self.wait_for(ahead)
     }
 
     /// Waits until an event comes, at most this long, or not at all if there is more to look at.
+    ///
+    /// # Errors
+    ///
+    /// The error of the wait.
     pub fn wait_for(&mut self, patience: Duration) -> io::Result<()> {
         let patience = if self.ready.is_empty() {
             patience
@@ -66,6 +74,10 @@ impl Rounds {
     }
 
     /// Begins the next round. Returns the number of seconds since the start, if one more is over.
+    ///
+    /// # Errors
+    ///
+    /// The error of the clock.
     pub fn turn(&mut self, clock: &impl Clock) -> io::Result<Option<u64>> {
         let moment = self.seconds.pass(clock)?;
         if moment.is_some() {
@@ -77,6 +89,10 @@ impl Rounds {
 
     /// Looks at the clock, and returns whether one more second is over. Tokens 0 to `fixed` - 1 are then looked at in
     /// the next round.
+    ///
+    /// # Errors
+    ///
+    /// The error of the clock.
     pub fn look_at_clock(&mut self, clock: &impl Clock) -> io::Result<bool> {
         let is_full = self.seconds.look(clock)?;
         if is_full {

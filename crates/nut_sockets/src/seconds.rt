@@ -27,6 +27,10 @@ pub struct Seconds {
 
 impl Seconds {
     /// Starts the clock.
+    ///
+    /// # Errors
+    ///
+    /// The error of the clock.
     pub fn start(clock: &impl Clock) -> io::Result<Seconds> {
         Ok(Seconds {
             start: Instant::now(clock)?,
@@ -39,6 +43,10 @@ impl Seconds {
     }
 
     /// Returns how many seconds have passed, if that is more than was told before.
+    ///
+    /// # Errors
+    ///
+    /// The error of the clock.
     pub fn pass(&mut self, clock: &impl Clock) -> io::Result<Option<u64>> {
         if !self.look(clock)? {
             return Ok(None);
@@ -50,6 +58,10 @@ impl Seconds {
     }
 
     /// Looks at the clock, and returns whether more seconds are over than when it was last looked at.
+    ///
+    /// # Errors
+    ///
+    /// The error of the clock.
     pub fn look(&mut self, clock: &impl Clock) -> io::Result<bool> {
         let passed = self.start.elapsed(clock)?;
         let part = Duration::from_nanos(u64::from(passed.subsec_nanos()));
