@@ -75,8 +75,8 @@ fn ask_to_do(device: &Device, name: &[u8], line: &mut ArrayVec<u8, 4096>) -> Res
 ///
 /// # Errors
 ///
-/// The errors of [`authorize`](crate::access::authorize); then `DriverNotConnected` or `DataStale` if the data of the UPS
-/// can't be relied on, `VarNotSupported` if it has no such variable, `ReadOnly`, `TooLong` or `InvalidValue` if the
+/// The errors of [`authorize`](crate::access::authorize); then `DriverNotConnected` or `DataStale` if the data of the
+/// UPS can't be relied on, `VarNotSupported` if it has no such variable, `ReadOnly`, `TooLong` or `InvalidValue` if the
 /// variable can't be set to the value, and `SetFailed` if the request doesn't fit behind those that wait for the
 /// driver.
 pub fn set_variable(
@@ -99,8 +99,8 @@ pub fn set_variable(
 ///
 /// # Errors
 ///
-/// The errors of [`authorize`](crate::access::authorize); then `DriverNotConnected` or `DataStale` if the data of the UPS
-/// can't be relied on, `CmdNotSupported` if it has no such command, and `InstCmdFailed` if the request doesn't fit
+/// The errors of [`authorize`](crate::access::authorize); then `DriverNotConnected` or `DataStale` if the data of the
+/// UPS can't be relied on, `CmdNotSupported` if it has no such command, and `InstCmdFailed` if the request doesn't fit
 /// behind those that wait for the driver.
 pub fn give_command(
     scene: &Scene<'_>,

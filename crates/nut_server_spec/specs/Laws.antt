@@ -247,8 +247,8 @@ BoundsHold =
     ((c : ℕ) (k : Session) → session_of c (content first h).sessions ≡ Some k → IsBoundedSession k)
     × ((u : ℕ) (d : Supply) → supply_of u (content first h).supplies ≡ Some d → IsBoundedSupply d)
 
--- At most as many connections are open as the configuration allows, at most 4,294,967,295 were opened, and the number of
--- an open connection is at most the number of connections opened.
+-- At most as many connections are open as the configuration allows, at most 4,294,967,295 were opened, and the number
+-- of an open connection is at most the number of connections opened.
 pub record HasFewConnections (s : Content) : Type 0 where
   pub few : length s.sessions ≤ s.configuration.most_connections
   pub given : s.opened ≤ 4_294_967_295
