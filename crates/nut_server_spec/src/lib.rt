@@ -14,10 +14,10 @@ use thiserror::Error;
 /// The line at which memory could not be allocated.
 #[derive(Clone, Copy, Debug, PartialEq, Eq)]
 pub enum Place {
-    /// In a piece of the connection with the first number, after the second number of lines of this piece. The answers
-    /// to those lines stay. The line itself left no trace, and the connection is closed.
+    /// `Line(c, k)`: in a piece of connection `c`, at the line after the first `k` lines of the piece. Those lines stay
+    /// answered. The line itself left no trace, and the connection is closed.
     Line(u64, usize),
-    /// In a piece of the driver of the UPS with the first number, after the second number of lines of this piece. What
+    /// `Report(u, k)`: in a piece of the driver of UPS `u`, at the line after the first `k` lines of the piece. What
     /// those lines said stays. The line itself left no trace, and the driver counts as disconnected.
     Report(usize, usize),
 }
@@ -28,7 +28,7 @@ pub enum Refused {
     /// No connection with this number is open.
     #[error("no such connection")]
     NoSuchConnection,
-    /// No UPS has this number, or its driver isn't connected where the event needs a connected one.
+    /// No UPS has this number, or the event needs its driver to be connected and it isn't.
     #[error("the driver isn't connected")]
     NotConnected,
     /// The piece has more than 512 bytes.
