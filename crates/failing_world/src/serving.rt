@@ -1,4 +1,4 @@
-//! The loop over a world whose devices fail.
+//! The loop over the world for tests.
 
 ghost use Rattle.std.specs.Prelude.{◌≡◌, ◌<◌, ◌-◌, ◌^◌, List, [], Some, None, OnOk, OnErr};
 ghost use Rattle.nut_server_spec.specs.Content.{content};
@@ -11,10 +11,11 @@ use nut_server::Server;
 use nut_server_loop::{ServeFault, serve};
 use std::sync::Wait;
 
-/// Serves until the world ends or a device is a fault: what `serve` promises, at this world.
+/// Serves until the world ends or one of its calls returns a fault. Promises what `serve` promises, for this world.
 ///
 /// # Errors
-/// `ServeFault::World` where a call of the world answered a fault.
+///
+/// `ServeFault::World` if a call of the world returns a fault.
 pub fn serve_failing(
     rt: &impl Wait,
     server: &mut Server,

@@ -1,4 +1,4 @@
--- A UPS that is put behind others.
+-- A UPS that is added after others.
 use Rattle.std.proofs.Common.{◌≡◌, ℕ, ◌<◌, ◌≤◌, true, false, not, ◌||◌, List, [], ◌∷◌, ◌++◌, length, map, codes, Result, Ok, Err, nat_le, if◌then◌else◌, refl, ap, ◌∙◌, arith}
 use Rattle.std.specs.List.{list_any, list_all}
 use Rattle.std.specs.Map.{keys_of}
@@ -24,7 +24,7 @@ use Rattle.nut_conf.proofs.SlotLemmas.{length-map}
 use Rattle.nut_conf.proofs.SectionLemmas.{same_name, none-from_not_some}
 use Rattle.nut_conf.specs.declared.limits.TheConstants.{DESCRIPTION_MAX, UPSES_MAX}
 
--- a text that isn't too long reads as it is
+-- A text that isn't too long is read as it is.
 pub text-short : (bytes : List ℕ) → length bytes ≤ DESCRIPTION_MAX → text 0 DESCRIPTION_MAX bytes ≡ Ok bytes
 text-short bytes short = grind (arith, nat_tests)
 
@@ -42,11 +42,11 @@ map-push [] k u = refl
 map-push (e ∷ es) k u = ap (λ (us : List Shown). shown e ∷ us) (map-push es k u)
 
 module _ {H : Type 0} (m : HashMap (Name UPS_NAME_MAX) Ups H) (k : Name UPS_NAME_MAX) (new : is_some (get same_name m k) ≡ false) where
-  -- a new UPS goes last
+  -- A new UPS comes last.
   pub shown-insert : (es : List (Name UPS_NAME_MAX × Ups)) (u : Ups) → es ≡ insert_entry same_name m.entries k u → map shown es ≡ map shown m.entries ++ shown (k, u) ∷ []
   shown-insert es u is = ap (map shown) (is ∙ insert_entry-new same_name m k u (none-from_not_some _ new)) ∙ map-push m.entries k u
 
--- a name is in the map where a UPS is shown as it
+-- A name is a key of the map if, and only if, a UPS has it.
 pub any-is : {H : Type 0} (m : HashMap (Name UPS_NAME_MAX) Ups H) (k : Name UPS_NAME_MAX) → is_some (get same_name m k) ≡ list_any (is_shown_as k.bytes.items) (map shown m.entries)
 any-is m k = is_some-lookup (same_name k) m.entries ∙ any-shown m.entries k
 

@@ -1,4 +1,4 @@
--- In a file that reads, no section has the name of another.
+-- In a file that reads without a fault, no two sections have the same name.
 use Rattle.std.proofs.Common.{◌≡◌, ℕ, ◌+◌, ◌==◌, Bool, true, false, cond, ◌||◌, nat_lt, nat_le, List, [], ◌∷◌, ◌++◌, length, Option, None, Some, Result, Ok, Err, refl, sym, ap, ◌∙◌, subst}
 use Rattle.std.specs.List.{list_any}
 use Rattle.std.specs.Option.{option_map_or}
@@ -21,7 +21,8 @@ use Rattle.nut_conf.specs.declared.limits.TheConstants.{FILE_MAX}
 abbrev Taken : List Words → Result (List Words) FaultKind
 Taken lines = Ok lines
 
--- What holds before the first line and is kept by each line without a fault holds of a file that reads.
+-- What holds before the first line, and is kept by each line without a fault, holds of a file that reads without a
+-- fault.
 module _ (fault : LineFault) (P : List Words → Type 0) (keeps : (before : List Words) (ws : Words) → fault before ws ≡ None → P before → P (before ++ ws ∷ [])) where
   keeps_line : (before more : List Words) (line : List ℕ) → P before → with_line fault before line ≡ Ok more → P more
   keeps_line before more line holds is = by_words (words_of line) is where
@@ -65,7 +66,7 @@ pub right_false : (a b : Bool) → (a || b) ≡ false → b ≡ false
 right_false true b h = absurd (cc)
 right_false false b h = h
 
--- a new name behind the others
+-- a new name after the others
 distinct-push : (ss : List Section) (n : List ℕ) → HasDistinctNames ss → list_any (is_name_of n) ss ≡ false → HasDistinctNames (ss ++ (n, []) ∷ [])
 distinct-push [] n all new = (refl, tt)
 distinct-push (s ∷ ss) n all new =

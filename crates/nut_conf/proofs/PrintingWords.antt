@@ -1,4 +1,4 @@
--- The words that a line spells are printing bytes.
+-- The words that a line spells consist of printing bytes.
 use Rattle.std.proofs.Common.{◌≡◌, ℕ, Bool, true, false, cond, ◌&&◌, ◌==◌, nat_le, nat_lt, List, [], ◌∷◌, ◌++◌, length, Result, Ok, Err, refl, ap, ◌∙◌, subst, arith}
 use Rattle.std.specs.List.{list_all}
 use Rattle.std.proofs.lemmas.List.Folds.{list_all-append}
@@ -26,7 +26,7 @@ AllWords ws = list_all is_word ws ≡ true
 one_more : {X : Type 0} (p : X → Bool) (xs : List X) (x : X) → list_all p xs ≡ true → p x ≡ true → list_all p (xs ++ x ∷ []) ≡ true
 one_more p xs x h g = list_all-append p xs (x ∷ []) ∙ rw (h, g) refl
 
--- the words so far are printing, and so is the word that is being read
+-- The words so far are printing, and so is the word being read.
 abbrev Printing : State → Type 0
 Printing (Between ws) = AllWords ws
 Printing (Bare w ws) = (is_word w ≡ true) × AllWords ws
@@ -145,13 +145,13 @@ read-keeps (c ∷ cs) s ws h is =
 pub printing : (line : List ℕ) (ws : List (List ℕ)) → spelled line ≡ Ok ws → list_all (list_all is_printing) ws ≡ true
 printing line ws is = read-keeps line (Between []) ws refl is
 
--- a line without bytes has no words
+-- A line without bytes has no words.
 pub words_of-empty : (line : List ℕ) → (length line == 0) ≡ true → words_of line ≡ Ok []
 unfolding read
 words_of-empty [] h = refl
 words_of-empty (c ∷ cs) h = absurd (grind (arith, nat_tests))
 
--- so are those of a line that isn't too long
+-- The words of a line that isn't too long are printing.
 pub printing_of : (line : List ℕ) (ws : List (List ℕ)) → words_of line ≡ Ok ws → list_all (list_all is_printing) ws ≡ true
 printing_of line ws is = by_test (nat_lt FILE_LINE_MAX (length line)) is where
   by_words : (r : Result (List (List ℕ)) WordFault) → spelled line ≡ r → readable r ≡ Ok ws → AllWords ws
@@ -170,7 +170,7 @@ right_true : (a b : Bool) → (a && b) ≡ true → b ≡ true
 right_true true b h = h
 right_true false b h = absurd (cc)
 
--- printing bytes can be written
+-- Printing bytes are printable.
 pub printable : (w : List ℕ) → list_all is_printing w ≡ true → IsPrintable w
 printable [] h = tt
 printable (c ∷ cs) h = (left_true (is_printing c) (list_all is_printing cs) h, printable cs (right_true (is_printing c) (list_all is_printing cs) h))
@@ -182,7 +182,7 @@ name_bytes_printable : (w : List ℕ) → list_all is_name_byte w ≡ true → I
 name_bytes_printable [] h = tt
 name_bytes_printable (c ∷ cs) h = (name_byte_printing c (left_true (is_name_byte c) (list_all is_name_byte cs) h), name_bytes_printable cs (right_true (is_name_byte c) (list_all is_name_byte cs) h))
 
--- so can names and texts
+-- Names and texts are printable.
 pub name_printable : (most : ℕ) (w : List ℕ) → is_name most w ≡ true → IsPrintable w
 name_printable most w h = name_bytes_printable w (right_true (nat_le 1 (length w) && nat_le (length w) most) (list_all is_name_byte w) h)
 

@@ -1,4 +1,4 @@
--- How long a target is at most.
+-- The most bytes in a target.
 use Rattle.std.proofs.Common.{◌≡◌, ℕ, ◌+◌, ◌-◌, ◌<◌, ◌≤◌, Bool, true, false, cond, not, ◌||◌, ◌==◌, nat_lt, List, length, take, drop, Option, None, Some, Result, Ok, Err, refl, ap, arith, length-drop}
 use Rattle.std.specs.List.{list_all, list_any, position}
 use Rattle.std.specs.Option.{option_map, option_map_or}
@@ -16,7 +16,7 @@ use Rattle.nut_conf.specs.declared.fault.FaultKind.TheVariants.{BadName, PastLim
 use Rattle.nut_conf.specs.declared.target.NameFault.TheVariants.{BadUps, BadPort}
 use Rattle.nut_conf.specs.declared.limits.TheConstants.{HOST_MAX, TARGET_MAX}
 
--- what was read after a first part, and that part
+-- What was read in a first step, and that this step has no fault.
 first_part : {A B E : Type 0} (r : Result A E) (f : A → Result B E) (y : B) → (r >>= f) ≡ Ok y → (x : A) × (r ≡ Ok x) × (f x ≡ Ok y)
 first_part {A} {B} {E} r f y is = elim r as (λ (q : Result A E). r ≡ q → (q >>= f) ≡ Ok y → (x : A) × (r ≡ Ok x) × (f x ≡ Ok y)) [
   | Ok x ↦ λ here later. (x, here, later)
@@ -40,7 +40,7 @@ number-short least most bytes n is = grind (arith, nat_tests)
 host-short : (bytes h : List ℕ) → host bytes ≡ Ok h → length bytes ≤ HOST_MAX
 host-short bytes h is = grind (arith, nat_tests)
 
--- the lengths of what stands before and after a byte
+-- the numbers of bytes before and after the byte c
 length-parts : (c : ℕ) (bytes : List ℕ) (i : ℕ) → position (λ b. b == c) bytes ≡ Some i → (i < length bytes) × (length (take i bytes) ≡ i) × (length (drop (i + 1) bytes) ≡ length bytes - (i + 1))
 length-parts c bytes i is =
     let within : i < length bytes = (position-Some (λ b. b == c) bytes i 0 is).0 in
@@ -75,7 +75,7 @@ target-short bytes t is = by_place (position (λ b. b == 64) bytes) refl is wher
       let l = first_part (located (drop (i + 1) bytes)) (λ l. Ok (u.0, l.0, l.1)) t u.2 in
       omega (arith, lengths.0, lengths.1, lengths.2, name-short UPS_NAME_MAX (take i bytes) u.0 (no_fault BadUps (name UPS_NAME_MAX (take i bytes)) u.0 u.1), located-short (drop (i + 1) bytes) l.0 l.1)
 
--- a target that names its host has at most 107 bytes
+-- A target that names its host has at most 107 bytes.
 pub monitored-short : (bytes : List ℕ) (t : List ℕ × List ℕ × ℕ) → monitored_target bytes ≡ Ok t → length bytes ≤ TARGET_MAX
 monitored-short bytes t is = by_test (list_any (λ c. c == 64) bytes) is where
   by_test : (b : Bool) → cond b (or_fault BadName (target bytes)) (Err BadName) ≡ Ok t → length bytes ≤ TARGET_MAX

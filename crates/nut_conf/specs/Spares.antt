@@ -1,4 +1,4 @@
--- For private functions, nothing here has to be believed: no values are read as want of memory.
+-- For private functions, nothing here has to be believed: reading values never gives the fault `Memory`.
 use Rattle.std.specs.Prelude.{◌==◌, ◌||◌, ◌&&◌, ℕ, Bool, true, false, not, List, [], ◌∷◌, map, length, nat_le, nat_lt, codes, if◌then◌else◌, Result, Ok, Err}
 use Rattle.std.specs.List.{list_all, list_any}
 use Rattle.std.specs.Char.{to_ascii_lowercase}

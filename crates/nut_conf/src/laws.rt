@@ -1,4 +1,4 @@
-//! Laws of every file, over the definitions alone.
+//! Laws that hold of every file, stated over the definitions alone.
 ghost use Rattle.std.specs.Prelude.{◌≡◌, ℕ, List, [], Ok, Err};
 ghost use Rattle.nut_conf.specs.Values.{Words};
 ghost use Rattle.nut_conf.specs.laws.FirstFault.{IsFirstFault};
@@ -18,18 +18,20 @@ ghost use Rattle.nut_conf.specs.declared.upsmon.UpsmonDirective.{UpsmonDirective
 ghost use Rattle.nut_conf.specs.declared.users.UserDirective.{UserDirective};
 ghost use Rattle.nut_conf.specs.declared.fault.FaultKind.{FaultKind};
 
-/// The fault that is named stands in the first line that has one.
+/// States a law and does nothing when called: the fault that reading reports is that of the first line with a fault.
 pub fn first_fault()
     ensures { (fault : LineFault) (lines : List (List ℕ)) (n : ℕ) (k : FaultKind)
         → read_lines fault [] 1 lines ≡ Err (n, k) → IsFirstFault fault lines n k }
 {}
 
-/// A line without words changes nothing but the numbers of the lines behind it.
+/// States a law and does nothing when called: a line without words changes nothing except the numbers of the lines
+/// after it.
 pub fn blank_lines_change_nothing()
     ensures { (fault : LineFault) → BlankChangesNothing fault }
 {}
 
-/// In a file that reads, no UPS and no user has the name of another.
+/// States a law and does nothing when called: in a file that reads without a fault, no two UPSes and no two users have
+/// the same name.
 pub fn names_are_distinct()
     ensures ups { (file : List ℕ) (lines : List Words) → read_file ups_fault file ≡ Ok lines → HasDistinctNames (sections lines) }
     ensures users { (file : List ℕ) (lines : List Words) → read_file users_fault file ≡ Ok lines → HasDistinctNames (sections lines) }

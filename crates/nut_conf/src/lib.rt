@@ -1,6 +1,7 @@
 //! The configuration files of Network UPS Tools: ups.conf, upsd.users, upsd.conf, upsmon.conf and cmdvartab.
 //!
-//! Each reader takes a whole file. It gives the configuration that the file's lines set, or the first fault with its line.
+//! Each reader reads a whole file. It returns the configuration that the file's lines set, or the first fault and its
+//! line.
 #![tactic(auto)]
 
 mod descriptions;

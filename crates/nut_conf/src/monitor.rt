@@ -14,14 +14,14 @@ use crate::users::Role;
 use crate::values::Values;
 use arrayvec::ArrayVec;
 
-/// A UPS that is watched.
+/// A UPS that a monitor watches: a MONITOR line.
 #[derive(Drop)]
 pub struct Monitored {
-    /// The target as it is written in the file, as notices name the UPS.
+    /// The target as the file writes it. Notices name the UPS by it.
     pub written: ArrayVec<u8, TARGET_MAX>,
-    /// What the target names.
+    /// The UPS, host and port that the target names.
     pub target: Target,
-    /// How many power supplies of this machine the UPS feeds.
+    /// How many power supplies of this machine the UPS feeds: the power value.
     pub power: Number<0, 1000>,
     pub user: Name<USER_NAME_MAX>,
     pub password: Text<1, PASSWORD_MAX>,
@@ -34,7 +34,7 @@ fn has_at(bytes: &[u8]) -> bool
     bytes.iter().any(|b| *b == b'@')
 }
 
-/// A target that names its host.
+/// Reads a target that names its host. Returns `BadName` for anything else.
 fn read_target(bytes: &[u8]) -> Result<Target, FaultKind>
     ensures { Reads target_view result (monitored_target bytes.now) }
 {
@@ -47,7 +47,7 @@ fn read_target(bytes: &[u8]) -> Result<Target, FaultKind>
     }
 }
 
-/// A target as it is written, and what it names.
+/// Reads a target that names its host. Returns the target as written, and what it names.
 fn read_written(bytes: &[u8]) -> Result<(ArrayVec<u8, TARGET_MAX>, Target), FaultKind>
     ensures { Reads (λ t. (t.0.items, target_view t.1)) result (written_target bytes.now) }
 {

@@ -1,4 +1,4 @@
-//! The lines of upsmon.conf that name a UPS.
+//! The MONITOR lines of upsmon.conf.
 ghost use Rattle.std.specs.Prelude.{◌≤◌, length};
 ghost use Rattle.nut_conf.specs.declared.limits.TheConstants.{MONITORS_MAX};
 
@@ -23,7 +23,7 @@ impl Monitors {
     ghost use Rattle.nut_conf.specs.Upsmon.{monitor_setting, monitor_value, same_target};
     ghost use Rattle.nut_conf.specs.declared.values.Form.TheVariants.{Plain};
 
-    /// No lines.
+    /// Returns an empty list.
     pub(crate) fn new(alloc: Global) -> Self
         ensures { result.lines.items ≡ [] }
     {
@@ -32,7 +32,7 @@ impl Monitors {
         }
     }
 
-    /// Puts one more line behind the others.
+    /// Adds the line at the end.
     pub(crate) fn put(&mut self, line: &Line<'_>) -> Result<(), FaultKind>
         ensures { Puts (distinct same_target (Some MONITORS_MAX) Plain monitor_value) (map monitor_setting self.old.lines.items) line.now.words result (map monitor_setting self.new.lines.items) }
     {

@@ -1,4 +1,4 @@
-//! The name of a UPS at a host.
+//! Names of UPSes at hosts: `ups[@host[:port]]`.
 ghost use Rattle.std.specs.Prelude.{◌≡◌, ◌==◌, ◌<◌, IfSome, codes, length, position};
 ghost use Rattle.std.specs.Option.{option_map};
 ghost use Rattle.nut_conf.specs.Faults.{Reads};
@@ -11,7 +11,7 @@ use crate::text::{Name, Port};
 use nut_words::UPS_NAME_MAX;
 use thiserror::Error;
 
-/// Why a name of a UPS at a host doesn't read.
+/// Why a name of a UPS at a host can't be read.
 #[derive(Clone, Copy, Debug, PartialEq, Eq, Error)]
 pub enum NameFault {
     /// The name of the UPS isn't 1 to [`UPS_NAME_MAX`] letters, digits, `.`, `_` and `-`.
@@ -36,7 +36,7 @@ pub struct Target {
     pub port: Port,
 }
 
-/// Where the first such byte stands.
+/// Returns the place of the first such byte, if there is one.
 fn place_of(byte: u8, bytes: &[u8]) -> Option<usize>
     ensures place { result ≡ position (λ b. b == byte) bytes.now }
     ensures within { IfSome result (λ at. at < length bytes.now) }
@@ -44,7 +44,7 @@ fn place_of(byte: u8, bytes: &[u8]) -> Option<usize>
     bytes.iter().position(|b| *b == byte)
 }
 
-/// What stands before and after the first such byte.
+/// Returns the bytes before and after the first such byte, if there is one.
 fn parted(byte: u8, bytes: &[u8]) -> Option<(&[u8], &[u8])>
     ensures { option_map (λ p. (p.0.now, p.1.now)) result ≡ parted_at byte bytes.now }
 {
@@ -81,7 +81,7 @@ fn ups(bytes: &[u8]) -> Result<Name<UPS_NAME_MAX>, NameFault>
     }
 }
 
-/// Reads `host[:port]`.
+/// Reads `host[:port]`. The port is 3493 if none is named.
 fn located(bytes: &[u8]) -> Result<(Host, Port), NameFault>
     ensures { Reads (λ l. (l.0.bytes.items, l.1.number)) result (located_of bytes.now) }
 {
@@ -98,7 +98,7 @@ fn located(bytes: &[u8]) -> Result<(Host, Port), NameFault>
     }
 }
 
-/// The host that is meant where none is named.
+/// Returns `localhost`, the host of a target that names none.
 fn local_host() -> Host
     ensures { result.bytes.items ≡ codes "localhost" }
 {
@@ -109,7 +109,11 @@ fn local_host() -> Host
 }
 
 impl Target {
-    /// Reads `ups[@host[:port]]`, parted at its first `@` and after that at the first `:`.
+    /// Reads `ups[@host[:port]]`, cut at its first `@` and after that at the first `:`.
+    ///
+    /// # Errors
+    ///
+    /// The first of these that applies: [`NameFault::BadUps`], [`NameFault::BadHost`], [`NameFault::BadPort`].
     pub fn read(bytes: &[u8]) -> Result<Self, NameFault>
         ensures { Reads target_view result (target bytes.now) }
     {
@@ -131,10 +135,13 @@ impl Target {
     }
 }
 
-/// Reads `ups[@host[:port]]`, parted at its first `@` and after that at the first `:`.
+/// Reads `ups[@host[:port]]`, cut at its first `@` and after that at the first `:`.
 ///
-/// Without a host it is `localhost`, without a port 3493. The parts are tested in this order: `BadUps`, `BadHost`, `BadPort`.
-/// Takes no memory.
+/// If no host is named it is `localhost`, and if no port is named it is 3493. Allocates no memory.
+///
+/// # Errors
+///
+/// The first of these that applies: [`NameFault::BadUps`], [`NameFault::BadHost`], [`NameFault::BadPort`].
 pub fn split_name(name: &str) -> Result<Target, NameFault>
     ensures { Reads target_view result (target name.now) }
 {

@@ -17,14 +17,14 @@ use crate::text::{Number, Port};
 use crate::values::{Form, Values};
 use std::alloc::Global;
 
-/// Where a server listens.
+/// An address and a port on which a server listens.
 #[derive(Debug, PartialEq, Eq, Drop)]
 pub struct Endpoint {
     pub address: Address,
     pub port: Port,
 }
 
-/// The configuration of upsd.conf. What isn't set has its default.
+/// The configuration of upsd.conf. A directive that isn't set has its default.
 #[derive(Drop)]
 pub struct UpsdConf {
     /// Of a file that was read, at most [`LISTENERS_MAX`].
@@ -34,14 +34,15 @@ pub struct UpsdConf {
 }
 
 impl UpsdConf {
-    /// A configuration in which nothing is set, as that of an empty file.
+    /// Returns a configuration in which nothing is set, like that of an empty file.
     pub fn new(alloc: Global) -> Self
         ensures { UpsdHolds result [] }
     {
         Draft::new(alloc)
     }
 
-    /// After how many seconds without a word from its driver the data of a UPS is stale; where none is set, 15.
+    /// Returns MAXAGE: after this many seconds without a word from its driver, the data of a UPS are stale. It is 15 if
+    /// none is set.
     pub fn max_age(&self) -> u32
         ensures value { result ≡ max_age_of self.now }
         ensures least { 1 ≤ result }
@@ -65,14 +66,15 @@ impl UpsdConf {
         }
     }
 
-    /// On how many endpoints the server listens, at least one.
+    /// Returns on how many endpoints the server listens: at least one.
     pub fn endpoints(&self) -> usize
         ensures { result ≡ length (endpoints_of self.now) }
     {
         self.listen.len().max(1)
     }
 
-    /// An address and a port on which the server listens, counted from 0 in the order of the file; where none is set, 127.0.0.1 and 3493.
+    /// Returns the address and the port of an endpoint, counted from 0 in the order of the file. If no endpoint is set,
+    /// the first is 127.0.0.1 and 3493.
     pub fn endpoint(&self, index: usize) -> Option<(&[u8], u16)>
         ensures { option_map (λ e. (e.0.now, e.1)) result ≡ slice_get (endpoints_of self.now) index }
     {
@@ -86,7 +88,7 @@ impl UpsdConf {
     }
 }
 
-/// What may stand in the file.
+/// The directives of the file.
 #[derive(Clone, Copy)]
 pub enum UpsdDirective {
     Listen,
@@ -176,10 +178,13 @@ impl Draft for UpsdConf {
     }
 }
 
-/// Reads upsd.conf (NUT man page upsd.conf(5), the directives `LISTEN`, `MAXAGE` and `MAXCONN`).
+/// Reads upsd.conf (NUT manual page upsd.conf(5), the directives `LISTEN`, `MAXAGE` and `MAXCONN`). Returns the
+/// configuration that its lines set.
 ///
-/// Gives the configuration that its lines set, or the first line with a fault and the first fault in it. Memory may run
-/// out only at a line with a backslash, or at one without a fault that has `LISTEN`.
+/// # Errors
+///
+/// The first fault of the first line that has one. `Memory` comes only at a line with a backslash, or at a `LISTEN`
+/// line without a fault.
 pub fn read_upsd(alloc: Global, bytes: &[u8]) -> Result<UpsdConf, ConfFault>
     ensures means { Means (read_file upsd_fault bytes.now) UpsdHolds result }
     ensures few { IfOk result (λ conf. length conf.listen.items ≤ LISTENERS_MAX) }

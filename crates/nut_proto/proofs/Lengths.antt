@@ -13,7 +13,7 @@ use Rattle.nut_proto.specs.Requests.{begin_line, end_line}
 use Rattle.nut_proto.specs.Replies.{reply_line}
 use Rattle.nut_proto.specs.laws.Bounds.{IsName, IsVariable, variable_rows, variable_list, RowsAreBounded, ListsAreBounded, ForcedListsAreBounded}
 
--- the bytes of parts, each with a blank before it
+-- the number of bytes of parts with a space before each
 abbrev width : List Part → ℕ
 width [] = 0
 width (part ∷ parts) = 1 + length (part_text part) + width parts
@@ -47,7 +47,7 @@ length-bare name false e h = cc
 length-name : (most : ℕ) (name : List ℕ) → IsName most name → length (word_text name) ≤ most
 length-name most name h = omega (arith, length-bare name (stands_bare name) refl h.0, h.1)
 
--- a row by the length of its value
+-- the length of a row, by the length of its quoted value
 length-row : (ups name value : List ℕ) → IsName UPS_NAME_MAX ups → IsName NAME_MAX name → length (reply_line (replies.Var ups name value)) ≤ 103 + length (quoted value)
 unfolding reply_line
 length-row ups name value u n =
@@ -84,7 +84,7 @@ length-list ups rows u =
 pub lists_are_bounded : ListsAreBounded
 lists_are_bounded ups rows u h most = omega (arith, length-list ups rows u, length-rows ups rows u h)
 
--- the rows with one that is longer by the mark
+-- the length of the rows, if one value has `FSD ` before it
 length-forced_rows : (ups name value : List ℕ) (before after : List (List ℕ × List ℕ)) → IsName UPS_NAME_MAX ups → AllByRecursion IsVariable before → IsVariable (name, value) → AllByRecursion IsVariable after →
     length (variable_rows ups (before ++ (name, codes "FSD " ++ value) ∷ after)) ≤ 361 * (length before + length after) + 365
 length-forced_rows ups name value [] after u h v k =

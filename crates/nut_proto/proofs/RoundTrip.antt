@@ -1,4 +1,4 @@
--- The words that a message is written in are read as what was meant.
+-- The words in which a message is written are read as what was meant.
 use Rattle.std.proofs.Common.{◌≡◌, ℕ, ◌≤◌, Bool, true, false, List, length, IsTrue, refl, ◌∙◌, cond, ap, arith, Some, None, Ok, codes}
 use Rattle.std.specs.Option.{option_map, option_or, ok_or}
 use Rattle.nut_words.specs.Quoting.{IsPrintable}

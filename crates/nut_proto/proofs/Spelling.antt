@@ -40,7 +40,7 @@ signed_printable (negsuc n) h = (refl, decimal_printable (suc n) (omega arith))
 limit_printable : (n : ℕ) → n < 2 ^ 32 → IsPrintable (codes "STRING:" ++ decimal n)
 limit_printable n h = (refl, (refl, (refl, (refl, (refl, (refl, (refl, decimal_printable n (omega arith))))))))
 
--- how a part stands in a line
+-- the part of a line that a part of a message is written as
 abbrev spelling_of : Part → spelling.Part
 spelling_of (Word word) = part_of word
 spelling_of (Quoted text) = spelling.Quoted (map item_of text)
@@ -55,7 +55,7 @@ writes (Number n) h = part_writes (decimal n) (decimal_printable n (omega arith)
 writes (QuotedNumber z) h = quoted_writes (signed_decimal z) (signed_printable z h)
 writes (StringOf n) h = part_writes (codes "STRING:" ++ decimal n) (limit_printable n h)
 
--- the parts with a blank before each
+-- the parts with a space before each
 abbrev behind : List Part → List spelling.Part
 behind [] = []
 behind (part ∷ parts) = spelling.Blank 32 ∷ spelling_of part ∷ behind parts

@@ -1,4 +1,4 @@
-//! Texts for people, by the names of variables and commands. They are this project's own.
+//! Descriptions of variables and commands for people. The texts are this project's own.
 ghost use Rattle.std.specs.Prelude.{◌≡◌, ◌≤◌, IfSome, IsTrue, length};
 ghost use Rattle.std.specs.List.{list_all};
 ghost use Rattle.std.specs.Option.{option_map};

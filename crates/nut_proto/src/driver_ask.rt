@@ -1,4 +1,4 @@
-//! What the server asks of a driver.
+//! The requests that the server sends to a driver.
 ghost use Rattle.std.specs.Prelude.{◌≡◌, ◌+◌, ◌≤◌, ◌↔◌, ◌++◌, length, IsTrue, OnOk, OnErr};
 ghost use Rattle.std.specs.Bool.{OnTrue, OnFalse};
 ghost use Rattle.arrayvec.specs.ArrayVec.{array_vec_len};
@@ -12,23 +12,23 @@ use arrayvec::ArrayVec;
 use nut_words::Words;
 use std::alloc::AllocError;
 
-/// What the server asks of a driver (NUT developer guide, socket protocol). It borrows its words.
+/// A request of the server to a driver (NUT developer guide, socket protocol). It borrows its words.
 #[derive(Drop)]
 pub enum DriverAsk<'a> {
-    /// To answer `PONG`.
+    /// Asks the driver to answer `PONG`.
     Ping,
-    /// To tell all that the driver knows.
+    /// Asks the driver to report all that it knows.
     DumpAll,
-    /// To give a variable a new value.
+    /// Asks the driver to set a variable.
     Set { variable: Word<'a>, value: Word<'a> },
-    /// To do a command.
+    /// Asks the driver to run a command.
     InstCmd { command: Word<'a> },
 }
 
 impl<'a> DriverAsk<'a> {
-    /// What the words of the server's line ask, or `None` where they ask nothing that a driver knows. Takes no memory.
+    /// Reads the words of a line of the server. Returns `None` if they are no request to a driver. Allocates no memory.
     ///
-    /// The first word is compared without ASCII case, and the number of words is exact.
+    /// The first word is compared without regard to ASCII case, and the number of words must match exactly.
     #[tactic(auto, unfolding(crate::specs::DriverAsks::ask_of))]
     pub fn read(words: &'a Words<'_>) -> Option<DriverAsk<'a>>
         ensures { result ≡ ask_of words.now }
@@ -54,7 +54,11 @@ impl<'a> DriverAsk<'a> {
         None
     }
 
-    /// Appends the line, its line feed included. An `Err` is for want of memory, and leaves `out` as before.
+    /// Appends the line with its line feed.
+    ///
+    /// # Errors
+    ///
+    /// [`AllocError`] if memory cannot be allocated. `out` is then as it was.
     #[tactic(auto, unfolding(crate::specs::DriverAsks::ask_line))]
     pub fn put(&self, out: &mut Vec<u8>) -> Result<(), AllocError>
         ensures ok { OnOk result (out.new.items ≡ out.old.items ++ ask_line self.now) }
@@ -71,8 +75,8 @@ impl<'a> DriverAsk<'a> {
         }
     }
 
-    /// Appends the line, its line feed included, where there is room, and says whether there was.
-    /// Else `out` is as before. Takes no memory.
+    /// Appends the line with its line feed, if the whole fits, and returns whether it did. Otherwise `out` stays as it
+    /// was. Allocates no memory.
     #[tactic(auto, unfolding(crate::specs::DriverAsks::ask_line))]
     pub fn put_in<const N: usize>(&self, out: &mut ArrayVec<u8, N>) -> bool
         ensures room { IsTrue result ↔ (array_vec_len out.old + length (ask_line self.now) ≤ N) }

@@ -1,7 +1,8 @@
-//! The messages of the network protocol (RFC 9271), and what the server asks of drivers.
+//! The messages of the network protocol (RFC 9271), and the requests of a server to its drivers.
 //!
-//! The server reads requests with `read` and writes replies with `put`; a client writes requests with `put_in` and reads
-//! answers with `read_answer`. Each message is one line. What one side writes the other reads as it was meant: `messages_are_read`.
+//! The server reads requests with `read` and writes replies with `put`. A client writes requests with `put_in` and
+//! reads answers with `read_answer`. Each message is one line. The law `messages_are_read` says that what one side
+//! writes, the other reads as it was meant.
 #![tactic(auto)]
 
 mod answer;

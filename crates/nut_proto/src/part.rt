@@ -1,4 +1,4 @@
-//! Writing the parts of a message.
+//! Writes the parts of a message.
 ghost use Rattle.std.specs.Prelude.{◌≡◌, ◌+◌, ◌<◌, ◌≤◌, ◌↔◌, ◌∷◌, [], ◌++◌, length, take, IsTrue, OnOk, OnErr, vec_len, codes, decimal};
 ghost use Rattle.std.specs.Bool.{OnTrue, OnFalse};
 ghost use Rattle.std.specs.List.{flat_map};
@@ -11,33 +11,36 @@ use arrayvec::ArrayVec;
 use nut_words::{put_quoted, put_quoted_in, put_word, put_word_in};
 use std::alloc::AllocError;
 
-/// A word of a message, by the way it is written.
+/// A part of a message, and the way it is written.
 #[derive(Drop)]
 pub enum Part<'a> {
-    /// Bare where it may stand bare, else quoted.
+    /// A word: bare if it can be, else quoted.
     Word(Word<'a>),
-    /// Always quoted.
+    /// A word that is always quoted.
     Quoted(Word<'a>),
-    /// In decimal.
+    /// A number in decimal.
     Number(u32),
-    /// In decimal, quoted.
+    /// A number in decimal, quoted.
     QuotedNumber(i32),
-    /// `STRING:` and the number.
+    /// `STRING:` and a number in decimal.
     StringOf(u32),
 }
 
+/// Returns the part for a word of the protocol: bare if it can be, else quoted.
 pub fn text(bytes: &[u8]) -> Part<'_>
     ensures { result ≡ Part.Word bytes.now }
 {
     Part::Word(Word::new(bytes))
 }
 
+/// Returns the part for a name: bare if it can be, else quoted.
 pub fn word<'a>(word: &Word<'a>) -> Part<'a>
     ensures { result ≡ Part.Word word.now }
 {
     Part::Word(Word::new(word.as_bytes()))
 }
 
+/// Returns the part for a value or a description, which is always quoted.
 pub fn quoted<'a>(word: &Word<'a>) -> Part<'a>
     ensures { result ≡ Part.Quoted word.now }
 {
@@ -72,7 +75,7 @@ impl Part<'_> {
         }
     }
 
-    /// Appends a blank and the part. On an error the buffer still begins with what it had.
+    /// Appends a space and the part. If that fails, `out` still begins with what it held.
     fn put_behind(&self, out: &mut Vec<u8>) -> Result<(), AllocError>
         ensures ok { OnOk result (out.new.items ≡ out.old.items ++ 32 ∷ part_text self.now) }
         ensures err { OnErr result (take (vec_len out.old) out.new.items ≡ out.old.items) }
@@ -90,7 +93,7 @@ impl Part<'_> {
     }
 }
 
-/// `STRING:` and the limit.
+/// Returns `STRING:` and the limit in decimal.
 fn string_of(limit: u32) -> ArrayVec<u8, 18>
     ensures { result.items ≡ codes "STRING:" ++ decimal limit }
 {
@@ -100,7 +103,7 @@ fn string_of(limit: u32) -> ArrayVec<u8, 18>
     out
 }
 
-/// Appends the line of these parts.
+/// Appends the line of these parts. If memory cannot be allocated, `out` stays as it was.
 pub fn put_line(out: &mut Vec<u8>, parts: &[Part<'_>]) -> Result<(), AllocError>
     ensures ok { OnOk result (out.new.items ≡ out.old.items ++ line parts.now) }
     ensures err { OnErr result (out.new.items ≡ out.old.items) }
@@ -136,7 +139,7 @@ fn append_others(out: &mut Vec<u8>, parts: &[Part<'_>]) -> Result<(), AllocError
     Ok(())
 }
 
-/// Appends the line of these parts, where there is room.
+/// Appends the line of these parts, if the whole fits, and returns whether it did. Otherwise `out` stays as it was.
 pub fn put_line_in<const N: usize>(out: &mut ArrayVec<u8, N>, parts: &[Part<'_>]) -> bool
     ensures room { IsTrue result ↔ (array_vec_len out.old + length (line parts.now) ≤ N) }
     ensures put { OnTrue result (out.new.items ≡ out.old.items ++ line parts.now) }

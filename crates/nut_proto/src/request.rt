@@ -1,4 +1,4 @@
-//! What a client asks, and how it is written.
+//! The requests of a client, and how they are written.
 ghost use Rattle.std.specs.Prelude.{◌≡◌, ◌+◌, ◌≤◌, ◌↔◌, ◌++◌, length, IsTrue, OnOk, OnErr};
 ghost use Rattle.std.specs.Bool.{OnTrue, OnFalse};
 ghost use Rattle.arrayvec.specs.ArrayVec.{array_vec_len};
@@ -9,48 +9,49 @@ use crate::word::Word;
 use arrayvec::ArrayVec;
 use std::alloc::AllocError;
 
-/// What a client asks of the server (RFC 9271). It borrows its words.
+/// A request of a client to the server (RFC 9271). It borrows its words.
 ///
-/// Names and values are the client's, of any bytes: nothing says that a UPS, a variable or a command bears them.
+/// Names and values are as the client gave them and may hold any bytes. They need not name a UPS, a variable or a
+/// command that exists.
 #[derive(Drop)]
 pub enum Request<'a> {
-    /// `GET NUMLOGINS`: how many connections are logged in to the UPS.
+    /// `GET NUMLOGINS`: asks how many connections are logged in to the UPS.
     GetNumLogins {
         ups: Word<'a>,
     },
-    /// `GET UPSDESC`: the configured description of the UPS.
+    /// `GET UPSDESC`: asks for the configured description of the UPS.
     GetUpsDesc {
         ups: Word<'a>,
     },
-    /// `GET VAR`: the value of a variable.
+    /// `GET VAR`: asks for the value of a variable.
     GetVar {
         ups: Word<'a>,
         variable: Word<'a>,
     },
-    /// `GET TYPE`: whether a variable may be set, and what values it takes.
+    /// `GET TYPE`: asks whether a variable may be set, and which values it allows.
     GetType {
         ups: Word<'a>,
         variable: Word<'a>,
     },
-    /// `GET DESC`: what a variable tells.
+    /// `GET DESC`: asks for the description of a variable.
     GetDesc {
         ups: Word<'a>,
         variable: Word<'a>,
     },
-    /// `GET CMDDESC`: what a command does.
+    /// `GET CMDDESC`: asks for the description of a command.
     GetCmdDesc {
         ups: Word<'a>,
         command: Word<'a>,
     },
-    /// `LIST`: several rows between a first and a last line.
+    /// `LIST`: asks for several rows between a first and a last line.
     List(ListQuery<'a>),
-    /// `SET VAR`: a new value for a variable.
+    /// `SET VAR`: asks to set a variable.
     SetVar {
         ups: Word<'a>,
         variable: Word<'a>,
         value: Word<'a>,
     },
-    /// `INSTCMD`: a command for the UPS to do at once.
+    /// `INSTCMD`: asks the UPS to run a command at once.
     InstCmd {
         ups: Word<'a>,
         command: Word<'a>,
@@ -63,27 +64,27 @@ pub enum Request<'a> {
     Password {
         password: Word<'a>,
     },
-    /// `LOGIN`: the client draws power from the UPS.
+    /// `LOGIN`: says that the client draws power from the UPS.
     Login {
         ups: Word<'a>,
     },
-    /// `PRIMARY`: the client wants to shut the UPS down.
+    /// `PRIMARY`: asks whether the client may be the primary, which shuts the UPS down.
     Primary {
         ups: Word<'a>,
     },
-    /// `FSD`: the forced shutdown of all who draw power from the UPS.
+    /// `FSD`: forces the shutdown of all who draw power from the UPS.
     Fsd {
         ups: Word<'a>,
     },
-    /// `LOGOUT`: the end of the connection.
+    /// `LOGOUT`: ends the connection.
     Logout,
-    /// `VER`: the server's name and version.
+    /// `VER`: asks for the server's name and version.
     Ver,
-    /// `NETVER`: the version of the protocol.
+    /// `NETVER`: asks for the version of the protocol.
     NetVer,
-    /// `HELP`: the commands that the server knows.
+    /// `HELP`: asks for the commands that the server knows.
     Help,
-    /// `STARTTLS`: to go on in TLS.
+    /// `STARTTLS`: asks to continue in TLS.
     StartTls,
 }
 
@@ -94,23 +95,24 @@ pub enum ListQuery<'a> {
     Ups,
     /// The variables of a UPS.
     Var { ups: Word<'a> },
-    /// The variables of a UPS that may be set.
+    /// The variables of a UPS that clients may set.
     Rw { ups: Word<'a> },
     /// The commands of a UPS.
     Cmd { ups: Word<'a> },
-    /// The values that a variable takes.
+    /// The enum values of a variable.
     Enum { ups: Word<'a>, variable: Word<'a> },
-    /// The ranges of numbers that a variable takes.
+    /// The ranges of a variable.
     Range { ups: Word<'a>, variable: Word<'a> },
     /// The clients that are logged in to a UPS.
     Client { ups: Word<'a> },
 }
 
 impl Request<'_> {
-    /// Appends the request's line, its line feed included, where there is room, and says whether there was.
-    /// Else `out` is as before. Takes no memory.
+    /// Appends the request's line with its line feed, if the whole fits, and returns whether it did. Otherwise `out`
+    /// stays as it was. Allocates no memory.
     ///
-    /// Words stand bare where they can, the value of SET always in quotes. Words of bytes 0x20 to 0x7E read back as they are.
+    /// Words are written bare if they can be, the value of SET always in quotes. Words of bytes 0x20 to 0x7E are read
+    /// back as they were.
     #[tactic(auto, unfolding(crate::specs::Requests::request_line, crate::specs::Requests::list_line))]
     pub fn put_in<const N: usize>(&self, out: &mut ArrayVec<u8, N>) -> bool
         ensures room { IsTrue result ↔ (array_vec_len out.old + length (request_line self.now) ≤ N) }
@@ -205,7 +207,11 @@ impl ListQuery<'_> {
         }
     }
 
-    /// Appends the line before the rows of the list, `BEGIN LIST` and the query. An `Err` leaves `out` as before.
+    /// Appends the line before the rows of the list: `BEGIN LIST` and the query.
+    ///
+    /// # Errors
+    ///
+    /// [`AllocError`] if memory cannot be allocated. `out` is then as it was.
     #[tactic(auto, unfolding(crate::specs::Requests::begin_line, crate::specs::Requests::mark_line))]
     pub fn put_begin(&self, out: &mut Vec<u8>) -> Result<(), AllocError>
         ensures ok { OnOk result (out.new.items ≡ out.old.items ++ begin_line self.now) }
@@ -214,7 +220,11 @@ impl ListQuery<'_> {
         self.put_after(out, b"BEGIN")
     }
 
-    /// Appends the line behind the rows of the list, `END LIST` and the query. An `Err` leaves `out` as before.
+    /// Appends the line after the rows of the list: `END LIST` and the query.
+    ///
+    /// # Errors
+    ///
+    /// [`AllocError`] if memory cannot be allocated. `out` is then as it was.
     #[tactic(auto, unfolding(crate::specs::Requests::end_line, crate::specs::Requests::mark_line))]
     pub fn put_end(&self, out: &mut Vec<u8>) -> Result<(), AllocError>
         ensures ok { OnOk result (out.new.items ≡ out.old.items ++ end_line self.now) }

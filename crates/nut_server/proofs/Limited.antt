@@ -1,4 +1,4 @@
--- A configuration that the files set is within their limits, and so is what waits for a client.
+-- A configuration that files set is within their limits, and what waits for a client is bounded.
 use Rattle.std.proofs.Common.{◌≡◌, ℕ, ◌≤◌, Bool, true, false, List, [], ◌∷◌, length, map, refl, sym, subst, ◌∙◌, ap, arith, Option, Some, None}
 use Rattle.std.specs.Prelude.{◌&&◌, nat_le, codes}
 use Rattle.std.specs.Option.{option_map_or}
@@ -66,7 +66,7 @@ config_within ups users upsd descriptions = record {
   command_texts = commands_within descriptions;
 }
 
--- what waits for c in a content that a history has
+-- what waits for c in the content of a history
 pub waiting_few : (s : Content) (c : ℕ) (k : Session) → WaitsAreBounded → IsWithin s.configuration → session_of c s.sessions ≡ Some k
     → (first : Configuration) (h : List Event) → Tells first h s → length k.waits ≤ most_waits
 waiting_few s c k law within there first h tells =

@@ -1,4 +1,4 @@
--- How many connections are logged in, counted one by one.
+-- The number of connections that are logged in, counted one by one.
 use Rattle.std.proofs.Common.{◌≡◌, ℕ, zero, suc, ◌+◌, ◌≤◌, List, [], ◌∷◌, map, length, take, refl, ap, arith, inl, inr, slice_get, Some, subst}
 use Rattle.std.specs.Prelude.{if◌then◌else◌}
 use Rattle.std.proofs.lemmas.Bool.{cases_Bool}

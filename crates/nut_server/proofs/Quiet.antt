@@ -1,4 +1,4 @@
--- No answer but that to a LOGOUT logs a client out.
+-- Only the answer to LOGOUT logs a client out.
 use Rattle.std.proofs.Common.{◌≡◌, ℕ, Bool, true, false, List, refl, Option, Some, None}
 use Rattle.nut_proto.specs.declared.refusal.Refusal.{Refusal}
 use Rattle.nut_proto.specs.declared.request.ListQuery.{ListQuery}
@@ -12,7 +12,7 @@ use Rattle.nut_server_spec.specs.Configuration.{Configuration, Ups}
 use Rattle.nut_server_spec.specs.Device.{Device, trouble}
 use Rattle.nut_server_spec.specs.Effect.{login_then, logged_out_then}
 
--- the answer leaves its session logged in, and not logged out
+-- The answer changes neither the login of its client nor whether the client has logged out.
 abbrev pub IsQuiet : Answer → Type 0
 IsQuiet reply =
     ((b : Bool) → logged_out_then Blank reply b ≡ b) × ((configuration : Configuration) (b : Option ℕ) → login_then configuration Blank reply b ≡ b)

@@ -1,4 +1,4 @@
--- How a UPS hears its driver's bytes: line by line.
+-- How a UPS changes with its driver's bytes, line by line.
 use Rattle.std.proofs.Common.{◌≡◌, ℕ, suc, ◌<◌, true, false, eqb, List, [], ◌∷◌, ◌++◌, refl, sym, ◌∙◌, ap, arith, inl, inr}
 use Rattle.std.proofs.lemmas.Bool.{cases_Bool, false≢true}
 use Rattle.std.proofs.lemmas.List.{append-nil, append_assoc}
@@ -24,7 +24,7 @@ byte_other time c r d e = rw e refl
 byte_feed : (time c : ℕ) (r : LineText) (d : Supply) → eqb c 10 ≡ true → byte_reported time c (with_report r d) ≡ reported_by time r d
 byte_feed time c r d e = rw e refl
 
--- bytes through their first line feed
+-- bytes up to and with their first line feed
 pub line_reported : (time : ℕ) (b left : List ℕ) (d : Supply) → 0 < line_feeds left
     → bytes_reported time (front 1 left) (with_report (rest b) d) ≡ reported_by time (first_line (rest b) left) d
 line_reported time b [] d more = absurd (omega arith)

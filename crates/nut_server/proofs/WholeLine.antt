@@ -1,4 +1,4 @@
--- How a piece is heard that is one line, where nothing was kept of a line before it.
+-- How a piece that is one line is handled, if nothing was kept of a line before it.
 use Rattle.std.proofs.Common.{◌≡◌, ℕ, suc, ◌<◌, List, [], ◌∷◌, ◌++◌, length, take, refl, sym, ap, ◌∙◌, arith, eqb, inl, inr, Option, Some}
 use Rattle.std.specs.Prelude.{option_map, IsTrue}
 use Rattle.std.proofs.lemmas.Bool.{cases_Bool}
@@ -24,7 +24,7 @@ front_closed (b ∷ x) none =
       | inr e ↦ rw e (ap (λ x. b ∷ x) (front_closed x (rw e at none)))
     ]
 
--- nothing is kept of a line, wherever the connection is looked up
+-- Nothing of a line is kept, however the connection is looked up.
 pub same_start : (looked_up : Option Session) (k j : Session) → looked_up ≡ Some k → looked_up ≡ Some j → k.rest ≡ Text [] → j.rest ≡ Text []
 same_start looked_up k j one other start =
     let both : Some k ≡ Some j = sym one ∙ other in
@@ -44,7 +44,7 @@ module _ (c : ℕ) (text piece : List ℕ) (s : Content) (k : Session) (found : 
       let unbroken : line_feeds text ≡ 0 = omega (arith, one_feed [] piece (Text text) is, ap line_feeds whole, line_feeds-append text (10 ∷ [])) in
       ap (front 1) whole ∙ front_closed text unbroken ∙ sym whole
 
-  -- the answer to the line is what the piece does
+  -- The answer to the line does what the piece does.
   pub whole_heard : answered_by c (command_of (Text text)) (answer_in s (command_of (Text text)) k) s ≡ bytes_heard c piece s
   whole_heard =
       let command = command_of (Text text) in
@@ -59,7 +59,7 @@ module _ (c : ℕ) (text piece : List ℕ) (s : Content) (k : Session) (found : 
       ∙ ap (bytes_heard c (front 1 piece)) (with_unfinished-same c (Text []) s k found start)
       ∙ ap (λ p. bytes_heard c p s) ends_piece
 
-  -- memory may run out at it where the line may take some
+  -- Memory may run out at it if the line may allocate some.
   pub whole_runs_out : IsTrue (line_takes (Text text) (Some k)) → RunsOut c piece 0 s
   whole_runs_out takes =
       may_run_out c 0 (Text []) (Text text) piece s s k k found has_line (with_unfinished-same c (Text []) s k found start) found (handed_is [] (length piece) piece (Text text) brought) takes

@@ -15,7 +15,7 @@ use Rattle.nut_conf.specs.declared.users.Commands.{Commands}
 use Rattle.nut_conf.specs.declared.users.Commands.TheVariants as commands
 use Rattle.nut_server_spec.specs.Configuration.{Configuration, Ups, User}
 
--- a UPS of ups.conf
+-- a UPS of ups.conf, as the server's configuration has it
 abbrev pub ups_of : Shown → Ups
 ups_of u = record { name = u.name; driver = u.driver; description = u.description }
 
@@ -23,12 +23,12 @@ ups_of u = record { name = u.name; driver = u.driver; description = u.descriptio
 abbrev pub upses_of : UpsConf → List Ups
 upses_of c = map ups_of (shown_in c)
 
--- the commands that a line of upsd.users names: all, or one
+-- the commands that a line of upsd.users allows: all, or one
 abbrev pub command_of : Commands → Option (List ℕ)
 command_of commands.All = None
 command_of (commands.Named n) = Some n.bytes.items
 
--- a user of upsd.users, who has this name
+-- a user of upsd.users with this name, as the server's configuration has it
 abbrev pub user_of : List ℕ → files.User → User
 user_of name u = record {
   name = name;
@@ -38,7 +38,7 @@ user_of name u = record {
   role = u.upsmon;
 }
 
--- the user under a name
+-- the user of an entry of upsd.users
 abbrev pub user_in : Name UPS_NAME_MAX × files.User → User
 user_in e = user_of e.0.bytes.items e.1
 

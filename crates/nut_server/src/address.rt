@@ -1,4 +1,4 @@
-//! The addresses of clients.
+//! Addresses of clients.
 
 ghost use Rattle.std.specs.Prelude.{◌≡◌, Some, None, option_map, if◌then◌else◌};
 ghost use Rattle.std.specs.List.{list_all};
@@ -8,7 +8,7 @@ ghost use Rattle.nut_server_spec.specs.Acceptance.{is_address};
 use arrayvec::ArrayVec;
 use nut_server_spec::ADDRESS_MAX;
 
-/// The address that a client connects from, without memory of its own.
+/// The address of a client, stored in place.
 pub type Address = ArrayVec<u8, ADDRESS_MAX>;
 
 /// Whether a byte may stand in a bare word.

@@ -1,4 +1,4 @@
-//! What a server is made with.
+//! The configuration that a server is made with.
 
 ghost use Rattle.std.specs.Prelude.{◌≡◌, ◌<◌, ◌≤◌, IfSome, None, length, slice_get};
 ghost use Rattle.std.specs.Option.{option_map};
@@ -14,14 +14,14 @@ use nut_conf::{
 use nut_proto::{command_description, variable_description};
 use std::marker::Model;
 
-/// A UPS, lent from the configuration.
+/// A UPS, borrowed from the configuration.
 #[derive(Drop)]
 pub struct Ups<'a> {
-    /// The name by which clients ask for it.
+    /// The name by which clients refer to it.
     pub name: &'a [u8],
     /// The program of its driver.
     pub driver: &'a [u8],
-    /// What people call it.
+    /// The description that clients see.
     pub description: &'a [u8],
 }
 
@@ -33,7 +33,7 @@ impl<'a> Model for Ups<'a> {
     ghost view = { λ u. record { name = u.name.now; driver = u.driver.now; description = u.description.now } };
 }
 
-/// A user, lent from the configuration.
+/// A user, borrowed from the configuration.
 #[derive(Drop)]
 pub struct User<'a> {
     name: &'a [u8],
@@ -50,7 +50,7 @@ impl<'a> Model for User<'a> {
 }
 
 impl<'a> User<'a> {
-    /// Whether the user's password is this one. A user without a password has none.
+    /// Whether this is the user's password. If the user has no password, no password is right.
     pub fn has_password(&self, password: &[u8]) -> bool
         ensures { result ≡ has_password password.now self.now }
     {
@@ -71,7 +71,7 @@ impl<'a> User<'a> {
         self.entry.may_command(name)
     }
 
-    /// What the user's monitor is to a UPS, if it may be a monitor.
+    /// Returns the role of the user's monitor, if the user may have one.
     pub fn role(&self) -> Option<Role>
         ensures { result ≡ self.now.role }
     {
@@ -132,7 +132,7 @@ impl Config {
         config
     }
 
-    /// What ups.conf sets.
+    /// Returns what ups.conf sets.
     pub fn ups(&self) -> &UpsConf
         ensures { upses_of result.now ≡ self.now.upses }
     {
@@ -155,9 +155,9 @@ impl Config {
         self.ups.len()
     }
 
-    /// The number of the first UPS of this name, counted from 0 in the order of the file.
+    /// Returns the number of the first UPS with this name, counted from 0 in the order of the file.
     ///
-    /// Takes no memory, and no longer for many UPSes.
+    /// Allocates no memory. The time it takes doesn't grow with the number of UPSes.
     pub fn find_ups(&self, name: &[u8]) -> Option<usize>
         ensures number { result ≡ number_of_ups name.now self.now.upses }
         ensures within { IfSome result (λ u. u < length self.now.upses) }
@@ -165,7 +165,7 @@ impl Config {
         self.ups.find(name)
     }
 
-    /// The UPS with this number.
+    /// Returns the UPS with this number.
     pub fn ups_at(&self, u: usize) -> Option<Ups<'_>>
         ensures { result ≡ slice_get self.now.upses u }
     {
@@ -182,7 +182,8 @@ impl Config {
         })
     }
 
-    /// The first UPS of this name. Takes no memory, and no longer for many UPSes.
+    /// Returns the first UPS with this name. Allocates no memory. The time it takes doesn't grow with the number of
+    /// UPSes.
     pub fn ups_named(&self, name: &[u8]) -> Option<Ups<'_>>
         ensures { result ≡ ups_named name.now self.now.upses }
     {
@@ -192,7 +193,8 @@ impl Config {
         }
     }
 
-    /// The first user of this name. Takes no memory, and no longer for many users.
+    /// Returns the first user with this name. Allocates no memory. The time it takes doesn't grow with the number of
+    /// users.
     pub fn find_user<'a>(&'a self, name: &'a [u8]) -> Option<User<'a>>
         ensures { result ≡ user_named name.now self.now.users }
     {
@@ -248,8 +250,8 @@ impl Config {
         }
     }
 
-    /// After how many seconds without a word from its driver the data of a UPS is stale, 1 to 86,400 (MAXAGE of
-    /// upsd.conf(5)).
+    /// Returns MAXAGE of upsd.conf(5): after this many seconds without a word from its driver, the data of a UPS are
+    /// stale. It is 1 to 86,400.
     pub fn max_age(&self) -> u32
         ensures value { result ≡ self.now.max_age }
         ensures least { 1 ≤ result }

@@ -1,4 +1,4 @@
-//! What each request decides: its answer, and what it does.
+//! Decides on requests: the answer to each, and what it changes.
 
 ghost use Rattle.std.specs.Prelude.{◌≡◌, length, MatchResult};
 ghost use Rattle.nut_proto.specs.declared.refusal.Refusal.TheVariants as refusals;
@@ -29,13 +29,13 @@ use nut_queue::ASKS_MAX;
 /// What is decided on a request.
 #[derive(Drop)]
 pub struct Decision<'a, 'l> {
-    /// What it is answered.
+    /// The answer.
     pub answer: Answer<'a>,
-    /// What it does beside.
+    /// What the request changes, apart from the answer.
     pub effect: Effect<'l>,
 }
 
-/// This answer, and nothing beside.
+/// Returns the decision to give this answer and change nothing.
 fn only<'a>(answer: Answer<'a>) -> Decision<'a, 'static>
     ensures answer { given result.answer ≡ given answer.entry }
     ensures effect { result.effect ≡ effects.Nothing }
@@ -46,7 +46,7 @@ fn only<'a>(answer: Answer<'a>) -> Decision<'a, 'static>
     }
 }
 
-/// What was asked for is told, or the request is refused.
+/// Returns the decision on a request that changes nothing: its answer or its refusal.
 fn tell<'a>(told: Result<Answer<'a>, Refusal>) -> Decision<'a, 'static>
     ensures answer { given result.answer ≡ outcome told.entry }
     ensures effect { result.effect ≡ effects.Nothing }
@@ -57,7 +57,8 @@ fn tell<'a>(told: Result<Answer<'a>, Refusal>) -> Decision<'a, 'static>
     }
 }
 
-/// A request is granted by this line and has its effect, or is refused and has none.
+/// Returns the decision on a request that changes something: this line and the effect if it is granted, or the refusal
+/// and no effect.
 fn grant<'a, 'l>(reply: Reply<'a>, granted: Result<Effect<'l>, Refusal>) -> Decision<'a, 'l>
     ensures { MatchResult granted.entry
         (λ effect. (given result.answer ≡ definitions.Line reply.entry) × (result.effect ≡ effect))
@@ -145,7 +146,8 @@ fn decide_request<'a, 'l>(
     }
 }
 
-/// Decides on a request, or on a line that is none. Where a driver is to be asked, `line` then has what it is asked.
+/// Decides on a request, or on a line that isn't one. If a driver is to be asked something, `line` then holds the
+/// request to it.
 pub fn decide<'a, 'l>(
     scene: &'a Scene<'_>,
     caller: &Connection,

@@ -1,4 +1,4 @@
-//! A server of UPSes: what it is told, one arrival at a time, and what it answers.
+//! A server of UPSes: it is told one arrival at a time, and answers its clients and asks its drivers.
 #![tactic(auto)]
 
 mod access;

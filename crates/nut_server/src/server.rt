@@ -1,4 +1,4 @@
-//! The server.
+//! The server: its state, and what it can be asked.
 
 ghost use Rattle.std.specs.Prelude.{◌≡◌, ◌<◌, ◌≤◌, ℕ, List, [], Some, None, Result, Ok, Err, IfOk, IfSome, map, length};
 ghost use Rattle.nut_queue.specs.Front.{IsFrontPart};
@@ -36,7 +36,8 @@ mod hearing;
 /// Why a server can't be made.
 #[derive(Clone, Copy, Debug, PartialEq, Eq, Error)]
 pub enum ServerFault {
-    /// There is no memory for all the connections that may be open at once, or for what waits for the drivers.
+    /// Memory cannot be allocated for all the connections that may be open at once, or for the requests that wait for
+    /// the drivers.
     #[error("out of memory")]
     Memory,
 }
@@ -47,7 +48,7 @@ impl From<AllocError> for ServerFault {
     }
 }
 
-/// A server: its configuration, the time, the UPSes, and the open connections with room for all that may be open.
+/// A server: its configuration, the time, the UPSes, and the open connections, with room for as many as may be open.
 #[derive(Drop)]
 pub struct Server {
     config: Config,
@@ -55,9 +56,9 @@ pub struct Server {
     opened: u64,
     devices: Vec<Device>,
     connections: Connections,
-    /// The answer to a request, while it is heard.
+    /// The answer to a request, while it is being handled.
     scratch: Vec<u8>,
-    /// What a request asks of a driver, while it is heard.
+    /// The request to a driver that a client's request leads to, while it is being handled.
     line: ArrayVec<u8, ASKS_MAX>,
     alloc: Global,
 }
@@ -79,7 +80,7 @@ impl Model for Server {
     ghost invariant = { IsOrderly };
 }
 
-/// So many UPSes of which nothing was told.
+/// Returns `count` UPSes whose drivers were never connected.
 fn untold(alloc: Global, count: usize) -> Result<Vec<Device>, AllocError>
     ensures { IfOk result (λ devices. devices.items ≡ map (λ u. unheard) (below count)) }
 {
@@ -91,12 +92,12 @@ fn untold(alloc: Global, count: usize) -> Result<Vec<Device>, AllocError>
 }
 
 impl Server {
-    /// A server that was told nothing. It takes the memory for as many connections as may be open at once and for what
-    /// waits for the drivers, so that none is lacking when a client or a driver connects.
+    /// Returns a server that has been told nothing. Allocates the memory for as many connections as may be open at once
+    /// and for the requests that wait for the drivers, so none is needed when a client or a driver connects.
     ///
     /// # Errors
     ///
-    /// `Memory` where that memory isn't to be had.
+    /// `Memory` if that memory cannot be allocated.
     pub fn new(alloc: Global, config: Config) -> Result<Server, ServerFault>
         ensures { IfOk result (λ server. server ≡ content config []) }
     {
@@ -139,34 +140,38 @@ impl Server {
         }
     }
 
-    /// Takes one arrival. Whatever the history was, it goes on with the arrival as it is answered: with all of it at
-    /// an `Ok`, and with nothing of it where it is refused.
+    /// Handles one arrival. After `Ok` the history includes the arrival. After a refusal it is as it was, except for
+    /// `Memory`.
     ///
-    /// No arrival takes memory but `Bytes` and `DriverBytes`, and of these only a client's line that says something or has
-    /// a backslash, on a connection that hasn't logged out, and a driver's line that adds a variable, an enum value, a
-    /// range or a command, or has a backslash.
+    /// Only `Bytes` and `DriverBytes` can allocate memory. A client's line does so only if it isn't blank or holds a
+    /// backslash, and never after the client has logged out. A driver's line does so only if it adds a variable, an
+    /// enum value, a range or a command, or holds a backslash.
     ///
     /// # Errors
     ///
-    /// The first test that refuses it, in this order. Of `Open`: `BadAddress`, `Full`. Of what connections do:
-    /// `NoSuchConnection`; then of `Bytes` `PieceTooLong` and `Busy`, and of `Took` `TooMuchTaken`. Of what drivers do:
-    /// `NotConnected`, for `DriverUp` only where there is no such UPS; then of `DriverBytes` `PieceTooLong`, and of
-    /// `DriverTook` `TooMuchTaken`. Where memory runs out in a piece: `Memory`. The lines before stand, and the
-    /// connection is closed, or the driver counts as gone.
+    /// The first of these tests that fails. Nothing changes then.
+    ///
+    /// Of `Open`: `BadAddress`, `Full`. Of `Bytes`, `Took`, `Close` and `WriteFailed`: `NoSuchConnection`; then of
+    /// `Bytes` `PieceTooLong` and `Busy`, and of `Took` `TooMuchTaken`. Of the arrivals of drivers: `NotConnected`,
+    /// which `DriverUp` gives only if there is no such UPS; then of `DriverBytes` `PieceTooLong`, and of `DriverTook`
+    /// `TooMuchTaken`.
+    ///
+    /// `Memory` if memory cannot be allocated for a line of a piece. The lines before it stay done, and the connection
+    /// is closed, or the driver counts as disconnected.
     pub fn arrive(&mut self, arrival: Arrival<'_>) -> Result<(), Refused>
-        // The answer is the one of the first test that refuses; memory may be lacking where none does.
+        // The result is that of the first test that fails. Only if none fails may it be `Memory`.
         ensures answered { (first : Configuration) (h : List Event) → Tells first h self.old
             → IsAnswer first h (event_of arrival.entry) result }
 
-        // What stands after it is what the history says, which goes on by the answer.
+        // If the server held what the history says, it holds what the history says after this answer.
         ensures stands { (first : Configuration) (h : List Event) → Tells first h self.old
             → Tells first (after result (event_of arrival.entry) h) self.new }
 
-        // A refused arrival changes nothing.
+        // A refusal by a test changes nothing.
         ensures unchanged { (r : Refused) → refusal self.old (event_of arrival.entry) ≡ Some r
             → (result ≡ Err r) × (self.new ≡ self.old) }
 
-        // No more connections are open than MAXCONN, and no more were opened than have numbers, whatever was told.
+        // Whatever the server was told, at most MAXCONN connections are open, and at most 4,294,967,295 were opened.
         ensures few { HasFewConnections self.new }
     {
         let answer = self.step(arrival);
@@ -174,7 +179,7 @@ impl Server {
         answer
     }
 
-    /// Does nothing when it runs. Its contract says how many connections there are at most, whatever the server was told.
+    /// Does nothing when called. Brings into the proof how many connections there can be, whatever the server was told.
     fn has_few_connections(&self)
         ensures { HasFewConnections self.now }
     {
@@ -189,7 +194,7 @@ impl Server {
         self.opened
     }
 
-    /// What the server was made with.
+    /// Returns the configuration that the server was made with.
     pub fn config(&self) -> &Config
         ensures value { result.now ≡ self.now.configuration }
         ensures limits { IsWithin self.now.configuration }
@@ -205,14 +210,14 @@ impl Server {
         self.config.number_of_upses()
     }
 
-    /// How many bytes wait for a connection: 0 where it isn't open, and never more than 47,342,080.
+    /// Returns how many bytes wait for a connection: at most 47,342,080, and 0 if it isn't open.
     pub fn waits(&self, c: u64) -> usize
         ensures value { result ≡ length (waiting_of c self.now.sessions) }
 
-        // The bound holds after every history that the server was told.
+        // The bound holds after every history of accepted arrivals.
         ensures bounded { (first : Configuration) (h : List Event) → Tells first h self.now → result ≤ most_waits }
     {
-        // The law of the bound, which does nothing when it runs.
+        // Brings the bound `WaitsAreBounded` into the proof, and does nothing when called.
         waits_are_bounded();
         match self.connections.get(c) {
             Some(connection) => connection.waits(),
@@ -220,7 +225,7 @@ impl Server {
         }
     }
 
-    /// A front part of the bytes that wait for a connection, which is empty only where none wait.
+    /// Returns a front part of the bytes that wait for a connection. It is empty only if none wait.
     pub fn waiting(&self, c: u64) -> &[u8]
         ensures { IsFrontPart result.now (waiting_of c self.now.sessions) }
     {
@@ -240,7 +245,7 @@ impl Server {
         }
     }
 
-    /// Whether a connection is to be closed: it logged out, and nothing waits for it.
+    /// Whether a connection is to be closed: it has logged out, and nothing waits for it.
     pub fn leaves(&self, c: u64) -> bool
         ensures { result ≡ leaves (session_of c self.now.sessions) }
     {
@@ -250,7 +255,7 @@ impl Server {
         }
     }
 
-    /// Whether the client of a connection is logged in to a UPS: false where the connection isn't open.
+    /// Whether the client of a connection is logged in to a UPS: false if the connection isn't open.
     pub fn is_logged_in(&self, c: u64) -> bool
         ensures { result ≡ has_login (session_of c self.now.sessions) }
     {
@@ -292,7 +297,7 @@ impl Server {
         }
     }
 
-    /// A front part of the bytes that wait for the driver of a UPS, which is empty only where none wait.
+    /// Returns a front part of the bytes that wait for the driver of a UPS. It is empty only if none wait.
     pub fn waiting_for_driver(&self, u: usize) -> &[u8]
         ensures { IsFrontPart result.now (asks_of u self.now.supplies) }
     {
@@ -302,7 +307,7 @@ impl Server {
         }
     }
 
-    /// The least number, from `least` on, of a connection for which bytes wait or that leaves.
+    /// Returns the least number, from `least` on, of a connection for which bytes wait or which is to be closed.
     pub fn next_unsettled(&self, least: u64) -> Option<u64>
         ensures next { IsNextUnsettled self.now.sessions least result }
         ensures fits { IfSome result (λ c. c < u64.MAX) }
@@ -310,7 +315,7 @@ impl Server {
         self.connections.first_unsettled(least)
     }
 
-    /// The least number, from `least` on, of a UPS for whose driver bytes wait.
+    /// Returns the least number, from `least` on, of a UPS for whose driver bytes wait.
     pub fn next_driver_waiting(&self, least: usize) -> Option<usize>
         ensures next { IsNextWaiting self.now.supplies least result }
         ensures fits { IfSome result (λ u. u < usize.MAX) }

@@ -1,4 +1,4 @@
-//! The bytes of answers.
+//! Writes answers as bytes.
 
 ghost use Rattle.std.specs.Prelude.{◌≡◌, ◌≤◌, ◌&&◌, ◌++◌, OnOk, codes, flat_map, length, map, filter};
 ghost use Rattle.std.specs.Str.{bytes_eq};
@@ -29,14 +29,14 @@ fn is_named(variable: &Variable, name: &[u8]) -> bool
     variable.name() == name
 }
 
-/// Whether the value is shown with `FSD ` in front: it is the status of a UPS whose shutdown was forced.
+/// Whether clients see the value with `FSD ` before it: it is the status of a UPS whose shutdown was forced.
 fn shows_forced(device: &Device, variable: &Variable) -> bool
     ensures { result ≡ (device.now.device.forced && bytes_eq variable.now.name (codes "ups.status")) }
 {
     device.is_forced() && is_named(variable, b"ups.status")
 }
 
-/// The value with `FSD ` in front.
+/// Returns the value with `FSD ` before it.
 fn forced(value: &[u8]) -> ArrayVec<u8, FORCED_VALUE_MAX>
     requires { length value.now ≤ VALUE_MAX }
     ensures { result.items ≡ codes "FSD " ++ value.now }
@@ -69,7 +69,7 @@ fn put_rw(out: &mut Vec<u8>, ups: &[u8], name: &[u8], value: &[u8]) -> Result<()
     row.put(out)
 }
 
-/// A variable of a UPS with its value as it is shown.
+/// Appends the row of a variable in LIST VAR, with the value that clients see.
 fn put_variable(
     out: &mut Vec<u8>,
     ups: &[u8],
@@ -85,7 +85,7 @@ fn put_variable(
     put_var(out, ups, variable.name(), variable.value())
 }
 
-/// A variable of a UPS that may be set, with its value as it is shown.
+/// Appends the row of a variable in LIST RW, with the value that clients see.
 fn put_writable(
     out: &mut Vec<u8>,
     ups: &[u8],
@@ -257,7 +257,7 @@ fn put_rows(out: &mut Vec<u8>, rows: &Rows<'_>) -> Result<(), AllocError>
     }
 }
 
-/// Appends the bytes of an answer. An `Err` is for want of memory: then `out` may have a part of them.
+/// Appends the bytes of an answer. If memory cannot be allocated, `out` may hold a part of them.
 #[tactic(auto, unfolding(nut_server_spec::specs::Answer::text_of))]
 pub fn put_answer(out: &mut Vec<u8>, answer: &Answer<'_>) -> Result<(), AllocError>
     ensures { OnOk result (out.new.items ≡ out.old.items ++ text_of (given answer.now)) }

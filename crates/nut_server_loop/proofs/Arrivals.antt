@@ -1,4 +1,4 @@
--- What an arrival, and the server's answer to it, make of what is served.
+-- What an arrival and the server's answer to it do to `Served`.
 use Rattle.std.proofs.Common.{◌≡◌, ℕ, eqb, List, [], ◌∷◌, Option, Some, None, Result, Ok, Err, if◌then◌else◌, refl, sym, ◌∙◌, ap, subst, inl, inr, append-nil}
 use Rattle.std.specs.Prelude.{option_map}
 use Rattle.std.proofs.lemmas.Bool.{cases_Bool, eqb-true}
@@ -24,7 +24,7 @@ use Rattle.nut_server_loop.specs.Served.{Served, ServedBefore, ended_in, ended_b
 use Rattle.nut_server_loop.proofs.Steps.{Answered, Leads, goes_on, same_sent, same_asked}
 use Rattle.nut_server_loop.proofs.Unconnected.{none_sent}
 
--- what `next` gives: nothing of what was taken, or of a failed write
+-- an event that `next` can give: no bytes were taken, and no write failed
 abbrev pub IsGiven : Event → Type 0
 IsGiven (event.Took c n) = ⊥
 IsGiven (event.WriteFailed c) = ⊥
@@ -101,7 +101,7 @@ no_supply : (o : Option Supply) (r : Refused) → up_refusal o ≡ Some r → o 
 no_supply None r is = refl
 no_supply (Some d) r is = cc
 
--- a driver is refused only where there is no such UPS
+-- A driver that connects is refused only if there is no such UPS.
 refused_up : (first : Configuration) (h : List Event) (v : ℕ) (r : Refused) → IsRefusal first h (event.DriverUp v) r → supply_of v (content first h).supplies ≡ None
 refused_up first h v (Memory (Line c k)) is = absurd is.1
 refused_up first h v (Memory (Report u k)) is = absurd is.1
@@ -133,7 +133,7 @@ refused_asked first h s (event.DriverUp v) r u before told is same =
       | inr e ↦ ap (λ b. if b then [] else before) e ∙ same ∙ sym (driver_sent-refused first h u r (event.DriverUp v) told.0)
     ]
 
--- ---- an arrival came, and was answered
+-- ---- an arrival came and was answered
 
 gave_event : {U : Type 0} (first : Configuration) (o o' : Option (List Entry)) (s s' : Content) (e : Event) (r : Result U Refused)
     → Served first o s [] → o' ≡ tells (Gave e) o → IsGiven e → Answered s e r → Leads s e r s' → Served first o' s' (ended_by r)
@@ -154,7 +154,7 @@ gave_event first o o' s s' e (Err r) served more given answer leads =
     (λ c. served.sent_is c ∙ sym (sent-refused first h c r e served.holds.0))
     (λ v. refused_asked first h s e r v _ served.holds (answer first h served.holds) (served.asked_is v))
 
--- what `next` gave was handed to the server as the arrival that it stands for
+-- What `next` gave was told to the server as the arrival that it stands for.
 gave : {U : Type 0} (first : Configuration) (o o' : Option (List Entry)) (s s' : Content) (n : Next) (items : List ℕ) (found : Option Arrival) (arrival : Arrival) (r : Result U Refused)
     → Served first o s [] → o' ≡ tells_next n items o → option_map event_of found ≡ arrival_of n items → found ≡ Some arrival
     → Answered s (event_of arrival) r → Leads s (event_of arrival) r s' → Served first o' s' (ended_by r)
@@ -163,7 +163,7 @@ gave first o o' s s' n items found arrival r served more stands is answer leads 
     let same : arrival_of n items ≡ Some e = sym stands ∙ ap (λ a. option_map event_of a) is in
     gave_event first o o' s s' e r served (more ∙ ap (λ a. tells_arrival a o) same) (given_next n items e same) answer leads
 
--- the same, where the answer is known to have ended this
+-- What `next` gave was told to the server, and the answer is known to have ended this.
 pub gave_ending : {U : Type 0} (first : Configuration) (o' : Option (List Entry)) (s s' : Content) (n : Next) (items : List ℕ) (found : Option Arrival) (arrival : Arrival) (r : Result U Refused) (lack known : Option Place)
     → ServedBefore first o' s n items → option_map event_of found ≡ arrival_of n items → found ≡ Some arrival
     → Answered s (event_of arrival) r → Leads s (event_of arrival) r s' → ended_by r ≡ ended_in lack → lack ≡ known → Served first o' s' (ended_in known)
@@ -177,6 +177,6 @@ gave_nothing first o' s n items found before stands is =
     let same : arrival_of n items ≡ None = sym stands ∙ ap (λ a. option_map event_of a) is in
     subst (λ q. Served first q s []) (sym (before.2 ∙ ap (λ a. tells_arrival a before.0) same)) before.1
 
--- what the world gave, before it is handed on
+-- What the world gave, before the server is told.
 pub given : (first : Configuration) (o o' : Option (List Entry)) (s : Content) (n : Next) (items : List ℕ) → Served first o s [] → o' ≡ tells_next n items o → ServedBefore first o' s n items
 given first o o' s n items served more = (o, served, more)

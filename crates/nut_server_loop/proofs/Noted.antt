@@ -1,4 +1,4 @@
--- What a world over memory notes, and what that leaves to give.
+-- What the world over memory notes, and what it then has left to give.
 use Rattle.std.proofs.Common.{◌≡◌, ℕ, zero, suc, ◌+◌, Bool, true, cond, List, [], ◌∷◌, ◌++◌, map, reverse, get_or, Option, Some, None, unwrap_or, sym, ◌∙◌, ap, subst, zero-add, arith}
 use Rattle.std.specs.Prelude.{slice_get, remove, count_by}
 use Rattle.std.proofs.lemmas.List.{reverse-append, map-append}
@@ -16,11 +16,11 @@ use Rattle.nut_server_loop.specs.declared.types.Note.{Note}
 use Rattle.nut_server_loop.specs.declared.types.Next.{Next}
 use Rattle.nut_server_loop.specs.declared.types.Next.TheVariants as next
 
--- one more note is the newest entry
+-- One more note is the newest entry.
 pub log_more : (notes : List Note) (one : Note) → log_of (notes ++ one ∷ []) ≡ entry_of one ∷ log_of notes
 log_more notes one = ap reverse (map-append entry_of notes (one ∷ [])) ∙ reverse-append (map entry_of notes) (entry_of one ∷ [])
 
--- what `next` gives is told as the arrival that it stands for
+-- What `next` gives is recorded as the arrival that it stands for.
 pub tells_given : (n : Next) (items : List ℕ) (e : Event) (o : Option (List Entry)) → arrival_of n items ≡ Some e → tells_next n items o ≡ tells (Gave e) o
 tells_given n items e o same = ap (λ a. tells_arrival a o) same
 
@@ -36,7 +36,7 @@ may_come_next s (next.DriverDown u) items e may is = tt
 may_come_next s next.Again items e may is = tt
 may_come_next s next.End items e may is = tt
 
--- what comes first may come, and it isn't the end
+-- The first arrival that may come does come, and it isn't the end.
 pub came : (s : Content) (left left' : List Given) (i : ℕ) (n : Next) (items : List ℕ) → first_coming s left ≡ Some i → GivesAt (Some i) left left' n items → MayCome n s
 came s left left' i n items place gives =
     let first = position-Some (λ g. may_come s (event_of_given g)) left i (Close 0) place in
@@ -57,7 +57,7 @@ count-remove p (x ∷ left) zero g there =
 count-remove p (x ∷ left) (suc i) g there =
     omega (arith, count-cons p (event_of_given x) (map event_of_given left), count-cons p (event_of_given x) (map event_of_given (remove left i)), count-remove p left i g there)
 
--- the log grew, and nothing was given
+-- The log grew, and no arrival was given.
 pub goes_on_more : (a b : MemoryState) (e : Entry) → gave_of (e ∷ []) ≡ [] → b.log ≡ e ∷ a.log → b.left ≡ a.left → GoesOn a b
 goes_on_more a b e silent grown same =
     record {
@@ -74,7 +74,7 @@ goes_on_same a b grown same =
       each = λ p. sym (ap (λ l. 0 + count_by p (map event_of_given l)) same ∙ zero-add (count_by p (map event_of_given a.left)));
     }
 
--- what was given goes from what is left into the log
+-- What was given moves from what is left into the log.
 pub gave_reached : (a b : MemoryState) (i : ℕ) (n : Next) (items : List ℕ) → GivesAt (Some i) a.left b.left n items → Some b.log ≡ tells_next n items (Some a.log) → GoesOn a b
 gave_reached a b i n items gives grown =
     let e : Event = event_of_given gives.0 in

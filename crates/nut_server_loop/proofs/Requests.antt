@@ -1,4 +1,4 @@
--- What a write to a driver and the close of its link make of what is served.
+-- What a write to a driver, and closing its link, do to `Served`.
 use Rattle.std.proofs.Common.{◌≡◌, ℕ, ◌<◌, ◌≤◌, Bool, true, false, eqb, List, [], ◌∷◌, ◌++◌, length, take, drop, Option, Some, None, Result, Ok, Err, OnOk, if◌then◌else◌, refl, sym, ◌∙◌, ap, subst, inl, inr, arith}
 use Rattle.std.proofs.lemmas.Bool.{cases_Bool, eqb-true, le-ltb}
 use Rattle.std.proofs.lemmas.List.{length-take-le}
@@ -19,7 +19,7 @@ use Rattle.nut_server_loop.specs.declared.types.Written.TheVariants.{Took, Later
 use Rattle.nut_server_loop.specs.Served.{Served, Ended, Driver}
 use Rattle.nut_server_loop.proofs.Steps.{Answered, Leads, goes_on, holds_on, same_sent, same_asked, length_of_front, take_of_front, no_memory_drained, no_memory_down}
 
--- a driver for which bytes wait is connected
+-- If bytes wait for a driver, it is connected.
 waits_up : (is : Bool) (all : List ℕ) → 0 < length (if is then all else []) → is ≡ true
 waits_up true all some = refl
 waits_up false all some = absurd (omega arith)
@@ -52,7 +52,7 @@ down_free (Some d) up some = rw (up d refl some) refl
 pub may_go : (first : Configuration) (h : List Event) (s : Content) (u : ℕ) → Tells first h s → 0 < length (asks_of u s.supplies) → refusal s (event.DriverDown u) ≡ None
 may_go first h s u told some = down_free (supply_of u s.supplies) (is_up first h s u told) some
 
--- bytes of the driver of u were taken, a front of those that waited
+-- Bytes were taken for the driver of u, the first of those that waited.
 more_drained : (first : Configuration) (h : List Event) (s : Content) (u v : ℕ) (bytes before : List ℕ) → Tells first h s → refusal s (event.DriverTook u (length bytes)) ≡ None
     → IsAccepted first (event.DriverTook u (length bytes) ∷ h) → bytes ≡ take (length bytes) (asks_of u s.supplies) → before ≡ driver_sent v (past first h)
     → (if eqb u v then before ++ bytes else before) ≡ driver_sent v (past first (event.DriverTook u (length bytes) ∷ h))
@@ -69,7 +69,7 @@ more_drained first h s u v bytes before holds free later front same =
           ∙ sym (driver_sent-other first h v (event.DriverTook u (length bytes)) later (ap (λ b. if b then length bytes else 0) e) refl)
     ]
 
--- bytes were taken, a front of those that waited
+-- Bytes were taken, the first of those that waited.
 took_requests : (first : Configuration) (o o' : Option (List Entry)) (s s' : Content) (u : ℕ) (bytes : List ℕ) → (served : Served first o s []) → o' ≡ tells (TookRequests u bytes) o
     → bytes ≡ take (length bytes) (asks_of u s.supplies) → refusal s (event.DriverTook u (length bytes)) ≡ None → Tells first (event.DriverTook u (length bytes) ∷ served.history) s' → Served first o' s' []
 took_requests first o o' s s' u bytes served more front free holds =
@@ -80,7 +80,7 @@ took_requests first o o' s s' u bytes served more front free holds =
     (λ d. same_sent first h (event.DriverTook u (length bytes)) d _ served.holds.0 refl (served.sent_is d))
     (λ v. more_drained first h s u v bytes (driver_taken v served.entries) served.holds free holds.0 front (served.asked_is v))
 
--- some of what was offered was taken
+-- Some of what was offered was taken.
 pub request_took : {U : Type 0} (first : Configuration) (o o' : Option (List Entry)) (s s' : Content) (u : ℕ) (part : List ℕ) (w : Written) (n : ℕ) (r : Result U Refused)
     → Served first o s [] → w ≡ Took n → o' ≡ tells_request w u part o → IsWithin w (length part) → IsFrontPart part (asks_of u s.supplies)
     → Answered s (event.DriverTook u n) r → Leads s (event.DriverTook u n) r s' → Served first o' s' []
@@ -97,12 +97,12 @@ request_took first o o' s s' u part w n r served is more within front answer lea
     (subst (λ m. refusal s (event.DriverTook u m) ≡ None) (sym len) free)
     (subst (λ m. Tells first (event.DriverTook u m ∷ served.history) s') (sym len) (holds_on first served.history s s' (event.DriverTook u n) r served.holds free (no_memory_drained u n) answer leads))
 
--- a write is to come later
+-- A write is to come later.
 pub request_late : (first : Configuration) (o o' : Option (List Entry)) (s : Content) (u : ℕ) (part : List ℕ) (w : Written) → Served first o s [] → w ≡ Later → o' ≡ tells_request w u part o → Served first o' s []
 request_late first o o' s u part w served is more =
     goes_on first o o' s s [] [] (DriverWasLate u) served served.history (more ∙ ap (λ v. tells_request v u part o) is) (refl, refl) served.holds served.sent_is served.asked_is
 
--- a write failed
+-- A write failed.
 pub request_broke : {U : Type 0} (first : Configuration) (o o' : Option (List Entry)) (s s' : Content) (u : ℕ) (part : List ℕ) (w : Written) (r : Result U Refused)
     → Served first o s [] → w ≡ Failed → o' ≡ tells_request w u part o → 0 < length (asks_of u s.supplies)
     → Answered s (event.DriverDown u) r → Leads s (event.DriverDown u) r s' → Served first o' s' (Driver u ∷ [])
@@ -116,7 +116,7 @@ request_broke first o o' s s' u part w r served is more some answer leads =
     (λ d. same_sent first h (event.DriverDown u) d _ served.holds.0 refl (served.sent_is d))
     (λ v. same_asked first h (event.DriverDown u) v _ holds.0 refl refl (served.asked_is v))
 
--- the link that was ended last is closed
+-- The link that ended last is closed.
 pub closed_driver : (first : Configuration) (o o' : Option (List Entry)) (s : Content) (u : ℕ) (owed : List Ended) → Served first o s (Driver u ∷ owed) → o' ≡ tells (DriverWasClosed u) o → Served first o' s owed
 closed_driver first o o' s u owed served more =
     goes_on first o o' s s (Driver u ∷ owed) owed (DriverWasClosed u) served served.history more (refl, refl) served.holds served.sent_is served.asked_is

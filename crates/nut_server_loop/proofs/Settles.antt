@@ -1,4 +1,4 @@
--- What a write and a close change: the connection or the UPS alone, of which less waits, or which is gone.
+-- What a write and a close change: only the connection or the UPS, which then has less waiting for it or is gone.
 use Rattle.std.proofs.Common.{◌≡◌, ℕ, ◌<◌, ◌≤◌, true, List, [], length, drop, Option, Some, None, Result, refl, sym, ◌∙◌, ap, subst, arith, length-drop}
 use Rattle.std.specs.Prelude.{option_map}
 use Rattle.std.proofs.lemmas.Bool.{ne_eqb}
@@ -62,7 +62,7 @@ pub only_broke : {U : Type 0} (first : Configuration) (o : Option (List Entry)) 
 only_broke first o s s' c r served some answer leads = λ d ne.
     ap (λ (t : Content). session_of d t.sessions) (broke_moved first o s s' c r served some answer leads) ∙ session_of-without_other c d s.sessions (ne_eqb d c ne)
 
--- the content after the close of a connection that leaves
+-- the content after closing a connection that has logged out and for which nothing waits
 close_moved : {U : Type 0} (first : Configuration) (o : Option (List Entry)) (s s' : Content) (c : ℕ) (r : Result U Refused)
     → Served first o s [] → leaves (session_of c s.sessions) ≡ true → Answered s (event.Close c) r → Leads s (event.Close c) r s' → s' ≡ advance s (event.Close c)
 close_moved first o s s' c r served left answer leads =
@@ -78,7 +78,7 @@ pub only_closed : {U : Type 0} (first : Configuration) (o : Option (List Entry))
 only_closed first o s s' c r served left answer leads = λ d ne.
     ap (λ (t : Content). session_of d t.sessions) (close_moved first o s s' c r served left answer leads) ∙ session_of-without_other c d s.sessions (ne_eqb d c ne)
 
--- changes at one connection, one after the other
+-- two changes of one connection, one after the other
 pub only_twice : (c : ℕ) (a b d : Content) → OnlyAt c a b → OnlyAt c b d → OnlyAt c a d
 only_twice c a b d first second = λ x ne. second x ne ∙ first x ne
 

@@ -1,4 +1,4 @@
--- One step of the loop at a time: what is served stays served.
+-- Each step of the loop keeps `Served`.
 use Rattle.std.proofs.Common.{◌≡◌, ℕ, ◌<◌, ◌≤◌, false, List, [], ◌∷◌, length, take, drop, Option, Some, None, Result, Ok, Err, IfSome, OnErr, refl, sym, ◌∙◌, ap, subst, arith, length-append}
 use Rattle.std.proofs.lemmas.List.{take-append-le}
 use Rattle.nut_queue.specs.Front.{IsFrontPart}
@@ -20,16 +20,16 @@ use Rattle.nut_server_spec.proofs.Tells.{tells-step}
 use Rattle.nut_server_loop.specs.Record.{Entry, tells, taken, driver_taken}
 use Rattle.nut_server_loop.specs.Served.{Served, Stands, Ended}
 
--- What `arrive` says of the content after it.
+-- What `arrive` promises about the content after it.
 abbrev pub Leads : {U : Type 0} → Content → Event → Result U Refused → Content → Type 0
 Leads s e r s' = (first : Configuration) (h : List Event) → Tells first h s → Tells first (after r e h) s'
 
--- a world that tells its entries tells one more
+-- A world with a record adds one entry to it.
 tells_more : (o : Option (List Entry)) (entries : List Entry) (entry : Entry) → IfSome o (λ r. r ≡ entries) → IfSome (tells entry o) (λ r. r ≡ entry ∷ entries)
 tells_more None entries entry same = tt
 tells_more (Some r) entries entry same = ap (λ q. entry ∷ q) same
 
--- one more entry, and what stands for it
+-- one entry more, and what it means for the history
 pub goes_on : (first : Configuration) (o o' : Option (List Entry)) (s s' : Content) (owed owed' : List Ended) (entry : Entry) (served : Served first o s owed) (h' : List Event)
     → o' ≡ tells entry o → Stands first served.history owed entry h' owed' → Tells first h' s' → ((c : ℕ) → taken c (entry ∷ served.entries) ≡ sent first c h')
     → ((u : ℕ) → driver_taken u (entry ∷ served.entries) ≡ driver_sent u (past first h')) → Served first o' s' owed'
@@ -44,32 +44,32 @@ goes_on first o o' s s' owed owed' entry served h' more stands holds same asked 
       asked_is = asked;
     }
 
--- a server that was told nothing
+-- A server that was told nothing is served.
 pub begun : (first : Configuration) (o : Option (List Entry)) (s : Content) → s ≡ content first [] → IfSome o (λ r. r ≡ []) → Served first o s []
 begun first o s fresh blank =
     record { entries = []; history = []; tells = blank; told = (refl, refl); holds = (tt, fresh); sent_is = λ c. refl; asked_is = λ u. refl }
 
--- what is served with something still to be closed is so at an Err
+-- What is served with something left to close is so after an error.
 pub at_err : {T E : Type 0} (r : Result T E) (first : Configuration) (o : Option (List Entry)) (s : Content) (owed : List Ended) → Served first o s owed → OnErr r ((x : List Ended) × Served first o s x)
 at_err (Ok _) first o s owed served = tt
 at_err (Err _) first o s owed served = (owed, served)
 
--- a fault tells nothing
+-- A fault leaves the record as it is.
 pub stays : (first : Configuration) (o o' : Option (List Entry)) (s : Content) (owed : List Ended) → o' ≡ o → Served first o s owed → Served first o' s owed
 stays first o o' s owed same served = subst (λ q. Served first q s owed) (sym same) served
 
--- what is served with something still to be closed is so where a fault told nothing
+-- What is served with something left to close is so if a fault left the record as it was.
 pub faulted : {T E : Type 0} (r : Result T E) (first : Configuration) (o o' : Option (List Entry)) (s : Content) (owed : List Ended) → Served first o s owed → OnErr r (o' ≡ o) → OnErr r ((x : List Ended) × Served first o' s x)
 faulted (Ok _) first o o' s owed served same = tt
 faulted (Err _) first o o' s owed served same = (owed, stays first o o' s owed same served)
 
--- ---- events that take no memory
+-- ---- events that allocate no memory
 
 -- The server answered so, whatever it had been told.
 abbrev pub Answered : {U : Type 0} → Content → Event → Result U Refused → Type 0
 Answered s e r = (first : Configuration) (h : List Event) → Tells first h s → IsAnswer first h e r
 
--- no memory is lacking at an event that brings no bytes
+-- The event brings no bytes, so no memory can run out at it.
 abbrev pub TakesNoMemory : Event → Type 0
 TakesNoMemory e = (first : Configuration) (h : List Event) (p : Place) → MayLack first h p e → ⊥
 
@@ -103,7 +103,7 @@ refused_not first h e TooMuchTaken free small is = cc
 refused_not first h e BadAddress free small is = cc
 refused_not first h e Full free small is = cc
 
--- an event that takes no memory and that no test refuses is accepted
+-- An event that allocates no memory and that no test refuses is accepted.
 accepted : {U : Type 0} (first : Configuration) (h : List Event) (e : Event) (r : Result U Refused) → refusal (content first h) e ≡ None → TakesNoMemory e → IsAnswer first h e r
     → after r e h ≡ e ∷ h
 accepted first h e (Ok _) free small answer = refl
@@ -124,11 +124,11 @@ moved first o s s' e r owed served free small answer leads =
 
 -- ---- what was sent
 
--- what c was sent, after an event by which it takes nothing
+-- what c was sent after an event in which it takes nothing
 pub same_sent : (first : Configuration) (h : List Event) (e : Event) (c : ℕ) (before : List ℕ) → IsAccepted first h → taken_by c e ≡ 0 → before ≡ sent first c h → before ≡ sent first c (e ∷ h)
 same_sent first h e c before accepted nothing same = same ∙ sym (sent-other first h c e accepted nothing)
 
--- what the driver of u was sent, after an event by which it takes nothing, and that doesn't connect it
+-- what the driver of u was sent after an event in which it takes nothing and which doesn't connect it
 pub same_asked : (first : Configuration) (h : List Event) (e : Event) (u : ℕ) (before : List ℕ) → IsAccepted first (e ∷ h) → drained_by u e ≡ 0 → begins_anew u e ≡ false
     → before ≡ driver_sent u (past first h) → before ≡ driver_sent u (past first (e ∷ h))
 same_asked first h e u before accepted nothing stays same = same ∙ sym (driver_sent-other first h u e accepted nothing stays)
@@ -141,7 +141,7 @@ length_of_front part all front = omega (arith, ap length front.front, length-app
 pub take_of_front : (n : ℕ) (part all : List ℕ) → IsFrontPart part all → n ≤ length part → take n part ≡ take n all
 take_of_front n part all front fits = sym (ap (take n) front.front ∙ take-append-le n part (drop (length part) all) fits)
 
--- where something waits, something is offered
+-- If something waits, something is offered.
 pub offers_some : (part all : List ℕ) → IsFrontPart part all → 0 < length all → 0 < length part
 offers_some [] all front some = absurd (omega (arith, some, ap length (front.some refl)))
 offers_some (x ∷ part) all front some = omega arith

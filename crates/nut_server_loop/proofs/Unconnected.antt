@@ -1,4 +1,4 @@
--- Of a driver without a UPS nothing was ever taken: what is connected is a driver of a UPS, and the UPSes stay.
+-- Nothing was ever taken for a driver without a UPS: only drivers of UPSes are connected, and the UPSes never change.
 use Rattle.std.proofs.Common.{◌≡◌, ℕ, zero, suc, eqb, List, [], ◌∷◌, length, map, Some, None, refl, sym, ◌∙◌, subst, inl, inr}
 use Rattle.std.specs.Prelude.{slice_get}
 use Rattle.std.proofs.lemmas.Bool.{cases_Bool, eqb-true}
@@ -11,7 +11,7 @@ use Rattle.nut_server_spec.specs.Laws.{driver_received}
 use Rattle.nut_server_spec.proofs.Others.{configuration_lines, configuration_reports}
 use Rattle.nut_server_spec.proofs.DriverSent.{connected_took, driver_sent-received}
 
--- no event changes the configuration
+-- No event changes the configuration.
 same_configuration : (first : Configuration) (h : List Event) (e : Event) → configuration first (past first (e ∷ h)) ≡ configuration first (past first h)
 same_configuration first h (Moment t) = refl
 same_configuration first h (Open address) = refl
@@ -29,7 +29,7 @@ none_of_map f g u [] none = refl
 none_of_map f g zero (x ∷ xs) none = cc
 none_of_map f g (suc u) (x ∷ xs) none = none_of_map f g u xs none
 
--- where there is no UPS with the number u, there was none before
+-- If there is no UPS with the number u, there was none before.
 none_before : (first : Configuration) (h : List Event) (e : Event) (u : ℕ) → supply_of u (content first (e ∷ h)).supplies ≡ None → supply_of u (content first h).supplies ≡ None
 none_before first h e u none =
     let here : slice_get (map (supply first (e ∷ h)) (ups_numbers first (past first h))) u ≡ None =

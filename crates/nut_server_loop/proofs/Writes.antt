@@ -1,4 +1,4 @@
--- What a write to a connection and its close make of what is served.
+-- What a write to a connection, and closing it, do to `Served`.
 use Rattle.std.proofs.Common.{◌≡◌, ℕ, ◌<◌, ◌≤◌, true, eqb, List, [], ◌∷◌, ◌++◌, length, take, Option, Some, None, Result, Ok, Err, OnOk, if◌then◌else◌, refl, sym, ◌∙◌, ap, subst, inl, inr, arith}
 use Rattle.std.proofs.lemmas.Bool.{cases_Bool, eqb-true, le-ltb}
 use Rattle.std.proofs.lemmas.List.{length-take-le}
@@ -16,7 +16,7 @@ use Rattle.nut_server_loop.specs.declared.types.Written.TheVariants.{Took, Later
 use Rattle.nut_server_loop.specs.Served.{Served, Ended, Connection}
 use Rattle.nut_server_loop.proofs.Steps.{Answered, Leads, goes_on, holds_on, same_sent, same_asked, length_of_front, take_of_front, no_memory_took, no_memory_close, no_memory_failed}
 
--- a connection for which bytes wait is open, as is one that leaves
+-- A connection for which bytes wait is open, and so is one that is to be closed.
 took_free : (n : ℕ) (o : Option Session) → 0 < n → n ≤ length (waiting_in o) → took_refusal n o ≡ None
 took_free n None some within = absurd (omega arith)
 took_free n (Some k) some within = rw (le-ltb (length k.waits) n within) refl
@@ -38,7 +38,7 @@ leaving_open (Some k) left = refl
 pub may_close : (s : Content) (c : ℕ) → leaves (session_of c s.sessions) ≡ true → refusal s (event.Close c) ≡ None
 may_close s c left = leaving_open (session_of c s.sessions) left
 
--- bytes of c were taken, a front of those that waited
+-- Bytes were taken for c, the first of those that waited.
 more_taken : (first : Configuration) (h : List Event) (s : Content) (c d : ℕ) (bytes before : List ℕ) → Tells first h s → refusal s (event.Took c (length bytes)) ≡ None
     → bytes ≡ take (length bytes) (waiting_of c s.sessions) → before ≡ sent first d h → (if eqb c d then before ++ bytes else before) ≡ sent first d (event.Took c (length bytes) ∷ h)
 more_taken first h s c d bytes before holds free front same =
@@ -52,7 +52,7 @@ more_taken first h s c d bytes before holds free front same =
       | inr e ↦ ap (λ b. if b then before ++ bytes else before) e ∙ same ∙ sym (sent-took_other first h d c (length bytes) e)
     ]
 
--- bytes were taken, a front of those that waited
+-- Bytes were taken, the first of those that waited.
 took_bytes : (first : Configuration) (o o' : Option (List Entry)) (s s' : Content) (c : ℕ) (bytes : List ℕ) → (served : Served first o s []) → o' ≡ tells (TookBytes c bytes) o
     → bytes ≡ take (length bytes) (waiting_of c s.sessions) → refusal s (event.Took c (length bytes)) ≡ None → Tells first (event.Took c (length bytes) ∷ served.history) s' → Served first o' s' []
 took_bytes first o o' s s' c bytes served more front free holds =
@@ -63,7 +63,7 @@ took_bytes first o o' s s' c bytes served more front free holds =
     (λ d. more_taken first h s c d bytes (taken d served.entries) served.holds free front (served.sent_is d))
     (λ u. same_asked first h (event.Took c (length bytes)) u _ holds.0 refl refl (served.asked_is u))
 
--- some of what was offered was taken
+-- Some of what was offered was taken.
 pub write_took : {U : Type 0} (first : Configuration) (o o' : Option (List Entry)) (s s' : Content) (c : ℕ) (part : List ℕ) (w : Written) (n : ℕ) (r : Result U Refused)
     → Served first o s [] → w ≡ Took n → o' ≡ tells_write w c part o → IsWithin w (length part) → IsFrontPart part (waiting_of c s.sessions)
     → Answered s (event.Took c n) r → Leads s (event.Took c n) r s' → Served first o' s' []
@@ -80,12 +80,12 @@ write_took first o o' s s' c part w n r served is more within front answer leads
     (subst (λ m. refusal s (event.Took c m) ≡ None) (sym len) free)
     (subst (λ m. Tells first (event.Took c m ∷ served.history) s') (sym len) (holds_on first served.history s s' (event.Took c n) r served.holds free (no_memory_took c n) answer leads))
 
--- a write is to come later
+-- A write is to come later.
 pub write_late : (first : Configuration) (o o' : Option (List Entry)) (s : Content) (c : ℕ) (part : List ℕ) (w : Written) → Served first o s [] → w ≡ Later → o' ≡ tells_write w c part o → Served first o' s []
 write_late first o o' s c part w served is more =
     goes_on first o o' s s [] [] (WasLate c) served served.history (more ∙ ap (λ v. tells_write v c part o) is) (refl, refl) served.holds served.sent_is served.asked_is
 
--- a write failed
+-- A write failed.
 pub write_broke : {U : Type 0} (first : Configuration) (o o' : Option (List Entry)) (s s' : Content) (c : ℕ) (part : List ℕ) (w : Written) (r : Result U Refused)
     → Served first o s [] → w ≡ Failed → o' ≡ tells_write w c part o → 0 < length (waiting_of c s.sessions)
     → Answered s (event.WriteFailed c) r → Leads s (event.WriteFailed c) r s' → Served first o' s' (Connection c ∷ [])
@@ -99,7 +99,7 @@ write_broke first o o' s s' c part w r served is more some answer leads =
     (λ d. same_sent first h (event.WriteFailed c) d _ served.holds.0 refl (served.sent_is d))
     (λ u. same_asked first h (event.WriteFailed c) u _ holds.0 refl refl (served.asked_is u))
 
--- the connection that was ended last is closed
+-- The connection that ended last is closed.
 pub closed_ended : (first : Configuration) (o o' : Option (List Entry)) (s : Content) (c : ℕ) (owed : List Ended) → Served first o s (Connection c ∷ owed) → o' ≡ tells (WasClosed c) o → Served first o' s owed
 closed_ended first o o' s c owed served more =
     goes_on first o o' s s (Connection c ∷ owed) owed (WasClosed c) served served.history more (inl (refl, refl)) served.holds served.sent_is served.asked_is
@@ -108,7 +108,7 @@ pub closes_ended : {T E : Type 0} (r : Result T E) (first : Configuration) (o o'
 closes_ended (Ok _) first o o' s c served more = closed_ended first o o' s c [] served more
 closes_ended (Err _) first o o' s c served more = tt
 
--- one that leaves is closed
+-- A connection that has logged out, and for which nothing waits, is closed.
 pub closed_left : {U : Type 0} (first : Configuration) (o o' : Option (List Entry)) (s s' : Content) (c : ℕ) (r : Result U Refused)
     → Served first o s [] → o' ≡ tells (WasClosed c) o → leaves (session_of c s.sessions) ≡ true
     → Answered s (event.Close c) r → Leads s (event.Close c) r s' → Served first o' s' []

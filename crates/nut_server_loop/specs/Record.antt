@@ -1,4 +1,4 @@
--- What a world tells of itself: a list of entries, the newest first.
+-- The record of a world: a list of entries, the newest first.
 use Rattle.std.specs.Prelude.{◌≡◌, ◌<◌, ◌≤◌, ℕ, Bool, true, false, ◌||◌, ◌==◌, List, [], ◌∷◌, ◌++◌, length, take, Option, Some, None, option_map, if◌then◌else◌}
 use Rattle.nut_server_spec.specs.Event.{Event}
 use Rattle.nut_server_spec.specs.Event as event
@@ -12,7 +12,7 @@ use Rattle.nut_server_loop.specs.declared.types.Written.TheVariants.{Took, Later
 pub data Entry : Type 0 where
   -- it gave this arrival
   Gave : (e : Event) → Entry
-  -- of a write to connection c it took these bytes
+  -- it took these bytes, in a write to connection c
   TookBytes : (c : ℕ) (bytes : List ℕ) → Entry
   -- a write to c is to come later
   WasLate : (c : ℕ) → Entry
@@ -20,7 +20,7 @@ pub data Entry : Type 0 where
   WriteBroke : (c : ℕ) → Entry
   -- it closed c
   WasClosed : (c : ℕ) → Entry
-  -- of a write to the driver of u it took these bytes
+  -- it took these bytes, in a write to the driver of u
   TookRequests : (u : ℕ) (bytes : List ℕ) → Entry
   -- a write to the driver of u is to come later
   DriverWasLate : (u : ℕ) → Entry
@@ -29,11 +29,11 @@ pub data Entry : Type 0 where
   -- it closed the link to the driver of u
   DriverWasClosed : (u : ℕ) → Entry
 
--- a record after one more entry; a world that tells none goes on to tell none
+-- the record after one entry more; a world without a record has none afterwards either
 abbrev pub tells : Entry → Option (List Entry) → Option (List Entry)
 tells entry o = option_map (λ entries. entry ∷ entries) o
 
--- the arrival that `next` gave by this, with these bytes in the piece
+-- the arrival that `next` gave, if it gave one, with these bytes in the piece
 abbrev pub arrival_of : Next → List ℕ → Option Event
 arrival_of (Moment t) piece = Some (event.Moment t)
 arrival_of (Open address) piece = Some (event.Open address.items)
@@ -45,76 +45,77 @@ arrival_of (DriverDown u) piece = Some (event.DriverDown u)
 arrival_of Again piece = None
 arrival_of End piece = None
 
--- a record after an arrival was given, if one was
+-- the record after an arrival was given, if one was
 abbrev pub tells_arrival : Option Event → Option (List Entry) → Option (List Entry)
 tells_arrival None o = o
 tells_arrival (Some e) o = tells (Gave e) o
 
--- a record after `next` gave this, with these bytes in the piece
+-- the record after `next` gave this, with these bytes in the piece
 abbrev pub tells_next : Next → List ℕ → Option (List Entry) → Option (List Entry)
 tells_next n piece o = tells_arrival (arrival_of n piece) o
 
--- a record after a write of these bytes to connection c
+-- the record after a write of these bytes to connection c
 abbrev pub tells_write : Written → ℕ → List ℕ → Option (List Entry) → Option (List Entry)
 tells_write (Took n) c bytes o = tells (TookBytes c (take n bytes)) o
 tells_write Later c bytes o = tells (WasLate c) o
 tells_write Failed c bytes o = tells (WriteBroke c) o
 
--- a record after a write of these bytes to the driver of u
+-- the record after a write of these bytes to the driver of u
 abbrev pub tells_request : Written → ℕ → List ℕ → Option (List Entry) → Option (List Entry)
 tells_request (Took n) u bytes o = tells (TookRequests u (take n bytes)) o
 tells_request Later u bytes o = tells (DriverWasLate u) o
 tells_request Failed u bytes o = tells (DriverBroke u) o
 
--- at least one byte is taken, and no more than were offered
+-- A write takes at least one byte and at most those that were offered.
 abbrev pub IsWithin : Written → ℕ → Type 0
 IsWithin (Took n) offered = (0 < n) × (n ≤ offered)
 IsWithin Later offered = Unit {0}
 IsWithin Failed offered = Unit {0}
 
--- bytes are given of such connections alone as may be read
+-- Bytes are given only of connections that may be read.
 abbrev pub MayCome : Next → Content → Type 0
 MayCome (Bytes c) s = may_read (session_of c s.sessions) ≡ true
 MayCome n s = Unit {0}
 
--- who is late after a write to c; the same of drivers
+-- whether d is late after a write to c: it was late before, or it is c and the write is to come later; used of drivers,
+-- too
 abbrev pub late_after : Written → ℕ → (ℕ → Bool) → ℕ → Bool
 late_after (Took n) c late d = late d
 late_after Later c late d = late d || (d == c)
 late_after Failed c late d = late d
 
--- nothing waits for connection d, or d is late
+-- If bytes wait for connection d, it is late.
 abbrev pub IsSettled : (ℕ → Bool) → Content → ℕ → Type 0
 IsSettled late s d = 0 < length (waiting_of d s.sessions) → late d ≡ true
 
--- every connection with waiting bytes is late
+-- Each connection for which bytes wait is late.
 abbrev pub NothingIsWithheld : (ℕ → Bool) → Content → Type 0
 NothingIsWithheld late s = (d : ℕ) → IsSettled late s d
 
--- nothing waits for the driver of u, or it is late
+-- If bytes wait for the driver of u, it is late.
 abbrev pub IsDriverSettled : (ℕ → Bool) → Content → ℕ → Type 0
 IsDriverSettled late s u = 0 < length (asks_of u s.supplies) → late u ≡ true
 
--- every driver with waiting bytes is late
+-- Each driver for which bytes wait is late.
 abbrev pub NoRequestIsWithheld : (ℕ → Bool) → Content → Type 0
 NoRequestIsWithheld late s = (u : ℕ) → IsDriverSettled late s u
 
--- each connection that logged out and waits for nothing is closed
+-- No connection is open that has logged out and for which nothing waits.
 abbrev pub NobodyLeaves : Content → Type 0
 NobodyLeaves s = (d : ℕ) → leaves (session_of d s.sessions) ≡ false
 
--- the bytes that the world took of connection c
+-- the bytes that the world took for connection c
 abbrev pub taken : ℕ → List Entry → List ℕ
 taken c [] = []
 taken c (TookBytes d bytes ∷ r) = if d == c then taken c r ++ bytes else taken c r
 taken c (entry ∷ r) = taken c r
 
--- what an arrival leaves of the bytes that were taken of the driver of u: they begin anew where it is connected
+-- the bytes taken for the driver of u after an arrival: none if it is connected by it, else those before
 abbrev pub since_up : ℕ → Event → List ℕ → List ℕ
 since_up u (event.DriverUp v) before = if v == u then [] else before
 since_up u e before = before
 
--- the bytes that the world took of the driver of u since that was last connected
+-- the bytes that the world took for the driver of u since it was last connected
 abbrev pub driver_taken : ℕ → List Entry → List ℕ
 driver_taken u [] = []
 driver_taken u (Gave e ∷ r) = since_up u e (driver_taken u r)

@@ -1,4 +1,4 @@
--- A list of arrivals that was served to its end.
+-- What holds after a list of arrivals was served to its end.
 use Rattle.std.specs.Prelude.{◌≡◌, ℕ, List, [], map, None}
 use Rattle.nut_server_spec.specs.Configuration.{Configuration}
 use Rattle.nut_server_spec.specs.Event.{Event}
@@ -9,9 +9,9 @@ use Rattle.nut_server_loop.specs.Record.{taken, driver_taken}
 use Rattle.nut_server_loop.specs.Served.{Told}
 use Rattle.nut_server_loop.specs.Memory.{MemoryState, event_of_given, first_coming, gave_of, StandIn}
 
--- Of the arrivals that `old` had left each was given, but those that `new` has left, which are bytes of connections
--- that may not be read. What was given and taken tells a history whose content the server has, and what was taken
--- was sent.
+-- The record of the world leads to a history whose content the server has, with nothing left to close, and what was
+-- taken was sent. Each arrival that `old` had left was given or is still left. No arrival that is left may come: they
+-- are bytes of connections that may not be read.
 pub record ServedAll (first : Configuration) (old new : MemoryState) (s : Content) : Type 0 where
   pub history : List Event
   pub told : Told first new.log history []

@@ -1,5 +1,5 @@
-//! The outer loop of a server over a world that gives arrivals and takes bytes, and the worlds over memory and over
-//! standard streams.
+//! The outer loop of a server: it asks a world for arrivals and writes bytes to it. With it come two worlds, one over
+//! memory and one over standard streams.
 #![tactic(auto)]
 
 mod memory;

@@ -11,7 +11,7 @@ use nut_server::Server;
 use std::alloc::Global;
 use std::marker::Model;
 
-/// A world that gives a list of arrivals, takes all bytes at once, and keeps what happened.
+/// A world that gives a list of arrivals, takes all bytes at once, and notes what happened.
 #[derive(Drop)]
 pub struct MemoryWorld {
     alloc: Global,
@@ -29,7 +29,7 @@ impl Model for MemoryWorld {
 }
 
 impl MemoryWorld {
-    /// A world that gives these arrivals and has noted nothing. What it notes grows in `alloc`.
+    /// Returns a world that will give these arrivals and has noted nothing. Its notes are allocated in `alloc`.
     pub fn new(alloc: Global, arrivals: Vec<Given>) -> Self
         ensures { result ≡ record { left = arrivals.items; log = []; faults = 0 } }
     {
@@ -41,7 +41,7 @@ impl MemoryWorld {
         }
     }
 
-    /// What happened so far, the oldest first.
+    /// Returns what happened so far, the oldest first.
     pub fn notes(&self) -> &[Note]
         ensures { log_of result.now ≡ self.now.log }
     {
@@ -178,7 +178,7 @@ impl World for MemoryWorld {
     }
 }
 
-/// Where the first arrival stands that may come.
+/// Returns the place of the first arrival that may come now, if there is one.
 fn find_coming(server: &Server, left: &[Given]) -> Option<usize>
     ensures place { result ≡ first_coming server.now left.now }
     ensures within { IfSome result (λ i. i < length left.now) }
@@ -200,7 +200,7 @@ fn comes(server: &Server, given: &Given) -> bool
     }
 }
 
-/// Gives the arrival at a place and notes it, or does nothing.
+/// Gives the arrival at a place and notes it. If memory for the note cannot be allocated, nothing changes.
 #[tactic(auto, using(crate::proofs::Noted::log_more, crate::proofs::Noted::tells_given))]
 fn give(
     left: &mut Vec<Given>,
@@ -225,7 +225,7 @@ fn give(
     }
 }
 
-/// The arrival as `next` gives it.
+/// Returns the arrival as `next` gives it, and puts its bytes into the piece.
 fn show(given: &Given, piece: &mut Piece) -> Next
     ensures { arrival_of result piece.new.items ≡ Some (event_of_given given.now) }
 {
@@ -246,7 +246,7 @@ fn show(given: &Given, piece: &mut Piece) -> Next
     }
 }
 
-/// Puts the bytes into the piece, in place of those that were there.
+/// Replaces the bytes of the piece by these.
 fn show_bytes(bytes: &Piece, piece: &mut Piece)
     ensures { piece.new.items ≡ bytes.now.items }
 {
@@ -256,7 +256,7 @@ fn show_bytes(bytes: &Piece, piece: &mut Piece)
     }
 }
 
-/// The same address once more.
+/// Returns a copy of the address.
 fn copy_of(address: &Address) -> Address
     ensures { result ≡ address.now }
 {

@@ -10,10 +10,11 @@ use crate::{MemoryWorld, ServeFault, serve};
 use nut_server::Server;
 use std::sync::Wait;
 
-/// Serves a list of arrivals to its end: all are given but bytes of connections that may not be read.
+/// Serves a list of arrivals to its end. All are given, except bytes of connections that may not be read.
 ///
 /// # Errors
-/// `ServeFault::World` where memory for a note was refused: what was noted before stands.
+///
+/// `ServeFault::World` if memory for a note cannot be allocated. What was noted before stays.
 pub fn serve_memory(
     rt: &impl Wait,
     server: &mut Server,

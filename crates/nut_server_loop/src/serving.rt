@@ -1,4 +1,4 @@
-//! The loop over a world.
+//! The loop that serves over a world.
 
 ghost use Rattle.std.specs.Prelude.{◌≡◌, ◌≢◌, ◌+◌, ◌-◌, ◌^◌, ◌<◌, ◌≤◌, ℕ, true, false, List, [], ◌∷◌, length, Option, Ok, IfSome, IfOk, OnOk, OnErr, is_ok, option_map, if◌then◌else◌};
 ghost use Rattle.nut_server_spec.specs.Configuration.{Configuration};
@@ -21,17 +21,18 @@ impl From<Fault> for ServeFault {
 
 /// Serves until the world ends.
 ///
-/// The server is told each arrival of the world, and what became of each write. Before the next arrival is asked for,
-/// each connection and each driver was offered all that waits for it, until nothing did or the world took no more, and
-/// each connection that logged out and has taken all is closed, as are the connections and the links to drivers that a
-/// lack of memory or a failed write ended. No other is closed.
+/// The server is told each arrival of the world and the outcome of each write. Before the loop asks for the next
+/// arrival, it offers each connection and each driver all that waits for it, until nothing waits or the world takes no
+/// more. It closes each connection that has logged out and taken everything, and each connection and link to a driver
+/// that was ended by a failed write or a lack of memory. It closes no others.
 ///
-/// What the server holds at the return is the content of a history of accepted events that the world's record tells,
-/// and the bytes that the world took of each connection, and of each driver since it was last connected, are those that
-/// were sent.
+/// When it returns, the server holds the content of a history of accepted events that the world's record leads to. The
+/// bytes that the world took for each connection, and for each driver since it was last connected, are those that were
+/// sent.
 ///
 /// # Errors
-/// `ServeFault::World` where a call of the world answered a fault.
+///
+/// `ServeFault::World` if a call of the world returns a fault.
 pub fn serve<W: World>(rt: &impl Wait, server: &mut Server, world: &mut W) -> Result<(), ServeFault>
     requires fresh { server.old ≡ content server.old.configuration [] }
     requires blank { IfSome (W.log world.old) (λ r. r ≡ []) }
@@ -46,7 +47,7 @@ pub fn serve<W: World>(rt: &impl Wait, server: &mut Server, world: &mut W) -> Re
     go_on(rt, server, world)
 }
 
-/// Serves until the world ends, from where the loop stands.
+/// Serves until the world ends, from any point of a history at which nothing is left to close.
 fn go_on<W: World>(rt: &impl Wait, server: &mut Server, world: &mut W) -> Result<(), ServeFault>
     ghost first: { Configuration }
     requires served { Served first (W.log world.old) server.old [] }
@@ -68,7 +69,8 @@ fn go_on<W: World>(rt: &impl Wait, server: &mut Server, world: &mut W) -> Result
     unreachable!()
 }
 
-/// Asks for the next arrival, hands it on, and closes what the answer ended. It says whether to go on.
+/// Asks for the next arrival, tells it to the server, and closes what that ended. Returns false at the end of the
+/// world.
 fn turn<W: World>(server: &mut Server, world: &mut W, piece: &mut Piece) -> Result<bool, Fault>
     ghost first: { Configuration }
     requires few { W.fault_count world.old < 2 ^ 64 - 1 }
@@ -91,7 +93,7 @@ fn turn<W: World>(server: &mut Server, world: &mut W, piece: &mut Piece) -> Resu
     Ok(true)
 }
 
-/// Hands on what the world gave, if it gave an arrival, and closes what the answer ended.
+/// Tells the server what the world gave, if it is an arrival, and closes what that ended.
 fn hand_on<W: World>(
     server: &mut Server,
     world: &mut W,
@@ -116,7 +118,7 @@ fn hand_on<W: World>(
     }
 }
 
-/// Settles the connection whose bytes were heard. Most often no other is unsettled, so that nobody has to look for it.
+/// Settles the connection whose bytes were handled. In most cases no other is unsettled, so no search is needed.
 fn settle_heard<W: World>(server: &mut Server, world: &mut W, next: &Next) -> Result<(), Fault>
     ghost first: { Configuration }
     requires few { W.fault_count world.old < 2 ^ 64 - 1 }
@@ -139,7 +141,7 @@ fn settle_heard<W: World>(server: &mut Server, world: &mut W, next: &Next) -> Re
     }
 }
 
-/// Where memory was lacking, if it was: what that ended is named there.
+/// Returns the place at which memory ran out, if it did. It names what was ended.
 fn place_of_lack(answer: Result<(), Refused>) -> Option<Place>
     ensures { ended_by answer ≡ ended_in result }
 {
@@ -158,7 +160,7 @@ fn place_of_lack(answer: Result<(), Refused>) -> Option<Place>
     }
 }
 
-/// The arrival that the world gave, if it gave one.
+/// Returns the arrival that the world gave, if it gave one.
 fn arrival_of<'a>(next: &'a Next, piece: &'a Piece) -> Option<Arrival<'a>>
     ensures { option_map event_of result ≡ entry.arrival_of next.now piece.now.items }
 {
@@ -174,7 +176,7 @@ fn arrival_of<'a>(next: &'a Next, piece: &'a Piece) -> Option<Arrival<'a>>
     }
 }
 
-/// Writes what waits, as far as the world takes it, and closes each connection that leaves.
+/// Writes all that waits, as far as the world takes it, and closes each connection that is to be closed.
 fn settle_all<W: World>(server: &mut Server, world: &mut W) -> Result<(), Fault>
     ghost first: { Configuration }
     requires few { W.fault_count world.old < 2 ^ 64 - 1 }
@@ -191,7 +193,7 @@ fn settle_all<W: World>(server: &mut Server, world: &mut W) -> Result<(), Fault>
     settle_drivers(server, world)
 }
 
-/// Writes to connections what waits for them, as far as the world takes it, and closes each that leaves.
+/// Writes to connections what waits for them, as far as the world takes it, and closes each that is to be closed.
 fn settle_connections<W: World>(server: &mut Server, world: &mut W) -> Result<(), Fault>
     ghost first: { Configuration }
     requires few { W.fault_count world.old < 2 ^ 64 - 1 }
@@ -211,7 +213,7 @@ fn settle_connections<W: World>(server: &mut Server, world: &mut W) -> Result<()
     Ok(())
 }
 
-/// The same of one connection.
+/// Writes to one connection what waits for it, as far as the world takes it, and closes it if it is to be closed.
 fn settle<W: World>(server: &mut Server, world: &mut W, c: u64) -> Result<(), Fault>
     ghost first: { Configuration }
     requires few { W.fault_count world.old < 2 ^ 64 - 1 }
@@ -233,7 +235,7 @@ fn settle<W: World>(server: &mut Server, world: &mut W, c: u64) -> Result<(), Fa
     Ok(())
 }
 
-/// Writes until nothing waits or the world takes no more.
+/// Writes to a connection until nothing waits for it or the world takes no more.
 fn flush<W: World>(server: &mut Server, world: &mut W, c: u64) -> Result<(), Fault>
     ghost first: { Configuration }
     requires few { W.fault_count world.old < 2 ^ 64 - 1 }
@@ -254,7 +256,7 @@ fn flush<W: World>(server: &mut Server, world: &mut W, c: u64) -> Result<(), Fau
     Ok(())
 }
 
-/// One write of what waits, and what follows from its answer: whether to go on.
+/// Writes once to a connection and tells the server the outcome. Returns whether another write may follow.
 fn write_once<W: World>(server: &mut Server, world: &mut W, c: u64) -> Result<bool, Fault>
     ghost first: { Configuration }
     requires few { W.fault_count world.old < 2 ^ 64 - 1 }
@@ -326,7 +328,7 @@ fn flush_driver<W: World>(server: &mut Server, world: &mut W, u: usize) -> Resul
     Ok(())
 }
 
-/// One write to a driver of what waits for it, and what follows from the answer: whether to go on.
+/// Writes once to a driver and tells the server the outcome. Returns whether another write may follow.
 fn write_requests_once<W: World>(
     server: &mut Server,
     world: &mut W,

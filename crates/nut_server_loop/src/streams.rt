@@ -1,4 +1,4 @@
-//! A world over a reader and a writer, for one client.
+//! A world over a reader and a writer, with one client.
 
 ghost use Rattle.std.specs.Prelude.{◌≡◌, true, false, List, None, OnErr};
 ghost use Rattle.std.specs.Prelude.{◌<◌, ◌≤◌, length, IfOk};
@@ -11,13 +11,13 @@ use nut_words::PIECE_MAX;
 use std::io;
 use std::io::{ErrorKind, Read, Write};
 
-/// The number of the one connection: the first that a server accepts.
+/// The number of the one connection, the first that a server opens.
 const CLIENT: u64 = 1;
 
 /// The address of the one client.
 const ADDRESS: &[u8] = b"stdio";
 
-/// How far the one client has come.
+/// The stage of the one client: about to connect, connected, or gone.
 #[derive(Clone, Copy, Debug, PartialEq, Eq)]
 enum Stage {
     Arriving,
@@ -25,7 +25,7 @@ enum Stage {
     Ended,
 }
 
-/// A stream of a world over standard streams.
+/// One of the two streams of the world.
 #[derive(Clone, Copy, Debug, PartialEq, Eq)]
 pub enum Stream {
     /// The reader that the client's bytes come from.
@@ -34,10 +34,10 @@ pub enum Stream {
     Output,
 }
 
-/// A world with one client and no drivers. The client's bytes come from a reader, and replies go to a writer at once.
+/// A world with one client and no drivers. The client's bytes come from a reader, and replies are written at once.
 ///
-/// It ends where the client may be read no more, and at the end of the input. A failed read or write is a fault.
-/// The writer isn't flushed: it should be one that keeps no bytes back. It tells no record.
+/// It ends when the client may not be read any more, or at the end of the input. A failed read or write is a fault.
+/// The writer isn't flushed, so it should be one without a buffer. The world keeps no record.
 #[derive(Drop)]
 pub struct StreamWorld<'a, R, T> {
     input: &'a mut R,
@@ -48,7 +48,7 @@ pub struct StreamWorld<'a, R, T> {
 }
 
 impl<'a, R: Read, T: Write> StreamWorld<'a, R, T> {
-    /// A world whose client is about to connect.
+    /// Returns a world whose client is about to connect.
     pub fn new(input: &'a mut R, output: &'a mut T) -> Self
         ensures faults { result.faults ≡ 0 }
         ensures failed { result.failed ≡ None }
@@ -62,7 +62,7 @@ impl<'a, R: Read, T: Write> StreamWorld<'a, R, T> {
         }
     }
 
-    /// The stream that failed last, if one did.
+    /// Returns the stream that failed last, if one did.
     pub fn failed(&self) -> Option<Stream>
         ensures { result ≡ self.now.failed }
     {
@@ -140,14 +140,18 @@ impl<'a, R: Read, T: Write> World for StreamWorld<'a, R, T> {
     }
 }
 
-/// The address of the one client.
+/// Returns the address of the one client.
 fn address() -> Address {
     let mut address = Address::new();
     let _ = address.try_extend_from_slice(ADDRESS);
     address
 }
 
-/// Reads one piece, and says how long it is: 0 at the end of the input.
+/// Reads one piece, and returns its length: 0 at the end of the input. A read that is interrupted is tried again.
+///
+/// # Errors
+///
+/// The error of the reader.
 pub fn read_piece<R: Read>(input: &mut R, piece: &mut Piece) -> io::Result<usize> {
     *piece = Piece::from([0; PIECE_MAX]);
     for _ in 0..u64::MAX {
@@ -163,7 +167,12 @@ pub fn read_piece<R: Read>(input: &mut R, piece: &mut Piece) -> io::Result<usize
     Err(io::Error::from(ErrorKind::Interrupted))
 }
 
-/// Writes what the writer takes at once, and says how much that was.
+/// Writes what the writer takes at once, and returns how many bytes that was. A write that is interrupted is tried
+/// again.
+///
+/// # Errors
+///
+/// The error of the writer.
 pub fn write_some<T: Write>(output: &mut T, bytes: &[u8]) -> io::Result<usize>
     ensures { IfOk result (λ n. n ≤ length bytes.now) }
 {

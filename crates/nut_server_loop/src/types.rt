@@ -1,4 +1,4 @@
-//! What a world answers.
+//! The answers of a world.
 
 use arrayvec::ArrayVec;
 use nut_server_spec::ADDRESS_MAX;
@@ -11,78 +11,79 @@ pub type Piece = ArrayVec<u8, PIECE_MAX>;
 /// The address of a client, as the world names it: at most [`ADDRESS_MAX`] bytes.
 pub type Address = ArrayVec<u8, ADDRESS_MAX>;
 
-/// What comes next. Connections go by the numbers that the server gave them, UPSes by their places in ups.conf.
+/// What comes next. Connections have the numbers that the server gave them, and UPSes the numbers of their places in
+/// ups.conf, counted from 0.
 #[derive(Drop)]
 pub enum Next {
-    /// It is so many seconds since the start.
+    /// This many seconds have passed since the start.
     Moment(u64),
     /// A client connects from this address.
     Open(Address),
-    /// The connection with this number sent the bytes that stand in the piece.
+    /// The connection with this number sent the bytes in the piece.
     Bytes(u64),
-    /// The connection with this number went away.
+    /// The connection with this number was closed, by its client or by the world.
     Close(u64),
-    /// The driver of the UPS with this number is connected, anew where it was connected before.
+    /// The driver of the UPS with this number was connected, or connected anew.
     DriverUp(usize),
-    /// The driver of the UPS with this number sent the bytes that stand in the piece.
+    /// The driver of the UPS with this number sent the bytes in the piece.
     DriverBytes(usize),
-    /// The driver of the UPS with this number went away.
+    /// The driver of the UPS with this number disconnected.
     DriverDown(usize),
-    /// Nothing came. Writes that were late may be tried again.
+    /// Nothing came. Writes that were to come later may be tried again.
     Again,
-    /// Nothing will come any more.
+    /// Nothing more will come.
     End,
 }
 
-/// What became of a write.
+/// The outcome of a write.
 #[derive(Clone, Copy, Debug, PartialEq, Eq)]
 pub enum Written {
-    /// The first so many bytes were taken, at least one.
+    /// This many bytes from the front were taken, at least one.
     Took(usize),
-    /// None was taken, and some may be taken after the next arrival.
+    /// No byte was taken. Some may be taken after the next arrival.
     Later,
-    /// None was taken, and none will be.
+    /// No byte was taken, and none will be.
     Failed,
 }
 
-/// A device of the world failed, and the call did nothing.
+/// A device of the world failed. The call did nothing.
 #[derive(Clone, Copy, Debug, PartialEq, Eq, Error)]
 #[error("a device failed")]
 pub struct Fault;
 
-/// Why `serve` gave up.
+/// Why `serve` stopped.
 #[derive(Clone, Copy, Debug, PartialEq, Eq, Error)]
 pub enum ServeFault {
-    /// A call of the world answered a fault.
+    /// A call of the world returned a fault.
     #[error("I/O failed")]
     World,
 }
 
-/// An arrival as a world over memory keeps it.
+/// An arrival as the world over memory keeps it.
 #[derive(Drop)]
 pub enum Given {
-    /// It is so many seconds since the start.
+    /// This many seconds have passed since the start.
     Moment(u64),
     /// A client connects from this address.
     Open(Address),
     /// The connection with this number sends these bytes.
     Bytes(u64, Piece),
-    /// The connection with this number goes away.
+    /// The connection with this number is closed.
     Close(u64),
     /// The driver of the UPS with this number is connected.
     DriverUp(usize),
     /// The driver of the UPS with this number sends these bytes.
     DriverBytes(usize, Piece),
-    /// The driver of the UPS with this number goes away.
+    /// The driver of the UPS with this number disconnects.
     DriverDown(usize),
 }
 
-/// What a world over memory notes down.
+/// What the world over memory notes.
 #[derive(Drop)]
 pub enum Note {
     /// It gave this arrival.
     Gave(Given),
-    /// It took these bytes of a connection.
+    /// It took these bytes for a connection.
     Took(u64, Vec<u8>),
     /// It closed a connection.
     Closed(u64),

@@ -7,12 +7,12 @@ ghost use Rattle.nut_server_loop.specs.Record.{Entry, WasClosed, DriverWasClosed
 use crate::{Fault, Next, Piece, Written};
 use nut_server::Server;
 
-/// Who gives arrivals, takes bytes, and closes connections and the links to drivers. Connections go by the numbers that
-/// the server gave them, drivers by those of their UPSes: their places in ups.conf.
+/// Gives arrivals, takes bytes, and closes connections and links to drivers. Connections have the numbers that the
+/// server gave them. Drivers have the numbers of their UPSes: their places in ups.conf, counted from 0.
 ///
-/// Each call may answer a fault instead, where a device failed: it has then done nothing but to count that.
+/// Any call may return a fault instead, if a device fails. It has then done nothing except count the fault.
 pub trait World {
-    /// What it gave, took and closed, the newest first; None where it tells nothing.
+    /// What it gave, took and closed, the newest first. `None` if it keeps no record.
     ghost log: { Self → Option (List Entry) };
 
     /// To which connections a write was `Later` since the last `next`.
@@ -21,23 +21,23 @@ pub trait World {
     /// To which drivers a write was `Later` since the last `next`.
     ghost driver_late: { Self → ℕ → Bool };
 
-    /// How many calls answered a fault.
+    /// How many calls returned a fault.
     ghost fault_count: { Self → ℕ };
 
-    /// Nothing more comes, as long as the server has this content.
+    /// Nothing more comes as long as the server has this content.
     ghost has_ended: { Self → Content → Type 0 };
 
-    /// What it may become by its calls.
+    /// Calls may lead from the first state to the second.
     ghost reached: { Self → Self → Type 0 };
 
-    /// How many calls answered a fault so far.
+    /// Returns how many calls have returned a fault.
     fn faults(&self) -> u64
         ensures { result ≡ fault_count self.now };
 
-    /// The next arrival; the bytes of a `Next::Bytes` or a `Next::DriverBytes` are then in the piece.
+    /// Returns the next arrival. The bytes of a `Next::Bytes` or a `Next::DriverBytes` are then in the piece.
     ///
-    /// It is asked for where each connection and each driver with waiting bytes is late, and each connection that leaves
-    /// is closed. Bytes are given of such connections alone as may be read, and nobody is late afterwards.
+    /// The caller asks only if each connection and each driver with waiting bytes is late, and each connection that is
+    /// to be closed has been. The world gives bytes only of connections that may be read. Afterwards nobody is late.
     fn next(&mut self, server: &Server, piece: &mut Piece) -> Result<Next, Fault>
         requires few { fault_count self.old < 2 ^ 64 - 1 }
         requires withheld { NothingIsWithheld (late self.old) server.now }
@@ -52,7 +52,7 @@ pub trait World {
         ensures counted { fault_count self.new ≡ (if is_ok result then fault_count self.old else fault_count self.old + 1) }
         ensures reached { reached self.old self.new };
 
-    /// Offers bytes to connection c, of which there is at least one, and says what became of them.
+    /// Offers at least one byte to connection `c`, and returns the outcome.
     fn write(&mut self, c: u64, bytes: &[u8]) -> Result<Written, Fault>
         requires few { fault_count self.old < 2 ^ 64 - 1 }
         requires some { 0 < length bytes.now }
@@ -64,7 +64,7 @@ pub trait World {
         ensures counted { fault_count self.new ≡ (if is_ok result then fault_count self.old else fault_count self.old + 1) }
         ensures reached { reached self.old self.new };
 
-    /// Offers bytes to the driver of UPS u, of which there is at least one, and says what became of them.
+    /// Offers at least one byte to the driver of UPS `u`, and returns the outcome.
     fn write_driver(&mut self, u: usize, bytes: &[u8]) -> Result<Written, Fault>
         requires few { fault_count self.old < 2 ^ 64 - 1 }
         requires some { 0 < length bytes.now }
@@ -76,7 +76,7 @@ pub trait World {
         ensures counted { fault_count self.new ≡ (if is_ok result then fault_count self.old else fault_count self.old + 1) }
         ensures reached { reached self.old self.new };
 
-    /// Closes connection c: nothing more is offered to it.
+    /// Closes connection `c`. Nothing more is offered to it.
     fn close(&mut self, c: u64) -> Result<(), Fault>
         requires few { fault_count self.old < 2 ^ 64 - 1 }
         ensures ok { OnOk result (log self.new ≡ tells (WasClosed c) (log self.old)) }
@@ -86,7 +86,7 @@ pub trait World {
         ensures counted { fault_count self.new ≡ (if is_ok result then fault_count self.old else fault_count self.old + 1) }
         ensures reached { reached self.old self.new };
 
-    /// Closes the link to the driver of UPS u: nothing more is offered to it until it is connected anew.
+    /// Closes the link to the driver of UPS `u`. Nothing more is offered to it until it is connected anew.
     fn close_driver(&mut self, u: usize) -> Result<(), Fault>
         requires few { fault_count self.old < 2 ^ 64 - 1 }
         ensures ok { OnOk result (log self.new ≡ tells (DriverWasClosed u) (log self.old)) }
@@ -96,9 +96,9 @@ pub trait World {
         ensures counted { fault_count self.new ≡ (if is_ok result then fault_count self.old else fault_count self.old + 1) }
         ensures reached { reached self.old self.new };
 
-    /// It may become what it is.
+    /// Each state is reached from itself.
     ghost reached_self: { (w : Self) → reached w w };
 
-    /// What it may become by calls after calls.
+    /// What is reached from a reached state is reached.
     ghost reached_on: { (a b c : Self) → reached a b → reached b c → reached a c };
 }

@@ -1,4 +1,4 @@
--- What holds of each element of a list holds of each of what is made of it.
+-- If something holds of each element of a list, something follows for each element made from it.
 use Rattle.std.proofs.Common.{◌≡◌, suc, Bool, List, [], ◌∷◌, ◌++◌, map, reverse, sym, subst, arith, inl, inr}
 use Rattle.std.specs.Prelude.{filter, All}
 use Rattle.std.specs.List.{AllByRecursion}
@@ -28,7 +28,7 @@ module _ {X : Type 0} where
   all_weaker P Q [] weaker all = tt
   all_weaker P Q (x ∷ xs) weaker all = (weaker x all.0, all_weaker P Q xs weaker all.1)
 
-  -- where it holds at each place
+  -- if it holds at each place
   pub all_places : (P : X → Type 0) (xs : List X) → All P xs → AllByRecursion P xs
   all_places P [] all = tt
   all_places P (x ∷ xs) all = (all 0 x (omega arith), all_places P xs (λ k d lt. all (suc k) d (omega arith)))

@@ -1,4 +1,4 @@
--- How long answers are, where what is known is within its limits.
+-- How long answers are, if what the server knows is within its limits.
 use Rattle.std.proofs.Common.{◌≡◌, ℕ, zero, suc, ◌+◌, ◌*◌, ◌<◌, ◌≤◌, Bool, true, false, List, [], ◌∷◌, ◌++◌, length, map, refl, sym, subst, ◌∙◌, arith, inl, inr, Option, Some, None, codes, length-append}
 use Rattle.std.specs.Prelude.{◌&&◌, if◌then◌else◌, filter, not, slice_index_or, is_none, nat_lt}
 use Rattle.std.specs.List.{AllByRecursion, flat_map, position_or_len}
@@ -41,7 +41,7 @@ use Rattle.nut_server_spec.proofs.Requests.{require-case, check-case, unless-cas
 use Rattle.nut_server_spec.proofs.Tables.{IsShortRange, IsShortTable, variable_within, variable_named, command_named}
 use Rattle.nut_server_spec.specs.declared.limits.TheConstants.{ADDRESS_MAX}
 
--- the answer is no longer than the longest
+-- The answer is no longer than the longest.
 abbrev pub IsFit : Answer → Type 0
 IsFit a = length (text_of a) ≤ longest_answer
 
@@ -81,7 +81,7 @@ fewer_both p q (x ∷ xs) =
       | inr e ↦ elim (cases_Bool (p x)) [ inl f ↦ rw (e, f) (omega (arith, fewer_both p q xs)) | inr f ↦ rw (e, f) (omega (arith, fewer_both p q xs)) ]
     ]
 
--- ---- what is known is within its limits
+-- ---- what the server knows is within its limits
 
 pub record IsShortScene (s : Scene) : Type 0 where
   pub configured : IsWithin s.configuration
@@ -98,7 +98,7 @@ device_short (d ∷ ds) (suc u) nothing all = device_short ds u nothing all.1
 same_bytes : (x y : List ℕ) → bytes_eq x y ≡ true → x ≡ y
 same_bytes x y e = grind (arith, bytes_eq-Decides x y)
 
--- a name under which there is a UPS
+-- a name that a UPS has
 number_within : (name : List ℕ) (upses : List Ups) (u : ℕ) → AllByRecursion IsUpsWithin upses → number_of_ups name upses ≡ Some u → is_name UPS_NAME_MAX name ≡ true
 number_within name upses u all found = by_place upses all (inside (nat_lt (position_or_len (λ (u : Ups). bytes_eq u.name name) upses) (length upses)) refl found) where
   inside : (b : Bool) → nat_lt (position_or_len (λ (u : Ups). bytes_eq u.name name) upses) (length upses) ≡ b → (if b then Some (position_or_len (λ (u : Ups). bytes_eq u.name name) upses) else None) ≡ Some u
@@ -139,7 +139,7 @@ fit_command name d next fit = check-case IsFit refusals.CmdNotSupported (has_com
 ups_short : (name : List ℕ) → is_name UPS_NAME_MAX name ≡ true → length name ≤ UPS_NAME_MAX
 ups_short name named = (name_within UPS_NAME_MAX name named).1
 
--- ---- the values that are shown
+-- ---- the values that clients see
 
 length-marked : (b : Bool) (value : List ℕ) → length value ≤ VALUE_MAX → length (quoted (if b then codes "FSD " ++ value else value)) ≤ 262
 length-marked true value few = omega (arith, length-quoted value)
@@ -154,7 +154,7 @@ length-plain d v within other = by_forced d.forced where
   by_forced true = rw other (omega (arith, length-quoted v.value, within.value))
   by_forced false = omega (arith, length-quoted v.value, within.value)
 
--- rows with a name and a value: only that of the status may be longer by four bytes
+-- the rows of a list of values: only that of the status may be four bytes longer
 rows_shown : (d : Device) (row : Entry → Reply) (vs : List Entry) → ((v : Entry) → IsWithinLimits v → length (reply_line (row v)) ≤ 103 + length (quoted (shown d v)))
     → AllByRecursion IsWithinLimits vs → length (flat_map reply_line (map row vs)) ≤ 361 * length vs + 4 * length (filter (equal (λ (v : Entry). v.name) (codes "ups.status")) vs)
 rows_shown d row [] each all = omega arith

@@ -1,4 +1,4 @@
--- What is kept of a line, and what waits for a driver, have their bounds.
+-- At most 512 bytes of a line are kept, and at most 4,096 bytes wait for a driver.
 use Rattle.std.proofs.Common.{◌≡◌, ℕ, ◌+◌, ◌<◌, ◌≤◌, Bool, true, false, eqb, leb, List, [], ◌∷◌, ◌++◌, drop, length, refl, sym, ◌∙◌, ap, arith, inl, inr, Option, Some, None, length-append, length-drop, subst}
 use Rattle.std.specs.Prelude.{if◌then◌else◌, max, ◌&&◌, ◌/◌}
 use Rattle.std.specs.Option.{option_map_or}
@@ -41,7 +41,7 @@ IsBounded first t u = u < length (configuration first t).upses → length (drive
 fits-bound : (line : List ℕ) (d : Device) → fits line d ≡ true → length d.waits + length line ≤ ASKS_MAX
 fits-bound line d holds = leb-true (length d.waits + length line) ASKS_MAX holds
 
--- a request that fits behind what waits leaves it bounded
+-- If a request fits, what waits stays within the bound.
 asked-bound : (is : Bool) (m : ℕ) (due : List ℕ) (request : Option (List ℕ)) → length (if is then drop m due else []) ≤ ASKS_MAX
     → ((line : List ℕ) → request ≡ Some line → length (if is then drop m due else []) + length line ≤ ASKS_MAX)
     → length (if is then drop m (with_request request due) else []) ≤ ASKS_MAX
@@ -50,12 +50,12 @@ asked-bound true m due (Some line) bounded fit =
     omega (arith, fit line refl, length-drop m (due ++ line), length-drop m due, length-append due line)
 asked-bound false m due request bounded fit = omega arith
 
--- less waits after some of it was taken
+-- What waits stays within the bound when some of it is taken.
 drained-bound : (is : Bool) (m n : ℕ) (due : List ℕ) → length (if is then drop m due else []) ≤ ASKS_MAX → length (if is then drop (m + n) due else []) ≤ ASKS_MAX
 drained-bound true m n due bounded = omega (arith, bounded, length-drop m due, length-drop (m + n) due)
 drained-bound false m n due bounded = omega arith
 
--- a driver is asked PING where it fits
+-- A driver is sent PING only if it fits.
 and-right : (a b : Bool) → (a && b) ≡ true → b ≡ true
 and-right true b holds = holds
 and-right false b holds = cc
@@ -74,7 +74,7 @@ ping-fits age time d line is =
       | inr e ↦ absurd (let bad : None ≡ Some line = rw e at is in cc)
     ]
 
--- and so is what a line asks
+-- A line's request to a driver is sent only if it fits.
 request-fits : (first : Configuration) (t : List Entry) (u c : ℕ) (text : LineText) (line : List ℕ) (o : Option ℕ) → u < length (configuration first t).upses
     → target (configuration first t) (command_of text) ≡ o → request_for u o (request_of (command_of text) (answer_to first t c text)) ≡ Some line
     → fits line (device first t u) ≡ true

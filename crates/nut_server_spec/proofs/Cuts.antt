@@ -1,4 +1,4 @@
--- However bytes are cut into pieces, the content is the same.
+-- However bytes are cut into pieces, they lead to the same content.
 use Rattle.std.proofs.Common.{◌≡◌, ℕ, List, [], ◌∷◌, ◌++◌, refl, sym, ◌∙◌, ap, inl, inr, eqb, append_assoc, append-nil}
 use mathlib.Core.Path.{fun_ext}
 use Rattle.std.proofs.lemmas.Bool.{cases_Bool, eq-eqb}
@@ -11,7 +11,7 @@ use Rattle.nut_server_spec.specs.Laws.{CutsDoNotMatter, DriverCutsDoNotMatter}
 use Rattle.nut_server_spec.proofs.LineLaws.{brought_none, brought-append}
 use Rattle.nut_server_spec.proofs.Law.{content_from, rests_of, takes_of, reports_of}
 
--- the same steps, inputs and amounts taken come to the same content
+-- If two histories have the same steps, inputs and amounts taken, they have the same content.
 pub same-content : (first : Configuration) (h g : List Event) → steps h ≡ steps g → ((d : ℕ) → input d h ≡ input d g) → ((d : ℕ) → taken d h ≡ taken d g)
     → ((u : ℕ) → driver_input u h ≡ driver_input u g) → content first h ≡ content first g
 same-content first h g s i t r =
@@ -28,7 +28,7 @@ pub with_reports-append : (u : ℕ) (xs ys : List LineText) (s : List Step) → 
 with_reports-append u [] ys s = refl
 with_reports-append u (x ∷ xs) ys s = with_reports-append u xs ys (Reported u x ∷ s)
 
--- a connection's bytes
+-- for the bytes of a connection
 pub cut-law : CutsDoNotMatter
 cut-law first h c x y = same-content first (Bytes c (x ++ y) ∷ h) (Bytes c y ∷ Bytes c x ∷ h)
     (ap (λ ls. with_lines c ls (steps h)) (brought-append (input c h) x y) ∙ with_lines-append c (brought (input c h) x) (brought (input c h ++ x) y) (steps h)
@@ -42,7 +42,7 @@ law-no_bytes first h c = same-content first (Bytes c [] ∷ h) h
     (λ d. elim (cases_Bool (eqb c d)) [ inl e ↦ rw e (append-nil (input d h)) | inr e ↦ rw e refl ])
     (λ d. refl) (λ u. refl)
 
--- a driver's bytes
+-- for the bytes of a driver
 pub driver_cut-law : DriverCutsDoNotMatter
 driver_cut-law first h u x y = same-content first (DriverBytes u (x ++ y) ∷ h) (DriverBytes u y ∷ DriverBytes u x ∷ h)
     (ap (λ ls. with_reports u ls (steps h)) (brought-append (driver_input u h) x y)

@@ -1,4 +1,4 @@
--- What a driver was sent, and what it awaits, after each event.
+-- What a driver was sent, and what waits for it, after each event.
 use Rattle.std.proofs.Common.{◌≡◌, ℕ, ◌+◌, ◌≤◌, Bool, true, false, eqb, List, [], ◌∷◌, ◌++◌, take, drop, length, refl, sym, ◌∙◌, ap, inl, inr, append_assoc, append-nil, Option, Some, None, subst, zero, suc}
 use Rattle.std.specs.Prelude.{◌==◌, if◌then◌else◌}
 use Rattle.std.proofs.lemmas.Bool.{cases_Bool, eqb-true, eq-eqb}
@@ -18,7 +18,7 @@ use Rattle.nut_server_spec.specs.Outcome.{after_refusal}
 use Rattle.nut_server_spec.specs.Laws.{driver_received, DriverSentIsReceived, DriverSentAndWaitingIsDue}
 use Rattle.nut_server_spec.proofs.Kept.{supply_is, drivers_covered}
 
--- how many bytes the driver of u takes by an event, and whether an event connects it anew
+-- how many bytes the driver of u takes in an event, and whether the event connects it anew
 abbrev pub drained_by : ℕ → Event → ℕ
 drained_by u (DriverTook v n) = if v == u then n else 0
 drained_by u e = 0
@@ -27,7 +27,7 @@ abbrev pub begins_anew : ℕ → Event → Bool
 begins_anew u (DriverUp v) = v == u
 begins_anew u e = false
 
--- ---- what is asked grows at its end
+-- ---- requests are added at the end
 
 request_begins : (request : Option (List ℕ)) (x : List ℕ) → Begins x (with_request request x)
 request_begins None x = ([], sym (append-nil x))
@@ -50,7 +50,7 @@ sent_reports : (first : Configuration) (v u : ℕ) (ls : List LineText) (s : Lis
 sent_reports first v u [] s = refl
 sent_reports first v u (l ∷ ls) s = sent_reports first v u ls (Reported v l ∷ s)
 
--- more that is asked leaves what was sent
+-- a further request leaves what was sent as it is
 sent_more : (n : ℕ) (x y : List ℕ) → n ≤ length x → Begins x y → take n y ≡ take n x
 sent_more n x y covered more = ap (take n) more.1 ∙ take-append-le n x more.0 covered
 
@@ -71,7 +71,7 @@ driver_sent-bytes first h c u piece accepted =
 pub driver_sent-reports : (first : Configuration) (h : List Event) (v u : ℕ) (piece : List ℕ) → driver_sent u (past first (DriverBytes v piece ∷ h)) ≡ driver_sent u (past first h)
 driver_sent-reports first h v u piece = sent_reports first v u (brought (driver_input v h) piece) (steps h)
 
--- Where bytes may be taken of a driver, it is connected.
+-- If a driver may take bytes, it is connected.
 pub connected_took : (n : ℕ) (o : Option Supply) → drain_refusal n o ≡ None → (d : Supply) × (o ≡ Some d) × (d.device.connected ≡ true)
 connected_took n None accepted = absurd (let bad = accepted in cc)
 connected_took n (Some d) accepted =
@@ -80,7 +80,7 @@ connected_took n (Some d) accepted =
       | inr e ↦ absurd (let bad = rw e at accepted in cc)
     ]
 
--- what the content says that a driver awaits is what the history says
+-- What the content says waits for a driver is what the history says.
 pub asks_are : (first : Configuration) (h : List Event) (u : ℕ) (d : Supply) → supply_of u (content first h).supplies ≡ Some d → asks_of u (content first h).supplies ≡ driver_waits u (past first h)
 asks_are first h u d found = ap asks_in found ∙ ap (λ d. d.device.waits) (supply_is first h u d found)
 
@@ -114,7 +114,7 @@ driver_sent-took_told first h s u n told accepted =
     let P : Content → Type 0 = λ x. refusal x (DriverTook u n) ≡ None in
     driver_sent-took first h u n (subst P told.1 accepted) ∙ ap (λ bytes. driver_sent u (past first h) ++ take n bytes) (sym (asks_are_told first h s u found.0 told found.1))
 
--- An accepted event adds to what the driver of u was sent what it takes of what waits, unless it connects it anew.
+-- An accepted event adds what the driver of u takes to what it was sent, unless the event connects it anew.
 pub driver_sent-step : (first : Configuration) (h : List Event) (u : ℕ) (e : Event) → IsAccepted first (e ∷ h)
     → driver_sent u (past first (e ∷ h)) ≡ (if begins_anew u e then [] else driver_sent u (past first h) ++ take (drained_by u e) (driver_waits u (past first h)))
 driver_sent-step first h u (Moment t) accepted = driver_sent-moment first h u t accepted.0 ∙ sym (append-nil (driver_sent u (past first h)))
@@ -134,7 +134,7 @@ driver_sent-step first h u (DriverTook v n) accepted =
     ]
 driver_sent-step first h u (DriverDown v) accepted = sym (append-nil (driver_sent u (past first h)))
 
--- An event by which the driver of u takes nothing, and that doesn't connect it, changes nothing of what it was sent.
+-- An event in which the driver of u takes nothing, and which doesn't connect it, changes nothing of what it was sent.
 pub driver_sent-other : (first : Configuration) (h : List Event) (u : ℕ) (e : Event) → IsAccepted first (e ∷ h) → drained_by u e ≡ 0 → begins_anew u e ≡ false
     → driver_sent u (past first (e ∷ h)) ≡ driver_sent u (past first h)
 driver_sent-other first h u e accepted nothing stays =
@@ -142,7 +142,7 @@ driver_sent-other first h u e accepted nothing stays =
     ∙ ap (λ b. if b then [] else driver_sent u (past first h) ++ take (drained_by u e) (driver_waits u (past first h))) stays
     ∙ ap (λ n. driver_sent u (past first h) ++ take n (driver_waits u (past first h))) nothing ∙ append-nil (driver_sent u (past first h))
 
--- nor does a lack of memory in a piece
+-- Nor does a lack of memory in a piece.
 pub driver_sent-lost : (first : Configuration) (h : List Event) (c u : ℕ) (piece : List ℕ) (k : ℕ) → IsAccepted first h → driver_sent u (past first (lost c piece k h)) ≡ driver_sent u (past first h)
 driver_sent-lost first h c u piece zero accepted = refl
 driver_sent-lost first h c u piece (suc k) accepted = driver_sent-bytes first h c u (front (suc k) piece) accepted
@@ -151,7 +151,7 @@ pub driver_sent-lost_report : (first : Configuration) (h : List Event) (v u : �
 driver_sent-lost_report first h v u piece zero = refl
 driver_sent-lost_report first h v u piece (suc k) = driver_sent-reports first h v u (front (suc k) piece)
 
--- nor any refusal
+-- Nor does any other refusal.
 pub driver_sent-refused : (first : Configuration) (h : List Event) (u : ℕ) (r : Refused) (e : Event) → IsAccepted first h → driver_sent u (past first (after_refusal r e h)) ≡ driver_sent u (past first h)
 driver_sent-refused first h u (Memory (Line c k)) (Moment t) accepted = refl
 driver_sent-refused first h u (Memory (Report w k)) (Moment t) accepted = refl

@@ -1,4 +1,4 @@
--- How a content hears the bytes of a connection: line by line.
+-- How a content changes with the bytes of a connection, line by line.
 use Rattle.std.proofs.Common.{◌≡◌, ℕ, zero, suc, ◌<◌, true, false, eqb, List, [], ◌∷◌, ◌++◌, map, length, refl, sym, ◌∙◌, ap, arith, inl, inr, append_assoc, append-nil, Option, Some, None}
 use Rattle.std.specs.Prelude.{◌==◌, if◌then◌else◌, option_map}
 use Rattle.std.proofs.lemmas.Bool.{cases_Bool, eqb-false}
@@ -28,7 +28,7 @@ update-update c f g (k ∷ sessions) keeps =
       | inr e ↦ rw (e, e) (ap (λ ks. k ∷ ks) (update-update c f g sessions keeps))
     ]
 
--- what an update leaves of every session stays
+-- What an update keeps of every session is kept of the sessions.
 update-map : {A : Type 0} (f : Session → A) (c : ℕ) (change : Session → Session) (sessions : List Session) → ((k : Session) → f (change k) ≡ f k) → map f (update c change sessions) ≡ map f sessions
 update-map f c change [] keeps = refl
 update-map f c change (k ∷ sessions) keeps =
@@ -50,11 +50,11 @@ update-same c r (j ∷ sessions) k found is =
 
 -- ---- one byte
 
--- a content in which c has this unfinished line
+-- the content in which c has this unfinished line
 abbrev pub with_unfinished : ℕ → LineText → Content → Content
 with_unfinished c r s = with_sessions (update c (with_rest r) s.sessions) s
 
--- that of a content in which it has it is this content
+-- If c has this unfinished line already, that content is the same.
 pub with_unfinished-same : (c : ℕ) (r : LineText) (s : Content) (k : Session) → session_of c s.sessions ≡ Some k → k.rest ≡ r → with_unfinished c r s ≡ s
 with_unfinished-same c r s k found is = ap (λ sessions. with_sessions sessions s) (update-same c r s.sessions k found is)
 
@@ -62,7 +62,7 @@ byte_other : (c b : ℕ) (r : LineText) (s : Content) → eqb b 10 ≡ false →
 byte_other c b r s other =
     rw other (ap (λ sessions. with_sessions sessions s) (update-update c (with_rest r) (λ k. with_rest (joined k.rest (b ∷ [])) k) s.sessions (λ k. refl)))
 
--- what is known where a line is answered doesn't hang on unfinished lines
+-- What the server knows when it answers a line doesn't depend on unfinished lines.
 scene-unfinished : (c : ℕ) (r : LineText) (s : Content) → scene_of (with_unfinished c r s) ≡ scene_of s
 scene-unfinished c r s = ap (λ guests. record (scene_of s) { guests = guests }) (update-map guest_of c (with_rest r) s.sessions (λ k. refl))
 
@@ -85,7 +85,7 @@ byte_feed c b r s k found is =
 
 -- ---- bytes
 
--- the bytes of a text before its first line feed, and the line that they make behind an unfinished one
+-- the bytes of a text before its first line feed, and the line that they complete behind an unfinished one
 abbrev pub until_feed : List ℕ → List ℕ
 until_feed [] = []
 until_feed (b ∷ bytes) = if b == 10 then [] else b ∷ until_feed bytes
@@ -93,7 +93,7 @@ until_feed (b ∷ bytes) = if b == 10 then [] else b ∷ until_feed bytes
 abbrev pub first_line : LineText → List ℕ → LineText
 first_line rest text = joined rest (until_feed text)
 
--- an unfinished line with nothing behind it, and one that grows byte by byte
+-- an unfinished line with no byte added, and one with bytes added one by one
 joined_rest : (b : List ℕ) → joined (rest b) [] ≡ rest b
 joined_rest b = let t = last_of (parts b) in joined-as_line t [] ∙ ap as_line (append-nil t)
 
@@ -102,7 +102,7 @@ joined_next b c u = grows (last_of (parts b)) where
   grows : (t : List ℕ) → joined (joined (as_line t) (c ∷ [])) u ≡ joined (as_line t) (c ∷ u)
   grows t = ap (λ r. joined r u) (joined-as_line t (c ∷ [])) ∙ joined-as_line (t ++ c ∷ []) u ∙ ap as_line (append_assoc t (c ∷ []) u) ∙ sym (joined-as_line t (c ∷ u))
 
--- Bytes through their first line feed: the line that they complete is answered.
+-- Bytes up to their first line feed complete a line, which is answered.
 pub line_heard_front : (c : ℕ) (b left : List ℕ) (s : Content) (k : Session) → session_of c s.sessions ≡ Some k → 0 < line_feeds left
     → bytes_heard c (front 1 left) (with_unfinished c (rest b) s)
     ≡ after_answer c (command_of (first_line (rest b) left)) (answer_in s (command_of (first_line (rest b) left)) k) s
@@ -134,9 +134,9 @@ rest_heard c b (x ∷ y) s none =
           ∙ ap (λ r. with_unfinished c (rest r) s) (append_assoc b (x ∷ []) y)
     ]
 
--- ---- what bytes of a connection leave
+-- ---- what the bytes of a connection leave as it is
 
--- the configuration, the time, which connections are open, and how many UPSes there are
+-- the configuration, the time, the numbers of the open connections, and the number of UPSes
 pub record LeavesFrame (before later : Content) : Type 0 where
   pub configuration : later.configuration ≡ before.configuration
   pub clock : later.clock ≡ before.clock

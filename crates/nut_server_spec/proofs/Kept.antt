@@ -1,4 +1,4 @@
--- What every history of accepted events keeps, and the law of the machine.
+-- What holds after every history of accepted events, and the law of the machine.
 use Rattle.std.proofs.Common.{◌≡◌, ℕ, ◌+◌, ◌-◌, ◌<◌, ◌≤◌, Bool, true, false, eqb, ltb, List, [], ◌∷◌, ◌++◌, map, drop, length, refl, sym, ◌∙◌, ap, arith, inl, inr, Option, Some, None, length-drop, subst}
 use Rattle.std.specs.Prelude.{if◌then◌else◌}
 use Rattle.std.proofs.lemmas.Bool.{cases_Bool, eqb-true, ne_eqb, eq-eqb, ltb-false}
@@ -17,7 +17,7 @@ use Rattle.nut_server_spec.proofs.Places.{found_at, below_counts}
 use Rattle.nut_server_spec.proofs.Law.{IsDriverCovered, law-moment, law-close, law-write_failed, law-took, law-driver_up, law-driver_took, law-driver_down}
 use Rattle.nut_server_spec.proofs.Pieces.{IsCovered, AreDriversCovered, IsThere, law-bytes, law-driver_bytes, covered_bytes, drivers_bytes, request_grows}
 
--- a session that is found has that number, which was given out
+-- A session that is found has the number looked for, which has been given out.
 found_up : (c n : ℕ) (f : ℕ → Session) (ns : List ℕ) → ((d : ℕ) → (f d).number ≡ d) → IsUpTo n ns → (session_of c (map f ns) ≡ None → ⊥) → c ≤ n
 found_up c n f [] numbered up found = absurd (found refl)
 found_up c n f (m ∷ ns) numbered up found =
@@ -42,11 +42,11 @@ found_is c f (m ∷ ns) k numbered found =
           found_is c f ns k numbered (rw test at found)
     ]
 
--- the session that a content has for a number is the one that the history says
+-- The session that a content has under a number is the one that the history says.
 pub session_is : (first : Configuration) (h : List Event) (c : ℕ) (k : Session) → session_of c (content first h).sessions ≡ Some k → k ≡ session first h c
 session_is first h c k found = found_is c (session first h) (open_numbers (past first h)) k (λ d. refl) found
 
--- and so is the UPS
+-- The UPS that a content has under a number is the one that the history says.
 pub supply_is : (first : Configuration) (h : List Event) (u : ℕ) (d : Supply) → supply_of u (content first h).supplies ≡ Some d → d ≡ supply first h u
 supply_is first h u d found = found_at u u 0 (supply first h) (ups_numbers first (past first h)) d (below_counts (length (configuration first (past first h)).upses)) (omega arith) found
 
@@ -59,7 +59,7 @@ bytes_up first h c piece accepted = session_up first h c (λ none. let e = ap (b
 took_up : (first : Configuration) (h : List Event) (c n : ℕ) → refusal (content first h) (Took c n) ≡ None → c ≤ opened (past first h)
 took_up first h c n accepted = session_up first h c (λ none. let e = ap (took_refusal n) none in cc (e, accepted))
 
--- ---- what was taken was due
+-- ---- no more was taken than was due
 
 took_covered : (first : Configuration) (h : List Event) (c n : ℕ) (o : Option Session) → IsCovered first h c → session_of c (content first h).sessions ≡ o → took_refusal n o ≡ None
     → taken c h + n ≤ length (due c (past first h))
@@ -72,7 +72,7 @@ took_covered first h c n (Some k) covered found accepted =
       | inr e ↦ omega (arith, waiting, covered, ltb-false (length k.waits) n e)
     ]
 
--- what a driver says is no answer to a client
+-- A driver's line adds nothing to the answers due to a client.
 pub due_reports : (first : Configuration) (c u : ℕ) (ls : List LineText) (s : List Step) → due c (trace first (with_reports u ls s)) ≡ due c (trace first s)
 due_reports first c u [] s = refl
 due_reports first c u (l ∷ ls) s = due_reports first c u ls (Reported u l ∷ s)
@@ -98,7 +98,7 @@ all_covered first (DriverBytes u piece ∷ h) c accepted =
 all_covered first (DriverTook u n ∷ h) c accepted = all_covered first h c accepted.0
 all_covered first (DriverDown u ∷ h) c accepted = all_covered first h c accepted.0
 
--- the same of drivers
+-- no more was taken by drivers than was due to them
 waits-length : (is : Bool) (m : ℕ) (x : List ℕ) → length (if is then drop m x else []) ≤ length x - m
 waits-length true m x = omega (arith, length-drop m x)
 waits-length false m x = omega arith
@@ -145,9 +145,9 @@ drivers_covered first (DriverTook u n ∷ h) accepted v =
     ]
 drivers_covered first (DriverDown u ∷ h) accepted v = drivers_covered first h accepted.0 v
 
--- ---- a connection that wasn't opened
+-- ---- a connection that hasn't been opened
 
--- it said nothing and was answered nothing
+-- It has said nothing, and no answer is due to it.
 pub record IsSilent (first : Configuration) (t : List Entry) (c : ℕ) : Type 0 where
   pub user : user c t ≡ None
   pub password : password c t ≡ None
@@ -155,7 +155,7 @@ pub record IsSilent (first : Configuration) (t : List Entry) (c : ℕ) : Type 0 
   pub stays : logged_out c t ≡ false
   pub due : due c t ≡ []
 
--- a step that is no line of c leaves it so
+-- A step that is no line of c keeps it so.
 silent_on : (first : Configuration) (step : Step) (c : ℕ) (s : List Step) → IsSilent first (trace first s) c
     → user c (trace first (step ∷ s)) ≡ user c (trace first s) → password c (trace first (step ∷ s)) ≡ password c (trace first s)
     → login first c (trace first (step ∷ s)) ≡ login first c (trace first s) → logged_out c (trace first (step ∷ s)) ≡ logged_out c (trace first s)
@@ -248,7 +248,7 @@ law-open first h a accepted =
 
 -- ---- the law
 
--- a connection whose bytes are accepted is open
+-- If the bytes of a connection are accepted, it is open.
 is_there : (first : Configuration) (h : List Event) (c : ℕ) (piece : List ℕ) (o : Option Session) → session_of c (content first h).sessions ≡ o → bytes_refusal piece o ≡ None → IsThere first h c
 is_there first h c piece None found accepted = cc
 is_there first h c piece (Some k) found accepted = found ∙ ap (λ x. Some x) (session_is first h c k found)

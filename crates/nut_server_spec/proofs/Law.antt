@@ -1,4 +1,4 @@
--- One step of the machine keeps the content, by the past and the unfinished lines.
+-- One step of the machine keeps the content, as given by the past and the unfinished lines.
 use Rattle.std.proofs.Common.{◌≡◌, ℕ, ◌+◌, ◌≤◌, Bool, true, false, not, eqb, List, [], ◌∷◌, ◌++◌, filter, map, drop, length, refl, sym, ◌∙◌, ap, arith, inl, inr, drop-drop, Option, Some, None, subst}
 use Rattle.std.specs.Prelude.{◌==◌, if◌then◌else◌, max}
 use Rattle.std.proofs.Math.Seq.{drop-nil}
@@ -20,7 +20,7 @@ use Rattle.nut_server_spec.specs.machine.Machine.{advance, update, with_rest, wi
 use Rattle.nut_server_spec.proofs.Numbers.{open_numbers_rise}
 use Rattle.nut_server_spec.proofs.Places.{update-below, map-twice, map-same}
 
--- a session, a UPS and a content by the past, the unfinished lines and how much was taken
+-- a session, a UPS and a content, from the past, the unfinished lines and the amounts taken
 abbrev pub session_from : Configuration → List Entry → (ℕ → LineText) → (ℕ → ℕ) → ℕ → Session
 session_from first t rests takes c = record {
   number = c;
@@ -57,7 +57,7 @@ reports_of h u = rest (driver_input u h)
 pub content_is : (first : Configuration) (h : List Event) → content first h ≡ content_from first (past first h) (rests_of h) (takes_of h) (reports_of h)
 content_is first h = refl
 
--- what the machine knows where a line is answered is what the history says
+-- What the machine knows when it answers a line is what the history says.
 pub scene_is : (first : Configuration) (h : List Event) → scene_of (content first h) ≡ scene first (past first h)
 scene_is first h =
     ap (λ devices. record (scene_of (content first h)) { devices = devices }) (map-twice (supply first h) (λ d. d.device) (ups_numbers first (past first h)))
@@ -68,7 +68,7 @@ eqb_turn a b differ = ne_eqb b a (λ e. eqb-false a b differ (sym e))
 
 -- ---- one session changes
 
--- no session changes behind that of c
+-- The sessions after that of c stay as they are.
 same-map : (c : ℕ) (f g : ℕ → Session) (ns : List ℕ) → IsBelow c ns → ((d : ℕ) → eqb d c ≡ false → g d ≡ f d) → map g ns ≡ map f ns
 same-map c f g [] below other = refl
 same-map c f g (n ∷ ns) below other = rw (other n (ne_eqb n c (λ e. omega (arith, below.0))), same-map c f g ns below.1 other) refl
@@ -112,7 +112,7 @@ pub law-took : (first : Configuration) (h : List Event) (c n : ℕ) → content 
 law-took first h c n = took-law first (past first h) c n (rests_of h) (takes_of h) (takes_of (Took c n ∷ h)) (reports_of h)
     (λ d differ. rw (eqb_turn d c differ) refl) (rw (eq-eqb c c refl) refl)
 
--- a connection goes
+-- a connection is closed
 map-without : (f : ℕ → Session) (c : ℕ) (ns : List ℕ) → ((d : ℕ) → (f d).number ≡ d) → map f (filter (λ d. not (d == c)) ns) ≡ without c (map f ns)
 map-without f c [] numbered = refl
 map-without f c (n ∷ ns) numbered =
@@ -130,7 +130,7 @@ law-write_failed first h c = law-close first h c
 
 -- ---- a line of c is answered
 
--- it changes no other session
+-- It changes no other session.
 session_other : (first : Configuration) (t : List Entry) (c : ℕ) (line : LineText) (reply : Answer) (asks : ℕ → Option (List ℕ)) (rests rests' : ℕ → LineText) (takes : ℕ → ℕ) (d : ℕ)
     → eqb d c ≡ false → rests' d ≡ rests d
     → session_from first (record { step = Said c line; answer = reply; asks = asks } ∷ t) rests' takes d ≡ session_from first t rests takes d
@@ -154,7 +154,7 @@ said_sessions first t c line reply asks rests rests' takes covered same ended =
     (session_self first t c line reply asks rests rests' takes covered
     ∙ ap (λ r. with_rest r (answered (configuration first t) (command_of line) reply (session_from first t rests takes c))) ended)
 
--- the driver took no more than it was asked
+-- The driver took no more than was due to it.
 abbrev pub IsDriverCovered : List Entry → ℕ → Type 0
 IsDriverCovered t u = driver_taken u t ≤ length (driver_due u t)
 
@@ -164,7 +164,7 @@ waits-asked true m due None covered = refl
 waits-asked true m due (Some line) covered = drop-append-le m due line covered
 waits-asked false m due request covered = refl
 
--- a UPS after a line that acts on the goal
+-- a UPS after a line that acts on it
 abbrev supply_said : Configuration → List Entry → Command → Answer → Option ℕ → (ℕ → LineText) → ℕ → Supply
 supply_said first t command reply goal reports u = record {
   device = record (device first t u) {
@@ -174,7 +174,7 @@ supply_said first t command reply goal reports u = record {
   rest = reports u;
 }
 
--- the line changes that UPS, and no other
+-- The line changes that UPS, and no other.
 supplies_said : (first : Configuration) (t : List Entry) (command : Command) (reply : Answer) (goal : Option ℕ) (reports : ℕ → LineText) → ((u : ℕ) → IsDriverCovered t u)
     → map (supply_said first t command reply goal reports) (ups_numbers first t) ≡ act_on goal (acted command reply) (map (supply_from first t reports) (ups_numbers first t))
 supplies_said first t command reply None reports covered = refl
@@ -186,7 +186,7 @@ supplies_said first t command reply (Some v) reports covered =
       rest = reports v;
     }) (waits-asked (connected v t) (driver_taken v t) (driver_due v t) (request_of command reply) (covered v))))
 
--- the past after a line of c that was answered so
+-- the past after a line of c with this answer
 abbrev pub answered_past : Configuration → List Entry → ℕ → LineText → Answer → List Entry
 answered_past first t c line reply = record {
   step = Said c line;
@@ -222,7 +222,7 @@ law-driver_took first h u n = ap (λ supplies. with_supplies supplies (content f
     (rw (eq-eqb u u refl) (ap (λ w. record { device = record (device first (past first h) u) { waits = w }; rest = reports_of h u })
     (waits-drained (connected u (past first h)) (driver_taken u (past first h)) n (driver_due u (past first h))))))
 
--- a driver that needs PING is connected
+-- A driver that needs PING is connected.
 pinged_up : (age time : ℕ) (d : Device) → needs_ping age time d ≡ true → d.connected ≡ true
 pinged_up age time d needed =
     elim (cases_Bool d.connected) [
@@ -230,7 +230,7 @@ pinged_up age time d needed =
       | inr e ↦ absurd (let bad = rw e at needed in cc)
     ]
 
--- a UPS at this moment, where its driver needs PING or doesn't
+-- a UPS at this moment, if its driver needs PING and if it doesn't
 abbrev supply_ticked : Configuration → List Entry → ℕ → (ℕ → LineText) → ℕ → Bool → Supply
 supply_ticked first t time reports u needed = record {
   device = record (device first t u) {
@@ -249,7 +249,7 @@ ticks first t time reports u true covered is =
     rw up' (ap (λ w. record { device = record (device first t u) { connected = true; pinged_at = Some time; waits = w }; rest = reports u })
     (drop-append-le (driver_taken u t) (driver_due u t) (ask_line Ping) covered))
 
--- a moment: each driver that needs it is asked PING
+-- A moment: each driver that needs PING is sent it.
 pub law-moment : (first : Configuration) (h : List Event) (t : ℕ) → ((u : ℕ) → IsDriverCovered (past first h) u) → content first (Moment t ∷ h) ≡ advance (content first h) (Moment t)
 law-moment first h t covered =
     let p = past first h in

@@ -1,4 +1,4 @@
--- How long lines are, where names and values are within their limits.
+-- How long lines are, if names and values are within their limits.
 use Rattle.std.proofs.Common.{◌≡◌, ℕ, ◌+◌, ◌*◌, ◌≤◌, Bool, true, false, cond, List, [], ◌∷◌, ◌++◌, length, refl, arith, length-append}
 use Rattle.std.specs.Prelude.{◌==◌, ◌||◌, ◌&&◌, nat_le}
 use Rattle.std.specs.List.{flat_map, list_all}
@@ -12,7 +12,7 @@ use Rattle.nut_proto.specs.Lines.{line, part_text}
 
 -- ---- lines of parts
 
--- the bytes of parts, each with a blank before it
+-- the number of bytes of parts with a space before each
 abbrev pub width : List Part → ℕ
 width [] = 0
 width (part ∷ parts) = 1 + length (part_text part) + width parts
@@ -43,7 +43,7 @@ length-choice : (b : Bool) (word : List ℕ) → length (cond b word (quoted wor
 length-choice true word = omega arith
 length-choice false word = length-quoted word
 
--- a word, bare or not
+-- a word, bare or quoted
 pub length-word : (word : List ℕ) → length (word_text word) ≤ 2 * length word + 2
 length-word word = length-choice (stands_bare word) word
 
@@ -51,11 +51,11 @@ length-bare : (b : Bool) (name : List ℕ) → b ≡ true → length (cond b nam
 length-bare true name e = refl
 length-bare false name e = absurd (cc)
 
--- a word that stands bare
+-- a word that is written bare
 pub length-name : (most : ℕ) (name : List ℕ) → IsName most name → length (word_text name) ≤ most
 length-name most name h = omega (arith, length-bare (stands_bare name) name h.0, h.1)
 
--- ---- names stand bare
+-- ---- names can be written bare
 
 both : (a b : Bool) → (a && b) ≡ true → (a ≡ true) × (b ≡ true)
 both true b e = (refl, e)

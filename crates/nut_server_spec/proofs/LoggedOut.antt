@@ -54,7 +54,7 @@ none-for : (u : ℕ) (o : Option ℕ) → request_for u o None ≡ None
 none-for u None = refl
 none-for u (Some v) = either (eqb v u) _ _ refl
 
--- ---- what a past says of connections and drivers
+-- ---- what a past says about connections and drivers
 
 record Known : Type 0 where
   addresses : ℕ → List ℕ
@@ -126,7 +126,7 @@ quiet-lines first c (l ∷ ls) s out =
 quiet-piece : (first : Configuration) (h : List Event) (c : ℕ) (piece : List ℕ) → logged_out c (past first h) ≡ true → known first (past first (Bytes c piece ∷ h)) ≡ known first (past first h)
 quiet-piece first h c piece out = quiet-lines first c (brought (input c h) piece) (steps h) out
 
--- a connection and a UPS by what is known
+-- a connection and a UPS, from what the past says about them
 abbrev session_known : List Event → LineText → Known → ℕ → Session
 session_known h line k d = record {
   number = d;

@@ -1,4 +1,4 @@
--- The numbers of open connections rise from 1 on, and none is greater than how many were opened.
+-- The numbers of open connections rise, each is at least 1, and none is greater than how many were opened.
 use Rattle.std.proofs.Common.{◌≡◌, ℕ, ◌+◌, ◌<◌, Bool, List, [], ◌∷◌, ◌++◌, filter, map, refl, sym, subst, arith, inl, inr}
 use Rattle.std.proofs.lemmas.Bool.{cases_Bool}
 use Rattle.nut_server_spec.specs.Laws.{IsBelow, IsRising, IsUpTo, numbers, NumbersRise}
@@ -74,7 +74,7 @@ pub open_numbers_above : (t : List Entry) → IsBelow 0 (open_numbers t)
 open_numbers_above [] = tt
 open_numbers_above (e ∷ t) = step_above e.step (opened t) (open_numbers t) (open_numbers_above t)
 
--- the numbers of a content's sessions are those of the open connections
+-- The numbers of a content's sessions are those of the open connections.
 sessions_numbered : (f : ℕ → Session) (ns : List ℕ) → ((d : ℕ) → (f d).number ≡ d) → map (λ k. k.number) (map f ns) ≡ ns
 sessions_numbered f [] numbered = refl
 sessions_numbered f (n ∷ ns) numbered = rw (numbered n, sessions_numbered f ns numbered) refl
@@ -87,7 +87,7 @@ numbers-rise first h =
     let P : List ℕ → Type 0 = λ ns. IsBelow 0 ns × IsRising ns × IsUpTo (opened (past first h)) ns in
     subst P (sym (numbers_are first h)) (open_numbers_above (past first h), open_numbers_rise (past first h), numbers_up_to (past first h))
 
--- the same of what a server holds
+-- The numbers of the connections that a server holds rise, too.
 pub numbers-rise_told : (first : Configuration) (h : List Event) (s : Content) → Tells first h s → IsBelow 0 (numbers s) × IsRising (numbers s) × IsUpTo s.opened (numbers s)
 numbers-rise_told first h s told =
     let P : Content → Type 0 = λ x. IsBelow 0 (numbers x) × IsRising (numbers x) × IsUpTo x.opened (numbers x) in

@@ -1,4 +1,4 @@
--- What waits for a client is an end of the answers to its newest piece.
+-- What waits for a client is the end of the answers to its newest piece.
 use Rattle.std.proofs.Common.{◌≡◌, ℕ, ◌≤◌, eqb, List, [], ◌∷◌, ◌++◌, length, take, refl, sym, subst, ◌∙◌, ap, arith, inl, inr, append_assoc, append-nil, Option, Some, None}
 use Rattle.std.proofs.lemmas.Bool.{cases_Bool, eqb-true}
 use Rattle.nut_words.specs.Quoting.{Begins}
@@ -16,12 +16,12 @@ empty_of : (bytes : List ℕ) → length bytes ≤ 0 → bytes ≡ []
 empty_of [] le = refl
 empty_of (b ∷ bytes) le = absurd (omega (arith, le))
 
--- a piece is accepted of an open connection alone
+-- A piece is accepted only of an open connection.
 heard_open : (piece : List ℕ) (o : Option Session) → bytes_refusal piece o ≡ None → (k : Session) × (o ≡ Some k)
 heard_open piece None accepted = absurd (let bad = accepted in cc)
 heard_open piece (Some k) accepted = (k, refl)
 
--- where a piece is accepted nothing waits, so all that was due is sent
+-- If a piece is accepted nothing waits, so all that was due has been sent.
 all_sent : (first : Configuration) (h : List Event) (c : ℕ) (piece : List ℕ) → refusal (content first h) (Bytes c piece) ≡ None → sent first c h ≡ due c (past first h)
 all_sent first h c piece accepted =
     let found = heard_open piece (session_of c (content first h).sessions) accepted in
@@ -31,13 +31,13 @@ all_sent first h c piece accepted =
     ∙ ap (λ w. sent first c h ++ w) (sym none ∙ waiting_is first h c found.0 found.1)
     ∙ sent-waits first h c
 
--- what was sent only grows
+-- What was sent only grows.
 sent_grows : (first : Configuration) (h : List Event) (c : ℕ) (e : Event) (old : List ℕ) → IsAccepted first h → Begins old (sent first c h) → Begins old (sent first c (e ∷ h))
 sent_grows first h c e old accepted begins =
     let more = take (taken_by c e) (waits first c h) in
     (begins.0 ++ more, sent-step first h c e accepted ∙ ap (λ s. s ++ more) begins.1 ∙ append_assoc old begins.0 more)
 
--- the answers that were due before the newest piece were sent
+-- The answers that were due before the newest piece have been sent.
 earlier_sent : (first : Configuration) (h : List Event) (c : ℕ) → IsAccepted first h → Begins (due c (past first (before_piece c h))) (sent first c h)
 earlier_sent first [] c accepted = ([], refl)
 earlier_sent first (Bytes d piece ∷ h) c accepted =

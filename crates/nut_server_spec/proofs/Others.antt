@@ -29,7 +29,7 @@ advance-other s (DriverBytes u piece) d differ = refl
 advance-other s (DriverTook u n) d differ = refl
 advance-other s (DriverDown u) d differ = refl
 
--- what each event does to its own connection
+-- how each event changes its own connection
 pub advance-took : (s : Content) (c n : ℕ) → waiting_of c (advance s (Took c n)).sessions ≡ drop n (waiting_of c s.sessions)
 advance-took s c n = waiting_of-took c n s.sessions
 
@@ -61,7 +61,7 @@ advance-other_driver s (DriverBytes w piece) u v is differ = supply_of-update_ot
 advance-other_driver s (DriverTook w n) u v is differ = supply_of-update_other w u (drained n) s.supplies (turned w u v is differ)
 advance-other_driver s (DriverDown w) u v is differ = supply_of-update_other w u down s.supplies (turned w u v is differ)
 
--- what each event does to its own UPS
+-- how each event changes its own UPS
 pub advance-driver_up : (s : Content) (u : ℕ) → supply_of u (advance s (DriverUp u)).supplies ≡ option_map (up s.clock) (supply_of u s.supplies)
 advance-driver_up s u = supply_of-update u (up s.clock) s.supplies
 
@@ -80,7 +80,7 @@ other-drivers-stay first h e u v accepted is differ =
 
 -- ---- connections that are opened
 
--- no session has a number that wasn't given out
+-- No session has a number that hasn't been given out.
 none_above : (c n : ℕ) (f : ℕ → Session) (ns : List ℕ) → ((d : ℕ) → (f d).number ≡ d) → IsUpTo n ns → n < c → session_of c (map f ns) ≡ None
 none_above c n f [] numbered up less = refl
 none_above c n f (m ∷ ns) numbered up less =
@@ -90,7 +90,7 @@ none_above c n f (m ∷ ns) numbered up less =
 pub none_unopened : (first : Configuration) (h : List Event) (c : ℕ) → (content first h).opened < c → session_of c (content first h).sessions ≡ None
 none_unopened first h c less = none_above c (opened (past first h)) (session first h) (open_numbers (past first h)) (λ d. refl) (numbers_up_to (past first h)) less
 
--- the session of a connection that is opened now
+-- the session of a connection that is being opened
 pub advance-open : (first : Configuration) (h : List Event) (address : List ℕ)
     → session_of ((content first h).opened + 1) (advance (content first h) (Open address)).sessions ≡ Some (fresh ((content first h).opened + 1) address)
 advance-open first h address =
@@ -109,7 +109,7 @@ opened-fresh first h address accepted =
 
 -- ---- connections that are closed
 
--- an event that isn't refused is of an open connection, or opens one
+-- An event that isn't refused concerns an open connection, or opens one.
 not_closed : (s : Content) (e : Event) (c d : ℕ) → d ≤ s.opened → session_of d s.sessions ≡ None → refusal s e ≡ None → connection_of s e ≡ Some c → c ≡ d → ⊥
 not_closed s (Moment t) c d le none accepted is same = cc
 not_closed s (Open address) c d le none accepted is same = let here : s.opened + 1 ≡ c = cc in omega (arith, here, same)
@@ -139,7 +139,7 @@ closed-stays first h e d accepted le none = stays (connection_of (content first 
         | inr differ ↦ others-stay first h e d accepted (subst P (sym is) differ) ∙ none
       ]
 
--- ---- what lines leave
+-- ---- what lines leave as it is
 
 pub configuration_lines : (first : Configuration) (d : ℕ) (ls : List LineText) (s : List Step) → configuration first (trace first (with_lines d ls s)) ≡ configuration first (trace first s)
 configuration_lines first d [] s = refl

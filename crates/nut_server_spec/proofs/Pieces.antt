@@ -1,4 +1,4 @@
--- The machine keeps the content where a piece of bytes comes.
+-- The machine keeps the content when a piece of bytes comes.
 use Rattle.std.proofs.Common.{◌≡◌, ℕ, ◌≤◌, true, false, eqb, List, [], ◌∷◌, ◌++◌, map, length, refl, sym, ◌∙◌, ap, arith, inl, inr, length-append, Option, Some, None, subst}
 use Rattle.std.specs.Prelude.{if◌then◌else◌}
 use Rattle.std.proofs.lemmas.Bool.{cases_Bool, eqb-true, eqb-false, eq-eqb}
@@ -18,7 +18,7 @@ use Rattle.nut_server_spec.proofs.Places.{update-below, update_at-none, update_a
 use Rattle.nut_server_spec.proofs.Law.{content_from, supply_from, rests_of, takes_of, reports_of, scene_is, eqb_turn, rest-law, said_sessions, said_supplies, answered_past, reported_self, IsDriverCovered}
 use Rattle.nut_server_spec.proofs.Cuts.{cut-law, driver_cut-law, law-no_bytes, law-no_report}
 
--- the client takes no more than is due
+-- The client takes no more than is due.
 abbrev pub IsCovered : Configuration → List Event → ℕ → Type 0
 IsCovered first h c = takes_of h c ≤ length (due c (past first h))
 
@@ -37,7 +37,7 @@ rests_other h c piece d differ = rw (eqb_turn d c differ) refl
 rests_self : (h : List Event) (c : ℕ) (piece : List ℕ) → rests_of (Bytes c piece ∷ h) c ≡ rest (input c h ++ piece)
 rests_self h c piece = rw (eq-eqb c c refl) refl
 
--- what the machine answers is what the history says
+-- What the machine answers is what the history says.
 answer_is : (first : Configuration) (h : List Event) (c : ℕ) (line : LineText)
     → answer_to first (past first h) c line ≡ answer_in (content first h) (command_of line) (session first h c)
 answer_is first h c line =
@@ -75,7 +75,7 @@ law-byte first h c b covered drivers there =
       | inr other ↦ law-other_byte first h c b other
     ]
 
--- what is due grows
+-- The answers due grow at the end.
 due_grows : (first : Configuration) (c d : ℕ) (ls : List LineText) (s : List Step) → length (due d (trace first s)) ≤ length (due d (trace first (with_lines c ls s)))
 due_grows first c d [] s = omega arith
 due_grows first c d (l ∷ ls) s =
@@ -90,7 +90,7 @@ due_grows first c d (l ∷ ls) s =
 pub covered_bytes : (first : Configuration) (h : List Event) (c d : ℕ) (piece : List ℕ) → IsCovered first h d → IsCovered first (Bytes c piece ∷ h) d
 covered_bytes first h c d piece covered = omega (arith, covered, due_grows first c d (brought (input c h) piece) (steps h))
 
--- and so does what a driver is asked
+-- The requests due to a driver grow at the end.
 pub request_grows : (request : Option (List ℕ)) (x : List ℕ) → length x ≤ length (with_request request x)
 request_grows None x = omega arith
 request_grows (Some line) x = omega (arith, length-append x line)
@@ -104,7 +104,7 @@ drivers_lines first c (l ∷ ls) s covered u =
 pub drivers_bytes : (first : Configuration) (h : List Event) (c : ℕ) (piece : List ℕ) → AreDriversCovered first h → AreDriversCovered first (Bytes c piece ∷ h)
 drivers_bytes first h c piece covered u = drivers_lines first c (brought (input c h) piece) (steps h) covered u
 
--- c stays open
+-- The connection c stays open.
 pub open_numbers_lines : (first : Configuration) (d : ℕ) (ls : List LineText) (s : List Step) → open_numbers (trace first (with_lines d ls s)) ≡ open_numbers (trace first s)
 open_numbers_lines first d [] s = refl
 open_numbers_lines first d (l ∷ ls) s = open_numbers_lines first d ls (Said d l ∷ s)
@@ -142,7 +142,7 @@ reports_other h u piece d differ = rw (eqb_turn d u differ) refl
 reports_self : (h : List Event) (u : ℕ) (piece : List ℕ) → reports_of (DriverBytes u piece ∷ h) u ≡ rest (driver_input u h ++ piece)
 reports_self h u piece = rw (eq-eqb u u refl) refl
 
--- what one byte of the driver of u makes of a content
+-- how one byte of the driver of u changes a content
 abbrev after_report : ℕ → ℕ → Content → Content
 after_report u b s = with_supplies (update_at u (byte_reported s.clock b) s.supplies) s
 

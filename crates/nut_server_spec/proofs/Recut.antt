@@ -44,7 +44,7 @@ cuts-and-writes = record {
 
 -- ---- a driver
 
--- what a past says but for how much drivers took
+-- what a past says, apart from how much drivers took
 record Seen : Type 0 where
   time : ℕ
   there : ℕ → Bool
@@ -108,7 +108,7 @@ seen-reporting first h u (Piece p ∷ turns) =
     ∙ ap (λ ls. seen first (trace first (with_reports u ls (steps h)))) (sym (brought-append a bytes p))
 seen-reporting first h u (Taken v n ∷ turns) = seen-reporting first h u turns
 
--- a UPS but for what its driver still has to take
+-- a UPS, apart from what waits for its driver
 abbrev device_seen : Seen → ℕ → Device
 device_seen s v = record {
   connected = s.there v;

@@ -1,4 +1,4 @@
--- How long the lines of answers are, where names and values are within their limits.
+-- How long the lines of answers are, if names and values are within their limits.
 use Rattle.std.proofs.Common.{◌≡◌, ℕ, ◌+◌, ◌<◌, ◌≤◌, ◌^◌, Bool, true, false, List, [], ◌∷◌, ◌++◌, length, Option, None, Some, refl, arith, length-append, codes, decimal}
 use Rattle.std.specs.Prelude.{ℤ, IfSome, if◌then◌else◌}
 use Rattle.std.specs.Fmt.{signed_decimal}
@@ -26,7 +26,7 @@ use Rattle.nut_server_spec.specs.laws.Limits.{IsTextWithin}
 use Rattle.nut_server_spec.proofs.Lengths.{length-line, length-quoted, length-word, length-name}
 use Rattle.nut_server_spec.specs.declared.limits.TheConstants.{ADDRESS_MAX}
 
--- ---- lines that are always the same
+-- ---- lines that never vary
 
 name-refused : (r : Refusal) → length (refusal_name r) ≤ 22
 unfolding refusal_name
@@ -193,7 +193,7 @@ pub length-client : (ups address : List ℕ) → length ups ≤ UPS_NAME_MAX →
 unfolding reply_line
 length-client ups address u a = omega (arith, length-line (Word (codes "CLIENT")) (Word ups ∷ Word address ∷ []), length-word ups, length-word address)
 
--- ---- the lines around a list, where the names that its query has are within their limits
+-- ---- the lines around a list, if the names of its query are within their limits
 
 pub length-marks_var : (ups : List ℕ) → IsName UPS_NAME_MAX ups → length (begin_line (queries.Var ups)) + length (end_line (queries.Var ups)) ≤ 94
 unfolding begin_line end_line

@@ -1,4 +1,4 @@
--- What is asked of a driver for a client fits behind what waits for it.
+-- A client's request to a driver fits behind what waits for the driver.
 use Rattle.std.proofs.Common.{◌≡◌, ℕ, Bool, true, false, List, refl, sym, ◌∙◌, ap, Option, Some, None}
 use Rattle.std.specs.Prelude.{if◌then◌else◌}
 use Rattle.nut_proto.specs.declared.refusal.Refusal.{Refusal}
@@ -14,7 +14,7 @@ use Rattle.nut_server_spec.specs.Device.{trouble, fits}
 use Rattle.nut_server_spec.specs.Answer.{Answer, Silence, Line, Scene, Caller, refused, require, check, unless, with_right, on_data, device_at, has_right, may_set, misfit, set_answer, command_answer, answer}
 use Rattle.nut_server_spec.specs.Effect.{target, request_of}
 
--- ---- what holds of every refusal and of what comes after a test holds of the answer
+-- ---- what holds of every refusal, and of the next step of a test, holds of the answer
 
 pub require-case : {A : Type 0} (P : Answer → Type 0) (refusal : Refusal) (o : Option A) (next : A → Answer) → P (refused refusal) → ((x : A) → o ≡ Some x → P (next x)) → P (require refusal o next)
 require-case P refusal None next bad good = bad
@@ -38,7 +38,7 @@ with_right-case P s k right name next bad good =
 
 -- ---- SET and INSTCMD
 
--- a line that fits a UPS fits the one on which the request acts
+-- A line that fits for a UPS fits for the one on which the request acts.
 fits-there : (s : Scene) (u v : ℕ) (line own : List ℕ) → Some u ≡ Some v → Some own ≡ Some line → fits own (device_at s u) ≡ true → fits line (device_at s v) ≡ true
 fits-there s u v line own place text holds =
     let same : u ≡ v = cc in
@@ -68,7 +68,8 @@ command-fits s k ups name v place line =
       P : Answer → Type 0
       P reply = request_of (Asks (requests.InstCmd ups name)) reply ≡ Some line → fits line (device_at s v) ≡ true
 
--- What a line asks of a driver fits behind what waits for it; the line of a client that has logged out asks nothing.
+-- A line's request to a driver fits behind what waits for it. The line of a client that has logged out makes no
+-- request.
 pub asked-fits : (s : Scene) (k : Caller) (command : Command) (v : ℕ) (out : Bool) → target s.configuration command ≡ Some v → (line : List ℕ)
     → request_of command (if out then Silence else answer s k command) ≡ Some line → fits line (device_at s v) ≡ true
 asked-fits s k Blank v out goal line is = cc

@@ -1,4 +1,4 @@
--- What a connection was sent, and what it awaits, after each event.
+-- What a connection was sent, and what waits for it, after each event.
 use Rattle.std.proofs.Common.{◌≡◌, ℕ, ◌+◌, false, eqb, List, [], ◌∷◌, ◌++◌, take, refl, sym, ◌∙◌, ap, inl, inr, append_assoc, append-nil, Option, Some, None, subst, zero, suc}
 use Rattle.std.specs.Prelude.{◌==◌, if◌then◌else◌}
 use Rattle.std.proofs.lemmas.Bool.{cases_Bool, eqb-true, eq-eqb}
@@ -20,12 +20,12 @@ use Rattle.nut_server_spec.specs.Laws.{received, SentIsReceived, SentAndWaitingI
 use Rattle.nut_server_spec.proofs.Pieces.{IsCovered}
 use Rattle.nut_server_spec.proofs.Kept.{session_is, all_covered, due_reports}
 
--- how many bytes c takes by an event
+-- how many bytes c takes in an event
 abbrev pub taken_by : ℕ → Event → ℕ
 taken_by c (Took d n) = if d == c then n else 0
 taken_by c e = 0
 
--- what is due grows at its end
+-- The answers due grow at the end.
 due_begins : (first : Configuration) (c d : ℕ) (ls : List LineText) (s : List Step) → Begins (due d (trace first s)) (due d (trace first (with_lines c ls s)))
 due_begins first c d [] s = ([], sym (append-nil (due d (trace first s))))
 due_begins first c d (l ∷ ls) s =
@@ -45,7 +45,7 @@ sent-bytes first h c d piece covered =
     let more = due_begins first c d (brought (input c h) piece) (steps h) in
     ap (take (taken d h)) more.1 ∙ take-append-le (taken d h) (due d (past first h)) more.0 covered
 
--- what a driver says sends a client nothing
+-- A driver's line adds nothing to what a client was sent.
 pub sent-reports : (first : Configuration) (h : List Event) (u c : ℕ) (piece : List ℕ) → sent first c (DriverBytes u piece ∷ h) ≡ sent first c h
 sent-reports first h u c piece = ap (take (taken c h)) (due_reports first c u (brought (driver_input u h) piece) (steps h))
 
@@ -57,7 +57,7 @@ sent-took first h c n = ap (λ m. take m (due c (past first h))) (here (taken c 
 pub sent-took_other : (first : Configuration) (h : List Event) (c d n : ℕ) → eqb d c ≡ false → sent first c (Took d n ∷ h) ≡ sent first c h
 sent-took_other first h c d n differ = rw differ refl
 
--- An accepted event adds to what c was sent what it takes of what waits.
+-- An accepted event adds what c takes to what it was sent.
 pub sent-step : (first : Configuration) (h : List Event) (c : ℕ) (e : Event) → IsAccepted first h → sent first c (e ∷ h) ≡ sent first c h ++ take (taken_by c e) (waits first c h)
 sent-step first h c (Moment t) accepted = sym (append-nil (sent first c h))
 sent-step first h c (Open a) accepted = sym (append-nil (sent first c h))
@@ -74,11 +74,11 @@ sent-step first h c (DriverBytes u piece) accepted = sent-reports first h u c pi
 sent-step first h c (DriverTook u n) accepted = sym (append-nil (sent first c h))
 sent-step first h c (DriverDown u) accepted = sym (append-nil (sent first c h))
 
--- An event by which c takes nothing changes nothing of what it was sent.
+-- An event in which c takes nothing changes nothing of what it was sent.
 pub sent-other : (first : Configuration) (h : List Event) (c : ℕ) (e : Event) → IsAccepted first h → taken_by c e ≡ 0 → sent first c (e ∷ h) ≡ sent first c h
 sent-other first h c e accepted nothing = sent-step first h c e accepted ∙ ap (λ n. sent first c h ++ take n (waits first c h)) nothing ∙ append-nil (sent first c h)
 
--- nor does a lack of memory in a piece
+-- Nor does a lack of memory in a piece.
 pub sent-lost : (first : Configuration) (h : List Event) (c d : ℕ) (piece : List ℕ) (k : ℕ) → IsAccepted first h → sent first d (lost c piece k h) ≡ sent first d h
 sent-lost first h c d piece zero accepted = refl
 sent-lost first h c d piece (suc k) accepted = sent-bytes first h c d (front (suc k) piece) (all_covered first h d accepted)
@@ -87,7 +87,7 @@ pub sent-lost_report : (first : Configuration) (h : List Event) (u d : ℕ) (pie
 sent-lost_report first h u d piece zero = refl
 sent-lost_report first h u d piece (suc k) = sent-reports first h u d (front (suc k) piece)
 
--- nor any refusal
+-- Nor does any other refusal.
 pub sent-refused : (first : Configuration) (h : List Event) (d : ℕ) (r : Refused) (e : Event) → IsAccepted first h → sent first d (after_refusal r e h) ≡ sent first d h
 sent-refused first h d (Memory (Line c k)) (Moment t) accepted = refl
 sent-refused first h d (Memory (Report v k)) (Moment t) accepted = refl
@@ -117,7 +117,7 @@ sent-refused first h d TooMuchTaken e accepted = refl
 sent-refused first h d BadAddress e accepted = refl
 sent-refused first h d Full e accepted = refl
 
--- What the content says that an open connection awaits is what the history says.
+-- What the content says waits for an open connection is what the history says.
 pub waiting_is : (first : Configuration) (h : List Event) (c : ℕ) (k : Session) → session_of c (content first h).sessions ≡ Some k → waiting_of c (content first h).sessions ≡ waits first c h
 waiting_is first h c k found = ap waiting_in found ∙ ap (λ k. k.waits) (session_is first h c k found)
 
@@ -126,7 +126,7 @@ waiting_is_told first h s c k told found =
     let P : Content → Type 0 = λ x. session_of c x.sessions ≡ Some k → waiting_of c x.sessions ≡ waits first c h in
     subst P (sym told.1) (waiting_is first h c k) found
 
--- Where bytes may be taken of a connection, it is open.
+-- If a connection may take bytes, it is open.
 pub open_took : (n : ℕ) (o : Option Session) → took_refusal n o ≡ None → (k : Session) × (o ≡ Some k)
 open_took n None accepted = absurd (let bad = accepted in cc)
 open_took n (Some k) accepted = (k, refl)

@@ -1,4 +1,4 @@
--- What is found of a session after one of them is changed or gone, and after bytes of one.
+-- The session found under a number after one session is changed or removed, and after bytes of one.
 use Rattle.std.proofs.Common.{◌≡◌, ℕ, true, false, eqb, List, [], ◌∷◌, ◌++◌, drop, refl, ◌∙◌, ap, inl, inr, Option, Some, None}
 use Rattle.std.specs.Prelude.{option_map}
 use Rattle.std.proofs.Common.{sym}
@@ -12,7 +12,7 @@ use Rattle.nut_server_spec.specs.Acceptance.{session_of, waiting_in, waiting_of}
 use Rattle.nut_server_spec.specs.machine.Machine.{update, without, with_rest, with_sessions, answered, answer_in, after_answer, line_heard, byte_heard, bytes_heard}
 use Rattle.nut_server_spec.proofs.Law.{eqb_turn}
 
--- a change that leaves a session its number
+-- a change that keeps the number of a session
 abbrev pub KeepsNumber : (Session → Session) → Type 0
 KeepsNumber change = (k : Session) → (change k).number ≡ k.number
 
@@ -60,7 +60,7 @@ session_of-without_other c d (k ∷ sessions) differ =
       ])
     ]
 
--- a session that is changed first is gone all the same
+-- A session that is changed and then removed is the same as one that is removed.
 pub without-update : (c : ℕ) (change : Session → Session) (sessions : List Session) → KeepsNumber change → without c (update c change sessions) ≡ without c sessions
 without-update c change [] keeps = refl
 without-update c change (k ∷ sessions) keeps =
@@ -69,7 +69,7 @@ without-update c change (k ∷ sessions) keeps =
       | inr e ↦ rw (e, e) (ap (λ ks. k ∷ ks) (without-update c change sessions keeps))
     ]
 
--- a session put last
+-- a session added at the end
 pub session_of-push : (c : ℕ) (k : Session) (sessions : List Session) → session_of c sessions ≡ None → k.number ≡ c → session_of c (sessions ++ k ∷ []) ≡ Some k
 session_of-push c k [] none is = let e : eqb k.number c ≡ true = eq-eqb k.number c is in rw e refl
 session_of-push c k (j ∷ sessions) none is =
@@ -99,7 +99,7 @@ waiting_of-took c n sessions =
 
 -- ---- bytes of a connection
 
--- what a line of c leaves of another connection
+-- A line of c leaves the sessions of other connections as they are.
 after_answer-other : (c d : ℕ) (command : Command) (reply : Answer) (s : Content) → eqb d c ≡ false → session_of d (after_answer c command reply s).sessions ≡ session_of d s.sessions
 after_answer-other c d command reply s differ =
     session_of-update_other c d (λ k. with_rest (Text []) (answered s.configuration command reply k)) s.sessions (λ k. refl) differ
@@ -119,7 +119,7 @@ pub bytes_heard-other : (c d : ℕ) (piece : List ℕ) (s : Content) → eqb d c
 bytes_heard-other c d [] s differ = refl
 bytes_heard-other c d (b ∷ piece) s differ = bytes_heard-other c d piece (byte_heard c b s) differ ∙ byte_heard-other c d b s differ
 
--- and of its own: it stays open
+-- The connection c is open.
 abbrev pub IsOpen : ℕ → Content → Type 0
 IsOpen c s = (k : Session) × (session_of c s.sessions ≡ Some k)
 

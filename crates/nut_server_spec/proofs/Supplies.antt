@@ -1,4 +1,4 @@
--- What is found of a UPS after one of them is changed.
+-- The UPS found under a number after one UPS is changed.
 use Rattle.std.proofs.Common.{◌≡◌, ℕ, zero, suc, false, eqb, List, [], ◌∷◌, drop, refl, sym, ◌∙◌, ap, inl, inr, Option, Some, None}
 use Rattle.std.specs.Prelude.{option_map}
 use Rattle.std.proofs.Math.Seq.{drop-nil}
@@ -19,7 +19,7 @@ supply_of-update_other zero (suc v) change (d ∷ supplies) differ = refl
 supply_of-update_other (suc u) zero change (d ∷ supplies) differ = refl
 supply_of-update_other (suc u) (suc v) change (d ∷ supplies) differ = supply_of-update_other u v change supplies (ne_eqb v u (λ e. eqb-false (suc v) (suc u) differ (ap suc e)))
 
--- what a driver says leaves it connected or not
+-- A driver's lines leave it connected or disconnected, as it was.
 pub byte_reported-connected : (time b : ℕ) (d : Supply) → (byte_reported time b d).device.connected ≡ d.device.connected
 byte_reported-connected time b d = elim (cases_Bool (eqb b 10)) [ inl e ↦ rw e refl | inr e ↦ rw e refl ]
 
@@ -27,7 +27,7 @@ pub bytes_reported-connected : (time : ℕ) (piece : List ℕ) (d : Supply) → 
 bytes_reported-connected time [] d = refl
 bytes_reported-connected time (b ∷ piece) d = bytes_reported-connected time piece (byte_reported time b d) ∙ byte_reported-connected time b d
 
--- and leaves what it still has to take
+-- A driver's lines leave what waits for it as it is.
 pub byte_reported-waits : (time b : ℕ) (d : Supply) → (byte_reported time b d).device.waits ≡ d.device.waits
 byte_reported-waits time b d = elim (cases_Bool (eqb b 10)) [ inl e ↦ rw e refl | inr e ↦ rw e refl ]
 
@@ -35,7 +35,7 @@ pub bytes_reported-waits : (time : ℕ) (piece : List ℕ) (d : Supply) → (byt
 bytes_reported-waits time [] d = refl
 bytes_reported-waits time (b ∷ piece) d = bytes_reported-waits time piece (byte_reported time b d) ∙ byte_reported-waits time b d
 
--- what a driver still has to take after n bytes
+-- what waits for a driver after n bytes were taken
 pub asks_of-drained : (u n : ℕ) (supplies : List Supply) → asks_of u (update_at u (drained n) supplies) ≡ drop n (asks_of u supplies)
 asks_of-drained u n supplies = ap asks_in (supply_of-update u (drained n) supplies) ∙ found (supply_of u supplies) where
   found : (o : Option Supply) → asks_in (option_map (drained n) o) ≡ drop n (asks_in o)

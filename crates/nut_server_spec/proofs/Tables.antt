@@ -1,4 +1,4 @@
--- What is within its limits in a table that lines have told.
+-- A table that lines have filled is within its limits.
 use Rattle.std.proofs.Common.{◌≡◌, ℕ, zero, suc, ◌+◌, ◌*◌, ◌-◌, ◌<◌, ◌≤◌, ◌^◌, Bool, true, false, List, [], ◌∷◌, ◌++◌, length, reverse, refl, sym, subst, ◌∙◌, ap, arith, inl, inr, Option, Some, None}
 use Rattle.std.specs.Prelude.{ℤ, pos, neg_ℤ, ◌&&◌, ◌==◌, if◌then◌else◌, filter, find, fold, nat_lt, nat_le, not, int_le, option_map, is_some}
 use Rattle.std.specs.Char.{is_ascii_digit}
@@ -92,7 +92,7 @@ whole_below (c ∷ cs) z is =
       | inr e ↦ by_natural (natural (c ∷ cs)) pos z mag_pos (natural_below (c ∷ cs)) (rw e at is)
     ]
 
--- both numbers of a range have at most nine digits
+-- Both numbers of a range have at most nine digits.
 pub record IsShortRange (r : Range) : Type 0 where
   pub minimum : mag r.minimum < 10 ^ 9
   pub maximum : mag r.maximum < 10 ^ 9
@@ -115,7 +115,7 @@ short_range low high r is = by_numbers (whole_number low) (whole_number high) (w
 
 -- ---- the ranges that lines add
 
--- each range that the change adds is short
+-- Each range that a change adds is short.
 abbrev AddsShort : Change → Type 0
 AddsShort change = (name : List ℕ) (r : Range) → range_added name change ≡ Some r → IsShortRange r
 
@@ -126,7 +126,7 @@ range_short ws name r is =
       | inr e ↦ absurd (let bad : None ≡ Some r = rw e at is in cc)
     ]
 
--- what any verb asks for
+-- what each verb asks for
 verbs_short : AllByRecursion (λ verb. (ws : List (List ℕ)) → AddsShort (asked_by verb ws)) all_verbs
 verbs_short = (
   λ ws name r is. absurd (cc),
@@ -223,7 +223,7 @@ era_short name (change ∷ earlier) all =
       | inr e ↦ rw e (all.0, era_short name earlier all.1)
     ]
 
--- what stands was added
+-- What is in the table was added.
 standing_short : (name : List ℕ) (changes : List Change) → AllByRecursion AddsShort changes → AllByRecursion IsShortRange (standing (range_added name) (removes_range name) changes)
 standing_short name [] all = tt
 standing_short name (change ∷ later) all =
@@ -234,7 +234,7 @@ standing_short name (change ∷ later) all =
       by_option None short = tt
       by_option (Some r) short = (short r refl, tt)
 
--- ---- a table that lines have told
+-- ---- a table that lines have filled
 
 pub record IsShortTable (t : Table) : Type 0 where
   pub in_order : IsTable t
@@ -253,7 +253,7 @@ table_short every lines =
 pub variable_within : (t : Table) (name : List ℕ) (v : Entry) → IsShortTable t → variable t name ≡ Some v → IsWithinLimits v
 variable_within t name v short is = All-named (λ (v : Entry). v.name) IsWithinLimits name t.variables v short.in_order.each_within is
 
--- the name of a variable that there is, and of a command
+-- the names of the variables and of the commands of a table
 pub variable_named : (t : Table) (name : List ℕ) (v : Entry) → IsShortTable t → variable t name ≡ Some v → IsName NAME_MAX name
 variable_named t name v short is =
     let own : v.name ≡ name = name-named (λ (v : Entry). v.name) name t.variables v is in

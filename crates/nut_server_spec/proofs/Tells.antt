@@ -21,7 +21,7 @@ use Rattle.nut_server_spec.proofs.Places.{update_at-none}
 use Rattle.nut_server_spec.proofs.Sessions.{bytes_heard-open, IsOpen}
 use Rattle.nut_server_spec.proofs.Supplies.{supply_of-update, bytes_reported-connected}
 
--- one more accepted event
+-- one accepted event more
 step-here : (first : Configuration) (h : List Event) (e : Event) → IsAccepted first h → refusal (content first h) e ≡ None → Tells first (e ∷ h) (advance (content first h) e)
 step-here first h e accepted more = ((accepted, more), sym (keeps-content first h e (accepted, more)))
 
@@ -39,7 +39,7 @@ front_short (suc k) (b ∷ piece) =
       | inr e ↦ rw e (omega (arith, front_short (suc k) piece))
     ]
 
--- a piece that isn't too long has no front that is
+-- The front of a piece that isn't too long isn't too long.
 front_fits : (k : ℕ) (piece : List ℕ) → ltb PIECE_MAX (length piece) ≡ false → ltb PIECE_MAX (length (front k piece)) ≡ false
 front_fits k piece fits = le-ltb PIECE_MAX (length (front k piece)) (omega (arith, front_short k piece, ltb-false PIECE_MAX (length piece) fits))
 
@@ -53,7 +53,7 @@ shorter k piece (Some j) accepted =
       | inr e ↦ rw (front_fits k piece e) (rw e at accepted)
     ]
 
--- a connection whose piece is accepted is open, and one that is open can be closed
+-- If a piece of a connection is accepted, the connection is open, and an open connection can be closed.
 pub bytes_open : (piece : List ℕ) (o : Option Session) → bytes_refusal piece o ≡ None → (k : Session) × (o ≡ Some k)
 bytes_open piece None accepted = absurd (let bad = accepted in cc)
 bytes_open piece (Some k) accepted = (k, refl)
@@ -61,7 +61,7 @@ bytes_open piece (Some k) accepted = (k, refl)
 closes : (s : Content) (c : ℕ) → IsOpen c s → refusal s (Close c) ≡ None
 closes s c is = ap close_refusal is.1
 
--- The content where memory ran out in a piece: the connection is gone, behind the lines that were done.
+-- The content after memory ran out in a piece: the lines that were done, and then the connection is closed.
 pub tells-lost : (first : Configuration) (h : List Event) (s : Content) (c : ℕ) (piece : List ℕ) (k : ℕ) → Tells first h s → refusal s (Bytes c piece) ≡ None
     → Tells first (lost c piece k h) (content_lost c piece k s)
 tells-lost first h s c piece zero told accepted = tells-step first h s (Close c) told (closes s c (bytes_open piece (session_of c s.sessions) accepted))
@@ -84,7 +84,7 @@ shorter_report k piece (Some d) accepted =
       ])
     ]
 
--- a driver whose piece is accepted can go, also after a change that leaves it connected
+-- If a piece of a driver is accepted, the driver can be disconnected, also after a change that leaves it connected.
 down_now : (piece : List ℕ) (change : Supply → Supply) (o : Option Supply) → ((d : Supply) → (change d).device.connected ≡ d.device.connected) → report_refusal piece o ≡ None
     → down_refusal (option_map change o) ≡ None
 down_now piece change None keeps accepted = cc
@@ -99,11 +99,11 @@ downs s u part piece accepted =
     ap down_refusal (supply_of-update u (bytes_reported s.clock part) s.supplies)
     ∙ down_now piece (bytes_reported s.clock part) (supply_of u s.supplies) (bytes_reported-connected s.clock part) accepted
 
--- no bytes change nothing
+-- No bytes change nothing.
 no_report : (s : Content) (u : ℕ) → advance s (DriverBytes u []) ≡ s
 no_report s u = ap (λ supplies. with_supplies supplies s) (update_at-none u (bytes_reported s.clock []) s.supplies (λ d. refl))
 
--- The content where memory ran out in a piece: the driver is gone, behind the lines that were done.
+-- The content after memory ran out in a piece: the lines that were done, and then the driver is disconnected.
 pub tells-lost_report : (first : Configuration) (h : List Event) (s : Content) (u : ℕ) (piece : List ℕ) (k : ℕ) → Tells first h s → refusal s (DriverBytes u piece) ≡ None
     → Tells first (lost_report u piece k h) (content_lost_report u piece k s)
 tells-lost_report first h s u piece zero told accepted =

@@ -1,4 +1,4 @@
--- What waits for a client: the answers to the lines of one piece, each within the longest.
+-- What waits for a client: the answers to the lines of one piece, none longer than the longest.
 use Rattle.std.proofs.Common.{◌≡◌, ℕ, zero, suc, ◌+◌, ◌*◌, ◌<◌, ◌≤◌, Bool, true, false, eqb, List, [], ◌∷◌, length, map, drop, refl, sym, subst, ◌∙◌, ap, arith, inl, inr, Option, Some, None, length-append, length-drop}
 use Rattle.std.specs.Prelude.{◌&&◌, if◌then◌else◌, not, nat_lt, nat_le, option_map}
 use Rattle.std.specs.List.{AllByRecursion, list_all}
@@ -32,7 +32,7 @@ use Rattle.nut_server_spec.proofs.Sessions.{session_of-update}
 use Rattle.nut_server_spec.proofs.Tables.{IsShortTable, table_short}
 use Rattle.nut_server_spec.specs.declared.limits.TheConstants.{ADDRESS_MAX, OPENED_MAX}
 
--- ---- who is open
+-- ---- open connections
 
 -- so many are open at most, and the address of each has at most ADDRESS_MAX bytes
 pub record AreFew (m : ℕ) (ks : List Session) : Type 0 where
@@ -112,7 +112,7 @@ few_advance s (DriverBytes u piece) accepted are = are
 few_advance s (DriverTook u n) accepted are = are
 few_advance s (DriverDown u) accepted are = are
 
--- no step changes the configuration
+-- No step changes the configuration.
 pub configuration_stays : (first : Configuration) (t : List Entry) → configuration first t ≡ first
 configuration_stays first [] = refl
 configuration_stays first (e ∷ t) = configuration_stays first t
@@ -198,7 +198,7 @@ short_history every first h within accepted =
 
 -- ---- the answers to a piece
 
--- an unfinished line that isn't empty is one that is answered once it ends
+-- 1 for an unfinished line that isn't empty, which may be answered when it ends; else 0
 abbrev unfinished : LineText → ℕ
 unfinished (Text []) = 0
 unfinished (Text (b ∷ bytes)) = 1
@@ -209,8 +209,8 @@ unfinished-le (Text []) = omega arith
 unfinished-le (Text (b ∷ bytes)) = omega arith
 unfinished-le TooLong = omega arith
 
--- After n bytes, the unfinished line before them counted as one, what waits is the answers to so many lines, of which each
--- took two bytes at least.
+-- After n bytes, with one counted for an unfinished line before them: what waits is at most this many of the longest
+-- answers, and each line answered took at least two of these bytes.
 record IsServed (n : ℕ) (k : Session) : Type 0 where
   lines : ℕ
   answers : length k.waits ≤ 184930 * lines
@@ -220,7 +220,7 @@ length-silence : length (text_of Silence) ≡ 0
 unfolding text_of
 length-silence = refl
 
--- an empty line is answered by nothing
+-- An empty line gets no answer.
 empty_blank : command_of (Text []) ≡ Blank
 unfolding reader.read
 empty_blank = refl
@@ -264,11 +264,11 @@ served_line n s k short served = by_rest k.rest refl where
   by_rest (Text (b ∷ bytes)) is = one_more (ap unfinished is)
   by_rest TooLong is = one_more (ap unfinished is)
 
--- what is served where c is open
+-- what is done if c is open
 abbrev AreServed : ℕ → ℕ → Content → Type 0
 AreServed c n s = (k : Session) → session_of c s.sessions ≡ Some k → IsServed n k
 
--- a session that is found after a change is the changed one
+-- A session that is found after a change is the changed one.
 found_changed : (c : ℕ) (change : Session → Session) (ks : List Session) (k : Session) → ((j : Session) → (change j).number ≡ j.number) → session_of c (update c change ks) ≡ Some k
     → (j : Session) × (session_of c ks ≡ Some j) × (change j ≡ k)
 found_changed c change ks k keeps there = by_found (session_of c ks) refl where
@@ -305,7 +305,7 @@ served_bytes c [] n m s le short served = λ k there.
     record { lines = before.lines; answers = before.answers; heard = omega (arith, before.heard) }
 served_bytes c (b ∷ bytes) n m s le short served = served_bytes c bytes (n + 1) m (byte_heard c b s) (omega arith) (short_byte c b s short) (served_byte c b n s short served)
 
--- a piece that is accepted is short, and nothing waits
+-- If a piece is accepted, it is short and nothing waits.
 pub piece_accepted : (piece : List ℕ) (o : Option Session) → bytes_refusal piece o ≡ None → (length piece ≤ PIECE_MAX) × (length (waiting_in o) ≤ 0)
 piece_accepted piece None accepted = absurd (cc)
 piece_accepted piece (Some k) accepted =

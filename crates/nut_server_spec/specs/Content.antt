@@ -1,4 +1,5 @@
--- What a server has to know of a history: its content. Two histories of the same content are answered alike.
+-- The content of a history: what a server has to know of it. If two histories have the same content, their next events
+-- are answered alike.
 use Rattle.std.specs.Prelude.{ℕ, Bool, List, map, take, drop, Option}
 use Rattle.nut_words.specs.Lines.{LineText, rest}
 use Rattle.nut_server_spec.specs.Configuration.{Configuration}
@@ -6,7 +7,7 @@ use Rattle.nut_server_spec.specs.Device.{Device}
 use Rattle.nut_server_spec.specs.Event.{Event, input, taken, driver_input, steps}
 use Rattle.nut_server_spec.specs.Trace.{Entry, configuration, clock, opened, open_numbers, address, user, password, login, logged_out, due, device, ups_numbers, trace}
 
--- An open connection: what it said of itself, its unfinished line, and the bytes that it still has to take.
+-- An open connection: what it said of itself, its unfinished line, and the bytes that wait for it.
 pub record Session : Type 0 where
   pub number : ℕ
   pub address : List ℕ
@@ -17,13 +18,13 @@ pub record Session : Type 0 where
   pub rest : LineText
   pub waits : List ℕ
 
--- A UPS: what its driver told, and that one's unfinished line.
+-- A UPS: what its driver told, and the driver's unfinished line.
 pub record Supply : Type 0 where
   pub device : Device
   pub rest : LineText
 
--- `opened` is how many connections were opened so far, `sessions` those that are open, by rising number, and `supplies`
--- the UPSes in the order of their numbers.
+-- `opened` is the number of connections opened so far. `sessions` are the open ones, by rising number. `supplies` are
+-- the UPSes, in the order of their numbers.
 pub record Content : Type 0 where
   pub configuration : Configuration
   pub clock : ℕ
@@ -31,19 +32,21 @@ pub record Content : Type 0 where
   pub sessions : List Session
   pub supplies : List Supply
 
--- the past of a history: its steps, each with its answer and what it asks
+-- the past of a history: its steps, each with its answer and its requests to drivers
 abbrev pub past : Configuration → List Event → List Entry
 past first h = trace first (steps h)
 
--- What c was sent: as much of the answers due as it took. The law `sent_is_received` says that it took these bytes.
+-- The bytes that c was sent: the first of the answers due, as many bytes as it took. The law `sent_is_received` says
+-- that it took these bytes.
 abbrev pub sent : Configuration → ℕ → List Event → List ℕ
 sent first c h = take (taken c h) (due c (past first h))
 
--- What c still awaits: the rest of the answers due. It is said of open connections alone: none awaits anything once it is closed.
+-- The bytes that wait for c: the answers due, without the bytes that it took. Used of open connections only: nothing
+-- waits for a closed one.
 abbrev pub waits : Configuration → ℕ → List Event → List ℕ
 waits first c h = drop (taken c h) (due c (past first h))
 
--- what the history h says of the connection c
+-- what the history h says about the connection c
 abbrev pub session : Configuration → List Event → ℕ → Session
 session first h c = record {
   number = c;
@@ -56,11 +59,11 @@ session first h c = record {
   waits = waits first c h;
 }
 
--- what the history h says of the UPS u
+-- what the history h says about the UPS u
 abbrev pub supply : Configuration → List Event → ℕ → Supply
 supply first h u = record { device = device first (past first h) u; rest = rest (driver_input u h) }
 
--- the content of a server that was made with `first` and told the history h
+-- the content of a server that was made with the configuration `first` and told the history h
 abbrev pub content : Configuration → List Event → Content
 content first h = record {
   configuration = configuration first (past first h);

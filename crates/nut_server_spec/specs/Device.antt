@@ -1,4 +1,4 @@
--- A UPS as its driver has told it, and how far that can be relied on (NUT developer guide, chapter 5).
+-- A UPS as its driver has reported it, and whether its data can be relied on (NUT developer guide, chapter 5).
 use Rattle.std.specs.Prelude.{ℕ, ◌+◌, ◌/◌, Bool, true, false, not, ◌&&◌, ◌||◌, nat_lt, nat_le, if◌then◌else◌, List, [], length, Option, Some, None}
 use Rattle.std.specs.Option.{option_map_or}
 use Rattle.nut_queue.specs.declared.limits.TheConstants.{ASKS_MAX}
@@ -8,9 +8,9 @@ use Rattle.nut_proto.specs.declared.refusal.Refusal.TheVariants.{DriverNotConnec
 use Rattle.nut_proto.specs.declared.driver_ask.DriverAsk.TheVariants.{Ping}
 use Rattle.nut_proto.specs.DriverAsks.{ask_line}
 
--- A UPS: whether its driver is connected; the table that the driver told since then; the moment of the last line that
--- was heard of it, or of its connection; the moment of the last PING since then; whether a shutdown was forced; and
--- the requests that the driver still has to take.
+-- A UPS: whether its driver is connected; the table that the driver has reported since it was connected; the moment at
+-- which a line of the driver was last heard, or it was connected; the moment of the last PING since then, if there was
+-- one; whether a shutdown was forced; and the requests that wait for the driver.
 pub record Device : Type 0 where
   pub connected : Bool
   pub table : Table
@@ -19,20 +19,20 @@ pub record Device : Type 0 where
   pub forced : Bool
   pub waits : List ℕ
 
--- a UPS of which nothing was told
+-- a UPS whose driver was never connected
 abbrev pub absent : Device
 absent = record { connected = false; table = empty; heard_at = 0; pinged_at = None; forced = false; waits = [] }
 
--- more than so many seconds have passed since a moment
+-- whether more than `seconds` have passed since the moment
 abbrev pub is_past : ℕ → ℕ → ℕ → Bool
 is_past seconds clock moment = nat_lt (moment + seconds) clock
 
--- The data are stale where the driver hasn't told all that it knows, where the last of DATAOK and DATASTALE wasn't
--- DATAOK, and where no line was heard for more than MAXAGE seconds.
+-- Whether the data are stale: the driver hasn't finished its dump, or its newest DATAOK or DATASTALE isn't DATAOK, or
+-- no line was heard for more than MAXAGE seconds.
 abbrev pub is_stale : ℕ → ℕ → Device → Bool
 is_stale max_age clock d = not d.table.dump_done || not d.table.data_ok || is_past max_age clock d.heard_at
 
--- why the UPS can't be asked about now, if it can't
+-- why requests about the UPS's data are refused now, if they are
 abbrev pub trouble : ℕ → ℕ → Device → Option Refusal
 trouble max_age clock d =
     if not d.connected then Some DriverNotConnected else
@@ -42,8 +42,8 @@ trouble max_age clock d =
 abbrev pub fits : List ℕ → Device → Bool
 fits line d = nat_le (length d.waits + length line) ASKS_MAX
 
--- A connected driver is asked PING where a third of MAXAGE has passed since the last line that was heard of it, and since
--- the last PING; one that doesn't fit is left out.
+-- Whether the driver is sent PING: it is connected; more than a third of MAXAGE, rounded down, has passed since a line
+-- was last heard, and since the last PING if there was one; and the PING fits.
 abbrev pub needs_ping : ℕ → ℕ → Device → Bool
 needs_ping max_age clock d =
     d.connected && is_past (max_age / 3) clock d.heard_at

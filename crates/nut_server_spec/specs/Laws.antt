@@ -1,4 +1,4 @@
--- What holds of every history of accepted events. Each of these is the contract of a function of the crate.
+-- What holds of every history of accepted events. Each law here is the contract of a function of the crate.
 use Rattle.std.specs.Prelude.{◌≡◌, ℕ, ◌<◌, ◌≤◌, ◌==◌, ◌+◌, false, true, if◌then◌else◌, List, [], ◌∷◌, ◌++◌, length, map, take, Option, Some, None, Result}
 use Rattle.nut_queue.specs.declared.limits.TheConstants.{ASKS_MAX}
 use Rattle.nut_words.specs.Quoting.{Begins}
@@ -17,19 +17,19 @@ use Rattle.nut_server_spec.specs.Outcome.{IsAnswer, after}
 use Rattle.nut_server_spec.specs.MachineOutcome.{Answers, content_after}
 use Rattle.nut_server_spec.specs.declared.limits.TheConstants.{OPENED_MAX}
 
--- However a connection's bytes are cut into pieces, the content is the same.
+-- A connection's bytes lead to the same content whether they come as one piece or cut into two.
 abbrev pub CutsDoNotMatter : Type 0
 CutsDoNotMatter =
     (first : Configuration) (h : List Event) (c : ℕ) (x y : List ℕ) →
     content first (Bytes c (x ++ y) ∷ h) ≡ content first (Bytes c y ∷ Bytes c x ∷ h)
 
--- However a driver's bytes are cut into pieces, the content is the same.
+-- A driver's bytes lead to the same content whether they come as one piece or cut into two.
 abbrev pub DriverCutsDoNotMatter : Type 0
 DriverCutsDoNotMatter =
     (first : Configuration) (h : List Event) (u : ℕ) (x y : List ℕ) →
     content first (DriverBytes u (x ++ y) ∷ h) ≡ content first (DriverBytes u y ∷ DriverBytes u x ∷ h)
 
--- What goes on while one connection or one driver sends: a piece of its bytes, or so many bytes that somebody takes.
+-- What happens while one connection or one driver sends: a piece of its bytes comes, or somebody takes n bytes.
 pub data Turn : Type 0 where
   Piece : (bytes : List ℕ) → Turn
   Taken : (who : ℕ) (n : ℕ) → Turn
@@ -40,38 +40,39 @@ bytes_of [] = []
 bytes_of (Piece bytes ∷ turns) = bytes_of turns ++ bytes
 bytes_of (Taken who n ∷ turns) = bytes_of turns
 
--- the history h goes on by these turns, the newest first: c sends the pieces, and connections take bytes
+-- the history h, and after it these turns, the newest first: c sends the pieces, and connections take bytes
 abbrev pub sending : ℕ → List Turn → List Event → List Event
 sending c [] h = h
 sending c (Piece bytes ∷ turns) h = Bytes c bytes ∷ sending c turns h
 sending c (Taken d n ∷ turns) h = Took d n ∷ sending c turns h
 
--- the same of the driver of u: it sends the pieces, and drivers take bytes
+-- the history h, and after it these turns, the newest first: the driver of u sends the pieces, and drivers take bytes
 abbrev pub reporting : ℕ → List Turn → List Event → List Event
 reporting u [] h = h
 reporting u (Piece bytes ∷ turns) h = DriverBytes u bytes ∷ reporting u turns h
 reporting u (Taken v n ∷ turns) h = DriverTook v n ∷ reporting u turns h
 
--- Histories of the same steps have the same answers, and ask the same of drivers.
+-- If two histories have the same steps, connections get the same answers in both, and drivers the same requests.
 abbrev pub SameStepsSameAnswers : Type 0
 SameStepsSameAnswers =
     (first : Configuration) (g h : List Event) → steps g ≡ steps h →
     ((c : ℕ) → due c (past first g) ≡ due c (past first h)) × ((u : ℕ) → driver_due u (past first g) ≡ driver_due u (past first h))
 
--- However the bytes of a connection are cut, and whatever is taken between the pieces: the steps are those of all the bytes in
--- one piece. So all else being the same, the same bytes have the same answers.
+-- However the bytes of a connection are cut, and whatever connections take between the pieces, the steps are those of
+-- all the bytes in one piece. So two ways to cut the same bytes have the same past, with the same answers.
 pub record CutsAndWritesDoNotMatter : Type 0 where
   pub one_piece : (h : List Event) (c : ℕ) (turns : List Turn) → steps (sending c turns h) ≡ steps (Bytes c (bytes_of turns) ∷ h)
   pub same_answers :
       (first : Configuration) (h : List Event) (c : ℕ) (turns others : List Turn) → bytes_of turns ≡ bytes_of others →
       past first (sending c turns h) ≡ past first (sending c others h)
 
--- a UPS but for what its driver still has to take
+-- a UPS without the bytes that wait for its driver
 abbrev pub told_of : Device → Device
 told_of d = record d { waits = [] }
 
--- However the bytes of a driver are cut, and whatever drivers take between the pieces: what is known of each UPS, what each
--- driver was asked, and what each connection was answered, are those of all the bytes in one piece.
+-- However the bytes of a driver are cut, and whatever drivers take between the pieces, what follows is what follows
+-- from all the bytes in one piece: what is known of each UPS, each driver's unfinished line, the requests to each
+-- driver and the answers to each connection.
 pub record DriverCutsAndWritesDoNotMatter : Type 0 where
   pub same_devices :
       (first : Configuration) (h : List Event) (u : ℕ) (turns : List Turn) (v : ℕ) →
@@ -85,7 +86,7 @@ pub record DriverCutsAndWritesDoNotMatter : Type 0 where
       (first : Configuration) (h : List Event) (u : ℕ) (turns : List Turn) (c : ℕ) →
       due c (past first (reporting u turns h)) ≡ due c (past first (DriverBytes u (bytes_of turns) ∷ h))
 
--- A piece of a connection that has logged out is answered by nothing, asks nothing of a driver, and changes nothing but what is
+-- A piece of a connection that has logged out gets no answer and sends no request to a driver. It changes only what is
 -- kept of the connection's unfinished line.
 pub record LogoutIsFinal : Type 0 where
   pub no_answers :
@@ -103,27 +104,27 @@ pub record LogoutIsFinal : Type 0 where
 
 -- ---- what is sent
 
--- what c took, in turn, of the bytes that waited for it
+-- the bytes that c took, piece by piece, of those that waited for it
 abbrev pub received : Configuration → ℕ → List Event → List ℕ
 received first c [] = []
 received first c (Took d n ∷ h) = if d == c then received first c h ++ take n (waiting_of c (content first h).sessions) else received first c h
 received first c (e ∷ h) = received first c h
 
--- What a connection was sent is what it took, in turn, of the bytes that waited for it.
+-- What a connection was sent is what it took, piece by piece, of the bytes that waited for it.
 abbrev pub SentIsReceived : Type 0
 SentIsReceived = (first : Configuration) (h : List Event) (c : ℕ) → IsAccepted first h → sent first c h ≡ received first c h
 
--- What an open connection was sent, and then what waits for it, is the answers to its lines, joined.
+-- What an open connection was sent, followed by what waits for it, is the answers to its lines, joined.
 abbrev pub SentAndWaitingIsDue : Type 0
 SentAndWaitingIsDue =
     (first : Configuration) (h : List Event) (c : ℕ) (k : Session) → IsAccepted first h →
     session_of c (content first h).sessions ≡ Some k → sent first c h ++ k.waits ≡ due c (past first h)
 
--- What a connection was sent is a front of the answers to its lines, also after it is closed.
+-- The answers to a connection's lines begin with what it was sent, also after it is closed.
 abbrev pub SentIsFrontOfDue : Type 0
 SentIsFrontOfDue = (first : Configuration) (h : List Event) (c : ℕ) → IsAccepted first h → Begins (sent first c h) (due c (past first h))
 
--- what the driver of u took since it was connected, in turn, of the bytes that waited for it
+-- the bytes that the driver of u took since it was connected, piece by piece, of those that waited for it
 abbrev pub driver_received : Configuration → ℕ → List Event → List ℕ
 driver_received first u [] = []
 driver_received first u (DriverTook v n ∷ h) =
@@ -131,12 +132,13 @@ driver_received first u (DriverTook v n ∷ h) =
 driver_received first u (DriverUp v ∷ h) = if v == u then [] else driver_received first u h
 driver_received first u (e ∷ h) = driver_received first u h
 
--- What a driver was sent since it was connected is what it took, in turn, of the bytes that waited for it.
+-- What a driver was sent since it was connected is what it took, piece by piece, of the bytes that waited for it.
 abbrev pub DriverSentIsReceived : Type 0
 DriverSentIsReceived =
     (first : Configuration) (h : List Event) (u : ℕ) → IsAccepted first h → driver_sent u (past first h) ≡ driver_received first u h
 
--- What a connected driver was sent, and then what waits for it, is what it was asked since it was connected, joined.
+-- What a connected driver was sent, followed by what waits for it, is the requests to it since it was connected,
+-- joined.
 abbrev pub DriverSentAndWaitingIsDue : Type 0
 DriverSentAndWaitingIsDue =
     (first : Configuration) (h : List Event) (u : ℕ) (d : Supply) → IsAccepted first h →
@@ -145,17 +147,17 @@ DriverSentAndWaitingIsDue =
 
 -- ---- numbers
 
--- n is less than each of these
+-- n is less than each of these numbers
 abbrev pub IsBelow : ℕ → List ℕ → Type 0
 IsBelow n [] = Unit {0}
 IsBelow n (m ∷ ns) = (n < m) × IsBelow n ns
 
--- each is less than those behind it
+-- each number is less than those after it
 abbrev pub IsRising : List ℕ → Type 0
 IsRising [] = Unit {0}
 IsRising (n ∷ ns) = IsBelow n ns × IsRising ns
 
--- none is greater than n
+-- no number is greater than n
 abbrev pub IsUpTo : ℕ → List ℕ → Type 0
 IsUpTo n [] = Unit {0}
 IsUpTo n (m ∷ ns) = (m ≤ n) × IsUpTo n ns
@@ -164,7 +166,8 @@ IsUpTo n (m ∷ ns) = (m ≤ n) × IsUpTo n ns
 abbrev pub numbers : Content → List ℕ
 numbers s = map (λ k. k.number) s.sessions
 
--- The numbers of the open connections rise from 1 on, and none is greater than how many connections were opened.
+-- The numbers of the open connections rise, each is at least 1, and none is greater than the number of connections
+-- opened so far.
 abbrev pub NumbersRise : Type 0
 NumbersRise =
     (first : Configuration) (h : List Event) →
@@ -179,7 +182,8 @@ AnswersKeepContent =
     (first : Configuration) (h : List Event) (s : Content) (e : Event) (r : Result (Unit {0}) Refused) →
     Tells first h s → Answers s e r → IsAnswer first h e r × Tells first (after r e h) (content_after r s e)
 
--- the connection that an event is of; an Open is of the one that it opens
+-- the number of the connection that an event concerns, if it concerns one; an Open concerns the connection that it
+-- opens
 abbrev pub connection_of : Content → Event → Option ℕ
 connection_of s (Moment t) = None
 connection_of s (Open address) = Some (s.opened + 1)
@@ -192,7 +196,7 @@ connection_of s (DriverBytes u piece) = None
 connection_of s (DriverTook u n) = None
 connection_of s (DriverDown u) = None
 
--- the driver that an event is of
+-- the number of the UPS whose driver an event concerns, if it concerns one
 abbrev pub driver_of : Event → Option ℕ
 driver_of (DriverUp u) = Some u
 driver_of (DriverBytes u piece) = Some u
@@ -200,17 +204,18 @@ driver_of (DriverTook u n) = Some u
 driver_of (DriverDown u) = Some u
 driver_of e = None
 
+-- the connection d isn't the one that an event concerns
 abbrev pub IsOther : ℕ → Option ℕ → Type 0
 IsOther d None = Unit {0}
 IsOther d (Some c) = (c == d) ≡ false
 
--- An accepted event changes no connection but its own.
+-- An accepted event changes no connection except its own.
 abbrev pub OthersStay : Type 0
 OthersStay =
     (first : Configuration) (h : List Event) (e : Event) (d : ℕ) → IsAccepted first (e ∷ h) → IsOther d (connection_of (content first h) e) →
     session_of d (content first (e ∷ h)).sessions ≡ session_of d (content first h).sessions
 
--- An accepted event of a driver changes no UPS but its own.
+-- An accepted event of a driver changes no UPS except its own.
 abbrev pub OtherDriversStay : Type 0
 OtherDriversStay =
     (first : Configuration) (h : List Event) (e : Event) (u v : ℕ) → IsAccepted first (e ∷ h) → driver_of e ≡ Some v → (v == u) ≡ false →
@@ -223,7 +228,7 @@ OpenedIsFresh =
     session_of (content first (Open address ∷ h)).opened (content first (Open address ∷ h)).sessions
     ≡ Some (fresh (content first (Open address ∷ h)).opened address)
 
--- A connection that was opened and is closed is never open again.
+-- If a connection was opened before and isn't open, no accepted event opens it.
 abbrev pub ClosedStaysClosed : Type 0
 ClosedStaysClosed =
     (first : Configuration) (h : List Event) (e : Event) (d : ℕ) → IsAccepted first (e ∷ h) → d ≤ (content first h).opened →
@@ -239,32 +244,33 @@ IsBoundedSupply d = length d.device.waits ≤ ASKS_MAX
 abbrev pub IsBoundedSession : Session → Type 0
 IsBoundedSession k = kept_of k.rest ≤ LINE_MAX
 
--- What is kept of a line, and what waits for a driver, have their bounds in every history of accepted events.
+-- In every history of accepted events, at most 512 bytes of an unfinished line are kept and at most 4,096 bytes wait
+-- for a driver.
 abbrev pub BoundsHold : Type 0
 BoundsHold =
     (first : Configuration) (h : List Event) → IsAccepted first h →
     ((c : ℕ) (k : Session) → session_of c (content first h).sessions ≡ Some k → IsBoundedSession k)
     × ((u : ℕ) (d : Supply) → supply_of u (content first h).supplies ≡ Some d → IsBoundedSupply d)
 
--- No more connections are open than the configuration allows, no more were opened than there are numbers, and each that is open
--- has one of the numbers that were given.
+-- At most as many connections are open as the configuration allows, at most 4,294,967,295 were opened, and the number
+-- of an open connection is at most the number of connections opened.
 pub record HasFewConnections (s : Content) : Type 0 where
   pub few : length s.sessions ≤ s.configuration.most_connections
   pub given : s.opened ≤ OPENED_MAX
   pub each : IsUpTo s.opened (numbers s)
 
--- So it is in every history of accepted events.
+-- In every history of accepted events there are few connections, in this sense.
 abbrev pub ConnectionsAreFew : Type 0
 ConnectionsAreFew = (first : Configuration) (h : List Event) → IsAccepted first h → HasFewConnections (content first h)
 
--- the history before the newest piece of c; where none came, that of nothing
+-- the history before the newest piece of c, or the empty history if no piece came
 abbrev pub before_piece : ℕ → List Event → List Event
 before_piece c [] = []
 before_piece c (Bytes d piece ∷ h) = if d == c then h else before_piece c h
 before_piece c (e ∷ h) = before_piece c h
 
--- What waits for a client is an end of the answers to its newest piece: behind the answers that were due before that piece
--- come those of its answers that are gone, and then what waits.
+-- What waits for an open connection is the end of the answers to its newest piece: the answers due are those due before
+-- that piece, then some bytes, and then what waits.
 abbrev pub WaitsForOnePiece : Type 0
 WaitsForOnePiece =
     (first : Configuration) (h : List Event) (c : ℕ) (k : Session) → IsAccepted first h →

@@ -1,4 +1,4 @@
--- How a server may answer an event, and the history that stands after it.
+-- How a server may answer an event, and what the history is after the answer.
 use Rattle.std.specs.Prelude.{◌≡◌, ℕ, Bool, true, false, not, ◌&&◌, ◌||◌, IsTrue, List, [], ◌∷◌, slice_get, Option, Some, None, Result, Ok, Err}
 use Rattle.std.specs.Option.{option_map_or}
 use Rattle.nut_words.specs.Lines.{LineText, Text, TooLong, lines_after}
@@ -15,35 +15,42 @@ use Rattle.nut_server_spec.specs.Configuration.{Configuration}
 use Rattle.nut_server_spec.specs.Content.{Session, Supply, content}
 use Rattle.nut_server_spec.specs.Acceptance.{refusal, behind, behind_report, lost, lost_report, session_of, supply_of}
 
--- ---- where memory may be lacking
+-- ---- where memory may run out
 
+-- whether a line says nothing
 abbrev pub is_blank : Command → Bool
 is_blank Blank = true
 is_blank (Malformed refusal) = false
 is_blank (Asks request) = false
 
+-- whether a line holds a backslash; one that is too long counts as holding none
 abbrev pub with_backslash : LineText → Bool
 with_backslash (Text line) = has_backslash line
 with_backslash TooLong = false
 
--- A line of a client may take memory where the client hasn't logged out, and it says something or has a backslash.
+-- Whether a client's line may allocate memory: the connection is open, hasn't logged out, and the line isn't blank or
+-- holds a backslash.
 abbrev pub line_takes : LineText → Option Session → Bool
 line_takes line None = false
 line_takes line (Some k) = not k.logged_out && (not (is_blank (command_of line)) || with_backslash line)
 
--- A line of a driver may take memory where it adds a variable, an enum value, a range or a command, or has a backslash.
+-- Whether a driver's line may allocate memory: it adds a variable, an enum value, a range or a command to the table, or
+-- holds a backslash.
 abbrev pub text_takes : LineText → Table → Bool
 text_takes (Text line) table = has_backslash line || line_adds table line
 text_takes TooLong table = false
 
+-- whether a driver's line may allocate memory, given the UPS
 abbrev pub report_takes : LineText → Option Supply → Bool
 report_takes line None = false
 report_takes line (Some d) = text_takes line d.device.table
 
+-- the unfinished line of a connection: empty if it isn't open
 abbrev pub unfinished_of : Option Session → LineText
 unfinished_of None = Text []
 unfinished_of (Some k) = k.rest
 
+-- the unfinished line of a driver: empty if there is no such UPS
 abbrev pub unfinished_report : Option Supply → LineText
 unfinished_report None = Text []
 unfinished_report (Some d) = d.rest
@@ -67,8 +74,8 @@ MayRunOutOf first h u piece k =
     let lines : List LineText = lines_after (unfinished_report (supply_in first h u)) piece in
     IsTrue (option_map_or (λ line. report_takes line (supply_in first (behind_report u piece k h) u)) (slice_get lines k) false)
 
--- Memory may run out in a piece alone, behind k lines of it that were done, at one that it completes and that may take
--- memory. All other events take none.
+-- Memory can run out only in a piece, at a line that it completes and that may allocate memory. The k lines before it
+-- were done. No other event allocates memory.
 abbrev pub MayLack : Configuration → List Event → Place → Event → Type 0
 MayLack first h (Line c k) (Bytes d piece) = (c ≡ d) × MayRunOut first h d piece k
 MayLack first h (Report u k) (DriverBytes v piece) = (u ≡ v) × MayRunOutOf first h v piece k
@@ -91,16 +98,16 @@ abbrev pub IsAnswer : {U : Type 0} → Configuration → List Event → Event �
 IsAnswer first h e (Ok u) = refusal (content first h) e ≡ None
 IsAnswer first h e (Err r) = IsRefusal first h e r
 
--- ---- what stands after an answer
+-- ---- what an answer leads to
 
--- The history after a lack of memory in a piece: the lines that were done stand, and then the connection is closed, or
--- the driver is gone.
+-- The history after memory ran out in a piece: its lines that were done, and then the connection is closed or the
+-- driver disconnected.
 abbrev pub after_lack : Place → Event → List Event → List Event
 after_lack (Line c k) (Bytes d piece) h = lost d piece k h
 after_lack (Report u k) (DriverBytes v piece) h = lost_report v piece k h
 after_lack place e h = h
 
--- the history after a refusal: no other than a lack of memory changes it
+-- the history after a refusal: only a lack of memory changes it
 abbrev pub after_refusal : Refused → Event → List Event → List Event
 after_refusal (Memory place) e h = after_lack place e h
 after_refusal r e h = h

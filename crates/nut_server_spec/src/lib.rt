@@ -1,5 +1,5 @@
-//! What a server of UPSes is told and what it answers: definitions, and the laws that tie the machine of a server
-//! to the histories that it was told.
+//! What a server of UPSes is told and what it answers: the definitions, and the laws that connect the machine of a
+//! server with the histories of what it was told.
 #![tactic(auto)]
 
 ghost use Rattle.nut_server_spec.specs.machine.Machine.{KeepsContent};
@@ -14,30 +14,30 @@ pub use limits::{ADDRESS_MAX, OPENED_MAX, connection_limits};
 use nut_state::every_table_holds;
 use thiserror::Error;
 
-/// Where a growth of memory was refused.
+/// The line at which memory could not be allocated.
 #[derive(Clone, Copy, Debug, PartialEq, Eq)]
 pub enum Place {
-    /// In a piece of the connection with this number, at the line behind so many that were done. Those stand, the
-    /// line left no trace, and the connection is closed.
+    /// `Line(c, k)`: in a piece of connection `c`, at the line after the first `k` lines of the piece. Those lines stay
+    /// answered. The line itself left no trace, and the connection is closed.
     Line(u64, usize),
-    /// In a piece of the driver of the UPS with this number, at the line behind so many that were done. Those stand,
-    /// the line left no trace, and the driver counts as gone.
+    /// `Report(u, k)`: in a piece of the driver of UPS `u`, at the line after the first `k` lines of the piece. What
+    /// those lines said stays. The line itself left no trace, and the driver counts as disconnected.
     Report(usize, usize),
 }
 
-/// Why an arrival isn't accepted. All but `Memory` change nothing.
+/// Why an event is refused. Only `Memory` changes anything.
 #[derive(Clone, Copy, Debug, PartialEq, Eq, Error)]
 pub enum Refused {
     /// No connection with this number is open.
     #[error("no such connection")]
     NoSuchConnection,
-    /// No UPS has this number, or its driver isn't connected.
+    /// No UPS has this number, or the event needs its driver to be connected and it isn't.
     #[error("the driver isn't connected")]
     NotConnected,
     /// The piece has more than [`PIECE_MAX`](nut_words::PIECE_MAX) bytes.
     #[error("the piece is too long")]
     PieceTooLong,
-    /// Answers wait for the connection: it has to take them first.
+    /// Bytes wait for the connection. It has to take them first.
     #[error("answers wait")]
     Busy,
     /// More bytes were taken than wait.
@@ -49,105 +49,118 @@ pub enum Refused {
     /// As many connections are open as may be, or [`OPENED_MAX`] were opened.
     #[error("too many connections")]
     Full,
-    /// A growth of memory was refused there.
+    /// Memory cannot be allocated at this line.
     #[error("out of memory")]
     Memory(Place),
 }
 
-/// The machine that a server runs keeps what its answers depend on, for every history of accepted events.
+/// States a law and does nothing when called: the machine that a server runs keeps the content of every history of
+/// accepted events.
 pub fn machine_keeps_content()
     ensures { KeepsContent }
 {}
 
-/// However a connection's bytes are cut into pieces, the content is the same.
+/// States a law and does nothing when called: a connection's bytes lead to the same content whether they come as one
+/// piece or cut into two.
 pub fn cuts_do_not_matter()
     ensures { CutsDoNotMatter }
 {}
 
-/// However a driver's bytes are cut into pieces, the content is the same.
+/// States a law and does nothing when called: a driver's bytes lead to the same content whether they come as one piece
+/// or cut into two.
 pub fn driver_cuts_do_not_matter()
     ensures { DriverCutsDoNotMatter }
 {}
 
-/// Histories of the same steps have the same answers, and ask the same of drivers.
+/// States a law and does nothing when called: if two histories have the same steps, connections get the same answers in
+/// both, and drivers the same requests.
 pub fn same_steps_same_answers()
     ensures { SameStepsSameAnswers }
 {}
 
-/// However a connection's bytes are cut, and whatever connections take between the pieces, the steps and so the answers
-/// are those of all the bytes in one piece.
+/// States a law and does nothing when called: however the bytes of a connection are cut, and whatever connections take
+/// between the pieces, the steps are those of all the bytes in one piece. So the answers are, too.
 pub fn cuts_and_writes_do_not_matter()
     ensures { CutsAndWritesDoNotMatter }
 {}
 
-/// However a driver's bytes are cut, and whatever drivers take between the pieces, what is known of each UPS, asked of each
-/// driver and answered to each connection is that of all the bytes in one piece.
+/// States a law and does nothing when called: however the bytes of a driver are cut, and whatever drivers take between
+/// the pieces, the result is that of all the bytes in one piece. This holds of what is known of each UPS, of the
+/// requests to each driver, and of the answers to each connection.
 pub fn driver_cuts_and_writes_do_not_matter()
     ensures { DriverCutsAndWritesDoNotMatter }
 {}
 
-/// A piece of a connection that has logged out is answered by nothing, asks nothing of a driver, and changes nothing but what
-/// is kept of the connection's unfinished line.
+/// States a law and does nothing when called: a piece of a connection that has logged out gets no answer and sends no
+/// request to a driver. It changes only what is kept of the connection's unfinished line.
 pub fn logout_is_final()
     ensures { LogoutIsFinal }
 {}
 
-/// Whatever a server may answer to an event, what it has then is the content of the history after it.
+/// States a law and does nothing when called: after any answer that a server may give to an event, what it holds is the
+/// content of the history after that answer.
 pub fn answers_keep_content()
     ensures { AnswersKeepContent }
 {}
 
-/// The numbers of the open connections rise from 1 on, and none is greater than how many connections were opened.
+/// States a law and does nothing when called: the numbers of the open connections rise, from at least 1 to at most the
+/// number of connections opened so far.
 pub fn numbers_rise()
     ensures { NumbersRise }
 {}
 
-/// What a connection was sent is what it took, in turn, of the bytes that waited for it.
+/// States a law and does nothing when called: what a connection was sent is what it took, piece by piece, of the bytes
+/// that waited for it.
 pub fn sent_is_received()
     ensures { SentIsReceived }
 {}
 
-/// What an open connection was sent, and then what waits for it, is the answers to its lines, joined.
+/// States a law and does nothing when called: what an open connection was sent, followed by what waits for it, is the
+/// answers to its lines, joined.
 pub fn sent_and_waiting_is_due()
     ensures { SentAndWaitingIsDue }
 {}
 
-/// What a connection was sent is a front of the answers to its lines, also after it is closed.
+/// States a law and does nothing when called: the answers to a connection's lines begin with what it was sent, also
+/// after it is closed.
 pub fn sent_is_front_of_due()
     ensures { SentIsFrontOfDue }
 {}
 
-/// What a driver was sent since it was connected is what it took, in turn, of the bytes that waited for it.
+/// States a law and does nothing when called: what a driver was sent since it was connected is what it took, piece by
+/// piece, of the bytes that waited for it.
 pub fn driver_sent_is_received()
     ensures { DriverSentIsReceived }
 {}
 
-/// What a connected driver was sent, and then what waits for it, is what it was asked, joined.
+/// States a law and does nothing when called: what a connected driver was sent, followed by what waits for it, is the
+/// requests to it since it was connected, joined.
 pub fn driver_sent_and_waiting_is_due()
     ensures { DriverSentAndWaitingIsDue }
 {}
 
-/// An accepted event changes no connection but its own.
+/// States a law and does nothing when called: an accepted event changes no connection except its own.
 pub fn others_stay()
     ensures { OthersStay }
 {}
 
-/// An accepted event of a driver changes no UPS but its own.
+/// States a law and does nothing when called: an accepted event of a driver changes no UPS except its own.
 pub fn other_drivers_stay()
     ensures { OtherDriversStay }
 {}
 
-/// A new connection has said nothing, and nothing waits for it.
+/// States a law and does nothing when called: a new connection has said nothing, and nothing waits for it.
 pub fn opened_is_fresh()
     ensures { OpenedIsFresh }
 {}
 
-/// A connection that was opened and is closed is never open again.
+/// States a law and does nothing when called: a connection that was opened and closed isn't opened again.
 pub fn closed_stays_closed()
     ensures { ClosedStaysClosed }
 {}
 
-/// What is kept of a line, and what waits for a driver, have their bounds.
+/// States a law and does nothing when called: at most 512 bytes of an unfinished line are kept, and at most 4,096 bytes
+/// wait for a driver.
 pub fn bounds_hold()
     ensures { BoundsHold }
 {}
@@ -165,20 +178,20 @@ pub fn answers_are_bounded()
     every_table_holds();
 }
 
-/// What waits for a client is an end of the answers to its newest piece: all earlier ones were sent.
+/// States a law and does nothing when called: what waits for a client is the end of the answers to its newest piece.
 pub fn waits_for_one_piece()
     ensures { WaitsForOnePiece }
 {}
 
-/// Where the configuration is within the limits that its files have, no more than 47,342,080 bytes wait for a client:
-/// 256 answered lines of one piece, each of at most 184,930 bytes.
+/// States a law and does nothing when called: if the configuration is within the limits of its files, at most
+/// 47,342,080 bytes wait for a client. These are the answers to 256 lines of one piece, each of at most 184,930 bytes.
 pub fn waits_are_bounded()
     ensures { WaitsAreBounded }
 {
     every_table_holds();
 }
 
-/// What is answered in some histories, computed from the definitions.
+/// States worked examples and does nothing when called: the answers in some histories, computed from the definitions.
 pub fn worked_examples()
     ensures connections { ConnectionExamples }
     ensures drivers { DriverExamples }

@@ -16,7 +16,7 @@ stays_true : (b : Bool) → b ≡ true → b ≡ (b || true)
 stays_true true is = refl
 stays_true false is = is
 
--- it is the same in both orders
+-- The two tests for a number in a list agree.
 turned : (i : ℕ) (noted : List ℕ) → list_any (λ x. nat_eq x i) noted ≡ true → list_any (λ x. nat_eq i x) noted ≡ true
 turned i [] is = is
 turned i (k ∷ noted) is = elim (nat_eq k i) as (λ b. nat_eq k i ≡ b → (b || list_any (λ x. nat_eq x i) noted) ≡ true → (nat_eq i k || list_any (λ x. nat_eq i x) noted) ≡ true) [
@@ -24,7 +24,7 @@ turned i (k ∷ noted) is = elim (nat_eq k i) as (λ b. nat_eq k i ≡ b → (b 
   | false ↦ λ _ rest. or_true _ (nat_eq i k) (turned i noted rest)
 ] refl is
 
--- a number that is noted needs no second note
+-- A number that is noted needs no second note.
 pub noted_once : (i j : ℕ) (noted : List ℕ) → list_any (λ x. nat_eq x i) noted ≡ true →
     list_any (λ x. nat_eq j x) noted ≡ (list_any (λ x. nat_eq j x) noted || (j == i))
 noted_once i j noted is = elim (j == i) as (λ b. (j == i) ≡ b → list_any (λ x. nat_eq j x) noted ≡ (list_any (λ x. nat_eq j x) noted || b)) [

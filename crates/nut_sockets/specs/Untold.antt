@@ -1,12 +1,12 @@
--- The records of worlds that tell nothing.
+-- The records of worlds that keep none.
 use Rattle.std.specs.Prelude.{List, Option, None}
 use Rattle.nut_server_loop.specs.Record as server
 use Rattle.nut_monitor_loop.specs.Record as monitor
 
--- that of a server's world
+-- the record of a server's world that keeps none
 abbrev pub untold : Option (List server.Entry)
 untold = None
 
--- that of a monitor's world
+-- the record of a monitor's world that keeps none
 abbrev pub untold_watch : Option (List monitor.Entry)
 untold_watch = None

@@ -1,20 +1,21 @@
-//! How many lines of a client a server is handed at once.
+//! Limits how many lines of a client the server is given at once.
 
 ghost use Rattle.std.specs.Prelude.{◌<◌, ◌≤◌, length};
 
-/// Where the next byte of a client stands.
+/// Where in a client's line the next byte is.
 #[derive(Clone, Copy, PartialEq, Eq)]
 enum Place {
     /// At the start of a line.
     Start,
-    /// In a line that is answered by one line at most.
+    /// In a line that is answered by at most one line.
     Plain,
     /// In a line that may be answered by a list.
     List,
 }
 
 impl Place {
-    /// Where the byte behind this one stands. Only a word that isn't bare, or that begins with an L, may spell LIST.
+    /// Returns where the byte after this one is. A line asks for LIST only if it begins with an L, or with a byte that
+    /// isn't a letter.
     fn behind(self, byte: u8) -> Place {
         match (self, byte) {
             (_, b'\n') => Place::Start,
@@ -25,24 +26,25 @@ impl Place {
     }
 }
 
-/// Parts what a client sends behind each line that may be answered by a list.
+/// Cuts what a client sends after each line that may be answered by a list.
 ///
-/// The longest list has 184,930 bytes, and every other answer is one line. So what the server has to keep for a client that
-/// takes nothing is a list and the answers to the short lines of one piece, which together are less than 64 KiB.
+/// The longest list has 184,930 bytes, and every other answer is one line. So the server has to keep, for a client that
+/// takes nothing, at most one list and the answers to the short lines of one piece. Those answers together have less
+/// than 64 KiB.
 #[derive(Drop)]
 pub struct Batches {
     place: Place,
 }
 
 impl Batches {
-    /// Those of a client that has sent nothing.
+    /// Returns the state of a client that has sent nothing.
     pub fn new() -> Batches {
         Batches {
             place: Place::Start,
         }
     }
 
-    /// How many bytes of what the client sent next the server is handed at once.
+    /// Returns how many of the next bytes of the client the server is given at once.
     pub fn cut(&mut self, piece: &[u8]) -> usize
         ensures within { result ≤ length piece.now }
         ensures some { 0 < length piece.now → 0 < result }

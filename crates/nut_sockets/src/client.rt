@@ -11,10 +11,10 @@ use nut_server::Server;
 use nut_server_loop::{Piece, Written};
 use std::net::IpAddr;
 
-/// For how many seconds a client may be silent.
+/// How many seconds a client may be silent.
 const PATIENCE: u64 = 60;
 
-/// For how many seconds a client that is logged in may be silent.
+/// How many seconds a client may be silent if it is logged in.
 const PATIENCE_WITH_LOGIN: u64 = 600;
 
 /// A client's socket.
@@ -25,16 +25,16 @@ pub struct Client {
     address: IpAddr,
     link: Link<TcpStream>,
     batches: Batches,
-    /// What was read of it and isn't handed on yet.
+    /// What was read from it and the server hasn't been given.
     held: Piece,
-    /// Whether there is something to read that isn't read while an answer waits.
+    /// Whether there is something to read, which isn't read while an answer waits.
     is_parked: bool,
-    /// The second in which it last said a whole line, or took some of an answer.
+    /// The second in which it last sent a whole line, or took some of an answer.
     spoke: u64,
 }
 
 impl Client {
-    /// A client that connects in this second.
+    /// Returns a client that connects in this second.
     pub fn new(number: u64, address: IpAddr, stream: TcpStream, second: u64) -> Client {
         Client {
             number,
@@ -47,17 +47,17 @@ impl Client {
         }
     }
 
-    /// The number of its connection.
+    /// Returns the number of its connection.
     pub fn number(&self) -> u64 {
         self.number
     }
 
-    /// Where it connected from.
+    /// Returns the address that it connected from.
     pub fn address(&self) -> IpAddr {
         self.address
     }
 
-    /// Reads up to a piece, and gives as much of it as a server is handed at once. What is behind that is held, and given
+    /// Reads up to a piece, and returns as much of it as the server is given at once. The rest is held, and returned
     /// before anything more is read.
     pub fn hear(&mut self, piece: &mut Piece, second: u64) -> Heard {
         let heard = self.read(piece);
@@ -77,7 +77,7 @@ impl Client {
         Heard::Part
     }
 
-    /// What is held, or else what is there.
+    /// Returns what is held, or else reads what has arrived.
     fn read(&mut self, piece: &mut Piece) -> Heard {
         if self.held.is_empty() {
             return self.link.hear(piece);
@@ -86,12 +86,12 @@ impl Client {
         Heard::Part
     }
 
-    /// Leaves what it has to read until a write to it succeeds.
+    /// Puts off reading until a write to the client succeeds.
     pub fn park(&mut self) {
         self.is_parked = true;
     }
 
-    /// Offers bytes, and says too whether it is then to be read again.
+    /// Offers bytes. Returns the outcome, and whether the client is then to be read again.
     pub fn offer(&mut self, bytes: &[u8], second: u64) -> (Written, bool)
         ensures { IsWithin result.0 (length bytes.now) }
     {
@@ -105,12 +105,12 @@ impl Client {
         (written, was_parked)
     }
 
-    /// Notes what was reported.
+    /// Notes an event of the socket.
     pub fn note(&mut self, event: &Event) {
         self.link.note(event);
     }
 
-    /// How many seconds of silence it is granted, where it has been silent for more.
+    /// Returns how many seconds of silence the client is allowed, if it has been silent for longer.
     pub fn oversilent(&self, server: &Server, second: u64) -> Option<u64> {
         let silence = second.saturating_sub(self.spoke);
         if silence <= PATIENCE {

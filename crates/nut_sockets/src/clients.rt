@@ -17,29 +17,29 @@ use std::alloc::Global;
 use std::collections::HashMap;
 use std::net::IpAddr;
 
-/// A client that has been silent for too long.
+/// A client that has been silent for longer than it may.
 #[derive(Clone, Copy)]
 pub struct Silent {
     /// The number of its connection.
     pub number: u64,
-    /// Where it connected from.
+    /// The address that it connected from.
     pub address: IpAddr,
-    /// How many seconds of silence it was granted.
+    /// How many seconds of silence it was allowed.
     pub seconds: u64,
 }
 
-/// The sockets of the connections that are open. A socket's token has its key, which is used again once it is closed;
-/// connections are told apart by their numbers.
+/// The sockets of the open connections. The token of a socket holds its key, which is used again after the socket is
+/// closed. Connections are told apart by their numbers, which are not.
 #[derive(Drop)]
 pub struct Clients {
     sockets: Slab<Client>,
     keys: HashMap<u64, usize>,
-    /// How many seconds the server has been awake. Those in which it stood still are no client's silence.
+    /// How many seconds the server has been awake. Seconds in which it was stopped don't count as silence of a client.
     second: u64,
 }
 
 impl Clients {
-    /// No sockets.
+    /// Returns an empty set of sockets.
     pub fn new(alloc: Global) -> Clients {
         Clients {
             sockets: Slab::new(alloc),
@@ -48,12 +48,12 @@ impl Clients {
         }
     }
 
-    /// Makes room for one more, or says that there is none.
+    /// Makes room for one more socket. Returns false if memory cannot be allocated.
     pub fn make_room(&mut self) -> bool {
         self.sockets.reserve(1).is_ok() && self.keys.try_reserve(1).is_ok()
     }
 
-    /// Keeps the socket of a connection, and has it watched. Where that can't be it is closed, and the answer is false.
+    /// Keeps the socket of a connection and registers it with the poll. If that fails, closes it and returns false.
     pub fn add(&mut self, registry: &Registry, number: u64, guest: Guest) -> bool {
         let Guest {
             mut stream,
@@ -77,7 +77,7 @@ impl Clients {
         true
     }
 
-    /// The number of the connection whose socket has this key.
+    /// Returns the number of the connection whose socket has this key.
     pub fn number(&self, key: usize) -> Option<u64> {
         match self.sockets.get(key) {
             Some(client) => Some(client.number()),
@@ -85,7 +85,7 @@ impl Clients {
         }
     }
 
-    /// Reads of a socket.
+    /// Reads from a socket.
     pub fn hear(&mut self, key: usize, piece: &mut Piece) -> Heard {
         match self.sockets.get_mut(key) {
             Some(client) => client.hear(piece, self.second),
@@ -93,21 +93,21 @@ impl Clients {
         }
     }
 
-    /// Leaves what a socket has to read until a write to it succeeds.
+    /// Puts off reading from a socket until a write to it succeeds.
     pub fn park(&mut self, key: usize) {
         if let Some(client) = self.sockets.get_mut(key) {
             client.park();
         }
     }
 
-    /// Notes what was reported of a socket.
+    /// Notes an event of a socket.
     pub fn note(&mut self, key: usize, event: &Event) {
         if let Some(client) = self.sockets.get_mut(key) {
             client.note(event);
         }
     }
 
-    /// Offers bytes to a connection, and gives its key where it is then to be read again.
+    /// Offers bytes to a connection. Returns the outcome, and the key of its socket if it is then to be read again.
     pub fn offer(&mut self, number: u64, bytes: &[u8]) -> (Written, Option<usize>)
         ensures { IsWithin result.0 (length bytes.now) }
     {
@@ -123,12 +123,12 @@ impl Clients {
         }
     }
 
-    /// A second has passed.
+    /// Counts a second that has passed.
     pub fn second(&mut self) {
         self.second = self.second.saturating_add(1);
     }
 
-    /// A client that has been silent for too long.
+    /// Returns a client that has been silent for longer than it may, if there is one.
     pub fn find_silent(&self, server: &Server) -> Option<Silent> {
         for (_, client) in self.sockets.iter() {
             if let Some(seconds) = client.oversilent(server, self.second) {

@@ -1,11 +1,11 @@
-//! The dialling of addresses.
+//! Dials addresses.
 
 use mio::net::TcpStream;
 use mio::{Interest, Registry, Token};
 use std::io;
 use std::net::{Net, SocketAddr};
 
-/// Who dials for one link: a net, and where its sockets are watched under which token.
+/// What one link needs to dial: a net, the poll's registry and the token for its sockets.
 #[derive(Drop)]
 pub struct Dialler<'a, N> {
     pub net: &'a N,
@@ -14,7 +14,11 @@ pub struct Dialler<'a, N> {
 }
 
 impl<'a, N: Net> Dialler<'a, N> {
-    /// Begins to connect, and has the socket watched.
+    /// Begins to connect, and registers the socket with the poll.
+    ///
+    /// # Errors
+    ///
+    /// The error of the connect or of the registration.
     pub fn dial(&self, address: SocketAddr) -> io::Result<TcpStream> {
         let mut stream = TcpStream::connect(self.net, address)?;
         let _ = stream.set_nodelay(true);

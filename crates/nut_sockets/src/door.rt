@@ -1,4 +1,4 @@
-//! Where clients come in.
+//! The listeners, where clients connect.
 
 use crate::source::Source;
 use mio::net::{TcpListener, TcpStream};
@@ -8,20 +8,20 @@ use std::io;
 use std::io::ErrorKind;
 use std::net::IpAddr;
 
-/// A client that was let in.
+/// A client that was accepted from a listener.
 #[derive(Drop)]
 pub struct Guest {
     /// Its socket.
     pub stream: TcpStream,
-    /// Where it comes from. An IPv4 address is shown as such also where it came by IPv6.
+    /// The address that it connected from. An IPv4 address mapped into IPv6 is shown as IPv4.
     pub address: IpAddr,
 }
 
-/// A client that was let in, of which the server hasn't said yet whether it accepts the connection.
+/// A client that was accepted from a listener, before the server has said whether it accepts the connection.
 #[derive(Drop)]
 struct Arrival {
     guest: Guest,
-    /// How many connections were opened before.
+    /// How many connections had been opened before.
     opened: u64,
 }
 
@@ -33,7 +33,11 @@ pub struct Door {
 }
 
 impl Door {
-    /// Has these listeners watched.
+    /// Registers the listeners with the poll.
+    ///
+    /// # Errors
+    ///
+    /// The error of a registration.
     pub fn new(registry: &Registry, mut listeners: Vec<TcpListener>) -> io::Result<Door> {
         for (i, listener) in listeners.iter_mut().enumerate() {
             let token = Source::Listener(i).token();
@@ -45,10 +49,12 @@ impl Door {
         })
     }
 
-    /// Lets the next client in that waits at a listener, and says where it comes from; `opened` is how many were before.
+    /// Accepts the next client that waits at a listener, and returns its address. `opened` is the number of connections
+    /// opened before.
     ///
     /// # Errors
-    /// `WouldBlock` where none waits, or why it can't come in.
+    ///
+    /// `WouldBlock` if none waits, or else why the client can't be accepted.
     pub fn let_in(&mut self, i: usize, opened: u64) -> io::Result<IpAddr> {
         let Some(listener) = self.listeners.get(i) else {
             return Err(io::Error::from(ErrorKind::WouldBlock));
@@ -61,7 +67,8 @@ impl Door {
         Ok(address)
     }
 
-    /// The client that was let in last, with the number of its connection. One that the server didn't accept is shown out.
+    /// Returns the client that was accepted last and the number of its connection. If the server refused the
+    /// connection, closes the socket and returns `None`.
     pub fn seat(&mut self, server: &Server) -> Option<(u64, Guest)> {
         let Arrival { guest, opened } = self.arrival.take()?;
         let number = server.opened();
@@ -72,7 +79,7 @@ impl Door {
     }
 }
 
-/// Whether an accept failed by what befell the client that waited, so that the next one may come in at once.
+/// Whether an accept failed because of the client that waited, so that the next one may be accepted at once.
 pub fn concerns_one(error: &io::Error) -> bool {
     matches!(
         error.kind(),

@@ -19,14 +19,18 @@ pub struct Driver {
     name: String,
     path: String,
     link: Option<Link<UnixStream>>,
-    /// Whether a call of it failed since it was last connected.
+    /// Whether a dial has failed since the driver was last connected.
     is_missed: bool,
-    /// Whether clients wait for a word of it.
+    /// Whether clients wait until the driver says something.
     is_awaited: bool,
 }
 
 impl Driver {
-    /// The driver of a UPS, whose socket is `DRIVER-NAME` in a folder. It isn't connected yet.
+    /// Returns the driver of a UPS, not yet connected. Its socket is `DRIVER-NAME` in the folder.
+    ///
+    /// # Errors
+    ///
+    /// [`AllocError`] if memory cannot be allocated.
     pub fn new(
         alloc: Global,
         folder: &str,
@@ -44,12 +48,12 @@ impl Driver {
         })
     }
 
-    /// The name of the UPS.
+    /// Returns the name of the UPS.
     pub fn name(&self) -> &str {
         self.name.as_str()
     }
 
-    /// The path of the driver's socket.
+    /// Returns the path of the driver's socket.
     pub fn path(&self) -> &str {
         self.path.as_str()
     }
@@ -59,7 +63,11 @@ impl Driver {
         self.link.is_some()
     }
 
-    /// Connects, and has the socket watched.
+    /// Connects to the driver, and registers the socket with the poll.
+    ///
+    /// # Errors
+    ///
+    /// The error of the connect or of the registration.
     pub fn dial(&mut self, net: &impl Net, registry: &Registry, token: Token) -> io::Result<()> {
         let mut stream = UnixStream::connect(net, self.path.as_str())?;
         let both = Interest::READABLE | Interest::WRITABLE;
@@ -69,24 +77,24 @@ impl Driver {
         Ok(())
     }
 
-    /// Whether this is the first call that failed since it was last connected.
+    /// Notes that a dial failed. Returns whether it is the first one since the driver was last connected.
     pub fn misses(&mut self) -> bool {
         let is_first = !self.is_missed;
         self.is_missed = true;
         is_first
     }
 
-    /// Has clients wait for a word of it, if it is connected.
+    /// Makes clients wait until the driver says something, if it is connected.
     pub fn await_word(&mut self) {
         self.is_awaited = self.is_connected();
     }
 
-    /// Whether clients wait for a word of it.
+    /// Whether clients wait until the driver says something.
     pub fn is_awaited(&self) -> bool {
         self.is_awaited
     }
 
-    /// Reads.
+    /// Reads from the driver.
     pub fn hear(&mut self, piece: &mut Piece) -> Heard {
         let Some(link) = &mut self.link else {
             return Heard::Nothing;
@@ -98,7 +106,7 @@ impl Driver {
         heard
     }
 
-    /// Offers bytes.
+    /// Offers bytes to the driver.
     pub fn offer(&mut self, bytes: &[u8]) -> Written
         ensures { IsWithin result (length bytes.now) }
     {
@@ -108,7 +116,7 @@ impl Driver {
         }
     }
 
-    /// Notes what was reported.
+    /// Notes an event of the socket.
     pub fn note(&mut self, event: &Event) {
         if let Some(link) = &mut self.link {
             link.note(event);

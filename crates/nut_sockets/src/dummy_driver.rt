@@ -1,4 +1,4 @@
-//! A dummy driver on its socket.
+//! A dummy driver on a Unix socket.
 
 use crate::link::{Heard, Link};
 use crate::seconds::Seconds;
@@ -16,16 +16,16 @@ const LISTENER: Token = Token(0);
 
 const SERVER: Token = Token(1);
 
-/// What is to be done for a dummy driver.
+/// What a dummy driver still has to do.
 #[derive(Clone, Copy)]
 struct Tasks {
-    /// The moment that it is to be told, if it wasn't yet.
+    /// The moment that it is to be told, if it hasn't been.
     moment: Option<u64>,
     /// Whether its server may have sent something.
     hear: bool,
 }
 
-/// A dummy driver that listens on a Unix socket. It speaks with one server at a time; others wait until that is gone.
+/// A dummy driver that listens on a Unix socket. It serves one server at a time; others wait until that one is gone.
 #[derive(Drop)]
 pub struct DummyDriver {
     poll: Poll,
@@ -38,7 +38,11 @@ pub struct DummyDriver {
 }
 
 impl DummyDriver {
-    /// A driver that waits for its first server.
+    /// Returns a driver that waits for its first server.
+    ///
+    /// # Errors
+    ///
+    /// The error of the poll or of the clock, or a lack of memory.
     pub fn new(
         rt: &(impl Net + Clock),
         alloc: Global,
@@ -62,10 +66,11 @@ impl DummyDriver {
         })
     }
 
-    /// Waits until there is something to do, at most to the next second, and does it.
+    /// Waits until there is something to do, at most until the next second, and does it.
     ///
     /// # Errors
-    /// That of the wait, or of the clock. What fails between the driver and its server ends their link alone.
+    ///
+    /// The error of the wait or of the clock. A failure between the driver and its server only ends their link.
     pub fn turn(&mut self, clock: &impl Clock) -> io::Result<()> {
         self.wait(clock)?;
         self.let_in();
@@ -79,7 +84,7 @@ impl DummyDriver {
         Ok(())
     }
 
-    /// Waits, and notes what was reported.
+    /// Waits, and notes the events.
     fn wait(&mut self, clock: &impl Clock) -> io::Result<()> {
         let patience = if self.tasks.hear && self.dummy.waits() == 0 {
             Duration::ZERO
@@ -101,7 +106,7 @@ impl DummyDriver {
         Ok(())
     }
 
-    /// Lets the next server in, if one waits and there is none.
+    /// Accepts the next server, if one waits and none is connected.
     fn let_in(&mut self) {
         if self.link.is_some() {
             return;
@@ -124,8 +129,8 @@ impl DummyDriver {
     }
 }
 
-/// Tells the moment and hears the server, each where nothing waits before it, and offers what waits. It says whether the
-/// server is still there.
+/// Tells the dummy driver the moment and what its server sent, each only if nothing waits before it, and offers what
+/// then waits. Returns whether the server is still connected.
 fn converse<S: Read + Write>(link: &mut Link<S>, dummy: &mut Dummy, tasks: &mut Tasks) -> bool {
     if !offer_waiting(link, dummy) {
         return false;
@@ -144,7 +149,7 @@ fn converse<S: Read + Write>(link: &mut Link<S>, dummy: &mut Dummy, tasks: &mut 
     hear(link, dummy, tasks) && offer_waiting(link, dummy)
 }
 
-/// Reads one piece, and hands it on. It says whether the server is still there.
+/// Reads one piece, and gives it to the dummy driver. Returns whether the server is still connected.
 fn hear<S: Read + Write>(link: &mut Link<S>, dummy: &mut Dummy, tasks: &mut Tasks) -> bool {
     let mut piece = Piece::new();
     let heard = link.hear(&mut piece);
@@ -156,7 +161,7 @@ fn hear<S: Read + Write>(link: &mut Link<S>, dummy: &mut Dummy, tasks: &mut Task
     }
 }
 
-/// Offers what waits until nothing does or no more is taken, and says whether the server is still there.
+/// Offers bytes until nothing waits or no more is taken. Returns whether the server is still connected.
 fn offer_waiting<S: Read + Write>(link: &mut Link<S>, dummy: &mut Dummy) -> bool {
     for _ in 0..u64::MAX {
         if dummy.waits() == 0 {

@@ -1,12 +1,12 @@
-//! Who hears a monitor's notices.
+//! Where a monitor's notices go.
 
 use nut_monitor::{Monitor, Notice};
 
-/// Who is handed what a monitor has to say.
+/// A receiver of a monitor's notices.
 pub trait Herald: Drop {
-    /// Is handed a notice of this monitor.
+    /// Receives a notice of this monitor.
     fn announce(&mut self, monitor: &Monitor, notice: Notice);
 
-    /// A second has passed: what was started for a notice may have ended.
+    /// Is told that a second has passed. What was started for a notice may have ended.
     fn second(&mut self);
 }

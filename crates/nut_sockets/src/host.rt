@@ -1,4 +1,4 @@
-//! The host of a server, whose addresses are dialled in turn.
+//! The host of a server, whose addresses are dialled one after the other.
 
 use crate::dialler::Dialler;
 use crate::look_ups::ADDRESSES_MAX;
@@ -10,27 +10,31 @@ use std::alloc::{AllocError, Global};
 use std::io;
 use std::net::{IpAddr, Ipv4Addr, Ipv6Addr, Net, SocketAddr};
 
-/// How many seconds there are at most between two look-ups of a host.
+/// The most seconds between two look-ups of a host.
 const LONGEST_PAUSE: u8 = 60;
 
-/// A host and a port, and the addresses that are known of it.
+/// A host, a port, and the known addresses of the host.
 #[derive(Drop)]
 pub struct Host {
     name: String,
     port: u16,
-    /// Whether its addresses have to be looked up.
+    /// Whether the host is a name whose addresses have to be looked up.
     is_named: bool,
     addresses: Vec<IpAddr>,
-    /// How many of them were dialled in this call.
+    /// How many of the addresses were dialled in this call.
     dialled: usize,
-    /// Whether it is to be looked up.
+    /// Whether the host is to be looked up.
     is_wanted: bool,
-    /// Before the next look-up.
+    /// The pause before the next look-up.
     pause: Pause,
 }
 
 impl Host {
-    /// The host and the port of a target. An address and `localhost` need no look-up.
+    /// Returns the host and the port of a target. An address and `localhost` need no look-up.
+    ///
+    /// # Errors
+    ///
+    /// [`AllocError`] if memory cannot be allocated.
     pub fn new(alloc: Global, target: &Target) -> Result<Host, AllocError> {
         let name = text_of(target.host.as_bytes());
         let mut addresses = Vec::with_capacity(alloc, ADDRESSES_MAX)?;
@@ -47,22 +51,23 @@ impl Host {
         })
     }
 
-    /// Its name.
+    /// Returns the name of the host.
     pub fn name(&self) -> &str {
         self.name.as_str()
     }
 
-    /// Whether an address of it is known.
+    /// Whether an address of the host is known.
     pub fn has_addresses(&self) -> bool {
         !self.addresses.is_empty()
     }
 
-    /// A second passed.
+    /// Counts a second that has passed.
     pub fn second(&mut self) {
         self.pause.second(LONGEST_PAUSE);
     }
 
-    /// How many seconds passed before the last look-up, if another one is due: an address has to be found, or all failed.
+    /// Returns the last pause between look-ups, in seconds, if another look-up is due: no address is known, or all have
+    /// failed.
     pub fn due_look_up(&self) -> Option<u8> {
         if self.is_wanted && self.pause.is_over() {
             Some(self.pause.length())
@@ -71,8 +76,8 @@ impl Host {
         }
     }
 
-    /// Takes the addresses that a look-up found. Where there are none those that are known stay. The next look-up comes
-    /// after a pause.
+    /// Replaces the known addresses by those that a look-up found, unless it found none. The next look-up comes after a
+    /// pause.
     pub fn take_addresses(&mut self, found: &[IpAddr]) {
         self.pause.begin(LONGEST_PAUSE);
         if found.is_empty() {
@@ -85,21 +90,22 @@ impl Host {
         self.is_wanted = false;
     }
 
-    /// It was reached: the pauses between look-ups are short again.
+    /// Notes that the host was reached: the pauses between look-ups are short again.
     pub fn reach(&mut self) {
         self.is_wanted = false;
         self.pause = Pause::none();
     }
 
-    /// A call begins: all addresses are to be dialled.
+    /// Begins a call, in which all addresses are to be dialled.
     pub fn begin(&mut self) {
         self.dialled = 0;
     }
 
-    /// Dials the next of its addresses that doesn't refuse at once.
+    /// Dials the next of the addresses that doesn't refuse at once.
     ///
     /// # Errors
-    /// That of the last address, or this one where none is left. The host is then to be looked up again.
+    ///
+    /// The error of the last address, or `error` if no address is left. A named host is then to be looked up again.
     pub fn dial(
         &mut self,
         dialler: &Dialler<'_, impl Net>,
@@ -121,8 +127,8 @@ impl Host {
     }
 }
 
-/// Appends the addresses that a name has by itself: an address has one, and `localhost` those of this machine. Others have
-/// none.
+/// Appends the addresses that need no look-up: an address is one itself, and `localhost` has those of this machine.
+/// Other names have none.
 fn put_addresses(name: &str, addresses: &mut Vec<IpAddr>) -> Result<(), AllocError> {
     if let Ok(address) = name.parse::<IpAddr>() {
         addresses.push(address)?;

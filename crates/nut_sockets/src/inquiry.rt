@@ -1,4 +1,4 @@
-//! What is asked and answered on a link.
+//! The query on a link, and its answer.
 
 ghost use Rattle.std.specs.Prelude.{◌≡◌, true, false, nat_lt, ◌&&◌};
 
@@ -13,17 +13,17 @@ const ERROR_NAME_MAX: usize = 64;
 /// The name of an error, or its first [`ERROR_NAME_MAX`] bytes.
 pub type ErrorName = ArrayVec<u8, ERROR_NAME_MAX>;
 
-/// What a server says to a query.
+/// The answer of a server to a query.
 #[derive(Debug, PartialEq, Eq, Drop)]
 pub enum Reply {
-    /// It refuses, with the error of this name.
+    /// The server refuses, with the error of this name.
     Refused(ErrorName),
     /// Anything else.
     Other,
 }
 
 impl Reply {
-    /// The name of the error, empty where there is none.
+    /// Returns the name of the error: empty if there is none.
     pub fn error(&self) -> &[u8] {
         match self {
             Reply::Refused(name) => name.as_slice(),
@@ -32,19 +32,19 @@ impl Reply {
     }
 }
 
-/// The query on a link, if one is outstanding, and the lines that come there.
+/// The query on a link, if one is outstanding, and the lines that come on the link.
 ///
-/// One query is outstanding at a time, and one line answers it.
+/// At most one query is outstanding at a time, and one line answers it.
 #[derive(Drop)]
 pub struct Inquiry {
     cutter: LineCutter,
     is_outstanding: bool,
-    /// For how many seconds it has been outstanding.
+    /// How many seconds the query has been outstanding.
     waited: u8,
 }
 
 impl Inquiry {
-    /// Nothing was asked yet.
+    /// Returns the state of a new link: nothing was asked.
     pub fn new() -> Inquiry {
         Inquiry {
             cutter: LineCutter::new(),
@@ -53,7 +53,7 @@ impl Inquiry {
         }
     }
 
-    /// Bytes of a query were offered: it is outstanding from the first of them on.
+    /// Notes that bytes of a query were offered. The query is outstanding from the first of them on.
     pub fn ask(&mut self)
         ensures { self.new.is_outstanding ≡ true }
     {
@@ -70,19 +70,19 @@ impl Inquiry {
         self.is_outstanding
     }
 
-    /// A second passed.
+    /// Counts a second that has passed.
     pub fn second(&mut self) {
         self.waited = self.waited.saturating_add(1);
     }
 
-    /// Whether a query has been outstanding for more than so many seconds.
+    /// Whether a query has been outstanding for more than `seconds`.
     pub fn is_overdue(&self, seconds: u8) -> bool
         ensures { result ≡ (self.now.is_outstanding && nat_lt seconds self.now.waited) }
     {
         self.is_outstanding && seconds < self.waited
     }
 
-    /// Hears a piece, and gives what it says to the query, where a line is then complete that answers it.
+    /// Reads a piece. Returns the answer to the outstanding query, if the piece completes a line.
     pub fn hear(&mut self, alloc: Global, piece: &[u8]) -> Option<Reply> {
         let (line, used) = self.cutter.feed(piece);
         let reply = match line? {
@@ -98,7 +98,7 @@ impl Inquiry {
     }
 }
 
-/// What a line says.
+/// Returns what a line says.
 fn reply_in(alloc: Global, line: &[u8]) -> Reply {
     match read_answer(alloc, line) {
         Ok(Answer::Err(name)) => Reply::Refused(first_bytes(name.as_bytes())),

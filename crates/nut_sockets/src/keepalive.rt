@@ -1,19 +1,20 @@
-//! Peers that vanished.
+//! Detects peers that have vanished.
 
 use libc::net as c;
 use mio::net::TcpStream;
 use std::os::fd::AsRawFd;
 
-/// After how many seconds without a segment a peer is probed.
+/// After how many seconds without a segment the peer is probed.
 const IDLE: i32 = 60;
 
-/// How many seconds lie between two probes.
+/// How many seconds pass between two probes.
 const INTERVAL: i32 = 10;
 
-/// How many probes without an answer end the connection.
+/// After how many unanswered probes the connection ends.
 const PROBES: i32 = 3;
 
-/// Has the system probe a peer that is silent, so that one that vanished without a word is noticed. It says whether the system will.
+/// Makes the system probe a silent peer, so that one that vanished without a word is noticed. Returns whether the
+/// system will.
 pub fn keep_alive(stream: &TcpStream) -> bool {
     let fd = stream.as_raw_fd();
     let (on, idle) = (number(1), number(IDLE));
@@ -26,7 +27,7 @@ pub fn keep_alive(stream: &TcpStream) -> bool {
     }
 }
 
-/// A number as the value of an option.
+/// Returns a number as the value of a socket option.
 fn number(n: i32) -> [u8; 16] {
     let mut value = [0; 16];
     value[..4].copy_from_slice(&n.to_ne_bytes());

@@ -1,4 +1,4 @@
-//! Who is late.
+//! Notes who is late: to whom a write is to come later.
 
 ghost use Rattle.std.specs.Prelude.{◌≡◌, ◌==◌, ◌||◌, ◌<◌, ℕ, true, false};
 ghost use Rattle.arrayvec.specs.ArrayVec.{array_vec_len};
@@ -8,9 +8,9 @@ ghost use Rattle.nut_sockets.specs.Late.{is_noted, is_among};
 use arrayvec::ArrayVec;
 use nut_server_loop::Written;
 
-/// What became of a write to the one with this number, who is noted as late where it is to come later. One more than the
-/// list has room for is given up: no more connections, drivers or links than that are open, and if there were, that would be
-/// no reason to fail the others.
+/// Notes that the one with this number is late, if the write is to come later, and returns the outcome. If the list is
+/// full, the write counts as failed. The list has room for as many connections, drivers or links as can be open. If
+/// there were more, that would be no reason to fail the others.
 pub fn note_written<const MOST: usize>(
     late: &mut ArrayVec<u64, MOST>,
     number: u64,
@@ -32,8 +32,8 @@ pub fn note_written<const MOST: usize>(
     }
 }
 
-/// Notes that the one with this number is late, and says whether that is noted now. A number is noted once, however often
-/// it comes, so there is no room for it only where the list is full of others.
+/// Notes that the one with this number is late, and returns whether it is noted now. A number is noted once, however
+/// often it comes, so there is no room only if the list is full of others.
 #[tactic(auto, using(crate::proofs::Late::noted_once))]
 fn note_late<const MOST: usize>(late: &mut ArrayVec<u64, MOST>, number: u64) -> bool
     ensures noted { result ≡ true → (n : ℕ) → is_noted late.new.items n ≡ (is_noted late.old.items n || (n == number)) }

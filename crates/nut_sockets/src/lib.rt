@@ -1,4 +1,4 @@
-//! The real sockets: the worlds of a server and of a monitor, and the dummy driver on its socket.
+//! The sockets: the worlds of a server and of a monitor, and the dummy driver on its socket.
 #![tactic(auto)]
 
 mod batches;

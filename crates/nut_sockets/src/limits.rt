@@ -1,30 +1,30 @@
-//! For how long a server is waited for.
+//! How long a monitor waits for a server.
 
 use nut_monitor::Monitor;
 
-/// How long a server may take. A battery doesn't wait: where a UPS is on battery it is less.
+/// The limits on a server. They are shorter if a UPS is on battery, because a battery doesn't wait.
 #[derive(Clone, Copy, Debug, PartialEq, Eq)]
 pub struct Limits {
     /// How many seconds a query may be outstanding.
     pub answer: u8,
-    /// How many seconds there are at most between two calls of a server that closes them.
+    /// The most seconds between two calls of a server that closes its connections.
     pub pause: u8,
 }
 
-/// Where no UPS is on battery.
+/// The limits if no UPS is on battery.
 pub const CALM: Limits = Limits {
     answer: 10,
     pause: 16,
 };
 
-/// Where a UPS is on battery.
+/// The limits if a UPS is on battery.
 pub const ON_BATTERY: Limits = Limits {
     answer: 5,
     pause: 5,
 };
 
 impl Limits {
-    /// The limits by what a monitor knows.
+    /// Returns the limits for what the monitor knows.
     pub fn of(monitor: &Monitor) -> Limits {
         if is_on_battery(monitor) {
             ON_BATTERY
@@ -34,7 +34,7 @@ impl Limits {
     }
 }
 
-/// Whether a UPS is on battery, by its last status.
+/// Whether a UPS is on battery, by its last known status.
 fn is_on_battery(monitor: &Monitor) -> bool {
     for i in 0..monitor.lines() {
         let flags = match monitor.known(i) {

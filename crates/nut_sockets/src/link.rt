@@ -1,4 +1,4 @@
-//! One end of a connection, whose reads and writes don't wait.
+//! One end of a connection, whose reads and writes don't block.
 
 ghost use Rattle.std.specs.Prelude.{length};
 ghost use Rattle.nut_server_loop.specs.Record.{IsWithin};
@@ -10,31 +10,31 @@ use std::io::{ErrorKind, Read, Write};
 /// What a read found.
 #[derive(Clone, Copy, Debug, PartialEq, Eq)]
 pub enum Heard {
-    /// Bytes, and no more for now.
+    /// Bytes, and no more are there now.
     All,
-    /// Bytes, and maybe more behind them.
+    /// Bytes, and there may be more.
     Part,
-    /// Nothing for now.
+    /// Nothing is there now.
     Nothing,
-    /// The other end closed, or the connection failed.
+    /// The other end closed the connection, or it failed.
     End,
 }
 
-/// One end of a connection, and what is known of its readiness. Its stream is to answer `WouldBlock` where it would wait,
-/// and to be reported once where that changes.
+/// One end of a connection, and what is known of its readiness. The stream returns `WouldBlock` if it would have to
+/// wait, and the poll reports once when that changes.
 #[derive(Drop)]
 pub struct Link<S> {
     stream: S,
-    /// Whether a write may be taken.
+    /// Whether the stream may take a write.
     takes: bool,
-    /// Whether the other end said that it ends: no report comes of that again.
+    /// Whether the other end has announced its end. No further event comes of that.
     ends: bool,
-    /// Whether the other end sent urgent data: a read stops before it, and no report comes of what is behind.
+    /// Whether the other end sent urgent data. A read stops before it, and no event comes of what follows it.
     is_urgent: bool,
 }
 
 impl<S: Read + Write> Link<S> {
-    /// A connection that was just made.
+    /// Returns one end of a connection that was just made.
     pub fn new(stream: S) -> Link<S> {
         Link {
             stream,
@@ -44,13 +44,13 @@ impl<S: Read + Write> Link<S> {
         }
     }
 
-    /// The stream.
+    /// Returns the stream.
     pub fn stream(&self) -> &S {
         &self.stream
     }
 
-    /// Reads what is there, up to a piece. Fewer bytes than that were all, but where the other end ends or sent urgent data,
-    /// which itself is passed over.
+    /// Reads what is there, up to a piece. If it is less than a piece, there was no more, unless the other end has
+    /// ended or sent urgent data. Urgent data itself is skipped.
     pub fn hear(&mut self, piece: &mut Piece) -> Heard {
         match read_piece(&mut self.stream, piece) {
             Ok(0) => Heard::End,
@@ -64,7 +64,7 @@ impl<S: Read + Write> Link<S> {
         }
     }
 
-    /// Offers bytes, of which there is at least one.
+    /// Offers at least one byte, and returns the outcome.
     pub fn offer(&mut self, bytes: &[u8]) -> Written
         ensures { IsWithin result (length bytes.now) }
     {
@@ -82,7 +82,7 @@ impl<S: Read + Write> Link<S> {
         }
     }
 
-    /// Notes what was reported.
+    /// Notes an event of the stream.
     pub fn note(&mut self, event: &Event) {
         if event.is_writable() || event.is_write_closed() || event.is_error() {
             self.takes = true;

@@ -1,4 +1,4 @@
-//! All the links of a monitor, watched by one poll.
+//! All links of a monitor, watched by one poll.
 
 ghost use Rattle.std.specs.Prelude.{◌≡◌, ◌≢◌, length, IfSome, IfOk, Some, None};
 ghost use Rattle.nut_server_loop.specs.Record.{IsWithin};
@@ -27,30 +27,31 @@ use std::net::Net;
 use std::process::Processes;
 use std::time::{Clock, Duration};
 
-/// How many milliseconds a wait lasts at most while a look-up goes on, whose end isn't reported.
+/// The most milliseconds of one wait while a look-up goes on. No event reports its end.
 const LOOK_UP_WAIT: u64 = 100;
 
-/// Why a link ends.
+/// Why a link ended.
 #[derive(Clone, Copy)]
 enum Loss {
     /// The server closed it, or it failed.
     Closed,
-    /// The server didn't answer for so many seconds.
+    /// The server didn't answer for this many seconds.
     Silent(u8),
-    /// The server said what the monitor can't read, or hadn't asked for.
+    /// The server said something that the monitor can't read or hadn't asked for.
     Unread,
 }
 
-/// A piece that was handed on. The monitor reads it, or drops its link.
+/// A piece that was given to the monitor, which either reads it or drops the link.
 #[derive(Drop)]
 struct Handed {
     /// The number of the link.
     link: usize,
-    /// The query that a line of the piece answers, if one does, and what the line says.
+    /// If a line of the piece answers a query: that query, and what the line says.
     answer: Option<(Query, Reply)>,
 }
 
-/// The links to the servers of the MONITOR lines, by their numbers, and a clock. The token of a link is its number.
+/// The links to the servers of the MONITOR lines, by the numbers of the lines, and a clock. The token of a link is its
+/// number.
 #[derive(Drop)]
 pub struct Links<'r, 'e, R: Processes, E> {
     rt: &'r R,
@@ -58,17 +59,21 @@ pub struct Links<'r, 'e, R: Processes, E> {
     rounds: Rounds,
     upstreams: Vec<Upstream>,
     look_ups: LookUps<'r, R>,
-    /// How long a server may take now.
+    /// How long a server may take at present.
     limits: Limits,
     /// Whether the shutdown has begun.
     is_ending: bool,
-    /// The piece that was handed on last, until it is known whether the monitor read it.
+    /// The piece that was given to the monitor last, until it is known whether the monitor read it.
     handed: Option<Handed>,
     reports: Reports<'e, E>,
 }
 
 impl<'r, 'e, R: Net + Clock + Processes, E: Write> Links<'r, 'e, R, E> {
-    /// The links of a monitor with this configuration, whose servers are about to be called.
+    /// Returns the links of a monitor with this configuration. Their servers are about to be called.
+    ///
+    /// # Errors
+    ///
+    /// The error of the poll or of the clock, or a lack of memory.
     pub fn new(
         rt: &'r R,
         alloc: Global,
@@ -94,9 +99,14 @@ impl<'r, 'e, R: Net + Clock + Processes, E: Write> Links<'r, 'e, R, E> {
         Ok(links)
     }
 
-    /// What comes next, after at most one wait.
+    /// Returns what comes next, after at most one wait.
     ///
-    /// A second is told once the sockets were looked at behind its end, so that what lay in them is heard before it.
+    /// A second is told only after the sockets have been looked at since its end, so what had arrived by then is heard
+    /// first.
+    ///
+    /// # Errors
+    ///
+    /// The error of the wait or of the clock.
     pub fn next(&mut self, monitor: &Monitor, piece: &mut Piece) -> io::Result<Next>
         ensures goes_on { IfOk result (λ n. n ≢ next.End) }
     {
@@ -115,7 +125,7 @@ impl<'r, 'e, R: Net + Clock + Processes, E: Write> Links<'r, 'e, R, E> {
         Ok(self.look(monitor, piece).unwrap_or(Next::Again))
     }
 
-    /// Offers bytes to the server of a link, which the monitor keeps then.
+    /// Offers bytes to the server of a link. The monitor keeps a link that it writes to, so it has read the last piece.
     pub fn offer(&mut self, i: usize, bytes: &[u8]) -> Written
         ensures { IsWithin result (length bytes.now) }
     {
@@ -128,7 +138,7 @@ impl<'r, 'e, R: Net + Clock + Processes, E: Write> Links<'r, 'e, R, E> {
         }
     }
 
-    /// Closes a link. Where the monitor was just handed a piece of it, that is why.
+    /// Closes a link. If the monitor was just given a piece from it, that piece is the reason.
     pub fn close(&mut self, i: usize) {
         if self.link_of_handed() == Some(i) {
             self.judge(false);
@@ -138,7 +148,7 @@ impl<'r, 'e, R: Net + Clock + Processes, E: Write> Links<'r, 'e, R, E> {
         }
     }
 
-    /// The link of the piece that was handed on last, until it is known whether the monitor read it.
+    /// Returns the link of the piece that was given to the monitor last, until it is known whether the monitor read it.
     fn link_of_handed(&self) -> Option<usize>
         ensures some { IfSome self.now.handed (λ h. result ≡ Some h.link) }
         ensures none { self.now.handed ≡ None → result ≡ None }
@@ -149,7 +159,8 @@ impl<'r, 'e, R: Net + Clock + Processes, E: Write> Links<'r, 'e, R, E> {
         }
     }
 
-    /// Tells of the piece that was handed on last, which the monitor read or not.
+    /// Reports the answer in the piece that was given to the monitor last, now that it is known whether the monitor
+    /// read it.
     fn judge(&mut self, is_read: bool)
         ensures { self.new.handed ≡ None }
     {
@@ -162,7 +173,8 @@ impl<'r, 'e, R: Net + Clock + Processes, E: Write> Links<'r, 'e, R, E> {
         self.tell_answer(link, query, &reply, is_read);
     }
 
-    /// Tells of an answer what is to be told of it: that its server begins to serve, if it was read, and what is refused.
+    /// Reports what an answer shows, if it has to be reported: that the server begins to serve, if the monitor read the
+    /// answer, and what was refused.
     fn tell_answer(&mut self, i: usize, query: Query, reply: &Reply, is_read: bool)
         ensures { self.new.handed ≡ self.old.handed }
     {
@@ -182,8 +194,8 @@ impl<'r, 'e, R: Net + Clock + Processes, E: Write> Links<'r, 'e, R, E> {
         }
     }
 
-    /// Closes a link, and tells of it: of a server that served, that it is lost, and of another one, once, that there is no
-    /// server yet.
+    /// Closes a link and reports it: a server that has served is lost, and of any other it is reported once that there
+    /// is no server yet.
     fn end(&mut self, i: usize, loss: Loss) {
         let Some(upstream) = self.upstreams.get_mut(i) else {
             return;
@@ -198,8 +210,8 @@ impl<'r, 'e, R: Net + Clock + Processes, E: Write> Links<'r, 'e, R, E> {
         }
     }
 
-    /// Follows the phase. A shutdown counts its own seconds, so those that were missed before it are forgotten, and no
-    /// look-up serves it any more.
+    /// Follows the phase of the monitor. A shutdown counts its own seconds, so seconds that were missed before it are
+    /// forgotten, and no look-up helps it any more.
     fn follow(&mut self, monitor: &Monitor) {
         if !self.is_ending && !matches!(monitor.phase(), Phase::Watching) {
             self.is_ending = true;
@@ -208,14 +220,14 @@ impl<'r, 'e, R: Net + Clock + Processes, E: Write> Links<'r, 'e, R, E> {
         }
     }
 
-    /// Whether seconds that were missed may be told at once: no server is about to tell what they would be judged by, or
-    /// nothing is judged any more.
+    /// Whether missed seconds may be told at once: no server is about to say what they would be judged by, or nothing
+    /// is judged any more.
     fn may_catch_up(&self) -> bool {
         let limits = self.limits;
         self.is_ending || !self.upstreams.iter().any(|it| it.holds_clock(limits))
     }
 
-    /// Looks at the links of this round, up to the first that has something.
+    /// Looks at the links of this round, until one has something to tell.
     fn look(&mut self, monitor: &Monitor, piece: &mut Piece) -> Option<Next>
         ensures goes_on { IfSome result (λ n. n ≢ next.End) }
     {
@@ -229,7 +241,7 @@ impl<'r, 'e, R: Net + Clock + Processes, E: Write> Links<'r, 'e, R, E> {
         None
     }
 
-    /// Reads of a link, or calls its server. A link that only one of the monitor and the world has is lost.
+    /// Reads from a link, or calls its server. If only the monitor or only this world has the link, it is lost.
     fn look_at(&mut self, monitor: &Monitor, i: usize, piece: &mut Piece) -> Option<Next>
         ensures goes_on { IfSome result (λ n. n ≢ next.End) }
     {
@@ -244,7 +256,7 @@ impl<'r, 'e, R: Net + Clock + Processes, E: Write> Links<'r, 'e, R, E> {
         }
     }
 
-    /// Reads of a link. One whose server doesn't answer in time is lost, whatever else it sends.
+    /// Reads from a link. If its server doesn't answer in time the link is lost, whatever else the server sends.
     fn hear(&mut self, monitor: &Monitor, i: usize, piece: &mut Piece) -> Option<Next>
         ensures goes_on { IfSome result (λ n. n ≢ next.End) }
     {
@@ -271,7 +283,7 @@ impl<'r, 'e, R: Net + Clock + Processes, E: Write> Links<'r, 'e, R, E> {
         next
     }
 
-    /// Notes that a piece is handed on, and what it says to the query on its link.
+    /// Notes the piece that is given to the monitor, and what it answers to the query on its link.
     fn hand_on(&mut self, monitor: &Monitor, i: usize, piece: &Piece) {
         let Some(upstream) = self.upstreams.get_mut(i) else {
             return;
@@ -284,7 +296,8 @@ impl<'r, 'e, R: Net + Clock + Processes, E: Write> Links<'r, 'e, R, E> {
         self.handed = Some(Handed { link: i, answer });
     }
 
-    /// Calls the server of a link, or goes on with the call. What it sent already is then to be read.
+    /// Calls the server of a link, or continues the call. When the link is made, what the server has sent already is to
+    /// be read.
     fn reach(&mut self, i: usize) -> Option<Next>
         ensures goes_on { IfSome result (λ n. n ≢ next.End) }
     {
@@ -311,8 +324,7 @@ impl<'r, 'e, R: Net + Clock + Processes, E: Write> Links<'r, 'e, R, E> {
         }
     }
 
-    /// Waits until something is reported or a second is full, or not at all where there is more to do, and begins the next
-    /// round.
+    /// Waits until an event comes or a second is over, or not at all if there is more to do, and begins the next round.
     fn wait(&mut self, monitor: &Monitor) -> io::Result<()> {
         if self.rounds.look_at_clock(self.rt)? {
             self.second(monitor);
@@ -329,7 +341,7 @@ impl<'r, 'e, R: Net + Clock + Processes, E: Write> Links<'r, 'e, R, E> {
         Ok(())
     }
 
-    /// How long there is nothing to do but to hear.
+    /// Returns how long there is nothing to do except wait for events.
     fn patience(&self) -> Duration {
         if self.rounds.seconds.has_next(self.may_catch_up()) {
             return Duration::ZERO;
@@ -342,7 +354,7 @@ impl<'r, 'e, R: Net + Clock + Processes, E: Write> Links<'r, 'e, R, E> {
         }
     }
 
-    /// A second passed, or more did while this process stood still.
+    /// Counts a second that has passed, or several in which this process was stopped.
     fn second(&mut self, monitor: &Monitor) {
         self.limits = Limits::of(monitor);
         for upstream in self.upstreams.iter_mut() {
@@ -354,7 +366,7 @@ impl<'r, 'e, R: Net + Clock + Processes, E: Write> Links<'r, 'e, R, E> {
         }
     }
 
-    /// Begins one look-up, where any is due.
+    /// Begins one look-up, if any is due.
     fn look_up(&mut self) {
         let Some(i) = next_look_up(&self.upstreams, &self.look_ups) else {
             return;
@@ -372,7 +384,7 @@ impl<'r, 'e, R: Net + Clock + Processes, E: Write> Links<'r, 'e, R, E> {
         }
     }
 
-    /// Takes what a look-up found that has ended: all links to that host are then called.
+    /// Takes the result of a look-up that has ended. All links to that host are then called.
     fn take_look_up(&mut self) {
         let Some(found) = self.look_ups.take() else {
             return;
@@ -393,8 +405,8 @@ impl<'r, 'e, R: Net + Clock + Processes, E: Write> Links<'r, 'e, R, E> {
     }
 }
 
-/// The link whose host is to be looked up next, where any is: of those that are due one that was looked up in vain the least
-/// often.
+/// Returns the link whose host is to be looked up next, if any is due: the one whose last pause between look-ups is the
+/// shortest.
 fn next_look_up<R: Processes>(upstreams: &[Upstream], look_ups: &LookUps<'_, R>) -> Option<usize> {
     let mut best: Option<(u8, usize)> = None;
     for (i, upstream) in upstreams.iter().enumerate() {
@@ -415,7 +427,7 @@ fn next_look_up<R: Processes>(upstreams: &[Upstream], look_ups: &LookUps<'_, R>)
     }
 }
 
-/// Whether a query comes behind those that open a link.
+/// Whether a query comes after those that open a link.
 fn is_behind_opening(query: Query) -> bool {
     match query {
         Query::Status | Query::Fsd | Query::NumLogins => true,
@@ -423,7 +435,7 @@ fn is_behind_opening(query: Query) -> bool {
     }
 }
 
-/// That a server is lost which served.
+/// Returns the report that a server that served is lost.
 fn lost(name: &str, loss: Loss) -> Report<'_> {
     match loss {
         Loss::Closed => Report::Gone(name),
@@ -432,7 +444,7 @@ fn lost(name: &str, loss: Loss) -> Report<'_> {
     }
 }
 
-/// That there is no server yet, where a link ended on which none served.
+/// Returns the report that there is no server yet, after a link ended on which none served.
 fn unserved(name: &str, loss: Loss) -> Report<'_> {
     let why = match loss {
         Loss::Closed => "it closes the connection",
@@ -442,7 +454,7 @@ fn unserved(name: &str, loss: Loss) -> Report<'_> {
     Report::Unreachable(name, io::Error::other(why))
 }
 
-/// Notes what was reported.
+/// Notes the events of the links.
 fn note(events: &Events, ready: &mut Ready, upstreams: &mut [Upstream]) {
     for event in events.iter() {
         let Token(i) = event.token();

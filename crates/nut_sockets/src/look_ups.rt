@@ -1,4 +1,4 @@
-//! Look-ups of hosts, for which nobody waits.
+//! Look-ups of hosts, which nobody waits for.
 
 use std::alloc::Global;
 use std::io::Read;
@@ -19,18 +19,18 @@ const LOOK_UPS_MAX: usize = 8;
 /// lines.
 const OUTPUT_MAX: usize = 4096;
 
-/// What a look-up found.
+/// The result of a look-up.
 #[derive(Drop)]
 pub struct Found {
     /// The host that was looked up.
     pub name: String,
     /// Its addresses, at most [`ADDRESSES_MAX`].
     pub addresses: Vec<IpAddr>,
-    /// Why there are none, where that is so.
+    /// Why there are no addresses, if there are none.
     pub reason: &'static str,
 }
 
-/// A look-up that goes on.
+/// A look-up that is running.
 #[derive(Drop)]
 struct LookUp<P: OpenProcess> {
     name: String,
@@ -38,8 +38,9 @@ struct LookUp<P: OpenProcess> {
     age: u8,
 }
 
-/// The look-ups that go on, each a process of its own that is killed after five seconds: a call of the system's resolver
-/// can't be given up. The process is `getent ahosts HOST`, which asks the resolver as any program here does.
+/// The look-ups that are running. Each is a process of its own, because a call of the system's resolver can't be given
+/// up; the process is killed after five seconds. It is `getent ahosts HOST`, which asks the resolver as any program
+/// here does.
 #[derive(Drop)]
 pub struct LookUps<'r, R: Processes> {
     processes: &'r R,
@@ -48,7 +49,7 @@ pub struct LookUps<'r, R: Processes> {
 }
 
 impl<'r, R: Processes> LookUps<'r, R> {
-    /// None goes on.
+    /// Returns an empty set of look-ups.
     pub fn none(processes: &'r R, alloc: Global) -> LookUps<'r, R> {
         LookUps {
             processes,
@@ -57,7 +58,7 @@ impl<'r, R: Processes> LookUps<'r, R> {
         }
     }
 
-    /// Whether none goes on.
+    /// Whether no look-up is running.
     pub fn is_idle(&self) -> bool {
         self.going.is_empty()
     }
@@ -67,7 +68,7 @@ impl<'r, R: Processes> LookUps<'r, R> {
         self.going.iter().any(|it| it.name.as_str() == name)
     }
 
-    /// Whether another one may begin.
+    /// Whether another look-up may begin.
     pub fn has_room(&self) -> bool {
         self.going.len() < LOOK_UPS_MAX
     }
@@ -75,7 +76,8 @@ impl<'r, R: Processes> LookUps<'r, R> {
     /// Begins to look a host up.
     ///
     /// # Errors
-    /// Where the process can't be started.
+    ///
+    /// If the process can't be started or memory cannot be allocated.
     pub fn start(&mut self, name: &str) -> io::Result<()> {
         self.going.reserve(1)?;
         let look_up = LookUp {
@@ -87,7 +89,7 @@ impl<'r, R: Processes> LookUps<'r, R> {
         Ok(())
     }
 
-    /// A second passed: look-ups that take too long are ended.
+    /// Counts a second that has passed, and kills look-ups that take too long.
     pub fn second(&mut self) {
         for look_up in self.going.iter_mut() {
             look_up.age = look_up.age.saturating_add(1);
@@ -97,14 +99,14 @@ impl<'r, R: Processes> LookUps<'r, R> {
         }
     }
 
-    /// Ends all.
+    /// Kills all look-ups.
     pub fn end(&mut self) {
         for look_up in self.going.iter_mut() {
             let _ = look_up.child.kill();
         }
     }
 
-    /// What one of them found that has ended, if one has.
+    /// Takes the result of a look-up that has ended, if one has.
     pub fn take(&mut self) -> Option<Found> {
         let at = first_ended(&mut self.going)?;
         if self.going.len() <= at {
@@ -130,7 +132,7 @@ fn run<R: Processes>(processes: &R, alloc: Global, name: &str) -> io::Result<Chi
     start(processes, &mut command, name)
 }
 
-/// Starts `getent` for a host, with a pipe for what it prints.
+/// Starts `getent` for a host, with a pipe for its output.
 fn start<R: Processes>(
     processes: &R,
     command: &mut Command<Global>,
@@ -144,14 +146,14 @@ fn start<R: Processes>(
     command.spawn(processes)
 }
 
-/// Which one has ended.
+/// Returns the place of the first look-up that has ended, if one has.
 fn first_ended<P: OpenProcess + Drop>(going: &mut [LookUp<P>]) -> Option<usize> {
     going
         .iter_mut()
         .position(|look_up| !matches!(look_up.child.try_wait(), Ok(None)))
 }
 
-/// What a look-up found that has ended, by what it printed.
+/// Returns the addresses that an ended look-up printed.
 fn addresses_of<P: OpenProcess>(alloc: Global, child: &mut Child<P>) -> Vec<IpAddr> {
     let mut addresses = Vec::new(alloc);
     if let (Ok(Some(status)), Some(output)) = (child.try_wait(), &mut child.stdout) {
@@ -162,8 +164,8 @@ fn addresses_of<P: OpenProcess>(alloc: Global, child: &mut Child<P>) -> Vec<IpAd
     addresses
 }
 
-/// Reads what a look-up printed that has ended. It is there at once, and is read once, so that a process which is left of it
-/// and prints nothing isn't waited for.
+/// Reads the output of an ended look-up. All of it is there already and is read with one call, so the read doesn't wait
+/// for a process that still holds the pipe and prints nothing.
 fn read_addresses(output: &mut impl Read, addresses: &mut Vec<IpAddr>) -> io::Result<()> {
     let mut text = [0; OUTPUT_MAX];
     let length = output.read(&mut text)?;
@@ -178,8 +180,8 @@ fn read_addresses(output: &mut impl Read, addresses: &mut Vec<IpAddr>) -> io::Re
     Ok(())
 }
 
-/// The address in a line of `getent ahosts`, which prints it once for each type of socket: it is taken where that is
-/// `STREAM`.
+/// Returns the address in a line of `getent ahosts`, which prints each once for each type of socket: it is taken if the
+/// type is `STREAM`.
 fn address_in(line: &[u8]) -> Option<IpAddr> {
     let text = str::from_utf8(line).ok()?;
     let mut words = text.split_ascii_whitespace();

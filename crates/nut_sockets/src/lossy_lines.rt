@@ -1,4 +1,4 @@
-//! Lines on a standard stream, whether anybody reads it or not.
+//! Lines on a standard stream, whether or not anybody reads it.
 
 ghost use Rattle.std.specs.Prelude.{IsTrue};
 ghost use Rattle.std.specs.Io.KnownBytes.{Appends};
@@ -13,38 +13,39 @@ use std::net::Net;
 use std::os::fd::AsRawFd;
 use std::time::Duration;
 
-/// How many bytes of a line are written at most, its line feed counted: one that is longer loses its end.
+/// The most bytes of a line that are written, with the line feed. A longer line loses its end.
 const LOG_LINE_MAX: usize = 2048;
 
-/// How many bytes are written at a time: a line, and before it the note of those that were let go. Linux takes up to 4,096
-/// bytes for a pipe whole, and without a wait where the pipe is reported as ready.
+/// The most bytes that are written at a time: a line, and before it the count of dropped lines. Linux takes up to 4,096
+/// bytes for a pipe whole, and without waiting if the pipe is reported as ready.
 const TEXT_MAX: usize = LOG_LINE_MAX + 128;
 
-/// A stream of lines which never waits for its reader: a line that the stream doesn't take at once is let go. How many were
-/// is told before the next line that is taken, as `upsd: lines let go: 3`.
+/// A stream of lines that doesn't wait for its reader. A line that the stream can't take at once is dropped. Before the
+/// next line that is taken, the stream says how many were dropped, as in `upsd: lines let go: 3`.
 ///
 /// What is written is kept until a line is whole. A write never fails.
 ///
-/// The stream keeps its mode, since others may share it: whether it takes a line is asked of the system before each. A file
-/// is always written. Where another process fills a shared pipe between the question and the write, the write waits; so may
-/// one to a terminal that has room for a part of the line alone.
+/// The stream keeps its mode, because other processes may share it. Instead the system is asked, before each line,
+/// whether the stream takes one. A file always does. There are two exceptions in which a write may wait: another
+/// process fills a shared pipe between the question and the write, or a terminal has room for only a part of the line.
 #[derive(Drop)]
 pub struct LossyLines<S> {
     stream: S,
     program: &'static str,
     poll: Poll,
     events: Events,
-    /// What was written of the line that isn't whole yet.
+    /// What was written of the unfinished line.
     line: ArrayVec<u8, 2048>,
-    /// How many lines were let go since one was taken.
+    /// How many lines were dropped since one was taken.
     lost: u64,
 }
 
 impl<S: Write + AsRawFd + Drop> LossyLines<S> {
-    /// The lines of this program on a stream.
+    /// Returns the lines of this program on a stream.
     ///
     /// # Errors
-    /// Where there is no descriptor or no memory to ask the system by.
+    ///
+    /// If there is no descriptor or no memory for asking the system.
     pub fn new(
         net: &impl Net,
         alloc: Global,
@@ -61,7 +62,7 @@ impl<S: Write + AsRawFd + Drop> LossyLines<S> {
         })
     }
 
-    /// Ends the line: it is written, or let go.
+    /// Ends the line: it is written or dropped.
     fn end_line(&mut self) {
         if self.line.is_full() {
             self.line.pop();
@@ -75,8 +76,8 @@ impl<S: Write + AsRawFd + Drop> LossyLines<S> {
         self.line.clear();
     }
 
-    /// Whether the stream takes a line at once. A registration reports what is ready now; a file can't be registered, and
-    /// is always ready.
+    /// Whether the stream takes a line at once. A registration reports what is ready now. A file can't be registered,
+    /// and is always ready.
     fn is_ready(&mut self) -> bool {
         let number = self.stream.as_raw_fd();
         let mut source = SourceFd(&number);
@@ -89,7 +90,7 @@ impl<S: Write + AsRawFd + Drop> LossyLines<S> {
         polled.is_ok() && self.events.iter().any(|event| event.is_writable())
     }
 
-    /// Writes the line, and before it how many were let go, in one write, and says whether all of it was taken.
+    /// Writes the line, and before it the count of dropped lines, with one write. Returns whether all of it was taken.
     fn offer(&mut self) -> bool {
         let mut text: ArrayVec<u8, TEXT_MAX> = ArrayVec::new();
         if self.lost > 0 {
@@ -101,7 +102,7 @@ impl<S: Write + AsRawFd + Drop> LossyLines<S> {
 }
 
 impl<S: Write + AsRawFd + Drop> Write for LossyLines<S> {
-    /// Keeps the bytes up to the end of the line. What a line has beyond its limit is left out.
+    /// Keeps the bytes up to the end of the line. Bytes beyond the limit of a line are dropped.
     fn write(&mut self, bytes: &[u8]) -> io::Result<usize> {
         let Some(end) = bytes.iter().position(|byte| *byte == b'\n') else {
             let _ = self.line.write(bytes);
@@ -117,7 +118,7 @@ impl<S: Write + AsRawFd + Drop> Write for LossyLines<S> {
     }
 }
 
-/// Writes a text by one call, and says whether all of it was taken.
+/// Writes a text with one call, and returns whether all of it was taken.
 fn write_whole<S: Write>(stream: &mut S, text: &[u8]) -> bool
     ensures { IsTrue result → Appends (S.Write.contents stream.old) (S.Write.contents stream.new) text.now }
 {

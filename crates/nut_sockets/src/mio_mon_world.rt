@@ -1,4 +1,4 @@
-//! The world of a monitor's links.
+//! The world of a monitor over sockets.
 
 ghost use Rattle.std.specs.Prelude.{◌≡◌, ◌<◌, ℕ, length, IsOk, IfOk, OnOk, OnErr};
 ghost use Rattle.nut_monitor_loop.specs.Record.{WasClosed, WasTold, tells, tells_write, IsWithin, late_after};
@@ -23,20 +23,22 @@ use std::time::Clock;
 
 /// The world of a monitor whose servers are reached over TCP.
 ///
-/// One thread watches all sockets, and nothing waits for a server or a name. A server whose link isn't made is called at the
-/// start and in each second: the addresses of its host are dialled in turn, and one that doesn't answer for five seconds is
-/// given up. One that closes its links before it served is called after pauses that grow. A host that is named is looked up
-/// by a process of its own, at the start and once none of the addresses that were found answers: one a second, with pauses
-/// that grow to 60 seconds, and none in a shutdown.
+/// One thread watches all sockets, and nothing waits for a server or a name. If a link isn't made, its server is called
+/// at the start and every second: the addresses of its host are dialled one after the other, and an address that
+/// doesn't answer within five seconds is given up. A server that closes its link before it has served is called after
+/// pauses that grow. The addresses of a host that is given by name are looked up by a process of its own, at the start
+/// and whenever none of the known addresses answers. At most one look-up begins each second, with pauses that grow to
+/// 60 seconds, and none begins in a shutdown.
 ///
-/// A server that doesn't answer for ten seconds, five while a UPS is on battery, is lost.
+/// A server that doesn't answer for ten seconds, or five while a UPS is on battery, is lost.
 ///
-/// A `Moment` comes each second, counted from the start, however much the servers send, once what lay in the sockets at its
-/// end was heard. Seconds that were missed, since this process stood still, follow one at a time, each once no server is
-/// about to answer, so that none is judged by what it could not say; a shutdown that then begins counts its own.
+/// A `Moment` comes each second, counted from the start, however much the servers send, after what had arrived by the
+/// end of that second was heard. Seconds that were missed, because this process was stopped, follow one at a time, and
+/// each only when no server is about to answer: so no server is judged by what it couldn't say. A shutdown that begins
+/// then counts its own seconds.
 ///
-/// Notices go to a herald, who is told each second too. It never ends. Only `next` answers a fault, that of the wait for
-/// the sockets or of the clock: what happens to one link is no other's concern. It tells no record.
+/// Notices go to a herald, which is also told of each second. The world never ends. Only `next` returns a fault, that
+/// of the wait for the sockets or of the clock: a failure of one link concerns no other. The world keeps no record.
 #[derive(Drop)]
 pub struct MioMonWorld<'r, 'e, R: Processes, H, E> {
     links: Links<'r, 'e, R, E>,
@@ -46,11 +48,12 @@ pub struct MioMonWorld<'r, 'e, R: Processes, H, E> {
 }
 
 impl<'r, 'e, R: Net + Clock + Processes, H: Herald, E: Write> MioMonWorld<'r, 'e, R, H, E> {
-    /// The world of a monitor that was made with this configuration: the server of each of its MONITOR lines is called.
-    /// Servers that come and go are reported as they do.
+    /// Returns the world of a monitor with this configuration. The server of each of its MONITOR lines is called.
+    /// Reports say when servers come and go.
     ///
     /// # Errors
-    /// Where there is no poll, no clock or no memory.
+    ///
+    /// If there is no poll, no clock or no memory.
     pub fn new(
         rt: &'r R,
         alloc: Global,

@@ -1,4 +1,4 @@
-//! The world of sockets.
+//! The world of a server over sockets.
 
 ghost use Rattle.std.specs.Prelude.{◌≡◌, ◌<◌, ℕ, length, IsOk, IfOk, OnOk, OnErr};
 ghost use Rattle.nut_server_loop.specs.Record.{tells, tells_write, tells_request, IsWithin, late_after};
@@ -24,13 +24,15 @@ use std::time::Clock;
 /// The greatest number of clients that are noted as late.
 const LATE_MAX: usize = CONNECTIONS_MAX as usize;
 
-/// The world of a server whose clients come over TCP, and whose drivers listen on Unix sockets.
+/// The world of a server whose clients connect over TCP, and whose drivers listen on Unix sockets.
 ///
-/// One thread watches all sockets. A `Moment` comes each second, counted from the start; the drivers are looked at behind it,
-/// and one that isn't connected is dialled. A client that the server has no room for is let in and closed at once, and one
-/// that is silent for too long is closed: after 60 seconds without a line or a taken answer, 600 where it is logged in. It
-/// never ends. Only `next` answers a fault, that of the wait for the sockets or of the clock: what happens to one socket is
-/// no other's concern. It tells no record.
+/// One thread watches all sockets. A `Moment` comes each second, counted from the start. After it the drivers are
+/// looked at, and one that isn't connected is dialled. A client that the server has no room for is accepted and closed
+/// at once. A client that is silent for too long is closed: after 60 seconds in which it neither sent a line nor took
+/// some of an answer, or 600 if it is logged in.
+///
+/// The world never ends. Only `next` returns a fault, that of the wait for the sockets or of the clock: a failure of
+/// one socket concerns no other. The world keeps no record.
 #[derive(Drop)]
 pub struct MioWorld<'r, 'e, R, E> {
     sockets: Sockets<'r, 'e, R, E>,
@@ -40,8 +42,12 @@ pub struct MioWorld<'r, 'e, R, E> {
 }
 
 impl<'r, 'e, R: Net + Clock, E: Write> MioWorld<'r, 'e, R, E> {
-    /// The world of these listeners and these drivers, by the numbers of their UPSes. Drivers that come and go are
-    /// reported as they do.
+    /// Returns the world of these listeners and these drivers, in the order of the numbers of their UPSes. Reports say
+    /// when drivers come and go.
+    ///
+    /// # Errors
+    ///
+    /// If there is no poll, no clock or no memory.
     pub fn new(
         rt: &'r R,
         alloc: Global,

@@ -1,30 +1,34 @@
-//! Which sockets may be ready, gone through round by round.
+//! Sockets that may be ready, looked at round by round.
 
 use circular_buffer::HeapCircularBuffer;
 use mio::Token;
 use mio::event::Event;
 use std::alloc::{AllocError, Global};
 
-/// How many words of 64 bits a set has.
+/// How many words of 64 bits the set has.
 const WORDS: usize = 8;
 
 /// The greatest number of sockets: their tokens are below.
 pub const SOCKETS_MAX: usize = WORDS * 64;
 
-/// The tokens of the sockets to look at, each once, in the order in which they were put there. Those of this round are
-/// taken out, and others are put behind them. So each gets its turn, however often another has more, and none waits for
-/// one that came after it.
+/// The tokens of the sockets to look at, each once, in the order in which they were queued. Tokens of this round are
+/// taken from the front, and others are queued behind them for the next. So each socket gets its turn, however often
+/// another has more to read, and none waits for one that was queued after it.
 #[derive(Drop)]
 pub struct Ready {
     queue: HeapCircularBuffer<Token>,
-    /// Which tokens stand in the queue.
+    /// Which tokens are in the queue.
     queued: [u64; WORDS],
-    /// How many of them, from the front, are of this round.
+    /// How many of them, from the front, belong to this round.
     round: usize,
 }
 
 impl Ready {
-    /// No sockets, and room for all.
+    /// Returns an empty set, with room for all sockets.
+    ///
+    /// # Errors
+    ///
+    /// [`AllocError`] if memory cannot be allocated.
     pub fn new(alloc: Global) -> Result<Ready, AllocError> {
         Ok(Ready {
             queue: HeapCircularBuffer::with_capacity(alloc, SOCKETS_MAX)?,
@@ -33,7 +37,7 @@ impl Ready {
         })
     }
 
-    /// Puts a socket into the next round, if it isn't to be looked at already.
+    /// Queues a socket for the next round, unless it is queued already.
     pub fn insert(&mut self, token: Token) {
         let Token(n) = token;
         let word = n / 64;
@@ -44,14 +48,14 @@ impl Ready {
         }
     }
 
-    /// Puts those with the first tokens into the next round, so many as that.
+    /// Queues tokens 0 to `count` - 1 for the next round.
     pub fn insert_first(&mut self, count: usize) {
         for n in 0..count {
             self.insert(Token(n));
         }
     }
 
-    /// Puts those of another set into the next round, and leaves that set empty.
+    /// Queues the tokens of another set for the next round, and empties that set.
     pub fn append(&mut self, other: &mut Ready) {
         other.turn();
         for _ in 0..SOCKETS_MAX {
@@ -62,7 +66,7 @@ impl Ready {
         }
     }
 
-    /// Takes a socket out of this round: of those that are left the one that came first.
+    /// Takes the first socket that is left in this round.
     pub fn take(&mut self) -> Option<Token> {
         if self.round == 0 {
             return None;
@@ -77,18 +81,18 @@ impl Ready {
         Some(token)
     }
 
-    /// Begins the next round.
+    /// Begins the next round: all queued sockets belong to it.
     pub fn turn(&mut self) {
         self.round = self.queue.len();
     }
 
-    /// Whether there is nothing to look at, in this round or the next.
+    /// Whether no socket is queued, for this round or the next.
     pub fn is_empty(&self) -> bool {
         self.queue.is_empty()
     }
 }
 
-/// Whether a read may find something, if only an end.
+/// Whether a read may find something, if only the end of the stream.
 pub fn may_be_read(event: &Event) -> bool {
     event.is_readable() || event.is_read_closed() || event.is_error()
 }

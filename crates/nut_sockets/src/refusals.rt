@@ -1,20 +1,20 @@
-//! Refusals of a server, each of which an operator is told once.
+//! Refusals of a server, each of which is reported once.
 
 use crate::inquiry::{ErrorName, Reply};
 use nut_monitor::Query;
 use std::mem;
 
-/// Which refusals of a server were told.
+/// Which refusals of a server were reported.
 #[derive(Drop)]
 pub struct Refusals {
-    /// Of USERNAME, PASSWORD, LOGIN, PRIMARY and FSD.
+    /// For USERNAME, PASSWORD, LOGIN, PRIMARY and FSD, in this order: whether a refusal was reported.
     told: [bool; 5],
     /// The error with which the last query for the status was refused.
     status: Option<ErrorName>,
 }
 
 impl Refusals {
-    /// None was told.
+    /// Returns the state before any was reported.
     pub fn none() -> Refusals {
         Refusals {
             told: [false; 5],
@@ -27,8 +27,8 @@ impl Refusals {
         self.status.is_some()
     }
 
-    /// Notes what came of a query, and says whether that is to be told: the first refusal of a query, and of the status each
-    /// that differs from what came before it.
+    /// Notes the answer to a query, and returns whether it is to be reported. Of each query the first refusal is; of
+    /// the status, each refusal that differs from the answer before.
     pub fn note(&mut self, query: Query, reply: &Reply) -> bool {
         match query {
             Query::Status => self.note_status(reply),
@@ -58,7 +58,7 @@ impl Refusals {
     }
 }
 
-/// Notes a reply, and says whether it is the first refusal.
+/// Notes an answer, and returns whether it is the first refusal.
 fn note_once(told: &mut bool, reply: &Reply) -> bool {
     match reply {
         Reply::Refused(_) => !mem::replace(told, true),
@@ -72,7 +72,7 @@ fn copy_of(error: &ErrorName) -> ErrorName {
     copy
 }
 
-/// What a query is called where its refusal is told.
+/// Returns the name of a query in the report of its refusal.
 pub fn title(query: Query) -> &'static str {
     match query {
         Query::Username => "USERNAME",

@@ -1,39 +1,39 @@
-//! What a daemon tells its operator.
+//! What a daemon reports to its operator.
 
 use std::io::Write;
 use std::net::{IpAddr, SocketAddr};
 use std::{fmt, io};
 
-/// What happened.
+/// An event that is reported.
 #[derive(Drop)]
 pub enum Report<'a> {
-    /// Clients may connect there.
+    /// Clients may connect to this address.
     Listening(SocketAddr),
-    /// A UPS is served, whose driver listens on this socket.
+    /// A UPS is served: its name, and the path of its driver's socket.
     Serving(&'a str, &'a str),
     /// The driver of a UPS is connected.
     Connected(&'a str),
-    /// The driver of a UPS can't be connected.
+    /// The driver of a UPS can't be reached.
     Missed(&'a str, io::Error),
-    /// The driver of a UPS went away.
+    /// The driver of a UPS disconnected.
     Lost(&'a str),
-    /// A client can't be let in.
+    /// A client can't be accepted.
     ShutOut(io::Error),
-    /// A client that comes from there was silent for so many seconds, and its connection is closed.
+    /// A client from this address was silent for this many seconds, and its connection is closed.
     Shed(IpAddr, u64),
-    /// A UPS is watched, which is named as in upsmon.conf: whether as primary, and its power value.
+    /// A UPS is watched: its target as in upsmon.conf, whether as primary, and its power value.
     Watching(&'a str, bool, u32),
     /// The server of a watched UPS is connected.
     Reached(&'a str),
-    /// The server of a watched UPS can't be connected.
+    /// The server of a watched UPS can't be reached.
     Unreachable(&'a str, io::Error),
-    /// The server of a watched UPS went away.
+    /// The server of a watched UPS disconnected.
     Gone(&'a str),
-    /// The server of a watched UPS didn't answer for so many seconds, and was given up.
+    /// The server of a watched UPS didn't answer for this many seconds, and was given up.
     GivenUp(&'a str, u8),
-    /// The server of a watched UPS said what can't be read, or wasn't asked for.
+    /// The server of a watched UPS said something that can't be read or wasn't asked for.
     Unread(&'a str),
-    /// The server of a watched UPS refused what it was asked, with this error.
+    /// The server of a watched UPS refused a query: the target, the query, and the name of the error.
     Refused(&'a str, &'a str, &'a str),
 }
 
@@ -72,7 +72,7 @@ impl<'a> fmt::Display for Report<'a> {
     }
 }
 
-/// Where reports go, each as one line, if they are wanted.
+/// The reports of a daemon, each of one line, if they are wanted.
 #[derive(Drop)]
 pub struct Reports<'a, E> {
     program: &'static str,
@@ -81,7 +81,7 @@ pub struct Reports<'a, E> {
 }
 
 impl<'a, E: Write> Reports<'a, E> {
-    /// Reports of this program that go to `err` if they are wanted.
+    /// Returns the reports of this program, which are written to `err` if they are wanted.
     pub fn new(program: &'static str, err: &'a mut E, are_wanted: bool) -> Reports<'a, E> {
         Reports {
             program,
@@ -90,7 +90,7 @@ impl<'a, E: Write> Reports<'a, E> {
         }
     }
 
-    /// Tells a report, behind the program's name. What can't be told is let go.
+    /// Writes a report after the program's name. A report that can't be written is dropped.
     pub fn tell(&mut self, report: Report<'_>) {
         if self.are_wanted {
             let _ = writeln!(self.err, "{}: {report}", self.program);

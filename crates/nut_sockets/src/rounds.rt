@@ -1,4 +1,4 @@
-//! The wait for many sockets.
+//! Waits for many sockets.
 
 use crate::ready::Ready;
 use crate::seconds::Seconds;
@@ -11,11 +11,11 @@ use std::time::{Clock, Duration};
 /// The greatest number of events that one wait gives.
 const EVENTS_MAX: usize = 128;
 
-/// The wait for many sockets, which are looked at round by round, and for whole seconds.
+/// Waits for many sockets, which are looked at round by round, and for whole seconds.
 #[derive(Drop)]
 pub struct Rounds {
     poll: Poll,
-    /// What the last wait reported.
+    /// The events of the last wait.
     pub events: Events,
     /// The sockets to look at.
     pub ready: Ready,
@@ -25,8 +25,12 @@ pub struct Rounds {
 }
 
 impl Rounds {
-    /// Starts now. The sockets with the first tokens, so many as `fixed`, are looked at in the first round and once a
-    /// second, whether they were reported or not.
+    /// Starts the clock. Tokens 0 to `fixed` - 1 are looked at in the first round and once a second, whether or not an
+    /// event came.
+    ///
+    /// # Errors
+    ///
+    /// The error of the poll or of the clock, or a lack of memory.
     pub fn new(rt: &(impl Net + Clock), alloc: Global, fixed: usize) -> io::Result<Rounds> {
         let mut ready = Ready::new(alloc)?;
         ready.insert_first(fixed);
@@ -40,18 +44,26 @@ impl Rounds {
         })
     }
 
-    /// Where sockets are registered to be reported.
+    /// Returns the registry at which sockets are registered with the poll.
     pub fn registry(&self) -> &Registry {
         self.poll.registry()
     }
 
-    /// Waits until something is reported or a second is full, or not at all where there is more to look at.
+    /// Waits until an event comes or a second is over, or not at all if there is more to look at.
+    ///
+    /// # Errors
+    ///
+    /// The error of the wait.
     pub fn wait(&mut self) -> io::Result<()> {
         let ahead = self.seconds.ahead();
         self.wait_for(ahead)
     }
 
-    /// Waits until something is reported, for no longer than that, or not at all where there is more to look at.
+    /// Waits until an event comes, at most this long, or not at all if there is more to look at.
+    ///
+    /// # Errors
+    ///
+    /// The error of the wait.
     pub fn wait_for(&mut self, patience: Duration) -> io::Result<()> {
         let patience = if self.ready.is_empty() {
             patience
@@ -61,7 +73,11 @@ impl Rounds {
         self.poll.poll(&mut self.events, Some(patience))
     }
 
-    /// Begins the next round, and gives the second if one is full.
+    /// Begins the next round. Returns the number of seconds since the start, if one more is over.
+    ///
+    /// # Errors
+    ///
+    /// The error of the clock.
     pub fn turn(&mut self, clock: &impl Clock) -> io::Result<Option<u64>> {
         let moment = self.seconds.pass(clock)?;
         if moment.is_some() {
@@ -71,8 +87,12 @@ impl Rounds {
         Ok(moment)
     }
 
-    /// Looks at the clock, and says whether a second became full: the sockets with the first tokens are then looked at in
+    /// Looks at the clock, and returns whether one more second is over. Tokens 0 to `fixed` - 1 are then looked at in
     /// the next round.
+    ///
+    /// # Errors
+    ///
+    /// The error of the clock.
     pub fn look_at_clock(&mut self, clock: &impl Clock) -> io::Result<bool> {
         let is_full = self.seconds.look(clock)?;
         if is_full {

@@ -5,27 +5,32 @@ ghost use Rattle.std.specs.Prelude.{◌≡◌, ◌+◌, IfSome, false};
 use std::io;
 use std::time::{Clock, Duration, Instant};
 
-/// The whole seconds since a start, each told once.
+/// The whole seconds since the start, each told once.
 ///
-/// A process that stood still finds many of them full at once. The last alone can then be told, or each in turn: one for
-/// each time that the clock is found to have gone on, and those that were missed when the caller will.
+/// If the process was stopped, many of them are over at once. A caller can be told only the last of them (`pass`), or
+/// each of them (`next`): one each time the clock is found to have moved on, and the missed ones when the caller asks
+/// for them.
 #[derive(Drop)]
 pub struct Seconds {
     start: Instant,
-    /// How many were full when the clock was looked at last.
+    /// How many seconds were over when the clock was last looked at.
     full: u64,
-    /// How many of them are still to be told.
+    /// How many of them haven't been told.
     untold: u64,
-    /// The second that was told last.
+    /// The second that was last told.
     told: u64,
-    /// Whether one became full since one was told.
+    /// Whether one was over since one was last told.
     is_due: bool,
-    /// How long it was to the next one when the clock was looked at last.
+    /// How long it was until the next second when the clock was last looked at.
     ahead: Duration,
 }
 
 impl Seconds {
-    /// Starts now.
+    /// Starts the clock.
+    ///
+    /// # Errors
+    ///
+    /// The error of the clock.
     pub fn start(clock: &impl Clock) -> io::Result<Seconds> {
         Ok(Seconds {
             start: Instant::now(clock)?,
@@ -37,7 +42,11 @@ impl Seconds {
         })
     }
 
-    /// How many seconds have passed, where that is more than was told before.
+    /// Returns how many seconds have passed, if that is more than was told before.
+    ///
+    /// # Errors
+    ///
+    /// The error of the clock.
     pub fn pass(&mut self, clock: &impl Clock) -> io::Result<Option<u64>> {
         if !self.look(clock)? {
             return Ok(None);
@@ -48,7 +57,11 @@ impl Seconds {
         Ok(Some(self.told))
     }
 
-    /// Looks at the clock, and says whether more seconds are full than when it was looked at last.
+    /// Looks at the clock, and returns whether more seconds are over than when it was last looked at.
+    ///
+    /// # Errors
+    ///
+    /// The error of the clock.
     pub fn look(&mut self, clock: &impl Clock) -> io::Result<bool> {
         let passed = self.start.elapsed(clock)?;
         let part = Duration::from_nanos(u64::from(passed.subsec_nanos()));
@@ -63,12 +76,13 @@ impl Seconds {
         Ok(true)
     }
 
-    /// Whether `next` has one.
+    /// Whether `next` would return a second.
     pub fn has_next(&self, all: bool) -> bool {
         self.untold > 0 && (all || self.is_due)
     }
 
-    /// The next second in turn: one since the clock was found to have gone on, and with `all` those that were missed too.
+    /// Returns the next second that hasn't been told: one for each time the clock was found to have moved on, and, with
+    /// `all`, the missed ones, too.
     pub fn next(&mut self, all: bool) -> Option<u64>
         ensures turn { IfSome result (λ t. t ≡ self.old.told + 1) }
         ensures told { IfSome result (λ t. self.new.told ≡ t) }
@@ -84,12 +98,12 @@ impl Seconds {
         Some(self.told)
     }
 
-    /// Those that were missed aren't told any more: the next second follows on the last one that was told.
+    /// Forgets the missed seconds: the next second that is told follows the last one.
     pub fn forget_missed(&mut self) {
         self.untold = u64::from(self.is_due);
     }
 
-    /// How long it was to the next second, when the clock was looked at last.
+    /// Returns how long it was until the next second when the clock was last looked at.
     pub fn ahead(&self) -> Duration {
         self.ahead
     }

@@ -1,4 +1,4 @@
-//! All the sockets of a server, watched by one poll.
+//! All sockets of a server, watched by one poll.
 
 ghost use Rattle.std.specs.Prelude.{◌≢◌, length, IfSome, IfOk};
 ghost use Rattle.nut_server_loop.specs.Record.{IsWithin, MayCome};
@@ -25,7 +25,7 @@ use std::io::{ErrorKind, Write};
 use std::net::{IpAddr, Net};
 use std::time::Clock;
 
-/// How many pieces of one driver are heard at most before the next one is looked at: more than its socket holds.
+/// How many pieces of one driver are read in a second before the next driver is looked at: more than its socket holds.
 const PIECES: usize = 1024;
 
 /// The listeners, the clients and the drivers of a server, and its clock.
@@ -37,18 +37,22 @@ pub struct Sockets<'r, 'e, R, E> {
     clients: Clients,
     drivers: Vec<Driver>,
     reports: Reports<'e, E>,
-    /// The moment that was given last.
+    /// The moment that was last given.
     moment: u64,
-    /// Whether silent clients are still to be looked for in this second.
+    /// Whether silent clients have still to be looked for in this second.
     sheds: bool,
-    /// Which driver is to be looked at next in this second, and how many of its pieces may be heard.
+    /// Which driver is to be looked at next in this second, and how many more of its pieces may be read.
     roll: usize,
     pieces: usize,
     stall: Stall,
 }
 
 impl<'r, 'e, R: Net + Clock, E: Write> Sockets<'r, 'e, R, E> {
-    /// Watches these listeners, and is about to dial these drivers.
+    /// Watches these listeners, and will dial these drivers.
+    ///
+    /// # Errors
+    ///
+    /// The error of the poll or of the clock, or a lack of memory.
     pub fn new(
         rt: &'r R,
         alloc: Global,
@@ -74,10 +78,12 @@ impl<'r, 'e, R: Net + Clock, E: Write> Sockets<'r, 'e, R, E> {
         })
     }
 
-    /// What comes next, after at most one wait. At each second silent clients come first, and then the drivers.
+    /// Returns what comes next, after at most one wait. After each second silent clients come first, and then the
+    /// drivers.
     ///
     /// # Errors
-    /// That of the wait, or of the clock.
+    ///
+    /// The error of the wait or of the clock.
     pub fn next(&mut self, server: &Server, piece: &mut Piece) -> io::Result<Next>
         ensures may { IfOk result (λ n. MayCome n server.now) }
         ensures goes_on { IfOk result (λ n. n ≢ next.End) }
@@ -124,7 +130,7 @@ impl<'r, 'e, R: Net + Clock, E: Write> Sockets<'r, 'e, R, E> {
         self.clients.close(number);
     }
 
-    /// Closes the link to the driver of a UPS.
+    /// Closes the link to the driver of a UPS, and reports it.
     pub fn close_driver(&mut self, u: usize) {
         if let Some(driver) = self.drivers.get_mut(u) {
             driver.close();
@@ -132,8 +138,8 @@ impl<'r, 'e, R: Net + Clock, E: Write> Sockets<'r, 'e, R, E> {
         }
     }
 
-    /// Keeps the socket of a connection that the server accepted, and closes that of one which it refused. It gives the
-    /// number of a connection that was accepted and whose socket can't be kept.
+    /// Keeps the socket of a connection that the server accepted, and closes that of one that it refused. Returns the
+    /// number of a connection that the server accepted and whose socket can't be kept.
     fn seat(&mut self, server: &Server) -> Option<u64> {
         let (number, guest) = self.door.seat(server)?;
         if self.clients.add(self.rounds.registry(), number, guest) {
@@ -142,7 +148,7 @@ impl<'r, 'e, R: Net + Clock, E: Write> Sockets<'r, 'e, R, E> {
         Some(number)
     }
 
-    /// Closes a client that was silent for too long, and gives the number of its connection.
+    /// Closes the socket of a client that was silent for too long. Returns the number of its connection.
     fn shed(&mut self, server: &Server) -> Option<u64> {
         if !self.sheds {
             return None;
@@ -157,8 +163,8 @@ impl<'r, 'e, R: Net + Clock, E: Write> Sockets<'r, 'e, R, E> {
         Some(silent.number)
     }
 
-    /// Looks at the drivers, if they weren't looked at in this second yet, and at the sockets of this round, up to the first
-    /// that has something.
+    /// Looks at the drivers, if they haven't been looked at in this second, and then at the sockets of this round,
+    /// until one has something to tell.
     fn look(&mut self, server: &Server, piece: &mut Piece) -> Option<Next>
         ensures may { IfSome result (λ n. MayCome n server.now) }
         ensures goes_on { IfSome result (λ n. n ≢ next.End) }
@@ -177,7 +183,7 @@ impl<'r, 'e, R: Net + Clock, E: Write> Sockets<'r, 'e, R, E> {
         None
     }
 
-    /// Looks at a source.
+    /// Looks at one source.
     fn look_at(&mut self, server: &Server, source: Source, piece: &mut Piece) -> Option<Next>
         ensures may { IfSome result (λ n. MayCome n server.now) }
         ensures goes_on { IfSome result (λ n. n ≢ next.End) }
@@ -189,7 +195,7 @@ impl<'r, 'e, R: Net + Clock, E: Write> Sockets<'r, 'e, R, E> {
         }
     }
 
-    /// Looks at each driver once in a second, as long as it has something, whether that was reported or not.
+    /// Looks at each driver once a second, as long as it has something to read, whether or not an event came.
     fn call_roll(&mut self, piece: &mut Piece) -> Option<Next>
         ensures may { (s : Content) → IfSome result (λ n. MayCome n s) }
         ensures goes_on { IfSome result (λ n. n ≢ next.End) }
@@ -209,7 +215,7 @@ impl<'r, 'e, R: Net + Clock, E: Write> Sockets<'r, 'e, R, E> {
         None
     }
 
-    /// Lets a client in. Where there is no room or no descriptor for it, it is tried again in the next second.
+    /// Accepts a client. If there is no room or no descriptor for it, that is tried again in the next second.
     fn look_at_listener(&mut self, server: &Server, i: usize) -> Option<Next>
         ensures may { IfSome result (λ n. MayCome n server.now) }
         ensures goes_on { IfSome result (λ n. n ≢ next.End) }
@@ -233,7 +239,7 @@ impl<'r, 'e, R: Net + Clock, E: Write> Sockets<'r, 'e, R, E> {
         }
     }
 
-    /// Dials a driver that isn't connected, and reads of one that is.
+    /// Dials a driver that isn't connected, and reads from one that is.
     fn look_at_driver(&mut self, u: usize, piece: &mut Piece) -> Option<Next>
         ensures may { (s : Content) → IfSome result (λ n. MayCome n s) }
         ensures goes_on { IfSome result (λ n. n ≢ next.End) }
@@ -265,7 +271,7 @@ impl<'r, 'e, R: Net + Clock, E: Write> Sockets<'r, 'e, R, E> {
         }
     }
 
-    /// Reads of a client that may be read, but while clients wait for the drivers.
+    /// Reads from a client that may be read, unless clients have to wait for the drivers.
     fn look_at_client(&mut self, server: &Server, key: usize, piece: &mut Piece) -> Option<Next>
         ensures may { IfSome result (λ n. MayCome n server.now) }
         ensures goes_on { IfSome result (λ n. n ≢ next.End) }
@@ -294,8 +300,8 @@ impl<'r, 'e, R: Net + Clock, E: Write> Sockets<'r, 'e, R, E> {
         }
     }
 
-    /// Waits until something is reported or a second is full, or not at all where there is more to look at. It gives the
-    /// second, and begins the next round.
+    /// Waits until an event comes or a second is over, or not at all if there is more to look at, and begins the next
+    /// round. Returns the number of seconds since the start, if one more is over.
     fn wait(&mut self) -> io::Result<Option<u64>> {
         self.rounds.wait()?;
         note(
@@ -307,8 +313,8 @@ impl<'r, 'e, R: Net + Clock, E: Write> Sockets<'r, 'e, R, E> {
         self.rounds.turn(self.rt)
     }
 
-    /// Begins a second: silent clients and drivers are to be looked at. Where so many seconds were missed that each driver
-    /// is asked for a sign of life now, clients wait for that.
+    /// Begins a second: silent clients and all drivers are to be looked at. If more than one second and more than a
+    /// third of MAXAGE passed at once, the drivers are sent PING now, and clients wait until they have answered.
     fn begin_second(&mut self, server: &Server, moment: u64) {
         let passed = moment.saturating_sub(self.moment);
         self.moment = moment;
@@ -326,7 +332,7 @@ impl<'r, 'e, R: Net + Clock, E: Write> Sockets<'r, 'e, R, E> {
         }
     }
 
-    /// Has clients wait no longer, once each driver was heard.
+    /// Lets clients be read again, once each driver has said something.
     fn end_stall(&mut self) {
         if self.stall.is_on() && !self.drivers.iter().any(|driver| driver.is_awaited()) {
             self.stall.end(&mut self.rounds.ready);
@@ -334,7 +340,7 @@ impl<'r, 'e, R: Net + Clock, E: Write> Sockets<'r, 'e, R, E> {
     }
 }
 
-/// Notes what was reported.
+/// Notes the events of the sockets.
 fn note(events: &Events, ready: &mut Ready, clients: &mut Clients, drivers: &mut [Driver]) {
     for event in events.iter() {
         match Source::of(event.token()) {
@@ -352,7 +358,7 @@ fn note(events: &Events, ready: &mut Ready, clients: &mut Clients, drivers: &mut
     }
 }
 
-/// The address of a client, as the server knows it.
+/// Returns the address of a client as the server knows it.
 fn address_of(ip: IpAddr) -> Address {
     let mut address = Address::new();
     let _ = write!(&mut address, "{ip}");

@@ -1,4 +1,4 @@
-//! What the sockets of a server are for.
+//! The sources: what the sockets of a server are for.
 
 use mio::Token;
 use nut_conf::{LISTENERS_MAX, UPSES_MAX};
@@ -6,7 +6,7 @@ use nut_conf::{LISTENERS_MAX, UPSES_MAX};
 /// The greatest number of listeners and drivers: the tokens of listeners come first, then those of drivers.
 const FIXED_MAX: usize = LISTENERS_MAX + UPSES_MAX;
 
-/// What a socket is for, by its place among its like.
+/// What a socket is for, and its number among those for the same purpose.
 #[derive(Clone, Copy)]
 pub enum Source {
     /// A listener.
@@ -18,7 +18,7 @@ pub enum Source {
 }
 
 impl Source {
-    /// The source with this token.
+    /// Returns the source with this token.
     pub fn of(token: Token) -> Source {
         let Token(n) = token;
         if n < LISTENERS_MAX {

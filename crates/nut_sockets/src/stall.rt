@@ -1,25 +1,29 @@
-//! What comes first after the server itself stood still.
+//! What is done first after the server itself was stopped.
 
 use crate::ready::Ready;
 use mio::Token;
 use std::alloc::{AllocError, Global};
 
-/// For how many seconds clients wait for the drivers at most.
+/// The most seconds that clients wait for the drivers.
 const PATIENCE: u8 = 2;
 
 /// The clients that wait for the drivers.
 ///
-/// A server that stood still, as on a machine that was stopped, has heard no driver for so long that it would call all data
-/// stale. Each driver is asked for a sign of life then, and most answer at once: so clients are read only after that.
+/// A server that was stopped, for example with its machine, hasn't heard from any driver for so long that it would call
+/// all data stale. It then sends each driver PING, and most answer at once. So clients are read only after that.
 #[derive(Drop)]
 pub struct Stall {
     clients: Ready,
-    /// For how many more seconds they wait.
+    /// How many more seconds they wait.
     seconds: u8,
 }
 
 impl Stall {
-    /// No client waits.
+    /// Returns the state in which no client waits.
+    ///
+    /// # Errors
+    ///
+    /// [`AllocError`] if memory cannot be allocated.
     pub fn new(alloc: Global) -> Result<Stall, AllocError> {
         Ok(Stall {
             clients: Ready::new(alloc)?,
@@ -27,12 +31,12 @@ impl Stall {
         })
     }
 
-    /// From now on clients wait.
+    /// Makes clients wait from now on.
     pub fn begin(&mut self) {
         self.seconds = PATIENCE;
     }
 
-    /// A second has passed.
+    /// Counts a second that has passed. Ends the wait when its last second is over.
     pub fn second(&mut self, ready: &mut Ready) {
         if self.seconds == 1 {
             self.end(ready);
@@ -40,17 +44,17 @@ impl Stall {
         self.seconds = self.seconds.saturating_sub(1);
     }
 
-    /// Whether clients wait.
+    /// Whether clients have to wait.
     pub fn is_on(&self) -> bool {
         self.seconds > 0
     }
 
-    /// Has a client wait.
+    /// Makes a client wait.
     pub fn hold(&mut self, client: Token) {
         self.clients.insert(client);
     }
 
-    /// No client waits any longer: each is to be looked at.
+    /// Ends the wait: each client that waited is to be looked at.
     pub fn end(&mut self, ready: &mut Ready) {
         self.seconds = 0;
         ready.append(&mut self.clients);

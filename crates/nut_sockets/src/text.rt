@@ -1,11 +1,12 @@
-//! Bytes of a configuration as text.
+//! The bytes of a configuration as text.
 
 ghost use Rattle.std.specs.Prelude.{◌≡◌, []};
 ghost use Rattle.std.specs.Str.{IsUtf8};
 
 use std::str;
 
-/// Bytes as text. Those of a configuration are printing ASCII alone; of bytes that aren't UTF-8 the text is empty.
+/// Returns the bytes as text, or the empty text if they aren't UTF-8. The bytes of a configuration are all printing
+/// ASCII.
 pub fn text_of(bytes: &[u8]) -> &str
     ensures text { IsUtf8 bytes.now → result.now ≡ bytes.now }
     ensures empty { ¬ (IsUtf8 bytes.now) → result.now ≡ [] }

@@ -1,4 +1,4 @@
-//! The link to the server of a UPS that is monitored.
+//! The link to the server of a UPS that is watched.
 
 ghost use Rattle.std.specs.Prelude.{length};
 ghost use Rattle.nut_server_loop.specs.Record.{IsWithin};
@@ -22,40 +22,44 @@ use std::io::ErrorKind;
 use std::net::{IpAddr, Net};
 use std::{io, mem};
 
-/// How many full seconds an address has to answer.
+/// How many whole seconds an address has to answer a call.
 const PATIENCE: u8 = 5;
 
-/// How far the link is.
+/// The stage of a link.
 #[derive(Drop)]
 enum Stage {
-    /// There is none.
+    /// There is no link.
     Down,
-    /// An address is dialled, and hasn't answered for so many seconds.
+    /// An address is being dialled, and hasn't answered for this many seconds.
     Calling(Link<TcpStream>, u8),
-    /// It is made, and these are the query and its answer.
+    /// The link is made: its socket, and the query and its answer.
     Up(Link<TcpStream>, Inquiry),
 }
 
 /// The link to the server of a MONITOR line.
 #[derive(Drop)]
 pub struct Upstream {
-    /// The target as it is written there.
+    /// The target as the MONITOR line writes it.
     name: String,
     host: Host,
     stage: Stage,
-    /// Before the host is called again.
+    /// The pause before the host is called again.
     pause: Pause,
-    /// Whether the server has answered a query behind those that open a link, since this one was made.
+    /// Whether the server has answered a query after those that open a link, since this link was made.
     serves: bool,
     refusals: Refusals,
-    /// For how many seconds the server has owed a status.
+    /// How many seconds the server has owed a status.
     owed: u8,
-    /// Whether a call failed since the server last served.
+    /// Whether a call has failed since the server last served.
     is_missed: bool,
 }
 
 impl Upstream {
-    /// The link of a MONITOR line. Its host is about to be called.
+    /// Returns the link of a MONITOR line. Its host is about to be called.
+    ///
+    /// # Errors
+    ///
+    /// [`AllocError`] if memory cannot be allocated.
     pub fn new(alloc: Global, line: &Monitored) -> Result<Upstream, AllocError> {
         Ok(Upstream {
             name: String::from_str(alloc, text_of(line.written.as_slice()))?,
@@ -69,12 +73,12 @@ impl Upstream {
         })
     }
 
-    /// The target as it is written in the MONITOR line.
+    /// Returns the target as the MONITOR line writes it.
     pub fn name(&self) -> &str {
         self.name.as_str()
     }
 
-    /// The name of its host.
+    /// Returns the name of the host.
     pub fn host_name(&self) -> &str {
         self.host.name()
     }
@@ -84,7 +88,7 @@ impl Upstream {
         matches!(self.stage, Stage::Up(_, _))
     }
 
-    /// Whether the server has told all that it was asked, the status above all.
+    /// Whether the server has answered all that it was asked, and didn't refuse the last query for the status.
     fn is_settled(&self) -> bool {
         match &self.stage {
             Stage::Down | Stage::Calling(_, _) => false,
@@ -92,8 +96,8 @@ impl Upstream {
         }
     }
 
-    /// Whether seconds that were missed shouldn't be told yet: the server was asked and may still answer in time, or it may
-    /// be called or tell a status again within the time that it has for an answer.
+    /// Whether seconds that were missed should not be told yet. The server was asked something and may still answer in
+    /// time, or it may yet be called, or report a status, within the time that it has for an answer.
     pub fn holds_clock(&self, limits: Limits) -> bool {
         match &self.stage {
             Stage::Up(_, inquiry) if inquiry.is_outstanding() => true,
@@ -103,7 +107,7 @@ impl Upstream {
         }
     }
 
-    /// A second passed.
+    /// Counts a second that has passed.
     pub fn second(&mut self, limits: Limits) {
         self.owed = if self.is_settled() {
             0
@@ -119,22 +123,23 @@ impl Upstream {
         }
     }
 
-    /// How many seconds passed before the last look-up of its host, if another one is due.
+    /// Returns the last pause between look-ups of the host, in seconds, if another look-up is due.
     pub fn due_look_up(&self) -> Option<u8> {
         self.host.due_look_up()
     }
 
-    /// Takes the addresses that a look-up of its host found, and says whether any is known.
+    /// Takes the addresses that a look-up of the host found. Returns whether any address is known.
     pub fn take_addresses(&mut self, found: &[IpAddr]) -> bool {
         self.host.take_addresses(found);
         self.host.has_addresses()
     }
 
-    /// Calls the host where that is due and its address is known, or goes on with the call, and says whether the link is now
-    /// made. Where an address refuses or doesn't answer in time, the next one is dialled.
+    /// Calls the host if that is due and an address is known, or continues the call. Returns whether the link is now
+    /// made. If an address refuses or doesn't answer in time, the next one is dialled.
     ///
     /// # Errors
-    /// That of the last address: the call has then failed.
+    ///
+    /// The error of the last address: the call has failed.
     pub fn reach(&mut self, dialler: &Dialler<'_, impl Net>) -> io::Result<bool> {
         match mem::replace(&mut self.stage, Stage::Down) {
             Stage::Down => {
@@ -153,14 +158,14 @@ impl Upstream {
         }
     }
 
-    /// Dials the next address. The error is the one where none is left.
+    /// Dials the next address. Returns `error` if none is left.
     fn call(&mut self, dialler: &Dialler<'_, impl Net>, error: io::Error) -> io::Result<()> {
         let stream = self.host.dial(dialler, error)?;
         self.stage = Stage::Calling(Link::new(stream), 0);
         Ok(())
     }
 
-    /// Goes on with a call, and says whether the link is now made.
+    /// Continues a call, and returns whether the link is now made.
     fn go_on(
         &mut self,
         dialler: &Dialler<'_, impl Net>,
@@ -184,12 +189,12 @@ impl Upstream {
         }
     }
 
-    /// Whether this is the first call that failed since the server last served.
+    /// Notes that a call failed. Returns whether it is the first one since the server last served.
     pub fn misses(&mut self) -> bool {
         !mem::replace(&mut self.is_missed, true)
     }
 
-    /// Reads.
+    /// Reads from the server.
     pub fn hear(&mut self, piece: &mut Piece) -> Heard {
         match &mut self.stage {
             Stage::Up(link, _) => link.hear(piece),
@@ -197,7 +202,7 @@ impl Upstream {
         }
     }
 
-    /// What a piece that was read says to the query, where a line is then complete that answers it.
+    /// Returns the answer to the outstanding query, if the piece that was read completes a line.
     pub fn reply_in(&mut self, alloc: Global, piece: &[u8]) -> Option<Reply> {
         match &mut self.stage {
             Stage::Up(_, inquiry) => inquiry.hear(alloc, piece),
@@ -205,7 +210,7 @@ impl Upstream {
         }
     }
 
-    /// Notes what came of a query, and says whether it is a refusal that is now to be told.
+    /// Notes the answer to a query, and returns whether it is a refusal that is now to be reported.
     pub fn note_reply(&mut self, query: Query, reply: &Reply) -> bool {
         let is_told = self.refusals.note(query, reply);
         if self.is_settled() {
@@ -214,7 +219,8 @@ impl Upstream {
         is_told
     }
 
-    /// Notes that the server answered a query behind those that open a link, and says whether this is the first on it.
+    /// Notes that the server answered a query after those that open a link. Returns whether this is the first on this
+    /// link.
     pub fn begins_to_serve(&mut self) -> bool {
         self.is_missed = false;
         !mem::replace(&mut self.serves, true)
@@ -228,7 +234,7 @@ impl Upstream {
         }
     }
 
-    /// Offers bytes.
+    /// Offers bytes to the server.
     pub fn offer(&mut self, bytes: &[u8]) -> Written
         ensures { IsWithin result (length bytes.now) }
     {
@@ -241,7 +247,7 @@ impl Upstream {
         }
     }
 
-    /// Notes what was reported, and says whether it is to be looked at.
+    /// Notes an event of the socket, and returns whether the link is to be looked at.
     pub fn note(&mut self, event: &Event) -> bool {
         match &mut self.stage {
             Stage::Down => false,
@@ -256,8 +262,8 @@ impl Upstream {
         }
     }
 
-    /// Closes the link, and says whether its server has served on it. One that has is called again in the next second; the
-    /// others after a pause, which grows from loss to loss.
+    /// Closes the link, and returns whether its server has served on it. If it has, the server is called again in the
+    /// next second. Otherwise it is called after a pause, which grows from one loss to the next.
     pub fn close(&mut self, limits: Limits) -> bool {
         self.stage = Stage::Down;
         let served = mem::replace(&mut self.serves, false);
@@ -271,10 +277,11 @@ impl Upstream {
     }
 }
 
-/// Whether the other end answered a call.
+/// Whether the other end has answered a call.
 ///
 /// # Errors
-/// Why the call failed, or `TimedOut` where it wasn't answered in time.
+///
+/// Why the call failed, or `TimedOut` if it wasn't answered in time.
 fn is_answered(stream: &TcpStream, waited: u8) -> io::Result<bool> {
     if let Some(error) = stream.take_error()? {
         return Err(error);

@@ -1,4 +1,4 @@
--- What each change does where a search by name has found its variable or command, or has found none.
+-- What each change does, if a search by name has found its variable or command, and if it has found none.
 use Rattle.std.proofs.Common.{◌≡◌, ℕ, zero, suc, List, [], ◌∷◌, ◌++◌, Bool, true, false, not, ◌&&◌, Some, None, length, refl, sym, ap, ◌∙◌, arith, inl, inr, ◌⊎◌}
 use Rattle.std.specs.Prelude.{filter, is_some, nat_lt, nat_le, unwrap_or, slice_set, slice_index_or}
 use Rattle.std.specs.List.{insert, remove, list_any}
@@ -21,7 +21,7 @@ name_of v = v.name
 abbrev pub itself : List ℕ → List ℕ
 itself command = command
 
--- ---- the variable stands at i, and is v
+-- ---- the variable is v, at place i
 
 module _ (t : Table) (name : List ℕ) (i : ℕ) (v : Entry) (f : IsFound name_of name t.variables i) (at : v ≡ slice_index_or t.variables i v) where
   pub variable_is : variable t name ≡ Some v

@@ -15,7 +15,7 @@ use Rattle.nut_state.specs.LookBack.{deletes, value_set, flags_set, aux_set, enu
 use Rattle.nut_state.proofs.PutLemmas.{HasName, named-put_same, named-put_other, name-named}
 use Rattle.nut_state.proofs.TableLemmas.{either, and_left}
 
--- what a change says of a name, of the variable before and after
+-- What a change says of a name, against the variable before and after it.
 pub record FieldEffects (name : List ℕ) (change : Change) (v w : Entry) : Type 0 where
   pub value : Some w.value ≡ option_or (value_set name change) (Some v.value)
   pub flags : w.flags ≡ unwrap_or (flags_set name change) v.flags
@@ -23,7 +23,7 @@ pub record FieldEffects (name : List ℕ) (change : Change) (v w : Entry) : Type
   pub enums : w.enums ≡ filter (λ x. not (removes_enum name x change)) v.enums ++ option_to_list (enum_added name change)
   pub ranges : w.ranges ≡ filter (λ x. not (removes_range name x change)) v.ranges ++ option_to_list (range_added name change)
 
--- the same of what a table says
+-- What a change says of a name, against the table's look-ups before and after it.
 pub record Effects (name : List ℕ) (change : Change) (t u : Table) : Type 0 where
   pub value : value_of u name ≡ option_or (value_set name change) (value_of t name)
   pub flags : flags_of u name ≡ unwrap_or (flags_set name change) (flags_of t name)
@@ -31,7 +31,7 @@ pub record Effects (name : List ℕ) (change : Change) (t u : Table) : Type 0 wh
   pub enums : enums_of u name ≡ filter (λ x. not (removes_enum name x change)) (enums_of t name) ++ option_to_list (enum_added name change)
   pub ranges : ranges_of u name ≡ filter (λ x. not (removes_range name x change)) (ranges_of t name) ++ option_to_list (range_added name change)
 
--- a change that says nothing of a name
+-- A change that says nothing of a name.
 pub record SaysNothing (name : List ℕ) (change : Change) : Type 0 where
   pub value : value_set name change ≡ None
   pub flags : flags_set name change ≡ None
@@ -112,7 +112,7 @@ nothing_said : (name : List ℕ) (change : Change) → value_set name change ≡
     → ((x : Range) → removes_range name x change ≡ false) → SaysNothing name change
 nothing_said name change a b c d e f g = record { value = a; flags = b; aux = c; enum_in = d; enum_out = e; range_in = f; range_out = g }
 
--- a value that is set, for a variable that is there or a new one
+-- A value that is set, for a variable that exists or a new one.
 set_effects : (t : Table) (n name value : List ℕ) → (variable t n ≡ None) ⊎ ((v : Entry) × (variable t n ≡ Some v))
     → ((bytes_eq n name ≡ true) × (n ≡ name)) ⊎ ((bytes_eq n name ≡ false) × (n ≢ name))
     → Effects name (set_info n value) t (with_variable t n (Some (with_value value (unwrap_or (variable t n) (fresh n value)))))

@@ -34,7 +34,7 @@ any-push : {X : Type 0} (p : X → Bool) (xs : List X) (c : X) → list_any p (x
 any-push p [] c = or_false (p c)
 any-push p (x ∷ xs) c = ap (λ b. p x || b) (any-push p xs c) ∙ or_assoc (p x) (list_any p xs) (p c)
 
--- one more change at the end: it removes what it removes, and adds what it adds
+-- One more change at the end: what it removes is gone, and what it adds is there.
 standing-push : {X : Type 0} (added : Change → Option X) (removes : X → Change → Bool) (xs : List Change) (c : Change)
     → standing added removes (xs ++ c ∷ []) ≡ filter (λ x. not (removes x c)) (standing added removes xs) ++ option_to_list (added c)
 standing-push added removes [] c = by (added c)
@@ -240,7 +240,7 @@ module _ (t : Table) (changes : List Change) (table : IsTable t) (h : LooksBack 
   follows_alike : FollowsAlike t changes
   follows_alike = record { accepted_alike = accepts_same; added_alike = adds_same }
 
--- an empty table, and no lines
+-- An empty table holds what no lines say.
 nothing : LooksBack empty []
 unfolding named
 nothing = record {
@@ -304,7 +304,7 @@ pub every_table : (lines : List (List ℕ)) → Holds (table_of lines) lines
 every_table [] = empty_holds
 every_table (line ∷ earlier) = applied_holds (table_of earlier) line earlier (every_table earlier)
 
--- a table that followed what a line asks for
+-- A table that did what a line asks for holds what the lines and this one say.
 pub followed_holds : (t new : Table) (line : List ℕ) (words : List (List ℕ)) (change : Change) → spelled line ≡ Ok words → asked words ≡ Some change
     → new ≡ after t change → (lines : List (List ℕ)) → Holds t lines → Holds new (line ∷ lines)
 unfolding heard applied

@@ -12,7 +12,7 @@ use Rattle.nut_state.proofs.PutLemmas.{name-named}
 use Rattle.nut_state.proofs.TableLemmas.{either}
 
 module _ {X : Type 0} (name_of : X → List ℕ) where
-  -- each one is found by its name
+  -- Each element is found by its name.
   each_found : (xs : List X) → IsAscending (map name_of xs) → All (λ x. named name_of (name_of x) xs ≡ Some x) xs
   each_found xs up k d within =
       let here : (e : X) → name_cmp (name_of (get_or xs k e)) (name_of (get_or xs k d)) ≡ Equal =

@@ -18,7 +18,7 @@ use Rattle.nut_state.specs.Text.{is_name}
 use Rattle.nut_state.specs.laws.Holds.{IsTable, IsWithinLimits}
 use Rattle.nut_state.proofs.PutLemmas.{HasName, ascending-put, length-put, length-put_found, length-put_none, All-put, name-named, All-named}
 
--- a value of an `Option` and the equation that it is that
+-- An option is `None`, or there is a value that it holds.
 pub either : {X : Type 0} (o : Option X) → (o ≡ None) ⊎ ((x : X) × (o ≡ Some x))
 either None = inl refl
 either (Some x) = inr (x, refl)
@@ -80,7 +80,7 @@ pub and_right : (a b : Bool) → (a && b) ≡ true → b ≡ true
 and_right true b h = h
 and_right false b h = cc
 
--- a test that a variable passes is one that it is there for
+-- the test at the variable that `passes` has found
 passes_at : (t : Table) (name : List ℕ) (test : Entry → Bool) (v : Entry) → variable t name ≡ Some v → passes t name test ≡ true → test v ≡ true
 passes_at t name test v e h = rw e at h
 

@@ -1,4 +1,4 @@
-//! Names and values, which stand in place and take no memory of their own.
+//! Names and values. They are stored in place and allocate no memory.
 ghost use Rattle.std.specs.Prelude.{◌≡◌, ◌≤◌, List, ℕ, length};
 ghost use Rattle.nut_state.specs.Text.{is_name};
 
@@ -28,7 +28,7 @@ impl Name {
         Name { bytes: name }
     }
 
-    /// The bytes of the name.
+    /// Returns the bytes of the name.
     pub fn as_bytes(&self) -> &[u8]
         ensures value { result.now ≡ self.now }
         ensures fits { length result.now ≤ NAME_MAX }
@@ -59,7 +59,7 @@ impl Text {
         Text { contents: text }
     }
 
-    /// Writes another text in the place of this one.
+    /// Replaces the text by another.
     pub(crate) fn set(&mut self, bytes: &[u8])
         requires { length bytes.now ≤ VALUE_MAX }
         ensures { self.new ≡ bytes.now }
@@ -68,7 +68,7 @@ impl Text {
         self.contents.try_extend_from_slice(bytes).unwrap();
     }
 
-    /// The bytes of the text.
+    /// Returns the bytes of the text.
     pub fn as_bytes(&self) -> &[u8]
         ensures value { result.now ≡ self.now }
         ensures fits { length result.now ≤ VALUE_MAX }

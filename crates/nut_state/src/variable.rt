@@ -14,26 +14,26 @@ use nut_words::{NAME_MAX, VALUE_MAX, Words};
 use std::alloc::{AllocError, Global};
 use std::marker::Model;
 
-/// What SETFLAGS says of a variable.
+/// The flags that SETFLAGS sets on a variable.
 #[derive(Clone, Copy, PartialEq, Eq)]
 pub struct Flags {
-    /// `RW`: a client may set it.
+    /// `RW`: a client may set the variable.
     pub writable: bool,
-    /// `STRING`: its value is a text of at most `aux` bytes.
+    /// `STRING`: the value is a text of at most `aux` bytes.
     pub string: bool,
-    /// `NUMBER`: its value is a number.
+    /// `NUMBER`: the value is a number.
     pub number: bool,
 }
 
 impl Flags {
-    /// No flags, as a variable has before any SETFLAGS.
+    /// No flags. A variable has none before a SETFLAGS.
     pub const NONE: Flags = Flags {
         writable: false,
         string: false,
         number: false,
     };
 
-    /// The flags that the words past a name say, letter case aside.
+    /// Returns the flags named by the words after the variable's name, in upper or lower case.
     pub(crate) fn read(words: &Words) -> Flags
         ensures { result ≡ flags_named (drop 2 words.now) }
     {
@@ -45,7 +45,7 @@ impl Flags {
     }
 }
 
-/// Whether one of the words past a name is this text.
+/// Whether one of the words after the variable's name is this text, in upper or lower case.
 fn names(words: &Words, text: &[u8]) -> bool
     ensures { result ≡ list_any (says text.now) (drop 2 words.now) }
 {
@@ -78,7 +78,7 @@ impl Model for Variable {
 }
 
 impl Variable {
-    /// A variable without flags and limits.
+    /// Returns a variable with a value, without flags, aux, enum values and ranges.
     pub(crate) fn new(alloc: Global, name: &[u8], value: &[u8]) -> Variable
         requires name { length name.now ≤ NAME_MAX }
         requires value { length value.now ≤ VALUE_MAX }
@@ -94,7 +94,7 @@ impl Variable {
         }
     }
 
-    /// Its name.
+    /// Returns the variable's name.
     pub fn name(&self) -> &[u8]
         ensures { result.now ≡ self.now.name }
     {
@@ -109,28 +109,29 @@ impl Variable {
         self.value.as_bytes()
     }
 
-    /// The flags of the last SETFLAGS.
+    /// Returns the flags of the last SETFLAGS.
     pub fn flags(&self) -> Flags
         ensures { result ≡ self.now.flags }
     {
         self.flags
     }
 
-    /// The number of the last SETAUX, which is the greatest length of a string value in bytes; 0 before any.
+    /// Returns the number of the last SETAUX: the greatest length of a string value in bytes. It is 0 before any
+    /// SETAUX.
     pub fn aux(&self) -> u16
         ensures { result ≡ self.now.aux }
     {
         self.aux
     }
 
-    /// The enum values, in order of addition.
+    /// Returns the enum values, in order of addition.
     pub fn enums(&self) -> &[Text]
         ensures { result.now ≡ self.now.enums }
     {
         &self.enums
     }
 
-    /// The ranges, in order of addition.
+    /// Returns the ranges, in order of addition.
     pub fn ranges(&self) -> &[Range]
         ensures { result.now ≡ self.now.ranges }
     {
@@ -162,7 +163,7 @@ impl Variable {
         self.enums.iter().any(|text| text.as_bytes() == value)
     }
 
-    /// Whether an enum value may be added.
+    /// Whether the enum value may be added: it is short enough, there is room, and it isn't listed.
     pub(crate) fn takes_enum(&self, value: &[u8]) -> bool
         ensures { result ≡ takes_enum value.now self.now.enums }
     {
@@ -190,7 +191,7 @@ impl Variable {
         self.ranges.iter().any(|listed| *listed == range)
     }
 
-    /// Whether a range may be added.
+    /// Whether the range may be added: there is room, and it isn't listed.
     pub(crate) fn takes_range(&self, range: Range) -> bool
         ensures { result ≡ takes_range range self.now.ranges }
     {

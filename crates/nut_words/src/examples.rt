@@ -1,4 +1,4 @@
-//! Worked examples. The check computes them over the definitions, so that a reader can see what these mean.
+//! Worked examples. The prover computes them from the definitions, so they show what the definitions mean.
 ghost use Rattle.std.specs.Prelude.{◌≡◌, ◌+◌, [], ◌∷◌, ◌++◌, Ok, Err, codes, replicate};
 ghost use Rattle.nut_words.specs.Lines.{Text, TooLong, lines, rest};
 ghost use Rattle.nut_words.specs.Quoting.{line_text};
@@ -7,8 +7,8 @@ ghost use Rattle.nut_words.specs.declared.words.WordFault.TheVariants.{BadByte, 
 
 use crate::limits::{LINE_MAX, WORDS_MAX};
 
-/// A law, with nothing to run: what some lines spell, how some words are written, and where the lines of some streams
-/// end.
+/// States worked examples and does nothing when called: what some lines spell, how some words are written, and where
+/// the lines of some streams end.
 pub fn worked_examples()
     ensures words { spelled (codes "a=b \"\" # c")
         ≡ Ok (codes "a" ∷ codes "=" ∷ codes "b" ∷ codes "" ∷ []) }

@@ -1,5 +1,5 @@
--- Laws of every file: lines without words change nothing, the names of sections are distinct, and what is set is as often
--- and as different as it has to be.
+-- Laws of every file: lines without words change nothing, the names of sections are distinct, and the settings of a
+-- directive keep its rule.
 use Rattle.std.specs.Prelude.{◌≡◌, ℕ, ◌≤◌, Bool, false, List, [], ◌∷◌, ◌++◌, length, Option, None, Some, Result, Ok, Err}
 use Rattle.std.specs.List.{list_any}
 use Rattle.nut_conf.specs.Files.{LineFault, read_lines, words_of}
@@ -12,7 +12,7 @@ abbrev pub unnumbered : {X : Type 0} → Result X (ℕ × FaultKind) → Result 
 unnumbered (Ok x) = Ok x
 unnumbered (Err f) = Err f.1
 
--- A line without words may stand anywhere between others: the lines mean the same with it and without it.
+-- If a line without words is added anywhere, the lines mean the same, or have the same kind of fault.
 abbrev pub BlankChangesNothing : LineFault → Type 0
 BlankChangesNothing fault =
     (front rest : List (List ℕ)) (blank : List ℕ) → words_of blank ≡ Ok []
@@ -23,22 +23,22 @@ abbrev pub HasDistinctNames : List Section → Type 0
 HasDistinctNames [] = Unit {0}
 HasDistinctNames (s ∷ ss) = (list_any (is_name_of s.0) ss ≡ false) × HasDistinctNames ss
 
--- There are at most so many, where there is a limit.
+-- There are at most `most` settings, if there is a limit.
 abbrev pub AreFew : Option ℕ → List Setting → Type 0
 AreFew None set = Unit {0}
 AreFew (Some most) set = length set ≤ most
 
--- None clashes with one before it.
+-- No setting clashes with one before it.
 abbrev pub AreApart : (Setting → Setting → Bool) → List Setting → Type 0
 AreApart clashes [] = Unit {0}
 AreApart clashes (s ∷ later) = (list_any (λ other. clashes other s) later ≡ false) × AreApart clashes later
 
--- These settings keep the rule of their directive.
+-- The settings keep the rule of their directive: no two clash, and there are at most as many as the rule allows.
 pub record KeepRule (rule : Rule) (set : List Setting) : Type 0 where
   pub apart : AreApart rule.clashes set
   pub few : AreFew rule.most set
 
--- What is set in each section for the directive keeps its rule.
+-- In each section, the settings of the directive keep its rule.
 abbrev pub EachKeepsRule : Directive → List Section → Type 0
 EachKeepsRule d [] = Unit {0}
 EachKeepsRule d (s ∷ ss) = KeepRule d.rule (settings d s.1) × EachKeepsRule d ss

@@ -1,5 +1,5 @@
--- For private functions, nothing here has to be believed: how `read` goes through the words, one after the other. What it
--- amounts to is the table of forms.
+-- For private functions, nothing here has to be believed: how `read` takes the words one after the other. The result is
+-- that of the table of forms.
 use Rattle.std.specs.Prelude.{ℕ, List, [], ◌∷◌, Option, Some, None}
 use Rattle.nut_proto.specs.declared.request.Request.{Request}
 use Rattle.nut_proto.specs.declared.request.Request.TheVariants as requests

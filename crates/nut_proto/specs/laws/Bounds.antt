@@ -1,4 +1,4 @@
--- How long messages are where names and values are within their limits.
+-- How long messages are, if names and values are within their limits.
 use Rattle.std.specs.Prelude.{ℕ, ◌+◌, ◌<◌, ◌≤◌, List, ◌∷◌, ◌++◌, length, codes, IsTrue}
 use Rattle.std.specs.List.{flat_map, AllByRecursion}
 use Rattle.nut_words.specs.Quoting.{stands_bare}
@@ -9,7 +9,7 @@ use Rattle.nut_proto.specs.Requests.{begin_line, end_line}
 use Rattle.nut_proto.specs.Replies.{reply_line}
 use Rattle.nut_proto.specs.declared.limits.TheConstants.{ROWS_MAX}
 
--- A name stands bare, and has at most so many bytes.
+-- The name can be written bare and has at most `most` bytes.
 abbrev pub IsName : ℕ → List ℕ → Type 0
 IsName most name = IsTrue (stands_bare name) × (length name ≤ most)
 
@@ -17,7 +17,7 @@ IsName most name = IsTrue (stands_bare name) × (length name ≤ most)
 abbrev pub IsVariable : List ℕ × List ℕ → Type 0
 IsVariable row = IsName NAME_MAX row.0 × (length row.1 ≤ VALUE_MAX)
 
--- the rows of LIST VAR, of names with their values
+-- the rows of LIST VAR, for these names and values
 abbrev pub variable_rows : List ℕ → List (List ℕ × List ℕ) → List ℕ
 variable_rows ups rows = flat_map (λ row. reply_line (replies.Var ups row.0 row.1)) rows
 
@@ -25,7 +25,8 @@ variable_rows ups rows = flat_map (λ row. reply_line (replies.Var ups row.0 row
 abbrev pub variable_list : List ℕ → List (List ℕ × List ℕ) → List ℕ
 variable_list ups rows = begin_line (queries.Var ups) ++ (variable_rows ups rows ++ end_line (queries.Var ups))
 
--- A row of LIST VAR has at most 361 bytes.
+-- If the name of the UPS can be written bare and has at most 32 bytes, and the variable is within its limits, its row
+-- in LIST VAR has at most 361 bytes.
 abbrev pub RowsAreBounded : Type 0
 RowsAreBounded = (ups name value : List ℕ) → IsName UPS_NAME_MAX ups → IsVariable (name, value) → length (reply_line (replies.Var ups name value)) ≤ 361
 
@@ -35,7 +36,8 @@ ListsAreBounded =
     (ups : List ℕ) (rows : List (List ℕ × List ℕ)) →
     IsName UPS_NAME_MAX ups → AllByRecursion IsVariable rows → length rows ≤ ROWS_MAX → length (variable_list ups rows) ≤ 184926
 
--- Where one value is shown with `FSD ` in front, it has at most 184,930.
+-- If the name of the UPS can be written bare and has at most 32 bytes, and there are at most 512 variables, each within
+-- its limits, the reply to LIST VAR with `FSD ` put before one value has at most 184,930 bytes.
 abbrev pub ForcedListsAreBounded : Type 0
 ForcedListsAreBounded =
     (ups name value : List ℕ) (before after : List (List ℕ × List ℕ)) →

@@ -1,4 +1,4 @@
--- What is written is read back as it was meant.
+-- What one side writes, the other reads as it was meant.
 use Rattle.std.specs.Prelude.{◌≡◌, ◌≤◌, List, [], ◌∷◌, length, Ok, Some, codes, IsTrue}
 use Rattle.nut_words.specs.Reader.{spelled}
 use Rattle.nut_words.specs.declared.limits.TheConstants.{WORDS_MAX}
@@ -30,14 +30,14 @@ IsReadable (requests.Username name) = IsTrue (is_credential name)
 IsReadable (requests.Password password) = IsTrue (is_credential password)
 IsReadable request = Unit {0}
 
--- A request is written as words that mean it.
+-- If its parts are writable and it is readable, the line of a request spells words that mean this request.
 abbrev pub RequestsAreRead : Type 0
 RequestsAreRead =
     (request : Request) → AreWritable (request_parts request) → IsReadable request →
     (spelled (message (request_parts request)) ≡ Ok (message_words (request_parts request))) ×
     (meaning (message_words (request_parts request)) ≡ Ok request)
 
--- the answer as which a reply is read: a success, the name of a refusal, or else a row
+-- what a reply is read as: a success, the name of a refusal, or else a row
 abbrev pub answer_to : Reply → Answer
 answer_to replies.Accepted = answers.Ok []
 answer_to replies.FsdSet = answers.Ok (codes "FSD-SET" ∷ [])
@@ -45,17 +45,19 @@ answer_to replies.Goodbye = answers.Ok (codes "Goodbye" ∷ [])
 answer_to (replies.Refused refusal) = answers.Err (refusal_name refusal)
 answer_to reply = answers.Row (message_words (reply_parts reply))
 
+-- If its parts are writable, the line of a reply is read as `answer_to` that reply.
 abbrev pub RepliesAreRead : Type 0
 RepliesAreRead = (reply : Reply) → AreWritable (reply_parts reply) → answer_in (message (reply_parts reply)) ≡ Ok (answer_to reply)
 
--- The lines round a list are read as its beginning and its end, with the words of the query.
+-- If the parts of a query are writable, the lines before and after the rows of its list are read as the beginning and
+-- the end of a list, with the words of the query.
 abbrev pub ListsAreRead : Type 0
 ListsAreRead =
     (query : ListQuery) → AreWritable (query_parts query) →
     (answer_in (message (begin_parts query)) ≡ Ok (answers.Begin (message_words (query_parts query)))) ×
     (answer_in (message (end_parts query)) ≡ Ok (answers.End (message_words (query_parts query))))
 
--- What a driver is asked is written as words that ask it.
+-- If its parts are writable, the line of a request to a driver spells words that make this request.
 abbrev pub AsksAreRead : Type 0
 AsksAreRead =
     (ask : DriverAsk) → AreWritable (ask_parts ask) →

@@ -1,11 +1,11 @@
--- What a user has to have the right to do.
+-- The rights of users.
 use Rattle.std.specs.Prelude.{Bool}
 use Rattle.nut_server_spec.specs.Configuration.{User, may_command}
 use Rattle.nut_server_spec.specs.Answer.{may_set, may_log_in, may_be_primary, may_force}
 use Rattle.nut_server.specs.declared.access.Right.{Right}
 use Rattle.nut_server.specs.declared.access.Right.TheVariants as rights
 
--- the test of a user for a right
+-- whether the user has the right
 abbrev pub allows : Right → User → Bool
 allows rights.Set user = may_set user
 allows (rights.Command name) user = may_command name.now user

@@ -1,4 +1,4 @@
--- What the answers of the code are in the definitions.
+-- The answers and rows of the definitions that those of the code represent.
 use Rattle.std.specs.Prelude.{List, map, filter, Result, Ok, Err}
 use Rattle.nut_proto.specs.declared.refusal.Refusal.{Refusal}
 use Rattle.nut_proto.specs.declared.reply.Reply.{Reply}
@@ -10,7 +10,7 @@ use Rattle.nut_server.specs.declared.answer.Rows.TheVariants as rows
 use Rattle.nut_server.specs.declared.answer.Answer.{Answer}
 use Rattle.nut_server.specs.declared.answer.Answer.TheVariants as answer
 
--- the rows between a list's first and its last line
+-- the rows of a list
 abbrev pub rows_of : Rows → List Reply
 rows_of (rows.Upses config) = map (λ ups. replies.Ups ups.name ups.description) config.now.upses
 rows_of (rows.Variables ups device) = map (A.var_row ups.now device.now.device) device.now.device.table.variables
@@ -21,14 +21,14 @@ rows_of (rows.Enums ups name variable) = map (λ x. replies.Enum ups.now name.no
 rows_of (rows.Ranges ups name variable) = map (λ r. replies.Range ups.now name.now r.minimum r.maximum) variable.now.ranges
 rows_of (rows.Clients ups u connections) = map (λ g. replies.Client ups.now g.address) (A.guests_of u (map guest_of connections.now))
 
--- the answer that is given
+-- the answer that the code's answer represents
 abbrev pub given : Answer → A.Answer
 given answer.Silence = A.Silence
 given (answer.Line reply) = A.Line reply
 given (answer.Value ups device variable) = A.Line (A.var_row ups.now device.now.device variable.now)
 given (answer.Listing query rows) = A.Listing query (rows_of rows)
 
--- the answer, or the refusal
+-- the answer that a result represents, or its refusal
 abbrev pub outcome : Result Answer Refusal → A.Answer
 outcome (Ok reply) = given reply
 outcome (Err refusal) = A.refused refusal

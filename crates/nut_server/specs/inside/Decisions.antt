@@ -1,4 +1,4 @@
--- What is decided on a request: its answer, and what it does.
+-- What the decision on a request has to be: its answer, and its effect.
 use Rattle.std.specs.Prelude.{ℕ, ◌≡◌, List, Result, Ok, Err}
 use Rattle.nut_proto.specs.declared.refusal.Refusal.{Refusal}
 use Rattle.nut_proto.specs.declared.reply.Reply.{Reply}
@@ -9,16 +9,18 @@ use Rattle.nut_server.specs.inside.Effects.{Does, IsPossible}
 use Rattle.nut_server.specs.declared.effect.Effect.{Effect}
 use Rattle.nut_server.specs.declared.decision.Decision.{Decision}
 
--- A command that is answered so: the decision gives this answer, and its effect does what the command with this answer does.
+-- The decision gives this answer. Its effect changes what the command with this answer changes, and is possible. `line`
+-- is the request to the driver, if there is one.
 abbrev pub Answers : Scene → Command → Answer → Decision → List ℕ → Type 0
 Answers s command reply decision line =
     (given decision.answer ≡ reply) × Does s.configuration command reply decision.effect line × IsPossible s.devices decision.effect line
 
--- the decision on a command, where this line is what a driver is asked
+-- The decision gives the answer to the command, and its effect is that of the command.
 abbrev pub Decides : Scene → Caller → Command → Decision → List ℕ → Type 0
 Decides s k command decision line = Answers s command (answer s k command) decision line
 
--- A request is granted: it is answered by this line, and the effect does what the request with this answer does. Or it is refused.
+-- If the request is granted, its answer is this line, and the effect changes what the request with this answer changes.
+-- If it isn't, its answer is the refusal.
 abbrev pub Grants : Scene → Caller → Command → Reply → Result Effect Refusal → List ℕ → Type 0
 Grants s k command reply (Ok effect) line =
     (answer s k command ≡ Line reply) × Does s.configuration command (Line reply) effect line × IsPossible s.devices effect line

@@ -1,4 +1,4 @@
--- How the open connections are kept: in the slots of a slab, and in order by keys.
+-- How the open connections are kept: in the slots of a slab, with a sorted list of keys.
 use Rattle.std.specs.Prelude.{◌≡◌, ◌≤◌, ℕ, List, [], ◌∷◌, count_by, filter_map, length, map, Some, vec_capacity}
 use Rattle.nut_conf.specs.declared.limits.TheConstants.{CONNECTIONS_MAX}
 use Rattle.slab.specs.Slab.{Slab, get, slab_len}
@@ -8,25 +8,27 @@ use Rattle.nut_server.specs.declared.connections.Key.{Key}
 use Rattle.nut_server.specs.Settling.{is_unsettled}
 use Rattle.nut_server.specs.declared.connections.Connections.TheInside.{Inside}
 
--- the connections in the slots of these keys, in their order
+-- the connections in the slots of these keys, in the order of the keys
 abbrev pub sessions_of : Slab Session → List Key → List Session
 sessions_of slots order = filter_map (λ key. get slots key.slot) order
 
+-- the numbers of the keys
 abbrev pub key_numbers : List Key → List ℕ
 key_numbers order = map (λ key. key.number) order
 
--- in the slot of each key stands the connection with its number
+-- The slot of each key holds the connection with the key's number.
 abbrev pub AreNamed : Slab Session → List Key → Type 0
 AreNamed slots [] = Unit {0}
 AreNamed slots (key ∷ order) = ((k : Session) × (get slots key.slot ≡ Some k) × (k.number ≡ key.number)) × AreNamed slots order
 
--- each key says whether the connection in its slot is unsettled
+-- Each key says whether the connection in its slot is unsettled.
 abbrev pub AreMarked : Slab Session → List Key → Type 0
 AreMarked slots [] = Unit {0}
 AreMarked slots (key ∷ order) = (key.unsettled ≡ is_unsettled (get slots key.slot)) × AreMarked slots order
 
--- The keys stand by rising number, each names a connection and says whether it is unsettled, every connection has one, the
--- unsettled ones are counted, and there is room for all that may be open.
+-- The numbers of the keys rise. The slot of each key holds the connection with its number, and the key says whether
+-- that is unsettled. There are as many connections as keys, and at most 256. The unsettled ones are counted. There is
+-- room for 256 connections and 256 keys.
 pub record AreEntries (c : Inside) : Type 0 where
   pub rising : IsRising (key_numbers c.order.items)
   pub named : AreNamed c.slots c.order.items

@@ -1,4 +1,4 @@
--- What always holds inside a server.
+-- What always holds of the fields of a server.
 use Rattle.std.specs.Prelude.{◌≡◌, ◌≤◌, [], length}
 use Rattle.nut_words.specs.Lines.{Text}
 use Rattle.nut_server_spec.specs.Content.{Supply}
@@ -18,6 +18,6 @@ pub record IsOrderly (a : Inside) : Type 0 where
   pub limits : IsWithin a.config
   pub all : length a.devices.items ≡ length a.config.upses
 
--- a UPS of which nothing was told
+-- a UPS whose driver was never connected
 abbrev pub unheard : Supply
 unheard = record { device = absent; rest = Text [] }

@@ -1,4 +1,4 @@
-//! What arrives but is said by nobody: moments, connections and links that come and go, and bytes that are taken.
+//! Handles each kind of arrival, with the tests that refuse it. What the lines of clients do is in `hearing`.
 
 ghost use Rattle.std.specs.Prelude.{◌≡◌, ◌<◌, ◌≤◌, map, length, max};
 ghost use Rattle.nut_server_spec.specs.Event.{Moment, Open, Bytes, Took, Close, DriverUp, DriverBytes, DriverTook, DriverDown};
@@ -13,7 +13,7 @@ use crate::server::Server;
 use nut_server_spec::{OPENED_MAX, Place, Refused};
 use nut_words::PIECE_MAX;
 
-/// It is this time: each driver is asked whether it is there, where that is due.
+/// Sends PING at this time to each driver that needs it.
 fn tick_all(devices: &mut Vec<Device>, max_age: u64, time: u64)
     ensures { devices.new.items ≡ map (ticked max_age time) devices.old.items }
 {
@@ -23,7 +23,7 @@ fn tick_all(devices: &mut Vec<Device>, max_age: u64, time: u64)
 }
 
 impl Server {
-    /// So many seconds have passed since the start, or more. It takes no memory.
+    /// Notes that at least `t` seconds have passed since the start. Allocates no memory.
     pub(super) fn moment(&mut self, t: u64)
         ensures { self.new ≡ advance self.old (Moment t) }
     {
@@ -35,7 +35,7 @@ impl Server {
         );
     }
 
-    /// A client connects, which takes no memory.
+    /// Opens a connection from this address. Allocates no memory.
     pub(super) fn open(&mut self, address: &[u8]) -> Result<(), Refused>
         ensures answered { Answers self.old (Open address.now) result }
         ensures content { self.new ≡ content_after result self.old (Open address.now) }
@@ -53,7 +53,7 @@ impl Server {
         Ok(())
     }
 
-    /// A connection sends a piece. Where memory runs out in it, the connection is closed.
+    /// Handles a piece of a connection. If memory runs out in it, the connection is closed.
     pub(super) fn bytes(&mut self, c: u64, piece: &[u8]) -> Result<(), Refused>
         ensures answered { Answers self.old (Bytes c piece.now) result }
         ensures content { self.new ≡ content_after result self.old (Bytes c piece.now) }
@@ -73,7 +73,7 @@ impl Server {
         Ok(())
     }
 
-    /// A connection took the first `n` of the bytes that wait for it.
+    /// Removes the first `n` of the bytes that wait for a connection: it took them.
     pub(super) fn took(&mut self, c: u64, n: usize) -> Result<(), Refused>
         ensures answered { Answers self.old (Took c n) result }
         ensures content { self.new ≡ content_after result self.old (Took c n) }
@@ -88,7 +88,7 @@ impl Server {
         Ok(())
     }
 
-    /// A connection is closed.
+    /// Closes a connection.
     pub(super) fn close(&mut self, c: u64) -> Result<(), Refused>
         ensures answered { Answers self.old (Close c) result }
         ensures content { self.new ≡ content_after result self.old (Close c) }
@@ -100,7 +100,7 @@ impl Server {
         Ok(())
     }
 
-    /// A driver is connected, which takes no memory.
+    /// Connects a driver. Allocates no memory.
     pub(super) fn driver_up(&mut self, u: usize) -> Result<(), Refused>
         ensures answered { Answers self.old (DriverUp u) result }
         ensures content { self.new ≡ content_after result self.old (DriverUp u) }
@@ -112,7 +112,7 @@ impl Server {
         Ok(())
     }
 
-    /// A driver sends a piece. Where memory runs out in it, the driver counts as gone.
+    /// Handles a piece of a driver. If memory runs out in it, the driver counts as disconnected.
     pub(super) fn driver_bytes(&mut self, u: usize, piece: &[u8]) -> Result<(), Refused>
         ensures answered { Answers self.old (DriverBytes u piece.now) result }
         ensures content { self.new ≡ content_after result self.old (DriverBytes u piece.now) }
@@ -129,7 +129,7 @@ impl Server {
         Ok(())
     }
 
-    /// A driver took the first `n` of the bytes that wait for it.
+    /// Removes the first `n` of the bytes that wait for a driver: it took them.
     pub(super) fn driver_took(&mut self, u: usize, n: usize) -> Result<(), Refused>
         ensures answered { Answers self.old (DriverTook u n) result }
         ensures content { self.new ≡ content_after result self.old (DriverTook u n) }
@@ -144,7 +144,7 @@ impl Server {
         Ok(())
     }
 
-    /// A driver is gone.
+    /// Disconnects a driver.
     pub(super) fn driver_down(&mut self, u: usize) -> Result<(), Refused>
         ensures answered { Answers self.old (DriverDown u) result }
         ensures content { self.new ≡ content_after result self.old (DriverDown u) }

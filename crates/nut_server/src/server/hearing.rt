@@ -1,4 +1,4 @@
-//! What clients say: what each line decides is answered and done.
+//! Handles the lines of clients: decides on each, queues its answer and applies its effect.
 
 ghost use Rattle.std.specs.Prelude.{◌≡◌, ◌<◌, ℕ, Some, Ok, Err, false, IfErr, IsTrue, OnOk, OnErr, length, slice_get};
 ghost use Rattle.nut_words.specs.Cutter.{line_of};
@@ -22,8 +22,8 @@ use nut_words::{Line, WordFault, Words, split};
 use std::alloc::{AllocError, Global};
 
 impl Server {
-    /// Answers a request of the connection at this place, or a line that is none, and does what is decided. At an
-    /// `Err` it left no trace.
+    /// Answers a request of the connection at this place, or refuses a line that isn't one, and applies what was
+    /// decided. If memory cannot be allocated, nothing changes.
     fn hear_request(
         &mut self,
         at: usize,
@@ -56,8 +56,8 @@ impl Server {
         Ok(())
     }
 
-    /// Takes the words of a line of the connection at this place, whose client hasn't logged out. At an `Err` it left no
-    /// trace.
+    /// Handles the words of a line of the connection at this place, whose client hasn't logged out. If memory cannot be
+    /// allocated, nothing changes.
     fn hear_words(&mut self, at: usize, words: &Words<'_>) -> Result<(), AllocError>
         requires { at < length self.old.sessions }
         ensures ok { (c : ℕ) (k : Session) → Stands c self.old.sessions at → slice_get self.old.sessions at ≡ Some k
@@ -72,8 +72,8 @@ impl Server {
         self.hear_request(at, &read(words))
     }
 
-    /// Takes a line of the connection at this place, which isn't answered where the client has logged out. At an `Err`
-    /// it left no trace.
+    /// Handles a line of the connection at this place. It gets no answer if the client has logged out. If memory cannot
+    /// be allocated, nothing changes.
     fn hear_line(&mut self, at: usize, line: Line<'_>) -> Result<(), AllocError>
         requires { at < length self.old.sessions }
         ensures ok { (c : ℕ) (k : Session) → Stands c self.old.sessions at → slice_get self.old.sessions at ≡ Some k
@@ -102,8 +102,8 @@ impl Server {
 }
 
 impl Server {
-    /// Takes a piece of the connection with this number, which stands at this place. An `Err` tells how many lines were
-    /// done when memory ran out; the connection is then closed.
+    /// Handles a piece of the connection with this number, at this place. If memory runs out, returns as an error how
+    /// many lines of the piece were done; the connection is then closed.
     pub(super) fn hear(&mut self, c: u64, at: usize, piece: &[u8]) -> Result<(), usize>
         requires { Stands c self.old.sessions at }
         ensures ok { OnOk result (self.new ≡ bytes_heard c piece.now self.old) }
@@ -111,7 +111,7 @@ impl Server {
         ensures few { IfErr result (λ done. done < line_feeds piece.now) }
         ensures memory { IfErr result (λ done. RunsOut c piece.now done self.old) }
     {
-        // Most pieces are one line. It is read where it lies.
+        // Most pieces are one line, which can be read where it lies.
         let Some(text) = self.connections.at(at).whole_line(piece) else {
             return self.hear_lines(c, at, piece);
         };
@@ -122,7 +122,7 @@ impl Server {
         Ok(())
     }
 
-    /// The same, line by line.
+    /// Handles a piece line by line, as [`hear`](Self::hear) promises.
     fn hear_lines(&mut self, c: u64, at: usize, piece: &[u8]) -> Result<(), usize>
         requires { Stands c self.old.sessions at }
         ensures ok { OnOk result (self.new ≡ bytes_heard c piece.now self.old) }
@@ -149,7 +149,7 @@ impl Server {
     }
 }
 
-/// The words of a line, or why it has none. A line that is too long to be kept has too many.
+/// Returns the words of a line, or why it has none: `TooManyWords` if it is longer than a line may be.
 fn words_of<'a>(alloc: Global, line: Line<'a>) -> Result<Words<'a>, WordFault>
     ensures command { (result ≡ Err Memory → ⊥) → command_in result ≡ command_of (line_of line.entry) }
     ensures memory { result ≡ Err Memory → IsTrue (with_backslash (line_of line.entry)) }

@@ -1,4 +1,4 @@
--- What a world over memory may become by its calls, and by calls after calls.
+-- The states that calls of the world over memory lead to, one after the other.
 use Rattle.std.specs.Prelude.{◌≡◌, ◌+◌, Bool, List, [], ◌∷◌, ◌++◌, map, count_by, refl}
 use Rattle.std.proofs.Common.{cond, sym, ◌∙◌, ap, add_assoc, zero-add, append_assoc}
 use Rattle.std.proofs.Math.Nat.{add_comm}
@@ -22,7 +22,7 @@ gave_of-append (entry.DriverWasClosed u ∷ r) ys = gave_of-append r ys
 count-append : (p : Event → Bool) (xs ys : List Event) → count_by p (xs ++ ys) ≡ count_by p xs + count_by p ys
 count-append p xs ys = sum_by-append (λ x. cond (p x) 1 0) xs ys
 
--- it may become what it is
+-- Each state is reached from itself.
 pub goes_on_self : (a : MemoryState) → GoesOn a a
 goes_on_self a = record { more = []; grown = refl; each = λ p. sym (zero-add (count_by p (map event_of_given a.left))) }
 

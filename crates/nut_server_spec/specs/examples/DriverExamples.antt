@@ -1,4 +1,4 @@
--- Histories of drivers and users, and what is answered in them: each of these is computed from the definitions.
+-- Worked examples: histories of drivers and users, and the answers in them, computed from the definitions.
 use Rattle.std.specs.Prelude.{◌≡◌, ℕ, ◌+◌, true, false, List, [], ◌∷◌, ◌++◌, codes, Some, None}
 use Rattle.nut_words.specs.declared.limits.TheConstants.{PIECE_MAX, VALUE_MAX}
 use Rattle.nut_conf.specs.declared.users.Action.TheVariants as actions
@@ -15,7 +15,7 @@ use Rattle.nut_server_spec.specs.Content.{content, past}
 use Rattle.nut_server_spec.specs.Acceptance.{refusal, IsAccepted}
 use Rattle.nut_server_spec.specs.examples.Examples.{many}
 
--- one UPS; a user who may do all that changes something, one whose monitor is secondary, and one who may do nothing
+-- one UPS and three users: one who may do everything, one whose monitor is secondary, and one who may do nothing
 abbrev pub room : Configuration
 room = record {
   upses = record { name = codes "su700"; driver = codes "dummy-ups"; description = codes "Server room" } ∷ [];
@@ -30,21 +30,23 @@ room = record {
   command_texts = (codes "load.off", codes "Off") ∷ (codes "load.cycle", codes "Turn off the load, and on again") ∷ [];
 }
 
--- what the driver tells: a status, a number that may be set, a text that may be set, and a command
+-- what the driver reports: a status, a number that may be set, and a command
 abbrev pub told : List ℕ
 told = codes "SETINFO ups.status OL\nSETINFO battery.charge.low 20\nSETFLAGS battery.charge.low RW\nADDRANGE battery.charge.low 10 90\nADDCMD load.off\nDATAOK\nDUMPDONE\n"
 
--- a connection; then the driver of the UPS connects, takes what it is asked, and tells all that it knows
+-- a connection is open
 abbrev pub quiet : List Event
 quiet = Open (codes "192.0.2.1") ∷ []
 
+-- then the driver of the UPS was connected, and took the request for a dump
 abbrev pub joined_up : List Event
 joined_up = DriverTook 0 8 ∷ DriverUp 0 ∷ quiet
 
+-- then the driver reported all that it knows
 abbrev pub live : List Event
 live = DriverBytes 0 told ∷ joined_up
 
--- what the first connection is answered where it sends this text behind a history
+-- the answers to the first connection, if it sends this text after the history h
 abbrev pub answers_to : List ℕ → List Event → List ℕ
 answers_to text h = due 1 (past room (Bytes 1 text ∷ h))
 
@@ -52,14 +54,15 @@ answers_to text h = due 1 (past room (Bytes 1 text ∷ h))
 abbrev pub with_more : List Event
 with_more = DriverBytes 0 (codes "SETINFO ups.model S\nSETINFO load.cycle 1\nADDCMD load.cycle\nADDCMD ups.model\n") ∷ live
 
--- what waits for the driver behind a history
+-- what waits for the driver after the history h
 abbrev pub asked : List Event → List ℕ
 asked h = driver_waits 0 (past room h)
 
+-- the line that asks for the status
 abbrev pub get_status : List ℕ
 get_status = codes "GET VAR su700 ups.status\n"
 
--- what drivers are asked, and what of their tables is shown
+-- the requests to drivers, and what clients see of their tables
 pub record DriverExamples : Type 0 where
   pub dump_first : asked (DriverUp 0 ∷ quiet) ≡ codes "DUMPALL\n"
   pub dump_sent : driver_sent 0 (past room (DriverTook 0 4 ∷ DriverUp 0 ∷ quiet)) ≡ codes "DUMP"
@@ -108,11 +111,12 @@ pub record DriverExamples : Type 0 where
   pub too_much : refusal (content room joined_up) (DriverTook 0 1) ≡ Some TooMuchTaken
   pub gone_already : refusal (content room (DriverDown 0 ∷ joined_up)) (DriverDown 0) ≡ Some NotConnected
 
--- a UPS whose driver is connected since the start, and for whose driver n bytes wait
+-- a UPS whose driver has been connected since the start, and for whose driver n bytes wait
 abbrev pub laden : ℕ → Device
 laden n = record absent { connected = true; waits = many n 65 }
 
--- what just fits behind 4,096 bytes that may wait, and what doesn't; and a third of a MAXAGE that three doesn't divide
+-- what just fits into the 4,096 bytes that may wait, and what doesn't; and a third of a MAXAGE that three doesn't
+-- divide
 pub record EdgeExamples : Type 0 where
   pub most_fits : fits (many 28 65) (laden 4068) ≡ true
   pub one_byte_more : fits (many 29 65) (laden 4068) ≡ false
@@ -124,14 +128,15 @@ pub record EdgeExamples : Type 0 where
   pub third_is_rounded_down : needs_ping 11 4 (laden 0) ≡ true
   pub third_has_not_passed : needs_ping 11 3 (laden 0) ≡ false
 
--- the names and passwords of users, as their clients give them
+-- the lines with the user name and the password of `admin`
 abbrev pub as_admin : List ℕ
 as_admin = codes "USERNAME admin\nPASSWORD x\n"
 
+-- the lines with the user name and the password of `guard`
 abbrev pub as_guard : List ℕ
 as_guard = codes "USERNAME guard\nPASSWORD y\n"
 
--- what users may do, and the order of the tests
+-- what users may do, and in which order the tests come
 pub record UserExamples : Type 0 where
   pub no_user : answers_to (codes "SET VAR x x x\n") live ≡ codes "ERR USERNAME-REQUIRED\n"
   pub no_password : answers_to (codes "USERNAME admin\nSET VAR x x x\n") live ≡ codes "OK\nERR PASSWORD-REQUIRED\n"

@@ -1,4 +1,4 @@
--- Histories of connections, and what is answered in them: each of these is computed from the definitions.
+-- Worked examples: histories of connections, and the answers in them, computed from the definitions.
 use Rattle.std.specs.Prelude.{◌≡◌, ℕ, ◌+◌, zero, suc, List, [], ◌∷◌, codes, Some}
 use Rattle.nut_words.specs.declared.limits.TheConstants.{LINE_MAX, PIECE_MAX}
 use Rattle.nut_server_spec.specs.declared.Refused.TheVariants.{NoSuchConnection, PieceTooLong, Busy, TooMuchTaken, BadAddress, Full}
@@ -8,7 +8,7 @@ use Rattle.nut_server_spec.specs.Trace.{due}
 use Rattle.nut_server_spec.specs.Content.{content, past, sent, waits}
 use Rattle.nut_server_spec.specs.Acceptance.{refusal, IsAccepted}
 
--- one UPS, and one connection at a time
+-- a configuration with one UPS, that allows one connection at a time
 abbrev pub su700 : Configuration
 su700 = record {
   upses = record { name = codes "su700"; driver = codes "dummy-ups"; description = codes "Server room" } ∷ [];
@@ -23,7 +23,7 @@ su700 = record {
 abbrev pub one_open : List Event
 one_open = Open (codes "192.0.2.1") ∷ []
 
--- these bytes, each a piece of its own
+-- the history h, and after it these bytes of the first connection, each as a piece of its own
 abbrev pub in_single_bytes : List ℕ → List Event → List Event
 in_single_bytes [] h = h
 in_single_bytes (b ∷ bytes) h = in_single_bytes bytes (Bytes 1 (b ∷ []) ∷ h)
@@ -33,19 +33,19 @@ abbrev pub many : ℕ → ℕ → List ℕ
 many zero b = []
 many (suc n) b = b ∷ many n b
 
--- all answers to the first connection
+-- all bytes due to the first connection
 abbrev pub answers : List Event → List ℕ
 answers h = due 1 (past su700 h)
 
--- the answers to a connection that sends this text in one piece
+-- the answers to a first connection that sends this text in one piece
 abbrev pub answers_to : List ℕ → List ℕ
 answers_to text = answers (Bytes 1 text ∷ one_open)
 
--- what LIST UPS and LOGOUT are answered
+-- the answers to LIST UPS and LOGOUT
 abbrev pub list_and_logout : List ℕ
 list_and_logout = codes "BEGIN LIST UPS\nUPS su700 \"Server room\"\nEND LIST UPS\nOK Goodbye\n"
 
--- what is answered, what was sent and waits, and what is refused
+-- what is answered, what was sent and what waits, and what is refused
 pub record ConnectionExamples : Type 0 where
   pub list_ups : answers_to (codes "LIST UPS\nLOGOUT\n") ≡ list_and_logout
   pub small_letters : answers_to (codes "list ups\nLogout\n") ≡ list_and_logout

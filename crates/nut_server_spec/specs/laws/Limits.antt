@@ -1,4 +1,5 @@
--- How long an answer may be, and how many bytes may wait for a client, where the configuration is within the limits that its files have.
+-- How long an answer may be, and how many bytes may wait for a client, if the configuration is within the limits of its
+-- files.
 use Rattle.std.specs.Prelude.{◌≡◌, ℕ, ◌≤◌, true, List, length, Some}
 use Rattle.std.specs.List.{AllByRecursion}
 use Rattle.nut_conf.specs.declared.limits.TheConstants.{CONNECTIONS_MAX, DESCRIPTION_MAX, UPSES_MAX}
@@ -33,8 +34,8 @@ pub record IsWithin (configuration : Configuration) : Type 0 where
 abbrev pub longest_answer : ℕ
 longest_answer = 184_930
 
--- No answer to one line is longer: none of those that were given in a history of accepted events, and none that a further
--- line would be given, whatever connection says it.
+-- No answer to one line has more bytes: not the answers given in a history of accepted events, and not the answer to a
+-- further line of any connection.
 pub record AnswersAreBounded : Type 0 where
   pub given :
       (first : Configuration) (h : List Event) → IsWithin first → IsAccepted first h →
@@ -47,7 +48,7 @@ pub record AnswersAreBounded : Type 0 where
 abbrev pub most_waits : ℕ
 most_waits = 47_342_080
 
--- No more waits for any client, in every history of accepted events.
+-- In every history of accepted events, at most this many bytes wait for each client.
 abbrev pub WaitsAreBounded : Type 0
 WaitsAreBounded =
     (first : Configuration) (h : List Event) → IsWithin first → IsAccepted first h →

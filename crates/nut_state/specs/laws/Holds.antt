@@ -1,4 +1,4 @@
--- When a table is the one that a driver's lines tell of.
+-- When a table holds what a driver's lines say.
 use Rattle.std.specs.Prelude.{◌≡◌, ℕ, ◌≤◌, true, List, Some, map, length}
 use Rattle.std.specs.List.{All, Contains}
 use Rattle.nut_words.specs.declared.limits.TheConstants.{VALUE_MAX}
@@ -10,7 +10,8 @@ use Rattle.nut_state.specs.Step.{accepts, adds, table_of}
 use Rattle.nut_state.specs.Table.{Table, Entry, variable, has_command, value_of, flags_of, aux_of, enums_of, ranges_of}
 use Rattle.nut_state.specs.Text.{is_name}
 
--- A variable has a name, and nothing of it is longer or more than it may be.
+-- The variable's name is a name, its value and each enum value have at most VALUE_BYTES bytes, its aux is at most
+-- VALUE_BYTES, and it has at most MAX_ENUMS enum values and MAX_RANGES ranges.
 pub record IsWithinLimits (v : Entry) : Type 0 where
   pub name : is_name v.name ≡ true
   pub value : length v.value ≤ VALUE_MAX
@@ -19,7 +20,8 @@ pub record IsWithinLimits (v : Entry) : Type 0 where
   pub each_enum : All (λ text. length text ≤ VALUE_MAX) v.enums
   pub ranges : length v.ranges ≤ RANGES_MAX
 
--- Names ascend strictly in byte order, and nothing is more than it may be.
+-- The names of the variables and those of the commands ascend strictly in byte order. There are at most MAX_VARIABLES
+-- variables, each within its limits, and at most MAX_COMMANDS commands, each of which is a name.
 pub record IsTable (t : Table) : Type 0 where
   pub variables_ascend : IsAscending (map (λ v. v.name) t.variables)
   pub variables_within : length t.variables ≤ VARIABLES_MAX
@@ -30,15 +32,16 @@ pub record IsTable (t : Table) : Type 0 where
 
 -- The lists of a table and its look-ups agree.
 pub record ListsAgree (t : Table) : Type 0 where
-  -- Each variable that is listed is the one of its name.
+  -- The look-up of a listed variable's name gives that variable.
   pub found : All (λ v. variable t v.name ≡ Some v) t.variables
-  -- The variable of a name is listed, and has that name.
+  -- If the look-up of a name gives a variable, it is listed and has that name.
   pub listed : (name : List ℕ) (v : Entry) → variable t name ≡ Some v → Contains t.variables v × (v.name ≡ name)
-  -- A command is there exactly where it is listed.
+  -- A look-up finds a command if, and only if, it is listed.
   pub command_found : All (λ command. has_command t command ≡ true) t.commands
   pub command_listed : (name : List ℕ) → has_command t name ≡ true → Contains t.commands name
 
--- The table says of each name, and of the whole, what looking back over the accepted changes says.
+-- Each look-up in the table, for each name, gives what looking back over the accepted changes gives. So do the two
+-- marks and the numbers of variables and commands.
 pub record LooksBack (t : Table) (changes : List Change) : Type 0 where
   pub value : (name : List ℕ) → value_of t name ≡ last_value name changes
   pub flags : (name : List ℕ) → flags_of t name ≡ last_flags name changes
@@ -51,19 +54,20 @@ pub record LooksBack (t : Table) (changes : List Change) : Type 0 where
   pub variables : length t.variables ≡ variable_count changes
   pub commands : length t.commands ≡ command_count changes
 
--- The table accepts a change, and is made longer by it, just where looking back over these changes says so.
+-- For each change, `accepts` of the table agrees with `is_accepted` after these changes, and `adds` with `adds_to`.
 pub record FollowsAlike (t : Table) (changes : List Change) : Type 0 where
   pub accepted_alike : (change : Change) → accepts t change ≡ is_accepted changes change
   pub added_alike : (change : Change) → adds t change ≡ adds_to changes change
 
--- The table holds what the lines, the newest first, have told: it is in order, its lists and look-ups agree, each look-up
--- looks back over the lines, and so does what it accepts of a next line.
+-- The table holds what the lines say, the newest line first: it is in order, its lists and look-ups agree, each look-up
+-- gives what looking back over the lines gives, and a further change is accepted, and adds to the table, as looking
+-- back says.
 pub record Holds (t : Table) (lines : List (List ℕ)) : Type 0 where
   pub in_order : IsTable t
   pub agrees : ListsAgree t
   pub looks_back : LooksBack t (accepted lines)
   pub goes_on : FollowsAlike t (accepted lines)
 
--- Whatever lines an empty table is given, it then holds what they told.
+-- After any lines, a table that began empty holds what they say.
 abbrev pub EveryTableHolds : Type 0
 EveryTableHolds = (lines : List (List ℕ)) → Holds (table_of lines) lines

@@ -1,11 +1,12 @@
--- For private functions, nothing here has to be believed: what unfinished line the fields of a line cutter stand for.
+-- For private functions, nothing here has to be believed: the unfinished line that the fields of a line cutter
+-- represent.
 use Rattle.std.specs.Prelude.{ℕ, List, []}
 use Rattle.nut_words.specs.Lines.{LineText, Text, TooLong}
 use Rattle.nut_words.specs.declared.cutter.LineCutter.TheInside.{Inside}
 use Rattle.nut_words.specs.declared.cutter.Stage.{Stage}
 use Rattle.nut_words.specs.declared.cutter.Stage.TheVariants as stages
 
--- the unfinished line, by the stage and the kept bytes
+-- the unfinished line, from the stage and the kept bytes
 abbrev pub rest_at : Stage → List ℕ → LineText
 rest_at stages.Growing kept = Text kept
 rest_at stages.Overlong kept = TooLong

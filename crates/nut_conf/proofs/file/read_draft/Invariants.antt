@@ -5,7 +5,7 @@ use Rattle.nut_words.proofs.CutLemmas.{pending, left}
 use Rattle.nut_conf.proofs.file.read_draft.Given as goal
 use Rattle.nut_conf.specs.declared.limits.TheConstants.{FILE_MAX}
 
--- what the lines so far set, with the lines that are left, completes the file
+-- Reading the lines that are left, after those read so far, gives what reading the file gives.
 abbrev pub invariant-loop-rest : goal.invariant-loop-rest
 invariant-loop-rest g l = (before : List Words) × (front : List (List ℕ)) × record {
   taken : lines_of l.bytes ≡ front ++ pending 10 l.rest;

@@ -6,7 +6,7 @@ use Rattle.nut_server.proofs.Feeds.{behind}
 use Rattle.nut_server.proofs.Reports.{with_report}
 use Rattle.nut_server.proofs.device.Device.hear.Given as goal
 
--- The piece was heard through as many line feeds as lines are done.
+-- The piece was handled up to as many line feeds as lines are done.
 abbrev pub invariant-loop-line : goal.invariant-loop-line
 invariant-loop-line l =
     (b : List ℕ) × (l.cutter ≡ rest b) × (l.left ≡ behind l.done l.piece)
