@@ -5,16 +5,16 @@ use Rattle.nut_client.specs.Bounds.{IsBounded}
 use Rattle.nut_client.specs.Link.{LinkValue}
 use Rattle.nut_monitor_spec.specs.Content.{Watch, Content}
 
--- a link that is there keeps one query of at most 512 bytes before its line feed, 512 bytes of a line, and 512 rows
+-- a link that is up keeps one query of at most 512 bytes before its line feed, 512 bytes of a line, and 512 rows
 abbrev pub IsLinkBounded : Option LinkValue → Type 0
 IsLinkBounded None = Unit {0}
 IsLinkBounded (Some v) = IsBounded v
 
--- so does that of each MONITOR line
+-- the link of each MONITOR line does so
 abbrev pub AreLinksBounded : List Watch → Type 0
 AreLinksBounded watches = AllByRecursion (λ w. IsLinkBounded w.link) watches
 
--- No more than 128 notices wait, and each link keeps no more than it may.
+-- At most 128 notices wait, and each link keeps no more than `IsLinkBounded` allows.
 pub record KeepsLittle (s : Content) : Type 0 where
   pub notices : length s.notices ≤ 128
   pub links : AreLinksBounded s.watches
