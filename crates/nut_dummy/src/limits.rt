@@ -1,10 +1,11 @@
-//! How much a script holds: this project's own limits.
+//! The limits of a script: this project's own.
 
-/// How many bytes a line has at most, its line feed not counted.
+/// The longest line, in bytes, without its line feed.
 pub const LINE_MAX: usize = 512;
-/// The greatest number of seconds of a timer.
+/// The longest timer, in seconds.
 pub const TIMER_MAX: u32 = 86400;
-/// How many variables a script names at most: with the three that commands set, they are as many as a table holds.
+/// The largest number of variables that a script names. With the three that commands set, they are as many as a table
+/// holds.
 pub const SCRIPT_VARIABLES: usize = 509;
-/// How many settings a script has at most.
+/// The largest number of values in a script.
 pub const MAX_STEPS: usize = 4096;

@@ -1,4 +1,4 @@
-//! Names and values, which stand in place and take no memory of their own.
+//! Names and values, kept in place without an allocation.
 ghost use Rattle.std.specs.Prelude.{◌≡◌, ◌≤◌, List, ℕ, length, IsTrue};
 ghost use Rattle.nut_state.specs.Text.{is_name};
 ghost use Rattle.nut_dummy.specs.Item.{is_value};
@@ -32,7 +32,7 @@ impl Name {
         Name { bytes: name }
     }
 
-    /// The bytes of the name.
+    /// Returns the bytes of the name.
     pub fn as_bytes(&self) -> &[u8]
         ensures value { result.now ≡ self.now }
         ensures named { IsTrue (is_name result.now) }
@@ -48,7 +48,7 @@ pub fn is_value(bytes: &[u8]) -> bool
     bytes.len() <= VALUE_BYTES && are_printing(bytes)
 }
 
-/// A value: 0 to [`VALUE_BYTES`] printing bytes.
+/// A value: 0 to [`VALUE_BYTES`] bytes of 0x20 to 0x7E.
 #[derive(Drop)]
 pub struct Text {
     contents: ArrayVec<u8, VALUE_BYTES>,
@@ -72,7 +72,7 @@ impl Text {
         Text { contents: text }
     }
 
-    /// The bytes of the value.
+    /// Returns the bytes of the value.
     pub fn as_bytes(&self) -> &[u8]
         ensures value { result.now ≡ self.now }
         ensures valued { IsTrue (is_value result.now) }

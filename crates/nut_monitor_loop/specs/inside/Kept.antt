@@ -24,7 +24,7 @@ Less (Took n) i old new = length (waiting_of i new) < length (waiting_of i old)
 Less Later i old new = Unit {0}
 Less Failed i old new = Unit {0}
 
--- a link on which a write is to come later is late
+-- a link on which a write was late is settled: it is late
 abbrev pub Settles : Written → (ℕ → Bool) → List Watch → ℕ → Type 0
 Settles (Took n) late watches i = Unit {0}
 Settles Later late watches i = IsSettled late watches i
