@@ -9,18 +9,18 @@ use Rattle.nut_proto.specs.Requests.{request_parts, request_line}
 use Rattle.nut_client.specs.declared.expected.Expected.{Expected}
 use Rattle.nut_client.specs.Matching.{expected}
 
--- What it expects, the bytes of its line that the server has not taken yet, and the rows of its list so far once that
--- has begun.
+-- What a query expects, the bytes of its line that the server hasn't taken yet, and the rows of its list so far once
+-- the list has begun.
 pub record Asked : Type 0 where
   pub expected : Expected
   pub waits : List ℕ
   pub rows : Option (List (List (List ℕ)))
 
--- the query of a request, of which nothing is taken yet
+-- the query of a request before the server took any of it
 abbrev pub query_of : Request → Asked
 query_of request = record { expected = expected request; waits = request_line request; rows = None }
 
--- whether a request can be written: its line has at most 512 bytes before its line feed, each of them 0x20 to 0x7E
+-- whether a request is writable: its line has at most 512 bytes before its line feed, each of them 0x20 to 0x7E
 abbrev pub is_writable : Request → Bool
 is_writable request =
     nat_le (length (message (request_parts request))) 512 && list_all is_printing (message (request_parts request))

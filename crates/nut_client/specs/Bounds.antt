@@ -21,12 +21,12 @@ rows_in stages.Idle = 0
 rows_in (stages.Asked query) = option_map_or (λ rows. length rows) query.rows 0
 rows_in (stages.Answered outcome) = rows_of outcome
 
--- One query of at most 512 bytes and its line feed, and at most 512 rows.
+-- A stage keeps one query of at most 512 bytes and its line feed, and at most 512 rows.
 pub record IsStageBounded (stage : Stage) : Type 0 where
   pub query : length (waits_in stage) ≤ 513
   pub rows : rows_in stage ≤ 512
 
--- And at most 512 bytes of an unfinished line.
+-- A link keeps such a stage, and at most 512 bytes of an unfinished line.
 pub record IsBounded (v : LinkValue) : Type 0 where
   pub stage : IsStageBounded v.exchange.stage
   pub line : kept_of v.rest ≤ 512

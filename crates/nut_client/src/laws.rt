@@ -1,38 +1,41 @@
 //! Laws over all links.
 ghost use Rattle.nut_client.specs.laws.Laws.{AllBytesDecide, BoundsStay, CutsDoNotMatter, MoreBytesAreIgnored, OkTakesNoMemory, RepliesMatch, RestsStay};
 
-/// A law, with nothing to run: however what the server sends is cut into pieces, it makes the same of a link.
+/// Law, nothing runs: a piece and then another piece change a link as the two joined in one do.
 pub fn cuts_do_not_matter()
     ensures { CutsDoNotMatter }
 {}
 
-/// A law, with nothing to run: what a link keeps stays the unfinished line of some stream.
+/// Law, nothing runs: whatever is fed to a link, what it keeps is the unfinished line of some bytes.
 pub fn rests_stay()
     ensures { RestsStay }
 {}
 
-/// A law, with nothing to run: the line `OK` takes no memory.
+/// Law, nothing runs: the line `OK` allocates nothing.
 pub fn ok_takes_no_memory()
     ensures { OkTakesNoMemory }
 {}
 
-/// A law, with nothing to run: what the server replies to a request is taken as its answer.
+/// Law, nothing runs: these replies of the server are taken as answers to their requests: those to GET UPSDESC, VAR,
+/// DESC and CMDDESC, to LOGIN, FSD and LOGOUT, the beginning and the end of a LIST, and any refusal.
 pub fn replies_match()
     ensures { RepliesMatch }
 {}
 
-/// A law, with nothing to run: a link never keeps more than a query, an unfinished line and the rows of a list may have.
+/// Law, nothing runs: a new link keeps no more than one query, one unfinished line and 512 rows, and no call but `feed`
+/// makes it keep more. The contract of `feed` says the same of itself.
 pub fn bounds_stay()
     ensures { BoundsStay }
 {}
 
-/// A law, with nothing to run: what a server sends behind a tool's last answer changes nothing.
+/// Law, nothing runs: what a server sends behind the answer to a tool's last query changes nothing.
 pub fn more_bytes_are_ignored()
     ensures { MoreBytesAreIgnored }
 {}
 
-/// A law, with nothing to run: however much a tool read of what a server sends, and however that was cut, it ends by all
-/// of it, unless memory was refused or its connection was lost before all was read, or in the middle of a query.
+/// Law, nothing runs: however much a tool read of what a server sends, and in whatever pieces, it ends as all of it
+/// says, unless memory could not be allocated, or its connection was lost before all was read or in the middle of a
+/// query.
 pub fn all_bytes_decide()
     ensures { AllBytesDecide }
 {}

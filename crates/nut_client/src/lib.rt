@@ -1,8 +1,8 @@
-//! The client's end of a connection to upsd (RFC 9271): a link, which asks one query after the other and takes a line as
-//! an answer only where it matches the query.
+//! The client's end of a connection to upsd (RFC 9271): a link, which asks one query after the other and takes a line
+//! as an answer only if it matches the query; and the tools `upsc`, `upsrw` and `upscmd`.
 //!
-//! What answer a request expects and when a line matches it is in `specs/Matching.antt`, what a link is and how each call
-//! and each line moves it in `specs/Link.antt`.
+//! `specs/Matching.antt` defines which answer a request expects and when a line matches it. `specs/Link.antt` defines
+//! what a link is and how each call and each line changes it.
 #![tactic(auto)]
 
 mod command_line;

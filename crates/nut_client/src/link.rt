@@ -17,15 +17,15 @@ use std::marker::Model;
 
 /// A client's link to a server: it asks one query after the other, and takes what the server sends as their answers.
 ///
-/// A query is asked by [`ask`](Link::ask). Its bytes wait to be sent: [`waiting`](Link::waiting) and
+/// [`ask`](Link::ask) asks a query. Its bytes then wait to be sent: see [`waiting`](Link::waiting) and
 /// [`took`](Link::took). What the server sends is fed in pieces, cut anywhere: [`feed`](Link::feed). Once the answer is
-/// complete it is taken out: [`answer`](Link::answer). Then the next query can be asked.
+/// complete, [`answer`](Link::answer) takes it out, and the next query can be asked.
 ///
-/// A link takes a line only where it answers the query that is there, by the words of RFC 9271, and the query's bytes
-/// were all taken. At any other line it fails, and from then on each call answers the fault.
+/// A link takes a line only if it answers the outstanding query, by the words of RFC 9271, and the server took all
+/// bytes of the query. At any other line it fails, and from then on each call returns the fault.
 ///
-/// It keeps one query of at most 512 bytes before its line feed, at most 512 bytes of an unfinished line, and at most 512
-/// rows.
+/// It keeps one query of at most 512 bytes before its line feed, at most 512 bytes of an unfinished line, and at most
+/// 512 rows.
 #[derive(Drop)]
 pub struct Link {
     cutter: LineCutter,
@@ -46,7 +46,7 @@ impl Model for Link {
 }
 
 impl Link {
-    /// A link on which nothing was said. Takes no memory; answers with words take theirs from `alloc`.
+    /// Makes a link on which nothing was said. It allocates nothing; answers with words are allocated in `alloc`.
     pub fn new(alloc: Global) -> Link
         ensures { result ≡ fresh }
     {
@@ -60,13 +60,13 @@ impl Link {
         }
     }
 
-    /// Asks a query, whose bytes then wait to be sent. Takes no memory.
+    /// Asks a query, whose bytes then wait to be sent. It allocates nothing.
     ///
     /// # Errors
     ///
-    /// The first of these that applies, and then nothing changed: the fault with which the link failed; `OutOfOrder`
-    /// where a query or its answer is still there; `BadQuery` where the query has a byte outside 0x20 to 0x7E or more
-    /// than 512 bytes before its line feed.
+    /// The first of these that applies, and then nothing changed: the fault with which the link failed; `OutOfOrder` if
+    /// a query or its answer is still there; `BadQuery` if the query has a byte outside 0x20 to 0x7E or more than 512
+    /// bytes before its line feed.
     pub fn ask(&mut self, request: &Request<'_>) -> Result<(), LinkFault>
         ensures answered { result ≡ answer_by (ask_fault request.now self.old.exchange) }
         ensures stands { self.new ≡ with_exchange (asked request.now self.old.exchange) self.old }
@@ -74,7 +74,7 @@ impl Link {
         self.exchange.ask(request)
     }
 
-    /// The bytes of the query that wait to be sent, its line feed at their end: at most 513.
+    /// Returns the bytes of the query that wait to be sent, with its line feed at the end: at most 513.
     pub fn waiting(&self) -> &[u8]
         ensures value { result.now ≡ waits self.now.exchange }
         ensures few { length result.now ≤ 513 }
@@ -82,12 +82,12 @@ impl Link {
         self.exchange.waiting()
     }
 
-    /// The server took the first `n` of the bytes that wait. Takes no memory.
+    /// Removes the first `n` of the bytes that wait: the server took them. It allocates nothing.
     ///
     /// # Errors
     ///
     /// The first of these that applies, and then nothing changed: the fault with which the link failed; `TooMuchTaken`
-    /// where fewer bytes wait.
+    /// if fewer than `n` bytes wait.
     pub fn took(&mut self, n: usize) -> Result<(), LinkFault>
         ensures answered { result ≡ answer_by (take_fault n self.old.exchange) }
         ensures stands { self.new ≡ with_exchange (taken n self.old.exchange) self.old }
@@ -95,7 +95,7 @@ impl Link {
         self.exchange.took(n)
     }
 
-    /// Takes out the answer to the query, if it is complete, also where the link failed after it. Takes no memory.
+    /// Takes out the answer to the query if it is complete, also if the link failed after it. It allocates nothing.
     pub fn answer(&mut self) -> Option<Outcome>
         ensures answer { result ≡ outcome_of self.old.exchange }
         ensures stands { self.new ≡ with_exchange (taken_out self.old.exchange) self.old }
@@ -103,30 +103,30 @@ impl Link {
         self.exchange.answer()
     }
 
-    /// Takes the next piece of what the server sends, of any length and cut anywhere. The lines that it completes are
-    /// heard in turn, and what is left is kept.
+    /// Takes in the next piece of what the server sends, of any length and cut anywhere. The lines that it completes
+    /// are heard in turn, and what follows the last is kept.
     ///
     /// # Errors
     ///
-    /// The fault with which the link failed before, or with which it fails at the first line that it can't take: in this
-    /// order `BadLine` for its form, `OutOfOrder`, `NotMine`, and `BadLine` for a row past the 512th. An answer that was
-    /// complete before that line can still be taken out. `Memory` comes only at a line that has a backslash, is a row,
-    /// or names an error.
+    /// The fault with which the link failed before, or with which it fails at the first line that it can't take. In
+    /// this order: `BadLine` for the line's form, `OutOfOrder`, `NotMine`, and `BadLine` for a row past the 512th. An
+    /// answer that was complete before that line can still be taken out. `Memory` if memory cannot be allocated; only a
+    /// line allocates that has a backslash, names an error, or is none of `OK` and the beginning and the end of a list.
     pub fn feed(&mut self, piece: &[u8]) -> Result<(), LinkFault>
         ensures feeds { (done : ℕ) × Feeds self.old piece.now done result self.new }
 
-        // Where no line may take memory, none runs out.
+        // If no line may allocate, memory doesn't run out.
         ensures no_memory { list_any may_take_memory (lines_after self.old.rest piece.now) ≡ false
             → (self.new ≡ fed piece.now self.old) × (result ≡ answer_by (fed piece.now self.old).exchange.fault) }
 
-        // It keeps no more than a query, 512 bytes of a line and 512 rows.
+        // It keeps at most one query, 512 bytes of a line and 512 rows.
         ensures bounded { IsBounded self.new }
     {
         self.feed_lines(piece).1
     }
 
-    /// [`feed`](Link::feed), which also tells how many of the lines that the piece completes were heard before the link
-    /// failed, or how many there are.
+    /// Does what [`feed`](Link::feed) does. Also returns how many of the lines that the piece completes were heard
+    /// before the link failed, or how many there are if it didn't.
     pub fn feed_lines(&mut self, piece: &[u8]) -> (usize, Result<(), LinkFault>)
         ensures feeds { Feeds self.old piece.now result.0 result.1 self.new }
         ensures bounded { IsBounded self.new }
@@ -138,8 +138,8 @@ impl Link {
     }
 }
 
-/// Hears the lines that a piece completes, in turn, up to the first at which the exchange fails, and tells how many were
-/// heard before.
+/// Takes in the lines that a piece completes, in turn, up to the first at which the exchange fails. Returns how many
+/// were heard before.
 fn hear_piece(
     cutter: &mut LineCutter,
     exchange: &mut Exchange,

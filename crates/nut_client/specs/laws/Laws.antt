@@ -25,23 +25,24 @@ use Rattle.nut_client.specs.Tool.{Ends, ending, is_over, run_of}
 use Rattle.nut_client.specs.declared.failure.Failure.{Failure}
 use Rattle.nut_client.specs.declared.failure.Failure.TheVariants as failures
 
--- However what the server sends is cut into pieces, it makes the same of a link.
+-- A piece and then another piece change a link as the two joined in one do. `IsRest` holds of every link, by
+-- `RestsStay`.
 abbrev pub CutsDoNotMatter : Type 0
 CutsDoNotMatter = (v : LinkValue) (x y : List ℕ) → IsRest v.rest → fed (x ++ y) v ≡ fed y (fed x v)
 
--- What a link keeps stays the unfinished line of some stream.
+-- Whatever is fed to a link, what it keeps is the unfinished line of some bytes.
 abbrev pub RestsStay : Type 0
 RestsStay = (v : LinkValue) (x : List ℕ) → IsRest v.rest → IsRest (fed x v).rest
 
--- The line `OK` takes no memory, and a piece takes none that completes no line.
+-- The line `OK` doesn't allocate.
 abbrev pub OkTakesNoMemory : Type 0
 OkTakesNoMemory = may_take_memory (Text (codes "OK")) ≡ false
 
--- The server's reply answers the request, and this comes of it.
+-- The server's reply answers the request, with this outcome.
 abbrev pub Answers : Request → Reply → Outcome → Type 0
 Answers request reply outcome = progress (expected request) None (answer_to reply) ≡ Ok (Complete outcome)
 
--- What the server replies to each request is taken as its answer; so is a refusal, whatever was asked.
+-- These replies of the server are taken as answers to their requests, and a refusal answers any request.
 pub record RepliesMatch : Type 0 where
   pub refused : (request : Request) (refusal : Refusal) → Answers request (replies.Refused refusal) (outcomes.Refused (refusal_name refusal))
   pub description : (ups text : List ℕ) → Answers (requests.GetUpsDesc ups) (replies.UpsDesc ups text) (outcomes.Said (text ∷ []))
@@ -54,19 +55,20 @@ pub record RepliesMatch : Type 0 where
   pub begins : (query : ListQuery) → progress (listing query) None (answers.Begin (message_words (query_parts query))) ≡ Ok (Listing [])
   pub ends : (query : ListQuery) (rows : List (List (List ℕ))) → next (listing query) rows (answers.End (message_words (query_parts query))) ≡ Ok (Complete (outcomes.List rows))
 
--- A new link keeps no more than it may, and no call but `feed` makes it keep more. Of `feed` its own contract says so.
+-- A new link keeps no more than it may, and no call but `feed` makes it keep more. The contract of `feed` says the same
+-- of itself.
 pub record BoundsStay : Type 0 where
   pub begun : IsBounded fresh
   pub asks : (request : Request) (e : Exchange) → IsStageBounded e.stage → IsStageBounded (asked request e).stage
   pub takes : (n : ℕ) (e : Exchange) → IsStageBounded e.stage → IsStageBounded (taken n e).stage
   pub takes_out : (e : Exchange) → IsStageBounded e.stage → IsStageBounded (taken_out e).stage
 
--- Bytes that come behind the last answer change nothing.
+-- Bytes behind the last answer change nothing.
 abbrev pub MoreBytesAreIgnored : Type 0
 MoreBytesAreIgnored = (script : Script) (bytes more : List ℕ) → is_over (run_of script bytes).standing ≡ true → run_of script (bytes ++ more) ≡ run_of script bytes
 
--- However much was read of a stream, and in whatever pieces: a tool ends by all bytes of the stream, unless memory was
--- refused, or its connection was lost before they were all read, or in the middle of a query.
+-- However much was read of a stream, and in whatever pieces, a tool ends as all bytes of the stream say, unless memory
+-- could not be allocated, or its connection was lost before they were all read or in the middle of a query.
 abbrev pub AllBytesDecide : Type 0
 AllBytesDecide = (script : Script) (result : Result (List ℕ) Failure) (bytes : List ℕ) (left before after : Option (List ℕ)) → (e : Ends script result (Some bytes) left before after)
     → (result ≡ Err failures.Memory)
