@@ -12,7 +12,7 @@ use std::path::{AsPath, Path};
 use std::rt::Files;
 use std::{fmt, io};
 
-/// A configuration that a file sets.
+/// A configuration that is read from a file.
 pub trait ConfFile: Drop + Sized {
     /// The file's name in its folder.
     fn file_name() -> &'static str;
@@ -61,14 +61,14 @@ impl ConfFile for UpsmonConf {
     }
 }
 
-/// Why a file gives no configuration. It is shown as `ups.conf: cannot read` or `ups.conf:2: Repeated`.
+/// Why a file gives no configuration. It is displayed as in `ups.conf: cannot read` or `ups.conf:2: Repeated`.
 #[derive(Debug, Drop)]
 pub enum FileFault<'a> {
-    /// The file isn't there, is a folder, may not be read, or a read failed.
+    /// The file doesn't exist, is a folder, may not be read, or a read failed.
     CannotRead(&'a str),
-    /// The file has this fault, at a directive of this word where no line of the file may have that.
+    /// The file has this fault. The word is that of the directive if no line of the file may have it.
     Conf(&'a str, ConfFault, Option<String>),
-    /// Memory ran out.
+    /// Memory could not be allocated.
     Memory,
 }
 
@@ -83,7 +83,7 @@ impl<'a> fmt::Display for FileFault<'a> {
 }
 
 impl<'a> FileFault<'a> {
-    /// The word of the directive that no line of the file may have, if that is the fault.
+    /// Returns the word of the directive that no line of the file may have, if that is the fault.
     pub fn unknown_word(&self) -> Option<&str> {
         match self {
             FileFault::Conf(_, _, Some(word)) => Some(word.as_str()),
@@ -106,14 +106,14 @@ pub fn read_conf<C: ConfFile>(
     }
 }
 
-/// Reads a configuration from a file, which a fault calls by this name.
+/// Reads a configuration from a file that a fault calls by this name.
 pub fn read_conf_at<'a, C: ConfFile, P: AsPath>(
     files: &impl Files,
     alloc: Global,
     path: P,
     name: &'a str,
 ) -> Result<C, FileFault<'a>> {
-    // of a file that is too long no more than show that
+    // of a file that is too long, only enough is read to see that
     let bytes = match read_file(files, alloc, path, FILE_MAX as u64 + 1) {
         Ok(bytes) => bytes,
         Err(error) if error.kind() == ErrorKind::OutOfMemory => return Err(FileFault::Memory),
@@ -129,7 +129,7 @@ pub fn read_conf_at<'a, C: ConfFile, P: AsPath>(
     }
 }
 
-/// The first so many bytes of a file.
+/// Reads at most the first `most` bytes of a file.
 pub(crate) fn read_file<P: AsPath>(
     files: &impl Files,
     alloc: Global,

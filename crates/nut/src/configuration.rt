@@ -1,4 +1,4 @@
-//! What the command line of upsd configures.
+//! The configuration that upsd's command line names.
 
 use crate::conf_file::{FileFault, read_conf};
 use crate::failure::Failure;
@@ -10,7 +10,7 @@ use nut_server::Config;
 use std::alloc::Global;
 use std::rt::Files;
 
-/// What ups.conf, upsd.users and upsd.conf set.
+/// The contents of ups.conf, upsd.users and upsd.conf.
 #[derive(Drop)]
 pub struct Settings {
     pub ups: UpsConf,
@@ -19,14 +19,14 @@ pub struct Settings {
 }
 
 impl Settings {
-    /// The configuration of a server.
+    /// Makes the configuration of a server.
     pub fn into_config(self) -> Config {
         let Settings { ups, users, upsd } = self;
         Config::new(ups, users, upsd)
     }
 }
 
-/// What the files of `--conf` set, and without it the UPSes of `--ups`.
+/// Reads the files of `--conf`, or without it the UPSes of `--ups`.
 pub fn read_options(
     files: &impl Files,
     alloc: Global,
@@ -42,7 +42,7 @@ pub fn read_options(
     })
 }
 
-/// What the files of a folder set.
+/// Reads the files of a folder.
 pub fn read_settings(
     files: &impl Files,
     alloc: Global,

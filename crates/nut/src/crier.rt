@@ -1,4 +1,4 @@
-//! Who prints a monitor's notices, and runs NOTIFYCMD with them.
+//! Prints a monitor's notices, and runs NOTIFYCMD with them.
 
 use crate::notify_command::{Call, NotifyCommand};
 use nut_conf::UpsmonConf;
@@ -8,13 +8,13 @@ use std::alloc::{AllocError, Global};
 use std::io::Write;
 use std::process::Processes;
 
-/// How long a text is at most: 128 bytes whose `%s` is a target of 107.
+/// The longest text, in bytes: 128 bytes with the two of `%s` replaced by a UPS of 107.
 const TEXT_MAX: usize = 233;
 
-/// Prints each notice whose flags have SYSLOG or WALL as one line, and runs NOTIFYCMD with each whose flags have EXEC. With
-/// IGNORE neither is done, whatever stands beside it.
+/// Prints each notice whose flags have SYSLOG or WALL as one line, and runs NOTIFYCMD with each whose flags have EXEC.
+/// A notice with IGNORE is neither printed nor handed to NOTIFYCMD, whatever else its flags have.
 ///
-/// A run of the command that can't be started is let go, which is told on `err`.
+/// If a run of NOTIFYCMD cannot be started, it is dropped, and that is written to `err`.
 #[derive(Drop)]
 pub struct Crier<'a, R: Processes, O, E> {
     out: O,
@@ -24,7 +24,7 @@ pub struct Crier<'a, R: Processes, O, E> {
 }
 
 impl<'a, R: Processes, O: Write + Drop, E: Write + Drop> Crier<'a, R, O, E> {
-    /// One who prints on `out`. It takes the memory for the longest text.
+    /// Makes a crier that prints on `out`. It allocates room for the longest text.
     pub fn new(
         processes: &'a R,
         alloc: Global,
@@ -40,13 +40,13 @@ impl<'a, R: Processes, O: Write + Drop, E: Write + Drop> Crier<'a, R, O, E> {
         })
     }
 
-    /// Prints the text as a line of its own.
+    /// Prints the text as a line.
     fn print(&mut self) {
         let _ = self.out.write_all(&self.text);
         let _ = self.out.write_all(b"\n");
     }
 
-    /// Runs the command with the text.
+    /// Runs NOTIFYCMD with the text.
     fn call(&mut self, config: &UpsmonConf, notice: Notice) {
         let called = self.command.call(Call {
             kind: notice.kind.word(),
@@ -83,7 +83,7 @@ impl<'a, R: Processes, O: Write + Drop, E: Write + Drop> Herald for Crier<'a, R,
     }
 }
 
-/// The UPS that a notice is of, as MONITOR has it; empty for a shutdown.
+/// Returns the UPS of a notice as MONITOR has it; empty for SHUTDOWN.
 fn ups_of(config: &UpsmonConf, notice: Notice) -> &[u8] {
     let Some(line) = notice.line else {
         return b"";
