@@ -1,4 +1,5 @@
-//! What no clause says: rows of the specification, each test in the order of tests, every limit, and the files of `examples`.
+//! What no clause says: rows of the specification, each test in the order of tests, every limit, and the files of
+//! `examples`.
 
 mod examples;
 mod faults;
@@ -8,10 +9,10 @@ mod targets;
 use nut_conf::{ConfFault, FaultKind, read_ups, read_upsd, read_upsmon, read_users};
 use std::alloc::Global;
 
-/// The line and the kind of a fault, or None where a file reads.
+/// The line and the kind of a fault, or `None` if a file has none.
 type Outcome = Option<(u32, FaultKind)>;
 
-/// One of the four files.
+/// One of the four configuration files.
 #[derive(Clone, Copy)]
 enum File {
     Ups,
@@ -36,7 +37,7 @@ fn read(alloc: Global, file: File, bytes: &[u8]) -> Outcome {
     }
 }
 
-/// The first row whose file doesn't read as the row says.
+/// Returns the first row whose file isn't read as the row says.
 fn first_wrong(alloc: Global, file: File, rows: &[(&[u8], Outcome)]) -> Option<usize> {
     for (index, (bytes, want)) in rows.iter().enumerate() {
         if read(alloc, file, bytes) != *want {
