@@ -15,9 +15,9 @@ use std::sync::Wait;
 /// Serves one client, whose address is `stdio`, over a reader and a writer, until its LOGOUT, the end of the input, or
 /// a lack of memory at one of its pieces. Returns the exit status: 0, or 1 after a text on `err`.
 ///
-/// `words` are those of the command line `upsd --stdio [--conf DIR
-/// --ups NAME=DESC ..]`, the program's name first. If clap refuses them, its text is written to `err`, and the status
-/// is 2; the help and the version are written to `out`, with status 0.
+/// `words` are those of the command line `upsd --stdio [--conf DIR | --ups NAME=DESC ..]`, the program's name first. If
+/// clap refuses them, its text is written to `err`, and the status is 2; the help and the version are written to `out`,
+/// with status 0.
 ///
 /// With `--conf` the files ups.conf, upsd.users and upsd.conf of the folder are read, in this order. The first fault is
 /// written as `upsd: ups.conf:2: Repeated`, and a file that cannot be read as `upsd: ups.conf: cannot read`. The values

@@ -56,7 +56,6 @@ impl Stopping {
 /// Returns how many seconds pass at most from the moment at which the server shows OB and LB for so many UPSes that the
 /// others supply too little, to the moment at which the machine is halted. It assumes that each answer of a server
 /// comes within `delay` seconds, and that upsmon's clock skips none.
-/// upsmon's clock skips none.
 pub fn stops_within(config: &UpsmonConf, delay: u32) -> u64
     ensures { result ≡ seconds_of (configuration_of config.now) (prompt delay) }
 {

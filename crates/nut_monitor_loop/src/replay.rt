@@ -16,7 +16,6 @@ use std::sync::Wait;
 /// # Errors
 ///
 /// `ServeFault::World` if memory for a note cannot be allocated. What was noted before stays noted.
-/// `ServeFault::World` where memory for a note was refused: what was noted before stands.
 pub fn watch_memory(
     rt: &impl Wait,
     monitor: &mut Monitor,

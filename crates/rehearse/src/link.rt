@@ -125,8 +125,7 @@ fn show_rows<W: Write>(rows: &Rows, out: &mut W) -> io::Result<()> {
     Ok(())
 }
 
-/// Writes the words, each followed by `
-/// `.
+/// Writes the words, each followed by `|`.
 fn show_fields<W: Write>(fields: &Fields, out: &mut W) -> io::Result<()> {
     for word in fields.as_slice() {
         put(word.as_bytes(), out)?;

@@ -15,7 +15,6 @@
 //! `server.rt` lists the other steps of a server. Steps that begin with `dummy`, `monitor`, `watch`, `link`, `room` or
 //! `words` are for a dummy driver, a monitor, the loop of a monitor, a link, a room, or lines and words: see the file
 //! of that name.
-//! this name.
 //!
 //! In texts `%XX` is the byte with these two hexadecimal digits; control characters, `%` and bytes past ASCII are
 //! printed so. A line that is empty or begins with `#` is printed as it is. A line that begins with `? ` is played only

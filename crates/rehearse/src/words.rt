@@ -6,8 +6,7 @@
 //! words new            begins a new stream
 //! ```
 //!
-//! Each word is followed by `
-//! `, each line is in brackets, and a line that is too long is `[!]`.
+//! Each word is followed by `|`, each line is in brackets, and a line that is too long is `[!]`.
 
 use crate::failure::Failure;
 use crate::played::Played;
