@@ -59,9 +59,10 @@ struct Streams<O, E> {
 /// once is dropped ([`LossyLines`]), so that no reader of these streams holds up a halt.
 ///
 /// If clap refuses the words, its text is written to `err`, and the status is 2; the help and the version are written
-/// to `out`, with status 0. Before anything is watched, the first of these is written to `err`, with status 1: `upsmon:
-/// upsmon.conf: cannot read`; the file's first fault, as `upsmon: upsmon.conf:2: BadName`; `upsmon: out of memory`. If
-/// waiting for the sockets or reading the clock fails, upsmon ends with `upsmon: I/O failed` and status 1.
+/// to `out`, with status 0. Before anything is watched, the first of these is written to `err`, with status 1:
+/// `upsmon: upsmon.conf: cannot read`; the file's first fault, as `upsmon: upsmon.conf:2: BadName`;
+/// `upsmon: out of memory`. If waiting for the sockets or reading the clock fails, upsmon ends with
+/// `upsmon: I/O failed` and status 1.
 pub fn run_upsmon<R, S: AsStr, O, E>(
     rt: &R,
     alloc: Global,

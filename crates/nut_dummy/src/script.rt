@@ -161,8 +161,8 @@ impl Script {
 
     /// Reads a script (NUT manual page dummy-ups(8)).
     ///
-    /// Blank lines are skipped, and lines whose first byte after blanks is `#`. Every other line is a timer or `name:
-    /// value`. A timer is a line without a colon whose words are `TIMER` and a number of one to nine digits.
+    /// Blank lines are skipped, and lines whose first byte after blanks is `#`. Every other line is a timer or
+    /// `name: value`. A timer is a line without a colon whose words are `TIMER` and a number of one to nine digits.
     ///
     /// # Errors
     ///

@@ -1,4 +1,4 @@
--- However an unfinished line is cut into pieces, the content is the same.
+-- Cutting an unfinished line into pieces doesn't change the content.
 use Rattle.std.proofs.Common.{◌≡◌, ℕ, zero, suc, ◌<◌, Bool, true, false, not, ◌&&◌, eqb, List, [], ◌∷◌, ◌++◌, length, drop, refl, sym, ◌∙◌, ap, subst, Option, Some, None, is_none, if◌then◌else◌, append-nil}
 use mathlib.Core.Path.{fun_ext}
 use Rattle.std.proofs.lemmas.Bool.{eq-eqb}

@@ -111,7 +111,7 @@ by-line line ask waits (Text text) =
     (by-reading (length waits == 0) line ask waits (answer_in text))
 by-line line ask waits TooLong = inl (none-either (length waits == 0), BadLine, refl)
 
--- a line where no query is outstanding
+-- a line while no query is outstanding
 idle-read : (read : Result Said AnswerFault) → (fault : LinkFault) × (on_read stages.Idle read ≡ Err fault)
 idle-read (Ok said) = (OutOfOrder, refl)
 idle-read (Err fault) = (BadLine, refl)

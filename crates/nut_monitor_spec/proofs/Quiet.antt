@@ -134,7 +134,7 @@ module _ (configuration : Configuration) (newest : Entry) (older : List Entry) w
       ∙ ap (λ p. next_query configuration (line_in configuration.lines j) (clock past) p (may_ask j past) (last_query j past) (forced j past)) (quiet-phase (LinkTook i n) refl refl refl)
       ∙ still j
 
-  -- ---- the link of which bytes were taken
+  -- ---- the link on which bytes were taken
   took-own : (i n : ℕ) → (linked i past ≡ true → n ≤ length (waits configuration i past)) →
       watch configuration (bare (LinkTook i n) ∷ past) i ≡ took n (watch configuration past i)
   took-own i n within =
