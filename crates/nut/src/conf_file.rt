@@ -14,10 +14,14 @@ use std::{fmt, io};
 
 /// A configuration that is read from a file.
 pub trait ConfFile: Drop + Sized {
-    /// The file's name in its folder.
+    /// Returns the file's name in its folder.
     fn file_name() -> &'static str;
 
     /// Reads the bytes of the file.
+    ///
+    /// # Errors
+    ///
+    /// The first fault of the file; `FaultKind::Memory` if memory cannot be allocated.
     fn read(alloc: Global, bytes: &[u8]) -> Result<Self, ConfFault>;
 }
 
@@ -94,6 +98,11 @@ impl<'a> FileFault<'a> {
 }
 
 /// Reads a configuration from its file in a folder.
+///
+/// # Errors
+///
+/// `CannotRead` if the file cannot be opened or read, `Conf` with its first fault, `Memory` if memory cannot be
+/// allocated.
 pub fn read_conf<C: ConfFile>(
     files: &impl Files,
     alloc: Global,
@@ -107,6 +116,10 @@ pub fn read_conf<C: ConfFile>(
 }
 
 /// Reads a configuration from a file that a fault calls by this name.
+///
+/// # Errors
+///
+/// Those of [`read_conf`].
 pub fn read_conf_at<'a, C: ConfFile, P: AsPath>(
     files: &impl Files,
     alloc: Global,

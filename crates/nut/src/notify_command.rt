@@ -69,6 +69,10 @@ impl<'r, R: Processes> NotifyCommand<'r, R> {
     }
 
     /// Starts the command, if there is one, and doesn't wait for it.
+    ///
+    /// # Errors
+    ///
+    /// `TooMany` if as many commands run as may, `NotStarted` if it cannot be started.
     pub fn call(&mut self, call: Call<'_>) -> Result<(), CallFault> {
         let Some(script) = &self.script else {
             return Ok(());

@@ -54,6 +54,10 @@ fn serve_words<S: AsStr, I: Read, O: Write>(
 }
 
 /// Serves one client over a reader and a writer.
+///
+/// # Errors
+///
+/// `Memory` if memory for the server cannot be allocated, `Input` if a read failed, `Output` if a write failed.
 pub fn serve_client<I: Read, O: Write>(
     rt: &impl Wait,
     alloc: Global,

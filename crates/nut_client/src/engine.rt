@@ -24,6 +24,12 @@ use std::io;
 use std::sync::Wait;
 
 /// Asks a server what is wanted of the UPS of this name. Returns the text to print once the last answer came.
+///
+/// # Errors
+///
+/// `Refused` with the name of the error if the server refuses a query; `BadAnswer` if a line doesn't answer the query;
+/// `BadQuery` if a query isn't writable; `ConnectionLost` if the connection ends or fails before the last answer;
+/// `Memory` if memory cannot be allocated.
 pub fn ask_server<S: Stream>(
     rt: &impl Wait,
     alloc: Global,

@@ -23,6 +23,7 @@ impl Model for Name {
 }
 
 impl Name {
+    /// Makes a name of bytes that are one.
     pub fn new(bytes: &[u8]) -> Name
         requires { IsTrue (is_name bytes.now) }
         ensures { result ≡ bytes.now }
@@ -63,6 +64,7 @@ impl Model for Text {
 }
 
 impl Text {
+    /// Makes a value of bytes that are one.
     pub fn new(bytes: &[u8]) -> Text
         requires { IsTrue (is_value bytes.now) }
         ensures { result ≡ bytes.now }

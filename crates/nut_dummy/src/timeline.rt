@@ -37,6 +37,7 @@ impl Model for Timeline {
 }
 
 impl Step {
+    /// Makes a value that is due `at` seconds after the beginning of a round.
     pub fn new(at: u128, value: Text) -> Step
         ensures { result ≡ record { at = at; value = value } }
     {
