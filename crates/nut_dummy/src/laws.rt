@@ -6,28 +6,30 @@ ghost use Rattle.nut_dummy.specs.History.{LooksBack};
 
 use crate::limits::{LINE_MAX, MAX_STEPS, SCRIPT_VARIABLES, TIMER_MAX};
 
-/// Law, nothing runs: after any history of accepted calls, the value of each variable is the newest of its steps that
-/// became due, the clients' SETs and the commands, in the order of the calls. The bytes taken on the link, followed by
-/// those that wait, are the lines owed to it; after a cut, the bytes taken are the first of these lines' bytes.
+/// States a law and does nothing when called: after any history of accepted calls, the value of each variable is the
+/// newest of its steps that became due, the clients' SETs and the commands, in the order of the calls. The bytes taken
+/// on the link, followed by those that wait, are the lines owed to it; after a cut, the bytes taken are the first of
+/// these lines' bytes.
 pub fn looks_back()
     ensures { LooksBack }
 {}
 
-/// Law, nothing runs: each line that the driver tells is read as what it says. The line of a value is heard as that
-/// value; the lines that limit a variable as exactly its flags, number, enum values and ranges; and the end of a dump
-/// as all commands, current data and a dump that is done.
+/// States a law and does nothing when called: each line that the driver tells is read as what it says. The line of a
+/// value is heard as that value; the lines that limit a variable as exactly its flags, number, enum values and ranges;
+/// and the end of a dump as all commands, current data and a dump that is done.
 pub fn told_lines_are_heard()
     ensures { ToldLinesAreHeard }
 {}
 
-/// Law, nothing runs: after any calls to a driver whose script was read, `DUMPALL` is answered by lines for each
-/// variable that has a value, ascending, with its limits, then `ADDCMD` for each command, ascending, `DATAOK` and
-/// `DUMPDONE`. In whatever pieces a server gets them, they lead it from an empty table to the driver's own.
+/// States a law and does nothing when called: after any calls to a driver whose script was read, `DUMPALL` is answered
+/// by lines for each variable that has a value, ascending, with its limits, then `ADDCMD` for each command, ascending,
+/// `DATAOK` and `DUMPDONE`. In whatever pieces a server gets them, they lead it from an empty table to the driver's
+/// own.
 pub fn dump_is_the_table()
     ensures { DumpIsTheTable }
 {}
 
-/// Law, nothing runs: the numbers behind the limits that the definitions name.
+/// States a law and does nothing when called: the numbers behind the limits that the definitions name.
 pub fn script_limits()
     ensures line { LINE_MAX ≡ 512 }
     ensures timer { TIMER_MAX ≡ 86400 }

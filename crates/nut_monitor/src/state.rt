@@ -200,8 +200,8 @@ impl State {
         }
     }
 
-    /// Refuses a number that no line has with `NoSuchLink`, and with `WrongLinkState` a line whose link is up though `linked`
-    /// is false, or down though it is true.
+    /// Refuses a number that no line has with `NoSuchLink`, and with `WrongLinkState` a line whose link is up though
+    /// `linked` is false, or down though it is true.
     fn check(&self, i: usize, linked: bool) -> Result<(), MonitorFault>
         ensures { MatchResult result (λ _. (i < length self.now.watches.items) × (is_linked (watch_at i self.now.watches.items) ≡ linked))
             (λ fault. checked_fault linked (watch_at i self.now.watches.items) ≡ Some fault) }

@@ -129,88 +129,95 @@ pub enum MonitorFault {
     Memory { link: Option<usize>, lines: usize },
 }
 
-/// The machine keeps the content of every history of accepted events: a step needs the content and not the past.
+/// States a law and does nothing when called: the machine keeps the content of every history of accepted events: a step
+/// needs the content and not the past.
 pub fn machine_keeps_content()
     ensures { KeepsContent }
 {}
 
-/// Whatever a monitor may answer to an event, its content afterwards is the content of the history after that answer.
+/// States a law and does nothing when called: whatever a monitor may answer to an event, its content afterwards is the
+/// content of the history after that answer.
 pub fn answers_keep_content()
     ensures { AnswersKeepContent }
 {}
 
-/// A link is up in the content exactly if it was made and not lost since.
+/// States a law and does nothing when called: a link is up in the content exactly if it was made and not lost since.
 pub fn linked_is_made()
     ensures { LinkedIsMade }
 {}
 
-/// What waits on a link is what the server hasn't taken of the queries put on it since it was made, joined; nothing if
-/// the link isn't up.
+/// States a law and does nothing when called: what waits on a link is what the server hasn't taken of the queries put
+/// on it since it was made, joined; nothing if the link isn't up.
 pub fn waiting_is_left()
     ensures { WaitingIsLeft }
 {}
 
-/// `linked_is_made` and `waiting_is_left` for every number, also for one that no MONITOR line has, after every history
-/// of accepted events.
+/// States a law and does nothing when called: `linked_is_made` and `waiting_is_left` for every number, also for one
+/// that no MONITOR line has, after every history of accepted events.
 pub fn links_are_told()
     ensures { LinksAreTold }
 {}
 
-/// On a link that is up, the bytes that the server took, followed by those that wait, are the queries put on it since
-/// it was made, joined.
+/// States a law and does nothing when called: on a link that is up, the bytes that the server took, followed by those
+/// that wait, are the queries put on it since it was made, joined.
 pub fn sent_and_waiting_is_due()
     ensures { SentAndWaitingIsDue }
 {}
 
-/// Once the shutdown has begun, the moment of its beginning never changes; nor does that of Final once that has begun.
+/// States a law and does nothing when called: once the shutdown has begun, the moment of its beginning never changes;
+/// nor does that of Final once that has begun.
 pub fn shutdown_stays()
     ensures { ShutdownStays }
 {}
 
-/// The answers on a link that is up belong to its queries in turn: each query but the newest has its answer, and the
-/// newest may have none.
+/// States a law and does nothing when called: the answers on a link that is up belong to its queries in turn: each
+/// query but the newest has its answer, and the newest may have none.
 pub fn answers_come_in_turn()
     ensures { AnswersComeInTurn }
 {}
 
-/// An accepted event of a link changes nothing that is known of another line's UPS.
+/// States a law and does nothing when called: an accepted event of a link changes nothing that is known of another
+/// line's UPS.
 pub fn others_stay()
     ensures { OthersStay }
 {}
 
-/// A query is put only on a link that is up and has no outstanding query.
+/// States a law and does nothing when called: a query is put only on a link that is up and has no outstanding query.
 pub fn queries_come_alone()
     ensures { QueriesComeAlone }
 {}
 
-/// GET NUMLOGINS is put only once an FSD for the UPS was answered OK, and only if this machine is its primary.
+/// States a law and does nothing when called: GET NUMLOGINS is put only once an FSD for the UPS was answered OK, and
+/// only if this machine is its primary.
 pub fn logins_follow_fsd()
     ensures { LoginsFollowFsd }
 {}
 
-/// A piece that completes no line, and then another piece, lead to the same content as both pieces joined in one.
+/// States a law and does nothing when called: a piece that completes no line, and then another piece, lead to the same
+/// content as both pieces joined in one.
 pub fn cuts_do_not_matter()
     ensures { CutsDoNotMatter }
 {}
 
-/// A link keeps at most one query of at most 512 bytes and its line feed, and 512 bytes of an unfinished line, if each
-/// query of its MONITOR line is writable.
+/// States a law and does nothing when called: a link keeps at most one query of at most 512 bytes and its line feed,
+/// and 512 bytes of an unfinished line, if each query of its MONITOR line is writable.
 pub fn links_are_bounded()
     ensures { LinksAreBounded }
 {}
 
-/// At most 128 notices wait if there are at most 32 MONITOR lines.
+/// States a law and does nothing when called: at most 128 notices wait if there are at most 32 MONITOR lines.
 pub fn notices_are_few()
     ensures { NoticesAreFew }
 {}
 
-/// The notices handed out, followed by those that wait, are all notices in their order: none is lost, none comes twice,
-/// and each one handed out was the oldest.
+/// States a law and does nothing when called: the notices handed out, followed by those that wait, are all notices in
+/// their order: none is lost, none comes twice, and each one handed out was the oldest.
 pub fn notices_come_in_order()
     ensures { NoticesComeInOrder }
 {}
 
-/// What is told, asked, decided and refused in some runs, computed from the definitions.
+/// States worked examples and does nothing when called: what is told, asked, decided and refused in some runs, computed
+/// from the definitions.
 pub fn worked_examples()
     ensures primaries { PrimaryExamples }
     ensures secondaries { SecondaryExamples }

@@ -10,7 +10,7 @@ pub enum NutsimFault<'a> {
     File(FileFault<'a>),
     /// This file cannot be read.
     CannotRead(&'a str),
-    /// This line of a schedule, counted from 1, isn't a step, or names a monitor, a link or a UPS that the room hasn't.
+    /// This line of a schedule, counted from 1, isn't a step, or names a monitor, a link or a UPS that isn't in the room.
     BadStep(&'a str, u64),
 }
 
