@@ -26,7 +26,7 @@ const MODE: u32 = 0o600;
 /// What is found under the flag's name.
 #[derive(Clone, Copy, Debug, PartialEq, Eq)]
 pub enum FlagState {
-    /// Nothing.
+    /// Nothing has its name.
     Absent,
     /// The flag: a file with the right contents.
     Set,

@@ -1,4 +1,4 @@
-//! The numbers of the standard streams.
+//! The descriptors of the standard streams.
 
 use std::alloc::{AllocError, Global};
 use std::fs::File;

@@ -20,23 +20,23 @@ pub record Written : Type 1 where
 abbrev pub written : {O : Type 0} → (O → Option (List ℕ)) → (O → Type 0) → O → O → Written
 written contents has_failed old new = record { before = contents old; after = contents new; has_failed = has_failed new }
 
--- It took nothing.
+-- The output took nothing in the call.
 abbrev pub IsUntouched : Written → Type 0
 IsUntouched w = Keeps w.before w.after
 
--- It hasn't failed, and took all of these bytes.
+-- The output hasn't failed, and took all of these bytes.
 abbrev pub HasAll : List ℕ → Written → Type 0
 HasAll bytes w = ¬ w.has_failed × Appends w.before w.after bytes
 
--- It has failed, and took a beginning of these bytes.
+-- The output has failed, and took a beginning of these bytes.
 abbrev pub IsCutShort : List ℕ → Written → Type 0
 IsCutShort bytes w = w.has_failed × ((front : List ℕ) × (back : List ℕ) × (bytes ≡ front ++ back) × Appends w.before w.after front)
 
--- It took all of these bytes and hasn't failed, or a beginning of them and has.
+-- The output took all of these bytes and hasn't failed, or a beginning of them and has.
 abbrev pub HasText : List ℕ → Written → Type 0
 HasText bytes w = HasAll bytes w ⊎ IsCutShort bytes w
 
--- `HasText`, by whether it took all.
+-- `HasText`, by whether the output took all bytes.
 abbrev pub Puts : Bool → List ℕ → Written → Type 0
 Puts true bytes w = HasAll bytes w
 Puts false bytes w = IsCutShort bytes w

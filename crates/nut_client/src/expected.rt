@@ -33,7 +33,7 @@ pub enum Expected {
     Success,
     /// A line that begins with these words and has further words.
     Line(Heading, More),
-    /// Any line that isn't one of the other kinds.
+    /// Any line but `OK`, a refusal, and the beginning and the end of a list.
     AnyLine,
     /// A list whose first and last line have these words; each row begins with them and has this many further words.
     Listing(Heading, u8),

@@ -15,7 +15,7 @@ pub trait Output {
     /// It has failed: not all that was written to it so far arrived.
     ghost has_failed: { Self → Type 0 };
 
-    /// Writes some of these bytes.
+    /// Writes some of these bytes. Returns how many, or why it wrote none.
     fn write(&mut self, bytes: &[u8]) -> Moved
         ensures wrote { Wrote result bytes.now (contents self.old) (contents self.new) }
         ensures lost { result ≡ Lost → has_failed self.new };

@@ -1,4 +1,4 @@
--- What a server makes of a dump, in whatever pieces its bytes come.
+-- The table that a server reads from a dump, in whatever pieces its bytes come.
 use Rattle.std.specs.Prelude.{◌≡◌, ℕ, true, List, [], ◌∷◌, ◌++◌, Some, Ok, map}
 use Rattle.std.specs.List.{concat, flat_map}
 use Rattle.std.specs.Option.{option_map_or}

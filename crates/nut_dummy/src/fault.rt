@@ -53,6 +53,6 @@ impl<T: Drop> From<AllocFailed<T>> for ScriptFaultKind {
 pub struct ScriptFault {
     /// The number of the line, counted from 1; 0 for the script as a whole.
     pub line: usize,
-    /// What is wrong there.
+    /// The kind of the fault.
     pub kind: ScriptFaultKind,
 }

@@ -15,7 +15,7 @@ use Rattle.nut_monitor_loop.specs.declared.types.Next.TheVariants.{Moment, Linke
 pub data Entry : Type 0 where
   -- it gave this event
   Gave : (e : Event) → Entry
-  -- of a write to link i it took these bytes
+  -- it took these bytes of a write to link i
   TookBytes : (i : ℕ) (bytes : List ℕ) → Entry
   -- it took none of the bytes of a write to link i, which may be tried later
   WasLate : (i : ℕ) → Entry

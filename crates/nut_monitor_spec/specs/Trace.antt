@@ -301,7 +301,7 @@ abbrev pub is_over_at : Configuration → List Entry → Bool
 is_over_at configuration past =
     is_over_by configuration (clock past) (alone configuration past) (moment_of (begun configuration past))
 
--- the past when Final began. Empty before
+-- the past when Final began: at the end of the first event after which Forcing was over. Empty before
 abbrev pub ended : Configuration → List Entry → List Entry
 ended configuration past = earliest (is_over_at configuration) past
 
