@@ -1,6 +1,6 @@
 #!/usr/bin/env python3
-"""Checks that a line which a cutter hands out can't be kept over the next piece: it lies in the piece or in the cutter, so a
-crate that keeps one has to be refused, and one that is done with it has to pass.
+"""Checks that a line from a cutter cannot be kept beyond the next piece: it is borrowed from the piece or from the cutter, so
+a crate that keeps one has to be refused, and one that is done with it has to pass.
 
     python3 -m tests.gate.borrows
 

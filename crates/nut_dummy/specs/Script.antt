@@ -69,7 +69,7 @@ taken_in s (Err fault) = Err fault
 abbrev pub with_line : ScriptKind → Script → List ℕ → Result Script ScriptFaultKind
 with_line kind s line = if is_skipped line then Ok s else taken_in s (item kind line)
 
--- goes on after line n, or gives its number with its fault
+-- continues after line n, or returns its number with its fault
 abbrev pub at_line : {X Y : Type 0} → ℕ → Result X ScriptFaultKind → (X → Result Y (ℕ × ScriptFaultKind)) → Result Y (ℕ × ScriptFaultKind)
 at_line n (Ok x) f = f x
 at_line n (Err fault) f = Err (n, fault)

@@ -204,7 +204,7 @@ impl Monitor {
         // The answer is that of the first test that refuses. Memory may be lacking only if no test refuses.
         ensures answered { IsAnswer self.old.content (event_of event.entry) result }
 
-        // The content is then that of the history that goes on by the answer.
+        // The content is then that of the history after the answer.
         ensures stands { (configuration : Configuration) (events : List Events) → Tells configuration events self.old.content
             → Tells configuration (after result (event_of event.entry) events) self.new.content }
 

@@ -50,7 +50,7 @@ abbrev pub Stands : Configuration → List Event → Option ℕ → Entry → Op
 Stands first h owed (Gave e) event owed' =
     (answer : Result (Unit {0}) MonitorFault) × (owed ≡ None) × ((content first h).notices ≡ []) × IsAnswer (content first h) e answer
     × (with_event event h ≡ after answer e h) × (owed' ≡ lost_by e (content first h) (content first (after answer e h)))
--- Taken bytes stand as such. A write that fails loses its link. A late write stands for no event.
+-- `LinkTook` stands for bytes that were taken, `LinkLost` for a write that failed, and no event for a late write.
 Stands first h owed (TookBytes i bytes) event owed' =
     (refusal (content first h) (LinkTook i (length bytes)) ≡ None) × (event ≡ Some (LinkTook i (length bytes))) × (owed' ≡ owed)
 Stands first h owed (WasLate i) event owed' = (event ≡ None) × (owed' ≡ owed)

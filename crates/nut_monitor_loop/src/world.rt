@@ -49,7 +49,8 @@ pub trait MonWorld {
         ensures counted { fault_count self.new ≡ (if is_ok result then fault_count self.old else fault_count self.old + 1) }
         ensures reached { reached self.old self.new };
 
-    /// Offers at least one byte to the server of link i, and returns what became of the bytes.
+    /// Offers at least one byte to the server of link i. Returns how many the server took, or that the write was late,
+    /// or that it failed.
     fn write(&mut self, i: usize, bytes: &[u8]) -> Result<Written, Fault>
         requires few { fault_count self.old < 2 ^ 64 - 1 }
         requires some { 0 < length bytes.now }

@@ -18,7 +18,7 @@ StaysLate old new = (j : ℕ) → old j ≡ true → new j ≡ true
 abbrev pub KeepsLate : (ℕ → Bool) → (ℕ → Bool) → Type 0
 KeepsLate old new = (j : ℕ) → new j ≡ old j
 
--- less waits if bytes were taken
+-- fewer bytes wait on link i if some were taken
 abbrev pub Less : Written → ℕ → List Watch → List Watch → Type 0
 Less (Took n) i old new = length (waiting_of i new) < length (waiting_of i old)
 Less Later i old new = Unit {0}
