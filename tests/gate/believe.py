@@ -255,7 +255,7 @@ def owners(text):
 
 
 def functions(text):
-    """Returns the clauses of each function of a file, by its name, with its type in front if it has one."""
+    """Yields the clauses of each function of a file, by its name, with its type in front if it has one."""
     blocks = owners(text)
     for it in re.finditer(rf"^\s*(?:pub )?(?:const )?fn ({WORD})", text, re.M):
         owner = next((name for start, end, name in blocks if start <= it.start() < end), None)

@@ -42,7 +42,7 @@ def text_of(path):
 
 
 def blocks(text):
-    """Returns the document as blocks: headings, tables, code, lists and paragraphs, each a kind with its lines."""
+    """Yields the document as blocks: headings, tables, code, lists and paragraphs, each a kind with its lines."""
     lines = text.splitlines()
     while lines:
         if not lines[0]:
@@ -121,7 +121,7 @@ def made_page(text):
 
 
 def heads(page):
-    """Returns the directives and options that a page of NUT describes: the heads of its indented paragraphs, such as
+    """Yields the directives and options that a page of NUT describes: the heads of its indented paragraphs, such as
     '\fB\-c\fR \fIcommand\fR', '"MAXAGE \fIseconds\fR"' or 'SET'."""
     with gzip.open(os.path.join(NUTS, page + ".gz"), "rt", errors="replace") as file:
         text = file.read()

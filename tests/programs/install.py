@@ -123,7 +123,7 @@ def wanted_files():
 
 
 def files_below(folder):
-    """Returns each file below a folder, by its path from there."""
+    """Yields each file below a folder, by its path from there."""
     for at, _, names in os.walk(folder):
         for name in names:
             yield os.path.relpath(os.path.join(at, name), folder)

@@ -44,7 +44,7 @@ SECONDARY = Rules([Watched(b"su700", "secondary")])
 
 
 def rounds(monitor, count):
-    """Moves this many queries of a monitor to the server, and their answers back."""
+    """Returns the steps that move this many queries of a monitor to the server, and their answers back."""
     return [(word, monitor, 0, 512) for _ in range(count) for word in ("out", "reach", "back", "land")]
 
 

@@ -33,7 +33,7 @@ def asking(query):
 
 
 def heard(lines, fault):
-    """Whether pieces were answered by `ok`, and from some piece on by this fault, if there is one."""
+    """Expects that pieces were answered by `ok`, and from some piece on by this fault, if there is one."""
     answers = [line.decode().split(" ")[0] for line in lines]
     first = answers.index(fault) if fault in answers else len(answers)
     ensure(fault is None or first < len(answers), f"{fault} never came: {answers}")

@@ -171,7 +171,7 @@ class Upstream:
             pass
 
     def greet(self, end):
-        """Returns what it sends before it is asked."""
+        """Sends what comes before any query: nothing, unless a subclass does."""
 
     def send(self, end, data):
         end.sendall(data)

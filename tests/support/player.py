@@ -36,7 +36,7 @@ class Player:
         return set()
 
     def ups(self, text):
-        """The configuration that these steps set is the one with which the model was made."""
+        """Answers a step that sets a configuration. The model was made with the one that these steps set."""
         return "ok"
 
     def server(self):

@@ -60,7 +60,7 @@ class RoomMaker:
         return steps, due
 
     def opening(self, room):
-        """Connects most drivers at the start, and makes most links."""
+        """Returns the first steps: most drivers connect, and most links are made."""
         steps = [("server", 0)]
         for u in range(len(self.config.upses)):
             steps += self.connects(room, 0, 0, u) if self.random.random() < 0.9 else []
@@ -92,12 +92,12 @@ class RoomMaker:
         return self.random.choices(makers, weights)[0](room, m, i, u)
 
     def rounds(self, room, m, i, u):
-        """Moves queries to the server, and their answers back."""
+        """Returns steps that move queries to the server, and their answers back."""
         count = self.pick(1, 1, 2, 3)
         return [(word, m, i, 512) for _ in range(count) for word in ("out", "reach", "back", "land")]
 
     def moves(self, room, m, i, u):
-        """Moves some bytes in one direction or in both."""
+        """Returns steps that move some bytes in one direction or in both."""
         words = self.pick(("out",), ("reach",), ("back",), ("land",), ("out", "reach", "back", "land"))
         return [(word, m, i, self.pick(0, 1, 7, 30, 512, 513, 999_999_999)) for word in words]
 

@@ -68,7 +68,7 @@ abbrev pub at_server : Option (List ℕ) → List ℕ
 at_server None = codes "u"
 at_server (Some server) = codes "u@" ++ server
 
--- Every option but those that name a server needs a name.
+-- A name is needed, unless only a server is asked.
 abbrev pub options_of : Option Wanted → Option (List ℕ) → Result Options Failure
 options_of None name = Err BadArguments
 options_of (Some wanted) name =
