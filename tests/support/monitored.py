@@ -171,7 +171,7 @@ class Upstream:
             pass
 
     def greet(self, end):
-        """Sends what comes before any query: nothing, unless a subclass does."""
+        """Does what comes before any query: nothing here, but a subclass may send or close."""
 
     def send(self, end, data):
         end.sendall(data)
