@@ -1,5 +1,5 @@
 #!/usr/bin/env python3
-"""Runs the programs as their users do, and with each allocation, read and write of a run failing in turn.
+"""Runs upsd over standard streams as its users do, and with each allocation, read and write of a run failing in turn.
 
     python3 -m tests.programs.upsd_stdio UPSD
 
@@ -30,7 +30,7 @@ def error(name):
     return b"ERR " + name.encode() + b"\n"
 
 
-# requests and the answers due, in turn
+# requests and the replies due, in turn
 MIXED = [
     (b"ver\n", VERSION),
     (b"GET UPSDESC x\n", error("UNKNOWN-UPS")),
@@ -44,7 +44,7 @@ MIXED = [
 ]
 
 
-# how a configuration file doesn't read: its name, its text, and what is said of it
+# faults of configuration files: the file's name, its text, and the message
 CONF_FAULTS = [
     ("ups.conf", b"[a]\n[a]\n", "2: Repeated"),
     ("ups.conf", b'[a]\ndesc = "x\n', "2: Unreadable"),
@@ -84,7 +84,7 @@ CONF_FAULTS = [
     # carriage returns are blanks, and a last line needs no line feed
     ("ups.conf", b"[a]\r\ndesc = x\r\n\r\n[a]\r\n", "4: Repeated"),
     ("upsd.conf", b"MAXAGE 15\nMAXAGE 16", "2: Repeated"),
-    # the first faulty line is named
+    # the first faulty line is reported
     ("ups.conf", b"[a]\nfoo = x\n[a]\n", "2: UnknownDirective"),
 ]
 
@@ -103,8 +103,8 @@ class Tests:
         return done.returncode, done.stdout, done.stderr
 
     def refused_in_turn(self, kind, args, asked, due):
-        """Runs with the first call of a kind failing, then with the second, and so on, and gives the number of each call
-        that failed with what that run gave. It ends at a call that isn't reached, where the answers due must come."""
+        """Runs with the first call of a kind failing, then with the second, and so on. Yields the number of each call that
+        failed with the result of that run. It ends at a call that isn't reached; that run has to print the answers due."""
         for at, env, is_reached in refusals(self.shim, kind):
             found = self.run(args, asked, env)
             if not is_reached():
@@ -128,7 +128,7 @@ class Tests:
         return ["--stdio", "--conf", folder]
 
     def cut(self, data, at):
-        """Gives what a run prints whose input comes in two writes."""
+        """Returns what a run prints if its input comes in two writes."""
         process = subprocess.Popen([self.upsd, *ROOM], stdin=subprocess.PIPE, stdout=subprocess.PIPE, bufsize=0)
         try:
             process.stdin.write(data[:at])
@@ -138,7 +138,7 @@ class Tests:
             pass
         return process.communicate(timeout=60)[0]
 
-    # Each method from here on whose name begins with 'test_' is a test.
+    # From here on, each method whose name begins with 'test_' is a test.
 
     def test_first_run(self):
         found = self.run(ROOM, b"LIST UPS\nLOGOUT\n")
@@ -208,7 +208,7 @@ class Tests:
             (["--ups", "a=\t"], "Unreadable"),
             (["--ups", "a=\u00e9"], "Unreadable"),
             (["--ups", "a=\x7f"], "Unreadable"),
-            # two faults: the first in the order of tests is named
+            # two faults: the first in the order of tests is reported
             (["--ups", " " * 40], "BadForm"),
             (["--ups", "\u00e9" * 40 + "=\t"], "BadName"),
             (["--ups", "a" * 33 + "=\t"], "PastLimit"),
@@ -290,13 +290,13 @@ class Tests:
 
     def test_words_that_are_not_taken(self):
         for name, text, line, word in (
-            # before the first section, where it would be unknown in one too
+            # before the first section, with a word that would be unknown in a section, too
             ("ups.conf", b"maxretry = 3\n[a]\n", "1: OutsideSection", "maxretry"),
             ("ups.conf", b"# ours\n\n  pollinterval=2", "3: OutsideSection", "pollinterval"),
             ("ups.conf", b"driver = x\n", "1: OutsideSection", None),
             ("upsd.users", b"upsmon primary\n", "1: OutsideSection", None),
             ("upsd.users", b"allowfrom = x\n", "1: OutsideSection", "allowfrom"),
-            # as the reader has it: out of quotes, without backslashes
+            # as the reader reads it: without quotes and backslashes
             ("ups.conf", b'[a]\n"a b" = 1\n', "2: UnknownDirective", "a b"),
             ("ups.conf", b"[a]\nv\\en\\dor = 1\n", "2: UnknownDirective", "vendor"),
             ("ups.conf", b'[a]\n"" = 1\n', "2: UnknownDirective", None),
@@ -308,7 +308,7 @@ class Tests:
             expect(found, (1, b"", said.encode()), f"{text}")
 
     def test_word_that_memory_is_refused_for(self):
-        """The fault is told, or that memory is refused for its file; and its word where there is memory for it."""
+        """The fault is reported, or that memory for its file is refused; and its word if there is memory for it."""
         args = self.conf(ups_conf=b"maxretry = 3\n")
         fault = b"upsd: ups.conf:1: OutsideSection\n"
         word = b"upsd: maxretry isn't taken here: see from-nut(7)\n"
@@ -319,7 +319,7 @@ class Tests:
                 expect(found, (1, b"", fault + word), f"allocation {at}, which isn't reached")
                 break
             seen.add(found)
-        # some memory is taken that the program can do without
+        # some memory that is taken isn't needed by the program
         seen.discard((1, b"", fault + word))
         expect(seen, {(1, b"", b"upsd: out of memory\n"), (1, b"", fault)}, "what is told where memory is refused")
 
@@ -415,7 +415,7 @@ class Tests:
         self.refuse_allocations(self.conf(ups_conf=b'[su700]\ndesc = "Server room"\n', cmdvartab=b'VARDESC a "\\"x\\""\nCMDDESC b y\n' + many))
 
     def refuse_allocations(self, args):
-        """Refuses each allocation of a run in turn: it ends before it serves, or after a line."""
+        """Refuses each allocation of a run in turn: the run ends before it serves, or after a line."""
         asked = b"".join(it for it, _ in MIXED)
         fronts = list(itertools.accumulate((it for _, it in MIXED), initial=b""))
         refused = served = 0

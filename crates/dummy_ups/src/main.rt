@@ -20,7 +20,7 @@ fn main(rt: HostRuntime) -> ExitCode {
     ExitCode::from(status)
 }
 
-/// The words of the command line, the program's name first, and standard error.
+/// Returns the words of the command line, the program's name first, and standard error.
 fn start(rt: &HostRuntime) -> io::Result<(Vec<String>, LossyLines<Stderr>)> {
     let words = env::args(rt)?.collect(rt.alloc())?;
     let err = LossyLines::new(rt, rt.alloc(), "dummy-ups", rt.stderr())?;

@@ -1,4 +1,5 @@
-//! What no clause says: rows of the specification, each test in the order of tests, every limit, and the files of `examples`.
+//! What no clause says: rows of the specification, each test in the order of tests, every limit, and the files of
+//! `examples`.
 
 mod descriptions;
 mod examples;
@@ -11,7 +12,7 @@ use nut_conf::{
 };
 use std::alloc::Global;
 
-/// The line and the kind of a fault, or None where a file reads.
+/// The line and the kind of a fault, or `None` if a file has none.
 type Outcome = Option<(u32, FaultKind)>;
 
 /// One of the five files.
@@ -41,7 +42,7 @@ fn read(alloc: Global, file: File, bytes: &[u8]) -> Outcome {
     }
 }
 
-/// The first row whose file doesn't read as the row says.
+/// Returns the first row whose file isn't read as the row says.
 fn first_wrong(alloc: Global, file: File, rows: &[(&[u8], Outcome)]) -> Option<usize> {
     for (index, (bytes, want)) in rows.iter().enumerate() {
         if read(alloc, file, bytes) != *want {

@@ -1,10 +1,10 @@
-//! A program that doesn't come as far as its command line.
+//! A program that fails before it has read its command line.
 
 use std::io;
 use std::io::{ErrorKind, Write};
 
-/// Says on `err` why the words of a program's command line, or what its standard streams take, can't be had, and gives the
-/// exit status: 2 where a word isn't text, as for any command line that doesn't read, else 1.
+/// Writes to `err` why the words of a program's command line, or its standard streams, are not available. Returns the
+/// exit status: 2 if a word isn't UTF-8, as for any command line that clap refuses, else 1.
 pub fn refuse_start<E: Write>(program: &str, error: &io::Error, err: &mut E) -> u8 {
     match error.kind() {
         ErrorKind::InvalidData => {

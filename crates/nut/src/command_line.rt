@@ -3,7 +3,7 @@
 use clap::{Arg, ArgAction, Command};
 use std::alloc::{AllocError, Global};
 
-/// The command line of `upsd --stdio`.
+/// Returns the command line of `upsd --stdio`.
 pub fn stdio_command<'a>(alloc: Global) -> Result<Command<'a>, AllocError> {
     bare_command(alloc)
         .arg(stdio(alloc).required(true))?
@@ -11,7 +11,7 @@ pub fn stdio_command<'a>(alloc: Global) -> Result<Command<'a>, AllocError> {
         .arg(ups(alloc))
 }
 
-/// The command line of upsd: of `upsd --stdio`, of `upsd --conf DIR -s SOCKDIR`, or of `upsd --check`.
+/// Returns the command line of upsd: `upsd --stdio`, `upsd --conf DIR -s SOCKDIR` and `upsd --check`.
 pub fn upsd_command<'a>(alloc: Global) -> Result<Command<'a>, AllocError> {
     bare_command(alloc)
         .arg(conf(alloc)?)?
@@ -22,7 +22,7 @@ pub fn upsd_command<'a>(alloc: Global) -> Result<Command<'a>, AllocError> {
         .arg(ups_of_stdio(alloc)?)
 }
 
-/// The command line of upsmon: of the watch, of the look at its file, or of the look for POWERDOWNFLAG.
+/// Returns the command line of upsmon: to watch, to check its file, and to look for POWERDOWNFLAG.
 pub fn upsmon_command<'a>(alloc: Global) -> Result<Command<'a>, AllocError> {
     Command::new(alloc, "upsmon")
         .version("profile 1.2")

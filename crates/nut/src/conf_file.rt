@@ -12,12 +12,16 @@ use std::path::{AsPath, Path};
 use std::rt::Files;
 use std::{fmt, io};
 
-/// A configuration that a file sets.
+/// A configuration that is read from a file.
 pub trait ConfFile: Drop + Sized {
-    /// The file's name in its folder.
+    /// Returns the file's name in its folder.
     fn file_name() -> &'static str;
 
     /// Reads the bytes of the file.
+    ///
+    /// # Errors
+    ///
+    /// The first fault of the file; `FaultKind::Memory` if memory cannot be allocated.
     fn read(alloc: Global, bytes: &[u8]) -> Result<Self, ConfFault>;
 }
 
@@ -71,14 +75,14 @@ impl ConfFile for Descriptions {
     }
 }
 
-/// Why a file gives no configuration. It is shown as `ups.conf: cannot read` or `ups.conf:2: Repeated`.
+/// Why a file gives no configuration. It is displayed as in `ups.conf: cannot read` or `ups.conf:2: Repeated`.
 #[derive(Debug, Drop)]
 pub enum FileFault<'a> {
-    /// The file isn't there, is a folder, may not be read, or a read failed.
+    /// The file doesn't exist, is a folder, may not be read, or a read failed.
     CannotRead(&'a str),
-    /// The file has this fault, at a directive of this word where no line of the file may have that.
+    /// The file has this fault. The word is that of the directive if no line of the file may have it.
     Conf(&'a str, ConfFault, Option<String>),
-    /// Memory ran out.
+    /// Memory could not be allocated.
     Memory,
 }
 
@@ -93,7 +97,7 @@ impl<'a> fmt::Display for FileFault<'a> {
 }
 
 impl<'a> FileFault<'a> {
-    /// The word of the directive that no line of the file may have, if that is the fault.
+    /// Returns the word of the directive that no line of the file may have, if that is the fault.
     pub fn unknown_word(&self) -> Option<&str> {
         match self {
             FileFault::Conf(_, _, Some(word)) => Some(word.as_str()),
@@ -104,6 +108,11 @@ impl<'a> FileFault<'a> {
 }
 
 /// Reads a configuration from its file in a folder.
+///
+/// # Errors
+///
+/// `CannotRead` if the file cannot be opened or read, `Conf` with its first fault, `Memory` if memory cannot be
+/// allocated.
 pub fn read_conf<C: ConfFile>(
     files: &impl Files,
     alloc: Global,
@@ -133,7 +142,11 @@ pub fn read_conf_if_there<C: ConfFile>(
     }
 }
 
-/// Reads a configuration from a file, which a fault calls by this name.
+/// Reads a configuration from a file that a fault calls by this name.
+///
+/// # Errors
+///
+/// Those of [`read_conf`].
 pub fn read_conf_at<'a, C: ConfFile, P: AsPath>(
     files: &impl Files,
     alloc: Global,
@@ -174,7 +187,7 @@ fn conf_of<'a, C: ConfFile>(
     }
 }
 
-/// The first so many bytes of a file.
+/// Reads at most the first `most` bytes of a file.
 pub(crate) fn read_file<P: AsPath>(
     files: &impl Files,
     alloc: Global,

@@ -1,4 +1,4 @@
-//! What the command line of upsd configures.
+//! The configuration that upsd's command line names.
 
 use crate::conf_file::{FileFault, read_conf, read_conf_if_there};
 use crate::failure::Failure;
@@ -20,7 +20,7 @@ pub struct Settings {
 }
 
 impl Settings {
-    /// The configuration of a server.
+    /// Makes the configuration of a server.
     pub fn into_config(self) -> Config {
         let Settings {
             ups,
@@ -36,7 +36,7 @@ impl Settings {
     }
 }
 
-/// What the files of `--conf` set, and without it the UPSes of `--ups`.
+/// Reads the files of `--conf`, or without it the UPSes of `--ups`.
 pub fn read_options(
     files: &impl Files,
     alloc: Global,
@@ -53,7 +53,7 @@ pub fn read_options(
     })
 }
 
-/// What the files of a folder set.
+/// Reads the files of a folder.
 pub fn read_settings(
     files: &impl Files,
     alloc: Global,

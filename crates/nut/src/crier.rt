@@ -1,4 +1,4 @@
-//! Who prints a monitor's notices, and runs NOTIFYCMD with them.
+//! Prints a monitor's notices, and runs NOTIFYCMD with them.
 
 use crate::low_runtime::LowRuntimes;
 use crate::notify_command::{Call, NotifyCommand};
@@ -12,8 +12,8 @@ use std::process::Processes;
 /// The greatest length of a text in bytes: that of a message, with a target in the place of its `%s`.
 const TEXT_MAX: usize = MESSAGE_MAX + TARGET_MAX - 2;
 
-/// Prints each notice whose flags have SYSLOG or WALL as one line, and runs NOTIFYCMD with each whose flags have EXEC. With
-/// IGNORE neither is done, whatever stands beside it.
+/// Prints each notice whose flags have SYSLOG or WALL as one line, and runs NOTIFYCMD with each whose flags have EXEC.
+/// A notice with IGNORE is neither printed nor handed to NOTIFYCMD, whatever else its flags have.
 ///
 /// A run of the command that can't be started is let go, which is told on `err`, as is a UPS that says LB later than this
 /// machine needs to stop. From the notice of the shutdown on no UPS is asked for that any more.
@@ -27,7 +27,7 @@ pub struct Crier<'a, R: Processes, O, E> {
 }
 
 impl<'a, R: Processes, O: Write + Drop, E: Write + Drop> Crier<'a, R, O, E> {
-    /// One who prints on `out`. It takes the memory for the longest text.
+    /// Makes a crier that prints on `out`. It allocates room for the longest text.
     pub fn new(
         processes: &'a R,
         alloc: Global,
@@ -44,13 +44,13 @@ impl<'a, R: Processes, O: Write + Drop, E: Write + Drop> Crier<'a, R, O, E> {
         })
     }
 
-    /// Prints the text as a line of its own.
+    /// Prints the text as a line.
     fn print(&mut self) {
         let _ = self.out.write_all(&self.text);
         let _ = self.out.write_all(b"\n");
     }
 
-    /// Runs the command with the text.
+    /// Runs NOTIFYCMD with the text.
     fn call(&mut self, config: &UpsmonConf, notice: Notice) {
         let called = self.command.call(Call {
             kind: notice.kind.word(),
@@ -92,7 +92,7 @@ impl<'a, R: Processes, O: Write + Drop, E: Write + Drop> Herald for Crier<'a, R,
     }
 }
 
-/// The UPS that a notice is of, as MONITOR has it; empty for a shutdown.
+/// Returns the UPS of a notice as MONITOR has it; empty for SHUTDOWN.
 fn ups_of(config: &UpsmonConf, notice: Notice) -> &[u8] {
     let Some(line) = notice.line else {
         return b"";

@@ -27,20 +27,21 @@ use std::rt::Files;
 use std::sync::Wait;
 use std::time::Clock;
 
-/// Runs upsd, and gives its exit status.
+/// Runs upsd. Returns its exit status.
 ///
-/// The words are those of the command line, with the program's name first. `upsd --stdio ..` is [`run_stdio`]'s, which
-/// says what becomes of words that don't read and of files with faults. `upsd --conf DIR -s SOCKDIR` serves clients over
-/// TCP wherever upsd.conf says, and dials the driver of each UPS at the socket `SOCKDIR/DRIVER-NAME`, again each second
-/// until it is there; it ends where a wait for the sockets or the clock fails, which is told as `upsd: I/O failed`, with
-/// status 1.
+/// `words` are those of the command line, the program's name first. `upsd --stdio ..` is [`run_stdio`]'s, which says
+/// what happens to words that clap refuses and to files with faults. `upsd --conf DIR -s SOCKDIR` serves clients over
+/// TCP at each LISTEN address of upsd.conf, and connects to the driver of each UPS at the socket `SOCKDIR/DRIVER-NAME`,
+/// trying again each second until that succeeds. It ends if waiting for the sockets or reading the clock fails; then
+/// `upsd: I/O failed` is written, and the status is 1.
 ///
-/// `upsd --check` serves nothing: it reads the files of `--conf`, or else those of the variable NUT_CONFPATH or of `/etc/nut`,
-/// as a start does, and says of them what a start does. The status is 0 where they have no fault.
+/// `upsd --check` serves nothing: it reads the files of `--conf`, or else those in the folder of the variable
+/// NUT_CONFPATH or in `/etc/nut`, as a start does, and writes of them what a start writes. The status is 0 if they have
+/// no fault.
 ///
-/// What is listened on, which UPSes are served and which drivers come and go is told on `err`, a line each; with `-q` it
-/// isn't. That everybody can read the passwords of upsd.users is told all the same. Where nobody can listen at an address,
-/// `upsd: cannot listen on ADDRESS:PORT` is told, and the status is 1.
+/// The addresses listened on, the UPSes served, and drivers that connect and disconnect are written to `err`, a line
+/// each, but not with `-q`. That everybody can read the passwords of upsd.users is written even then. If it is
+/// impossible to listen at an address, `upsd: cannot listen on ADDRESS:PORT` is written, and the status is 1.
 ///
 /// [`run_stdio`]: crate::run_stdio
 pub fn run_upsd<S: AsStr, I: Read, O: Write, E: Write>(
@@ -81,7 +82,8 @@ fn run<S: AsStr, I: Read, O: Write, E: Write>(
     }
 }
 
-/// Reads the files of the folder that the command line or the environment names, and says of them what a start does.
+/// Reads the files of the folder that the command line or the environment names, and writes of them what a start
+/// writes.
 fn check_files<R: Files + Env + Alloc, E: Write>(
     rt: &R,
     alloc: Global,
@@ -95,7 +97,7 @@ fn check_files<R: Files + Env + Alloc, E: Write>(
     Ok(())
 }
 
-/// Serves clients over sockets, and tells the operator of it on `err` but where that is to be quiet. It ends where the
+/// Serves clients over sockets, and reports to the operator on `err` unless that is to be quiet. Returns only if the
 /// world fails.
 fn serve_sockets<R: Wait + Files + Net + Clock, E: Write>(
     rt: &R,
@@ -109,7 +111,7 @@ fn serve_sockets<R: Wait + Files + Net + Clock, E: Write>(
     serve_settings(rt, alloc, settings, folder, is_quiet, err)
 }
 
-/// Listens, and serves whoever connects.
+/// Listens, and serves all clients that connect.
 fn serve_settings<R: Wait + Net + Clock, E: Write>(
     rt: &R,
     alloc: Global,
@@ -123,7 +125,7 @@ fn serve_settings<R: Wait + Net + Clock, E: Write>(
     serve_listeners(rt, alloc, &mut server, listeners, folder, is_quiet, err)
 }
 
-/// Serves whoever connects at the listeners.
+/// Serves all clients that connect to the listeners.
 fn serve_listeners<R: Wait + Net + Clock, E: Write>(
     rt: &R,
     alloc: Global,
@@ -156,7 +158,7 @@ fn serve_world<W: World + Drop>(
     serve(rt, server, &mut world)
 }
 
-/// The drivers of the UPSes, by their numbers.
+/// Returns the drivers of the UPSes, by their numbers.
 fn drivers_of(alloc: Global, config: &Config, folder: &str) -> Result<Vec<Driver>, AllocError> {
     let mut drivers = Vec::new(alloc);
     for u in 0..config.number_of_upses() {
@@ -168,7 +170,7 @@ fn drivers_of(alloc: Global, config: &Config, folder: &str) -> Result<Vec<Driver
     Ok(drivers)
 }
 
-/// Tells what is listened on, and which UPSes are served.
+/// Reports the addresses listened on and the UPSes served.
 fn tell_start<E: Write>(
     listeners: &[TcpListener],
     drivers: &[Driver],

@@ -8,10 +8,10 @@ use std::os::unix::fs::PermissionsExt;
 use std::rt::Files;
 use std::{fs, io};
 
-/// Who may connect: the driver's user and its group, as with the drivers of NUT.
+/// The socket's mode: the driver's user and group may connect, as with the drivers of NUT.
 const MODE: u32 = 0o660;
 
-/// Whether somebody listens at a socket. Where so many wait there that no more may, the answer comes at once too.
+/// Whether a process listens at a socket. If its queue of waiting connections is full, the answer comes at once, too.
 pub fn has_listener(net: &impl Net, socket: &str) -> bool {
     match UnixStream::connect(net, socket) {
         Ok(_) => true,
@@ -19,10 +19,12 @@ pub fn has_listener(net: &impl Net, socket: &str) -> bool {
     }
 }
 
-/// Listens at a socket, in place of a file that lies there. Without a name the system would choose one.
+/// Listens at a socket, and removes a file of that name first. An empty name is refused, since the system would choose
+/// another one.
 ///
 /// # Errors
-/// That of the system, where it lets nobody listen there, or where not everyone is kept out who is to be.
+///
+/// That of the system if it is impossible to listen there, or to set the socket's mode.
 pub fn listen_at(rt: &(impl Files + Net), socket: &str) -> io::Result<UnixListener> {
     if socket.is_empty() {
         return Err(io::Error::from(ErrorKind::InvalidInput));

@@ -17,15 +17,15 @@ use std::sync::Wait;
 use std::time::Clock;
 use std::{fmt, fs, io};
 
-/// How many bytes a script's file may have: 16 MiB, which is many times its 4,096 settings of at most 512 bytes.
+/// The longest file of a script, in bytes: 16 MiB, many times its 4,096 settings of at most 512 bytes.
 const FILE_MAX: u64 = 16_777_216;
 
-/// What dummy-ups alone meets, before anything is told.
+/// The faults that only dummy-ups has, before it tells anything.
 #[derive(Drop)]
 enum DummyUpsFault<'a> {
     /// The file's name doesn't end in `.dev` or `.seq`.
     UnknownKind(&'a str),
-    /// The file isn't there, is no plain file, may not be read, or a read failed.
+    /// The file doesn't exist, isn't a plain file, may not be read, or a read failed.
     CannotRead(&'a str),
     /// The file is too long.
     TooLong(&'a str),
@@ -33,7 +33,7 @@ enum DummyUpsFault<'a> {
     Script(&'a str, ScriptFault),
     /// Another driver listens at this socket.
     InUse(&'a str),
-    /// No listener can be made at this socket.
+    /// It is impossible to listen at this socket.
     Listen(&'a str),
 }
 
@@ -62,18 +62,19 @@ impl<'a> From<DummyFault> for Failure<DummyUpsFault<'a>> {
     }
 }
 
-/// Runs dummy-ups, and gives its exit status.
+/// Runs dummy-ups. Returns its exit status.
 ///
-/// The words are those of the command line `dummy-ups FILE SOCKET`, with the program's name first. The script in FILE is
-/// told, from now on, to one server at a time, which connects at SOCKET; a file that lies there is removed, if no other
-/// driver listens at it. A script is of a kind by the end of its name: `.dev` is told once, `.seq` round after round. It
-/// ends where a wait for the socket or the clock fails, which is told as `dummy-ups: I/O failed`, with status 1.
+/// `words` are those of the command line `dummy-ups FILE SOCKET`, the program's name first. The script in FILE is told,
+/// from now on, to one server at a time, which connects at SOCKET; a file of that name is removed if no other driver
+/// listens at it. The end of its name says what kind a script is: `.dev` is told once, `.seq` round after round. The
+/// program ends if waiting for the socket or reading the clock fails; then `dummy-ups: I/O failed` is written, and the
+/// status is 1.
 ///
-/// Where the words don't read, clap's text says so on `err`, and the status is 2; the help and the version go to `out`,
-/// with status 0. Before anything is told to a server, the first of these is told on `err`, with status 1:
-/// `dummy-ups: FILE: unknown kind`; `dummy-ups: FILE: cannot read`; `dummy-ups: FILE: more than 16777216 bytes`; the first
-/// fault of the script, as `dummy-ups: FILE:2: BadName`; `dummy-ups: SOCKET: another driver listens there`;
-/// `dummy-ups: cannot listen on SOCKET`; `dummy-ups: out of memory` where that came first.
+/// If clap refuses the words, its text is written to `err`, and the status is 2; the help and the version are written
+/// to `out`, with status 0. Before anything is told to a server, the first of these is written to `err`, with status 1:
+/// `dummy-ups: FILE: unknown kind`; `dummy-ups: FILE: cannot read`; `dummy-ups: FILE: more than 16777216 bytes`; the
+/// first fault of the script, as `dummy-ups: FILE:2: BadName`; `dummy-ups: SOCKET: another driver listens there`;
+/// `dummy-ups: cannot listen on SOCKET`; or `dummy-ups: out of memory` if memory cannot be allocated before.
 pub fn run_dummy_ups<S: AsStr, O: Write, E: Write>(
     rt: &(impl Wait + Files + Net + Clock),
     alloc: Global,
@@ -98,7 +99,7 @@ fn run<'a, S: AsStr>(
     tell_file(rt, alloc, file, socket)
 }
 
-/// Tells the script of a file at a socket.
+/// Tells the script of a file to servers that connect at a socket.
 fn tell_file<'a>(
     rt: &(impl Wait + Files + Net + Clock),
     alloc: Global,
@@ -110,7 +111,7 @@ fn tell_file<'a>(
     tell(rt, alloc, dummy, socket)
 }
 
-/// Has a dummy driver speak at a socket.
+/// Runs a dummy driver at a socket.
 fn tell<'a>(
     rt: &(impl Wait + Files + Net + Clock),
     alloc: Global,
@@ -132,7 +133,7 @@ fn turn_for_ever(rt: &(impl Wait + Clock), mut driver: DummyDriver) -> io::Resul
     unreachable!()
 }
 
-/// Reads a script.
+/// Reads the script of a file.
 fn read_script<'a>(
     files: &impl Files,
     alloc: Global,
@@ -149,7 +150,7 @@ fn read_script<'a>(
     }
 }
 
-/// The bytes of a script's file.
+/// Returns the bytes of a script's file.
 fn contents<'a>(
     files: &impl Files,
     alloc: Global,
@@ -163,8 +164,8 @@ fn contents<'a>(
     }
 }
 
-/// The bytes of a plain file, up to one more than a script may have. A pipe would be waited for, and a device may have no
-/// end.
+/// Reads at most one byte more of a plain file than a script may have. A pipe could block the read, and a device may
+/// have no end.
 fn read_plain_file(files: &impl Files, alloc: Global, file: &str) -> io::Result<Vec<u8>> {
     if !fs::metadata(files, file)?.is_file() {
         return Err(io::Error::from(ErrorKind::InvalidInput));
@@ -172,7 +173,7 @@ fn read_plain_file(files: &impl Files, alloc: Global, file: &str) -> io::Result<
     read_file(files, alloc, file, FILE_MAX + 1)
 }
 
-/// The kind of a script, by the end of its name.
+/// Returns the kind of a script, by the end of its name.
 fn kind_of(file: &str) -> Option<ScriptKind> {
     if file.ends_with(".dev") {
         Some(ScriptKind::Dev)
@@ -183,7 +184,7 @@ fn kind_of(file: &str) -> Option<ScriptKind> {
     }
 }
 
-/// Listens at a socket where no other driver listens.
+/// Listens at a socket unless another driver does.
 fn listen<'a>(
     rt: &(impl Files + Net),
     socket: &'a str,
@@ -197,7 +198,7 @@ fn listen<'a>(
     }
 }
 
-/// The command line.
+/// Returns the command line of dummy-ups.
 fn command<'a>(alloc: Global) -> Result<Command<'a>, AllocError> {
     let file = Arg::new(alloc, "file")
         .value_name("FILE")

@@ -6,14 +6,14 @@ use std::fmt::Display;
 use std::io;
 use std::io::{ErrorKind, Write};
 
-/// Why a program ends before its work is done. What only one program meets is a fault `F` of its own.
+/// Why a program ends before its work is done. `F` is the type of the faults that only this program has.
 #[derive(Drop)]
 pub enum Failure<F> {
-    /// The command line doesn't read, or asks for the help or the version: the text is clap's.
+    /// clap refuses the command line, or it asks for the help or the version. clap has the text to print.
     CommandLine(clap::Error),
-    /// What only this program meets.
+    /// A fault that only this program has.
     Own(F),
-    /// A growth of memory was refused.
+    /// Memory could not be allocated.
     Memory,
     /// A read, a write or a wait failed.
     Io,
@@ -57,14 +57,14 @@ impl<F> From<ServeFault> for Failure<F> {
     }
 }
 
-/// What only one program meets. It is shown as what stands behind the program's name.
+/// A fault that only one program has. It is displayed as the text behind the program's name.
 pub trait OwnFault: Display {
-    /// The word of a directive that no line of a configuration file may have, if that is what it meets.
+    /// Returns the word of a directive that no line of a configuration file may have, if that is the fault.
     fn unknown_word(&self) -> Option<&str>;
 }
 
-/// Says what only this program meets. Where that is a word that no line of a file may have, a second line says where to read
-/// of it.
+/// Writes a fault that only this program has. If it is a word that no line of a file may have, a second line says where
+/// to read about that.
 fn tell_own<F: OwnFault, E: Write>(program: &str, fault: &F, err: &mut E) -> io::Result<()> {
     writeln!(err, "{program}: {fault}")?;
     match fault.unknown_word() {
@@ -74,8 +74,8 @@ fn tell_own<F: OwnFault, E: Write>(program: &str, fault: &F, err: &mut E) -> io:
 }
 
 impl<F: OwnFault> Failure<F> {
-    /// Says why on the stream where it belongs, as `PROGRAM: WHY` but for clap's texts, and gives the exit status: 2 for a
-    /// command line that doesn't read, 0 for the help or the version where it could be written, else 1.
+    /// Writes why the program ends to the right stream, as `PROGRAM: WHY`, except for clap's texts. Returns the exit
+    /// status: 2 if clap refuses the command line, 0 for the help or the version if it could be written, else 1.
     pub fn tell<O: Write, E: Write>(&self, program: &str, out: &mut O, err: &mut E) -> u8 {
         let told = match self {
             Failure::CommandLine(error) if error.use_stderr() => write!(err, "{error}"),

@@ -9,14 +9,14 @@ use std::alloc::{Alloc, AllocError, Global};
 use std::env;
 use std::env::{Env, VarError};
 
-/// The folder where neither the command line nor the environment names one.
+/// The folder if neither the command line nor the environment names one.
 const FOLDER: &str = "/etc/nut";
 
 /// The variable that names the folder, as for NUT's programs.
 const VARIABLE: &str = "NUT_CONFPATH";
 
-/// The folder that the command line names; else that of the variable NUT_CONFPATH, where it is text and not empty; else
-/// `/etc/nut`.
+/// Returns the folder that the command line names; else that of the variable NUT_CONFPATH, if it is UTF-8 and not
+/// empty; else `/etc/nut`.
 pub fn conf_folder<R: Env + Alloc>(
     rt: &R,
     alloc: Global,
@@ -28,7 +28,7 @@ pub fn conf_folder<R: Env + Alloc>(
     }
 }
 
-/// The folder where the command line names none.
+/// Returns the folder if the command line names none.
 fn folder_of_environment<R: Env + Alloc>(rt: &R, alloc: Global) -> Result<String, AllocError> {
     match env::var(rt, VARIABLE) {
         Ok(folder) => String::from_str(alloc, named_folder(None, Some(folder.as_str()))),
@@ -37,7 +37,7 @@ fn folder_of_environment<R: Env + Alloc>(rt: &R, alloc: Global) -> Result<String
     }
 }
 
-/// The folder that the command line names, or else the variable, or else NUT's.
+/// Returns the folder that the command line names, or else the variable, or else NUT's.
 fn named_folder<'a>(option: Option<&'a str>, variable: Option<&'a str>) -> &'a str
     ensures { result.now ≡ folder_named (option_map (λ s. s.now) option.entry) (option_map (λ s. s.now) variable.entry) }
 {
@@ -48,7 +48,7 @@ fn named_folder<'a>(option: Option<&'a str>, variable: Option<&'a str>) -> &'a s
     }
 }
 
-/// What a variable names, that of NUT where it is empty.
+/// Returns the folder that a variable names, or NUT's if it is empty.
 fn folder_of_variable(variable: &str) -> &str
     ensures { result.now ≡ folder_of_variable variable.now }
 {

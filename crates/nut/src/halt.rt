@@ -1,4 +1,4 @@
-//! How the machine is halted.
+//! Halting the machine.
 
 use crate::power_down_flag::{FlagFault, FlagState, PowerDownFlag};
 use crate::shutdown_command::ShutdownCommand;
@@ -12,24 +12,24 @@ use std::rt::Files;
 use std::time::{Clock, Duration};
 use std::{fmt, io, thread};
 
-/// How many bytes are set apart for the start of SHUTDOWNCMD's shell: for its words, and for a copy of an environment of up to
-/// 300 KiB, which takes up to three times that while it grows.
+/// The number of bytes that are reserved for starting the shell of SHUTDOWNCMD: for its words, and for a copy of an
+/// environment of up to 300 KiB, which takes up to three times that while it grows.
 const HEAP: usize = 1 << 20;
 
 /// How often a start of SHUTDOWNCMD that failed is tried again.
 const TRIES: u32 = 30;
 
-/// How many seconds are waited before each of them.
+/// The pause before each of these, in seconds.
 const PAUSE: u64 = 1;
 
-/// Why SHUTDOWNCMD doesn't halt the machine.
+/// Why SHUTDOWNCMD didn't halt the machine.
 #[derive(Drop)]
 pub enum HaltFault {
-    /// It can't be started.
+    /// It cannot be started.
     NotStarted(io::Error),
-    /// It can't be waited for.
+    /// It cannot be waited for.
     NotWaited(io::Error),
-    /// It ended with another status than 0, or by a signal.
+    /// It ended with a status other than 0, or by a signal.
     Ended(ExitStatus),
 }
 
@@ -46,16 +46,18 @@ impl fmt::Display for HaltFault {
     }
 }
 
-/// The memory that a [`Halt`] takes when it is made ready, or carried out.
+/// Reserves the memory that a [`Halt`] takes when it is made ready or carried out.
 ///
 /// # Errors
-/// Where there isn't so much.
+///
+/// `AllocError` if that memory cannot be allocated.
 pub fn halt_heap(alloc: Global) -> Result<LocalHeap, AllocError> {
     LocalHeap::new(alloc, HEAP)
 }
 
-/// What is done to halt the machine, made ready at the start: carried out, it takes no memory. Where SHUTDOWNCMD's shell was
-/// ended meanwhile, another one takes the heap's, and some small blocks that the C library needs to start a process.
+/// The steps that halt the machine, prepared at the start: carrying them out allocates nothing. If SHUTDOWNCMD's shell
+/// has been ended meanwhile, starting another one takes the heap's memory, and some small blocks that the C library
+/// needs to start a process.
 #[derive(Drop)]
 pub struct Halt<'r, 'h, R: Processes> {
     rt: &'r R,
@@ -64,7 +66,7 @@ pub struct Halt<'r, 'h, R: Processes> {
 }
 
 impl<'r, 'h, R: Files + Processes + Clock> Halt<'r, 'h, R> {
-    /// What upsmon.conf sets. What isn't set is left out.
+    /// Makes the halt that upsmon.conf sets, without the steps that it doesn't set.
     pub fn prepare(
         rt: &'r R,
         alloc: Global,
@@ -78,8 +80,8 @@ impl<'r, 'h, R: Files + Processes + Clock> Halt<'r, 'h, R> {
         })
     }
 
-    /// Starts the shell that is to run SHUTDOWNCMD. That it can't be started is told on `err`, and it is tried again at the
-    /// halt.
+    /// Starts the shell that will run SHUTDOWNCMD. If it cannot be started, that is written to `err`, and it is tried
+    /// again at the halt.
     pub fn make_ready<E: Write>(&mut self, err: &mut E) {
         if let Some(command) = &mut self.command {
             if let Err(error) = command.make_ready() {
@@ -91,8 +93,9 @@ impl<'r, 'h, R: Files + Processes + Clock> Halt<'r, 'h, R> {
         }
     }
 
-    /// Removes POWERDOWNFLAG where an earlier shutdown left it set: else the scripts of the next ordinary shutdown would have
-    /// the UPS cut its power. That it was removed is told on `err`, and so is what else lies there, which is left as it is.
+    /// Removes POWERDOWNFLAG if an earlier shutdown left it set: otherwise the scripts of the next ordinary shutdown
+    /// would have the UPS cut its power. That it was removed is written to `err`. Anything else of that name is
+    /// reported and left unchanged.
     pub fn clear_flag<E: Write>(&self, err: &mut E) {
         let Some(flag) = &self.flag else {
             return;
@@ -116,12 +119,13 @@ impl<'r, 'h, R: Files + Processes + Clock> Halt<'r, 'h, R> {
         };
     }
 
-    /// Halts the machine: where `is_flagged`, POWERDOWNFLAG is set, and then, set or not, SHUTDOWNCMD is run and waited for.
-    /// A start that fails is tried again each second, thirty times. A flag that can't be set, and each reason why a start
-    /// fails, is told on `err`, once.
+    /// Halts the machine. If `is_flagged`, sets POWERDOWNFLAG; then, whether or not that succeeded, runs SHUTDOWNCMD
+    /// and waits for it. A start that fails is tried again each second, thirty times. A flag that cannot be set, and
+    /// each reason why a start fails, is written to `err` once.
     ///
     /// # Errors
-    /// Where SHUTDOWNCMD can't be started, or ends with another status than 0.
+    ///
+    /// The reason if SHUTDOWNCMD cannot be started or waited for, or ends with a status other than 0.
     pub fn carry_out<E: Write>(&mut self, is_flagged: bool, err: &mut E) -> Result<(), HaltFault> {
         if is_flagged {
             self.set_flag(err);
@@ -132,7 +136,7 @@ impl<'r, 'h, R: Files + Processes + Clock> Halt<'r, 'h, R> {
         }
     }
 
-    /// Sets POWERDOWNFLAG, or tells why it isn't.
+    /// Sets POWERDOWNFLAG, or writes to `err` why it cannot.
     fn set_flag<E: Write>(&self, err: &mut E) {
         if let Some(flag) = &self.flag {
             if let Err(fault) = flag.set(self.rt) {
@@ -142,7 +146,7 @@ impl<'r, 'h, R: Files + Processes + Clock> Halt<'r, 'h, R> {
     }
 }
 
-/// SHUTDOWNCMD, where upsmon.conf sets it.
+/// Returns SHUTDOWNCMD if upsmon.conf sets it.
 fn shutdown_command<'r, 'h, R: Processes>(
     processes: &'r R,
     heap: &'h LocalHeap,
@@ -157,7 +161,7 @@ fn shutdown_command<'r, 'h, R: Processes>(
     }
 }
 
-/// Runs a command to its end.
+/// Runs a command and waits for its end.
 fn run<R: Processes, E: Write>(
     clock: &impl Clock,
     command: &mut ShutdownCommand<'_, '_, R>,
@@ -174,7 +178,7 @@ fn run<R: Processes, E: Write>(
     }
 }
 
-/// Starts a command, if need be again and again. Each reason why it can't be started is told once.
+/// Starts a command, trying again if it fails. Each reason why it cannot be started is written once.
 fn start<R: Processes, E: Write>(
     clock: &impl Clock,
     command: &mut ShutdownCommand<'_, '_, R>,

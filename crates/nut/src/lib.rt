@@ -1,4 +1,4 @@
-//! What the programs run: their command lines, their configuration files, and what they say.
+//! What the programs run: their command lines, their configuration files, and what they write.
 #![tactic(auto)]
 
 mod arguments;

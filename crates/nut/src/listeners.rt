@@ -1,4 +1,4 @@
-//! Where clients connect.
+//! The addresses at which clients connect.
 
 use crate::failure::Failure;
 use crate::upsd_fault::UpsdFault;
@@ -10,14 +10,16 @@ use std::io;
 use std::io::ErrorKind;
 use std::net::{Net, ToSocketAddrs};
 
-/// Every address of IPv6 and, unless the system is set up otherwise, of IPv4 too.
+/// Every address of IPv6 and, unless the system is configured otherwise, of IPv4.
 const EVERY_ADDRESS: &str = "::";
 
-/// Listens wherever upsd.conf says: where that is every address first, and then in the order of the file. An address that
-/// is in use where there is a listener at every address is served by that one.
+/// Listens at the LISTEN addresses of upsd.conf: first at those that are every address, then in the order of the file.
+/// If an address is in use and there is a listener at every address with that port, that one serves it.
 ///
 /// # Errors
-/// `UpsdFault::Listen` with the first endpoint at which nobody can listen.
+///
+/// `UpsdFault::Listen` with the first endpoint at which it is impossible to listen; `Memory` if memory cannot be
+/// allocated.
 pub fn listen(
     net: &impl Net,
     alloc: Global,
@@ -45,13 +47,13 @@ pub fn listen(
     Ok(listeners)
 }
 
-/// An endpoint of upsd.conf, whose address is text.
+/// Returns an endpoint of upsd.conf, with its address as text.
 fn endpoint(conf: &UpsdConf, i: usize) -> Option<(&str, u16)> {
     let (address, port) = conf.endpoint(i)?;
     Some((text_of(address), port))
 }
 
-/// Listens at a host, but where a listener at every address serves it already.
+/// Listens at a host unless a listener at every address serves it already.
 fn listen_beside(
     net: &impl Net,
     conf: &UpsdConf,
@@ -80,7 +82,7 @@ fn is_at_every_address(conf: &UpsdConf, port: u16) -> bool {
     false
 }
 
-/// Listens at the first of the host's addresses where that can be.
+/// Listens at the first of the host's addresses at which that is possible.
 fn listen_at(net: &impl Net, host: &str, port: u16) -> io::Result<TcpListener> {
     let mut last = io::Error::from(ErrorKind::NotFound);
     for address in (host, port).to_socket_addrs(net)? {

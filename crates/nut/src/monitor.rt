@@ -33,36 +33,37 @@ use std::rt::Files;
 use std::sync::Wait;
 use std::time::Clock;
 
-/// Who is told: what upsmon tells is written to standard output and error line by line, and a line that isn't taken at once
-/// is let go.
+/// The streams that upsmon writes to: standard output and standard error, line by line. A line that isn't taken at once
+/// is dropped.
 #[derive(Clone, Copy)]
 struct Streams<O, E> {
     out: O,
     err: E,
 }
 
-/// Runs upsmon, and gives its exit status.
+/// Runs upsmon. Returns its exit status.
 ///
-/// The words are those of the command line `upsmon [--conf DIR] [-q]`, with the program's name first. The UPSes of upsmon.conf
-/// are watched until the machine is to be halted: of the file in the folder DIR, or else in that of the variable NUT_CONFPATH,
-/// or in `/etc/nut`. Each server that isn't linked is dialled again each second. A notice is printed on `out` as one line where
-/// its flags have SYSLOG or WALL, and NOTIFYCMD is run with it where they have EXEC; IGNORE asks for neither. At the halt
-/// POWERDOWNFLAG is set where a MONITOR line is primary, and then SHUTDOWNCMD is run, for which all is made ready before
-/// anything is watched. The status is 0 where that ended with 0 or there is none, else 1. A POWERDOWNFLAG that an earlier
-/// shutdown left is removed at the start.
+/// `words` are those of the command line `upsmon [--conf DIR] [-q]`, the program's name first. It watches the UPSes of
+/// upsmon.conf until the machine has to be halted. The file is in the folder DIR, or else in that of the variable
+/// NUT_CONFPATH, or in `/etc/nut`. If a server isn't linked, upsmon tries to connect again each second. A notice is
+/// printed on `out` as one line if its flags have SYSLOG or WALL, and NOTIFYCMD is run with it if they have EXEC; with
+/// IGNORE neither is done. At the halt, POWERDOWNFLAG is set if a MONITOR line is primary, and then SHUTDOWNCMD is run.
+/// All that this takes is prepared before anything is watched. The status is 0 if SHUTDOWNCMD ended with 0 or there is
+/// none, else 1. A POWERDOWNFLAG that an earlier shutdown left is removed at the start.
 ///
 /// With `-K` nothing is watched: the status is 0 where POWERDOWNFLAG is set, else 1. With `--check` nothing is watched either:
 /// upsmon.conf is read as a start does, what a start says of it is said, and how soon this machine stops goes to `out`. The
 /// servers are asked whether their UPSes say LB early enough for that. The status is 0 where the file has no fault.
 ///
-/// What upsmon.conf should set otherwise is told on `err`, and so are how soon this machine stops and the UPSes that are
-/// watched, a line each; with `-q` only what should be set otherwise is. A line that `out` or `err` doesn't take at once is
-/// let go ([`LossyLines`]): nobody who reads them holds up a halt.
+/// What upsmon.conf should set otherwise is written to `err`, and so are how soon this machine stops and the UPSes that
+/// are watched, a line each; with `-q` only what should be set otherwise is. A line that `out` or `err` doesn't take at
+/// once is dropped ([`LossyLines`]), so that no reader of these streams holds up a halt.
 ///
-/// Where the words don't read, clap's text says so on `err`, and the status is 2; the help and the version go to `out`,
-/// with status 0. Before anything is watched, the first of these is told on `err`, with status 1:
-/// `upsmon: upsmon.conf: cannot read`; the file's first fault, as `upsmon: upsmon.conf:2: BadName`; `upsmon: out of memory`.
-/// It ends with `upsmon: I/O failed`, and status 1, where a wait for the sockets or the clock fails.
+/// If clap refuses the words, its text is written to `err`, and the status is 2; the help and the version are written
+/// to `out`, with status 0. Before anything is watched, the first of these is written to `err`, with status 1:
+/// `upsmon: upsmon.conf: cannot read`; the file's first fault, as `upsmon: upsmon.conf:2: BadName`;
+/// `upsmon: out of memory`. If waiting for the sockets or reading the clock fails, upsmon ends with
+/// `upsmon: I/O failed` and status 1.
 pub fn run_upsmon<R, S: AsStr, O, E>(
     rt: &R,
     alloc: Global,
@@ -85,7 +86,7 @@ where
     }
 }
 
-/// Does what the words of the command line ask for, and gives the exit status.
+/// Does what the words of the command line ask for. Returns the exit status.
 fn run<R, S: AsStr, O, E>(
     rt: &R,
     alloc: Global,
@@ -117,7 +118,7 @@ where
     Ok(0)
 }
 
-/// Whether the flag that upsmon.conf names is set, as an exit status: 0 where it is, else 1.
+/// Returns whether the flag that upsmon.conf names is set, as an exit status: 0 if it is, else 1.
 fn look_for_flag<R: Files + Env + Alloc>(
     rt: &R,
     alloc: Global,
@@ -150,7 +151,7 @@ where
     Ok(0)
 }
 
-/// Whether the flag that upsmon.conf of this folder names is set.
+/// Whether the flag that upsmon.conf in this folder names is set.
 fn is_flag_set(
     files: &impl Files,
     alloc: Global,
@@ -163,7 +164,7 @@ fn is_flag_set(
     })
 }
 
-/// Watches the UPSes of upsmon.conf in this folder until the machine is to be halted, and halts it.
+/// Watches the UPSes of upsmon.conf in this folder until the machine has to be halted, and halts it.
 fn guard<R, O, E>(
     rt: &R,
     alloc: Global,
@@ -183,8 +184,8 @@ where
     watch_and_halt(rt, alloc, config, is_quiet, streams, told)
 }
 
-/// Watches the UPSes of a configuration until the machine is to be halted, and halts it. The memory that the halt takes is
-/// set apart before.
+/// Watches the UPSes of a configuration until the machine has to be halted, and halts it. The memory that the halt
+/// takes is reserved before.
 fn watch_and_halt<R, O, E>(
     rt: &R,
     alloc: Global,
@@ -203,7 +204,7 @@ where
     watch_until_halt(rt, alloc, config, &mut halt, is_quiet, streams, told)
 }
 
-/// Makes the halt ready, watches the UPSes of a configuration until the machine is to be halted, and halts it.
+/// Prepares the halt, watches the UPSes of a configuration until the machine has to be halted, and halts it.
 fn watch_until_halt<R, O, E>(
     rt: &R,
     alloc: Global,
@@ -227,7 +228,7 @@ where
     Ok(())
 }
 
-/// Tells what upsmon.conf in this folder should set otherwise, and whether everybody can read it.
+/// Writes what upsmon.conf in this folder should set otherwise, and whether everybody can read it.
 fn tell_warnings<E: Write>(
     files: &impl Files,
     alloc: Global,
@@ -246,7 +247,7 @@ fn tell_warnings<E: Write>(
     Ok(())
 }
 
-/// Watches the UPSes of a configuration over sockets until the machine is to be halted.
+/// Watches the UPSes of a configuration over sockets until the machine has to be halted.
 fn keep_watch<R, O, E>(
     rt: &R,
     alloc: Global,
@@ -268,7 +269,7 @@ where
     }
 }
 
-/// Who prints notices on standard output, and runs NOTIFYCMD.
+/// Makes the crier that prints notices on standard output and runs NOTIFYCMD.
 fn crier_of<'a, R, O, E>(
     rt: &'a R,
     alloc: Global,
@@ -285,11 +286,12 @@ where
     Ok(Crier::new(rt, alloc, config, out, err)?)
 }
 
-/// Watches servers over sockets until the machine is to be halted, and hands each notice to a herald. What an operator wants
-/// to know is told on `err`, but where that is to be quiet.
+/// Watches servers over sockets until the machine has to be halted, and hands each notice to a herald. Reports to the
+/// operator on `err` unless that is to be quiet.
 ///
 /// # Errors
-/// Where there are no sockets to be had, or a wait for them or the clock fails.
+///
+/// If no sockets are available, or waiting for them or reading the clock fails.
 fn watch_servers<R: Wait + Net + Clock + Processes, H: Herald, E: Write>(
     rt: &R,
     alloc: Global,
@@ -310,7 +312,7 @@ fn watch_servers<R: Wait + Net + Clock + Processes, H: Herald, E: Write>(
     }
 }
 
-/// Watches a world until the machine is to be halted.
+/// Watches a world until the machine has to be halted.
 fn watch_world<W: MonWorld + Drop>(
     rt: &impl Wait,
     monitor: &mut Monitor,
@@ -326,13 +328,13 @@ fn watch_world<W: MonWorld + Drop>(
     }
 }
 
-/// Tells which UPSes are watched, and how soon this machine stops.
+/// Reports which UPSes are watched, and how soon this machine stops.
 fn tell_start<E: Write>(config: &UpsmonConf, err: &mut E) {
     tell_watched(config, &mut Reports::new("upsmon", err, true));
     let _ = Stopping::of(config).tell(err);
 }
 
-/// Tells which UPSes are watched.
+/// Reports which UPSes are watched.
 fn tell_watched<E: Write>(config: &UpsmonConf, reports: &mut Reports<'_, E>) {
     for monitored in &config.monitors.lines {
         reports.tell(Report::Watching(

@@ -7,15 +7,15 @@ use std::alloc::{AllocError, Global};
 use std::process::{Child, Command, OpenProcess, Processes};
 use std::{fmt, io};
 
-/// How many commands may run at a time.
+/// The largest number of commands that run at a time.
 const RUNNING_MAX: usize = 64;
 
-/// What a command is told of a notice.
+/// What a command is told about a notice.
 #[derive(Clone, Copy)]
 pub struct Call<'a> {
     /// The type of the notice, as upsmon.conf has it.
     pub kind: &'a [u8],
-    /// The UPS as MONITOR has it, empty where the notice is of none.
+    /// The UPS as MONITOR has it; empty if the notice is about none.
     pub ups: &'a [u8],
     /// The text of the notice.
     pub text: &'a [u8],
@@ -24,9 +24,9 @@ pub struct Call<'a> {
 /// Why a command isn't run.
 #[derive(Drop)]
 pub enum CallFault {
-    /// So many are running as may at a time.
+    /// As many commands are running as may run at a time.
     TooMany,
-    /// It can't be started.
+    /// It cannot be started.
     NotStarted(io::Error),
 }
 
@@ -39,18 +39,18 @@ impl fmt::Display for CallFault {
     }
 }
 
-/// NOTIFYCMD, and those runs of it that may not have ended.
+/// NOTIFYCMD, and its runs that may not have ended.
 #[derive(Drop)]
 pub struct NotifyCommand<'r, R: Processes> {
     processes: &'r R,
     alloc: Global,
-    /// What the shell is to run, where anything is.
+    /// The script for the shell, if NOTIFYCMD is set.
     script: Option<String>,
     running: Vec<Child<R::Started>>,
 }
 
 impl<'r, R: Processes> NotifyCommand<'r, R> {
-    /// The command that upsmon.conf sets. It takes the place for those that run.
+    /// Makes the command that upsmon.conf sets. It allocates room for the runs.
     pub fn new(
         processes: &'r R,
         alloc: Global,
@@ -69,6 +69,10 @@ impl<'r, R: Processes> NotifyCommand<'r, R> {
     }
 
     /// Starts the command, if there is one, and doesn't wait for it.
+    ///
+    /// # Errors
+    ///
+    /// `TooMany` if as many commands run as may, `NotStarted` if it cannot be started.
     pub fn call(&mut self, call: Call<'_>) -> Result<(), CallFault> {
         let Some(script) = &self.script else {
             return Ok(());
@@ -85,14 +89,14 @@ impl<'r, R: Processes> NotifyCommand<'r, R> {
         }
     }
 
-    /// Takes note of the runs that ended.
+    /// Forgets the runs that have ended.
     pub fn reap(&mut self) {
         self.running.retain_mut(|child| is_running(child));
     }
 }
 
-/// The command with the text of a notice as its first argument. The shell puts the text there by itself, so that no byte
-/// of it is read as a command.
+/// Returns the command with the text of a notice as its first argument. The shell inserts the text itself, so that no
+/// byte of it is read as a command.
 fn script_of(alloc: Global, command: &[u8]) -> Result<String, AllocError> {
     let command = text_of(command);
     format!(in alloc; "{command} \"$1\"")
@@ -109,7 +113,7 @@ fn start<R: Processes>(
     command.spawn(processes)
 }
 
-/// Hands a command the text as its first argument, and the rest in its environment.
+/// Gives a command the text as its first argument, and the rest in its environment.
 fn put_call(command: &mut Command, call: Call<'_>) -> Result<(), AllocError> {
     command.arg("sh")?.arg(text_of(call.text))?;
     command.env("NOTIFYTYPE", text_of(call.kind))?;

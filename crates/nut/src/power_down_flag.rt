@@ -1,4 +1,4 @@
-//! POWERDOWNFLAG: the file by which the system's scripts know that the UPS is to cut its power.
+//! POWERDOWNFLAG: the file that tells the system's scripts to have the UPS cut its power.
 
 ghost use Rattle.std.specs.Prelude.{◌≡◌, ◌↔◌, ◌⊎◌, IsTrue};
 
@@ -11,35 +11,35 @@ use std::os::unix::fs::OpenOptionsExt;
 use std::rt::Files;
 use std::{fmt, fs, io};
 
-/// What the file holds.
+/// The contents of the file.
 const LINE: &[u8] = b"upsmon-shutdown-file\n";
 
-/// What it holds where NUT's upsmon wrote it.
+/// The contents of the file if NUT's upsmon wrote it.
 const WORD: &[u8] = b"upsmon-shutdown-file";
 
-/// How long its line is.
+/// The length of the contents.
 const LENGTH: usize = 21;
 
-/// Who may read and write the file: its owner.
+/// The file's mode: its owner may read and write it.
 const MODE: u32 = 0o600;
 
-/// What lies where the flag would be.
+/// What is found under the flag's name.
 #[derive(Clone, Copy, Debug, PartialEq, Eq)]
 pub enum FlagState {
-    /// Nothing.
+    /// Nothing has its name.
     Absent,
-    /// The flag: a file that holds its line.
+    /// The flag: a file with the right contents.
     Set,
-    /// Something else, which is left as it is: another file, a folder, a link, a pipe.
+    /// Anything else, which is left unchanged: another file, a folder, a link, a pipe.
     Foreign,
 }
 
 /// Why a flag isn't set.
 #[derive(Drop)]
 pub enum FlagFault {
-    /// Something else lies there.
+    /// Something else has its name.
     Foreign,
-    /// It can't be written.
+    /// It cannot be written.
     NotWritten(io::Error),
 }
 
@@ -58,7 +58,7 @@ impl From<io::Error> for FlagFault {
     }
 }
 
-/// The flag, with the names of its file and of the one that is to become it.
+/// The flag, with the names of its file and of the new one that is to replace it.
 #[derive(Drop)]
 pub struct PowerDownFlag {
     path: String,
@@ -66,7 +66,7 @@ pub struct PowerDownFlag {
 }
 
 impl PowerDownFlag {
-    /// The flag that upsmon.conf names, if it names one.
+    /// Returns the flag that upsmon.conf names, if it names one.
     pub fn of(alloc: Global, config: &UpsmonConf) -> Result<Option<PowerDownFlag>, AllocError> {
         let Some(path) = &config.power_down_flag else {
             return Ok(None);
@@ -78,15 +78,17 @@ impl PowerDownFlag {
         }))
     }
 
-    /// The name of its file.
+    /// Returns the name of its file.
     pub fn path(&self) -> &str {
         self.path.as_str()
     }
 
-    /// What lies there. Nothing that isn't a plain file is opened, so that no pipe is waited for and no link followed.
+    /// Returns what is found under its name. Only a plain file is opened, so that no pipe blocks and no link is
+    /// followed.
     ///
     /// # Errors
-    /// Where that can't be seen, as in a folder that may not be searched.
+    ///
+    /// If that cannot be found out, for example in a folder that may not be searched.
     pub fn state(&self, files: &impl Files) -> io::Result<FlagState> {
         let found = match fs::symlink_metadata(files, self.path()) {
             Ok(found) => found,
@@ -100,7 +102,7 @@ impl PowerDownFlag {
         }
     }
 
-    /// Whether the file, which has so many bytes, is a flag.
+    /// Whether the file, of this length, is a flag.
     fn holds_flag(&self, files: &impl Files, length: u64) -> io::Result<bool> {
         if length > LENGTH as u64 {
             return Ok(false);
@@ -111,10 +113,11 @@ impl PowerDownFlag {
         Ok(is_flag(bytes))
     }
 
-    /// Removes the file where it is set, and gives what lay there.
+    /// Removes the file if it is the flag. Returns what was found.
     ///
     /// # Errors
-    /// Where that can't be seen, or not be removed.
+    ///
+    /// If what is there cannot be found out, or the flag cannot be removed.
     pub fn clear(&self, files: &impl Files) -> io::Result<FlagState> {
         let found = self.state(files)?;
         if found == FlagState::Set {
@@ -123,11 +126,13 @@ impl PowerDownFlag {
         Ok(found)
     }
 
-    /// Writes the file: a new one beside it, whose name ends in `.new`, takes its place once it is on the disk. What lies
-    /// under the new one's name is removed. It takes no memory.
+    /// Writes the file: a new one beside it, whose name ends in `.new`, replaces it once it is on the disk. Anything of
+    /// the new one's name is removed first. It allocates nothing.
     ///
     /// # Errors
-    /// Where something else lies there, or it can't be written: then that is as it was.
+    ///
+    /// `Foreign` if something else has its name, `NotWritten` if it cannot be written. What was there is then
+    /// unchanged.
     pub fn set(&self, files: &impl Files) -> Result<(), FlagFault> {
         if self.state(files)? == FlagState::Foreign {
             return Err(FlagFault::Foreign);
@@ -138,7 +143,7 @@ impl PowerDownFlag {
         Ok(())
     }
 
-    /// Writes the file beside it.
+    /// Writes the new file beside it.
     fn write_fresh(&self, files: &impl Files) -> io::Result<()> {
         let mut file = OpenOptions::new()
             .write(true)

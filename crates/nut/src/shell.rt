@@ -1,9 +1,9 @@
-//! Commands that the shell reads.
+//! Commands for the shell.
 
 use std::alloc::{AllocError, Allocator};
 use std::process::{Command, Stdio};
 
-/// What has the shell run a script, `sh -c SCRIPT`, without input.
+/// Returns the command that makes the shell run a script, `sh -c SCRIPT`, without input.
 pub fn shell_command<A: Allocator + Clone>(
     alloc: A,
     script: &str,

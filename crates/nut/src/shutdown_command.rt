@@ -1,4 +1,4 @@
-//! SHUTDOWNCMD, and the shell that waits for its time.
+//! SHUTDOWNCMD, and the shell that waits to run it.
 
 ghost use Rattle.std.specs.Prelude.{OnOk, IsSome};
 ghost use Rattle.std.specs.Io.KnownBytes.{Appends};
@@ -10,15 +10,15 @@ use std::io;
 use std::io::{ErrorKind, Write};
 use std::process::{Child, Command, Processes, Stdio};
 
-/// What the shell runs: it waits for a line, and becomes SHUTDOWNCMD, which is its first argument. Where its input ends
-/// without a line, as when upsmon ends, it ends too and runs nothing.
+/// The script of the shell: it waits for a line, and then becomes SHUTDOWNCMD, which is its first argument. If its
+/// input ends without a line, as when upsmon ends, it ends and runs nothing.
 const SCRIPT: &str = "read -r go && exec sh -c \"$1\" < /dev/null";
 
-/// The line.
+/// The line that the shell waits for.
 const GO: &[u8] = b"\n";
 
-/// SHUTDOWNCMD, which a shell runs that is started before. So the machine can be halted where no process can be started any
-/// more, as for want of memory.
+/// SHUTDOWNCMD, run by a shell that was started before. So the machine can be halted even if no process can be started
+/// any more, for example for lack of memory.
 #[derive(Drop)]
 pub struct ShutdownCommand<'r, 'h, R: Processes> {
     processes: &'r R,
@@ -28,7 +28,7 @@ pub struct ShutdownCommand<'r, 'h, R: Processes> {
 }
 
 impl<'r, 'h, R: Processes> ShutdownCommand<'r, 'h, R> {
-    /// The command with this text. No shell waits for it yet.
+    /// Makes the command with this text. No shell waits to run it yet.
     pub fn new(
         processes: &'r R,
         heap: &'h LocalHeap,
@@ -46,16 +46,19 @@ impl<'r, 'h, R: Processes> ShutdownCommand<'r, 'h, R> {
     /// Starts the shell that waits.
     ///
     /// # Errors
-    /// Where it can't be started.
+    ///
+    /// That of the system if it cannot be started.
     pub fn make_ready(&mut self) -> io::Result<()> {
         self.shell = Some(self.command.spawn(self.processes)?);
         Ok(())
     }
 
-    /// Has the shell that waits run the command, or another one where there is none, or it was ended meanwhile.
+    /// Makes the waiting shell run the command. Starts another shell for it if there is none, or it was ended
+    /// meanwhile.
     ///
     /// # Errors
-    /// Where another one can't be started, or ends at once.
+    ///
+    /// That of the system if another shell cannot be started, or ends at once.
     pub fn start(&mut self) -> io::Result<Child<R::Started>> {
         if let Some(mut shell) = self.shell.take() {
             if release(&mut shell.stdin).is_ok() {
@@ -68,14 +71,14 @@ impl<'r, 'h, R: Processes> ShutdownCommand<'r, 'h, R> {
     }
 }
 
-/// Hands a shell a pipe to wait on, and the command's text as its first argument.
+/// Gives a shell a pipe to wait on, and the command's text as its first argument.
 fn put_text(command: &mut Command<&LocalHeap>, text: &str) -> Result<(), AllocError> {
     command.stdin(Stdio::piped());
     command.arg("sh")?.arg(text)?;
     Ok(())
 }
 
-/// Writes the line for which a shell waits.
+/// Writes the line that a shell waits for.
 fn release<W: Write>(input: &mut Option<W>) -> io::Result<()>
     ensures { OnOk result (IsSome input.old) }
 {

@@ -12,12 +12,12 @@ use std::io::{Read, Write};
 use std::rt::Files;
 use std::sync::Wait;
 
-/// Serves one client, whose address is `stdio`, over a reader and a writer, to its LOGOUT, to the end of the input, or
-/// until memory runs out in one of its pieces. It gives the exit status: 0, or after a text on `err` 1.
+/// Serves one client, whose address is `stdio`, over a reader and a writer, until its LOGOUT, the end of the input, or
+/// a lack of memory at one of its pieces. Returns the exit status: 0, or 1 after a text on `err`.
 ///
-/// The words are those of the command line `upsd --stdio [--conf DIR | --ups NAME=DESC ..]`, with the program's name
-/// first. Where they don't read, clap's text says so on `err`, and the status is 2; the help and the version go to
-/// `out`, with status 0.
+/// `words` are those of the command line `upsd --stdio [--conf DIR | --ups NAME=DESC ..]`, the program's name first. If
+/// clap refuses them, its text is written to `err`, and the status is 2; the help and the version are written to `out`,
+/// with status 0.
 ///
 /// With `--conf` the files ups.conf, upsd.users and upsd.conf of the folder are read, in this order, and then cmdvartab, if
 /// it is there. The first fault is told as `upsd: ups.conf:2: Repeated`, and a file that can't be read as `upsd: ups.conf: cannot read`. The values of
@@ -25,7 +25,7 @@ use std::sync::Wait;
 /// A failed read is told as `upsd: input failed`, a failed write as `upsd: output failed`, and a refused growth as
 /// `upsd: out of memory`.
 ///
-/// Replies are written as soon as a piece of the input was read: `out` should keep no bytes back.
+/// Replies are written as soon as a piece of the input was read, so `out` should not buffer.
 pub fn run_stdio<S: AsStr, I: Read, O: Write, E: Write>(
     rt: &(impl Wait + Files),
     alloc: Global,
@@ -40,7 +40,7 @@ pub fn run_stdio<S: AsStr, I: Read, O: Write, E: Write>(
     }
 }
 
-/// Serves one client by the words of the command line.
+/// Serves one client as the words of the command line say.
 fn serve_words<S: AsStr, I: Read, O: Write>(
     rt: &(impl Wait + Files),
     alloc: Global,
@@ -54,6 +54,10 @@ fn serve_words<S: AsStr, I: Read, O: Write>(
 }
 
 /// Serves one client over a reader and a writer.
+///
+/// # Errors
+///
+/// `Memory` if memory for the server cannot be allocated, `Input` if a read failed, `Output` if a write failed.
 pub fn serve_client<I: Read, O: Write>(
     rt: &impl Wait,
     alloc: Global,

@@ -10,13 +10,13 @@ use nut_conf::{Monitored, Role, UpsmonConf};
 use std::io::Write;
 use std::{fmt, io};
 
-/// How many seconds an answer takes at most, for the bound that is told.
+/// The longest time for an answer, in seconds, that the bound assumes.
 const DELAY: u32 = 2;
 
-/// What an operator is told of how soon this machine stops.
+/// What an operator is told about how soon this machine stops.
 #[derive(Clone, Copy, Debug, PartialEq, Eq)]
 pub enum Stopping {
-    /// This many seconds, at most, after too few of its UPSes were left without OB and LB.
+    /// At most this many seconds after so many of its UPSes show OB and LB that the others supply too little.
     Within(u64),
     /// It needs none of its UPSes.
     Never,
@@ -35,7 +35,7 @@ impl fmt::Display for Stopping {
 }
 
 impl Stopping {
-    /// How soon the machine of this configuration stops.
+    /// Returns how soon the machine of this configuration stops.
     pub fn of(config: &UpsmonConf) -> Stopping {
         if config.min_supplies() == 0 {
             return Stopping::Never;
@@ -43,25 +43,26 @@ impl Stopping {
         Stopping::Within(stops_within(config, DELAY))
     }
 
-    /// Tells it as a line.
+    /// Writes it as a line.
     ///
     /// # Errors
+    ///
     /// That of the writer.
     pub fn tell<W: Write>(self, out: &mut W) -> io::Result<()> {
         writeln!(out, "upsmon: {self}")
     }
 }
 
-/// How many seconds pass at most from the moment at which the server shows OB and LB, for so many UPSes that the others supply
-/// too little, to the moment at which the machine is halted: where each answer of a server comes within so many seconds, and
-/// upsmon's clock skips none.
+/// Returns how many seconds pass at most from the moment at which the server shows OB and LB for so many UPSes that the
+/// others supply too little, to the moment at which the machine is halted. It assumes that each answer of a server
+/// comes within `delay` seconds, and that upsmon's clock skips none.
 pub fn stops_within(config: &UpsmonConf, delay: u32) -> u64
     ensures { result ≡ seconds_of (configuration_of config.now) (prompt delay) }
 {
     begins_within(config, delay) + halts_within(config)
 }
 
-/// How many of them pass until the shutdown has begun.
+/// Returns how many of these pass at most until the shutdown has begun.
 fn begins_within(config: &UpsmonConf, delay: u32) -> u64
     ensures seconds { result ≡ begins_within (configuration_of config.now) (prompt delay) }
     ensures fits { result < 2 ^ 34 }
@@ -74,7 +75,7 @@ fn begins_within(config: &UpsmonConf, delay: u32) -> u64
     }
 }
 
-/// How many of them pass until upsmon knows.
+/// Returns how many of these pass at most until upsmon knows the status.
 fn seen_within(config: &UpsmonConf, delay: u32) -> u64
     ensures seconds { result ≡ seen_by (configuration_of config.now) (prompt delay) 0 }
     ensures fits { result < 2 ^ 33 }
@@ -88,7 +89,7 @@ fn greater(a: u32, b: u32) -> u32
     if a < b { b } else { a }
 }
 
-/// How many seconds pass from the beginning of the shutdown to the halt, however long an answer takes.
+/// Returns how many seconds pass at most from the beginning of the shutdown to the halt, however long an answer takes.
 fn halts_within(config: &UpsmonConf) -> u64
     ensures seconds { result ≡ to_halted (configuration_of config.now) (prompt 0) }
     ensures fits { result < 2 ^ 34 }
@@ -101,7 +102,7 @@ fn halts_within(config: &UpsmonConf) -> u64
     }
 }
 
-/// Whether a line feeds this machine whose primary is another one.
+/// Whether some line feeds this machine and has another machine as its primary.
 fn is_led(config: &UpsmonConf) -> bool
     ensures { result ≡ list_any is_led (configuration_of config.now).lines }
 {
@@ -123,7 +124,7 @@ fn is_led_line(line: &Monitored) -> bool
     }
 }
 
-/// Whether this machine is the primary of a UPS.
+/// Whether this machine is the primary of at least one UPS.
 fn has_primary(config: &UpsmonConf) -> bool
     ensures { result ≡ some_primary (configuration_of config.now).lines }
 {

@@ -1,14 +1,19 @@
-//! The numbers of the standard streams.
+//! The descriptors of the standard streams.
 
 use std::alloc::{AllocError, Global};
 use std::fs::File;
 use std::rt::Files;
 
-/// How many standard streams there are. Their numbers come before all others.
+/// The number of standard streams, whose descriptors come before all others.
 const STREAMS: usize = 3;
 
-/// Opens as many files as there are standard streams. While they are kept, the number of a stream that is closed is theirs:
-/// else the next socket would get it, and its other end would be sent what is meant for an operator.
+/// Opens as many files as there are standard streams. While they are kept, they hold the descriptors of streams that
+/// are closed. Otherwise the next socket would get one of these, and its peer would be sent what is meant for an
+/// operator.
+///
+/// # Errors
+///
+/// `AllocError` if memory for the list cannot be allocated.
 pub fn hold_closed_streams<F: Files>(files: &F, alloc: Global) -> Result<Vec<F::File>, AllocError> {
     let mut held = Vec::new(alloc);
     for _ in 0..STREAMS {

@@ -1,4 +1,4 @@
-//! The word of a directive that a configuration file doesn't take, which NUT may know.
+//! The word of a directive that a configuration file doesn't take, and that NUT may know.
 
 ghost use Rattle.std.specs.Prelude.{◌≡◌, IfSome, Some, string_bytes};
 ghost use Rattle.nut.specs.Unknown.{first_word};
@@ -12,8 +12,8 @@ use std::str;
 /// A section line.
 const SECTION: &[u8] = b"[a]\n";
 
-/// The word of the directive at which a file has a fault, where no line with that word may stand in the file, in a section
-/// neither. Where memory is refused for it, there is none.
+/// Returns the word of the directive at which a file has a fault, if no line with that word may be in the file, not
+/// even in a section. `None` also if memory for it cannot be allocated.
 pub fn unknown_word<C: ConfFile>(alloc: Global, bytes: &[u8], fault: ConfFault) -> Option<String> {
     let is_unknown = match fault.kind {
         FaultKind::UnknownDirective => true,
@@ -27,7 +27,7 @@ pub fn unknown_word<C: ConfFile>(alloc: Global, bytes: &[u8], fault: ConfFault) 
     }
 }
 
-/// Whether a line of a file isn't known in a section neither: one of its own has it behind the section's line.
+/// Whether a line of a file is unknown even in a section: a file of only a section and this line is read to find out.
 fn is_unknown_in_section<C: ConfFile>(alloc: Global, bytes: &[u8], number: u32) -> bool {
     let Some(line) = line_at(bytes, number) else {
         return false;
@@ -42,13 +42,13 @@ fn is_unknown_in_section<C: ConfFile>(alloc: Global, bytes: &[u8], number: u32) 
     }
 }
 
-/// The first word of a line, counted from 1. None where there is no such line, it has no words, its first word is empty, or
-/// memory is refused.
+/// Returns the first word of a line, counted from 1. `None` if there is no such line, it has no words, its first word
+/// is empty, or memory cannot be allocated.
 fn word_at(alloc: Global, bytes: &[u8], number: u32) -> Option<String> {
     first_word(alloc, line_at(bytes, number)?)
 }
 
-/// The first word of a line, where that isn't empty and memory isn't refused.
+/// Returns the first word of a line. `None` if there is none, it is empty, or memory cannot be allocated.
 fn first_word(alloc: Global, line: &[u8]) -> Option<String>
     ensures { IfSome result (λ word. first_word line.now ≡ Some (string_bytes word)) }
 {
@@ -67,7 +67,7 @@ fn first_word(alloc: Global, line: &[u8]) -> Option<String>
     }
 }
 
-/// A line of a file, counted from 1.
+/// Returns a line of a file, counted from 1.
 fn line_at(bytes: &[u8], number: u32) -> Option<&[u8]> {
     let before = number.checked_sub(1)?;
     bytes.split(|byte| *byte == b'\n').nth(before as usize)

@@ -8,10 +8,11 @@ ghost use Rattle.nut.specs.UpsOption.{ups_option, ups_options};
 use nut_conf::{FaultKind, UpsConf};
 use std::alloc::Global;
 
-/// Reads values in turn, each behind those before it.
+/// Reads values in turn, and appends the UPS of each to those before.
 ///
 /// # Errors
-/// The fault of the first value that doesn't read, as [`add_ups_option`] answers it.
+///
+/// The fault of the first value that has one, as [`add_ups_option`] returns it.
 pub fn read_ups_options(alloc: Global, values: &[&str]) -> Result<UpsConf, FaultKind>
     ensures { Gives shown_in result (ups_options [] (map (λ v. v.now) values.now)) }
 {
@@ -22,10 +23,11 @@ pub fn read_ups_options(alloc: Global, values: &[&str]) -> Result<UpsConf, Fault
     Ok(ups)
 }
 
-/// Puts the UPS that a value names behind the others. The name stands before the first `=`, the description behind it.
+/// Appends the UPS that a value names. Its name is before the first `=`, its description behind it.
 ///
 /// # Errors
-/// The first test that the value fails: `BadForm` where it has no `=`, then those of [`UpsConf::add`], in their order.
+///
+/// The first test that the value fails: `BadForm` if it has no `=`, then those of [`UpsConf::add`], in their order.
 /// Nothing changes then.
 pub fn add_ups_option(ups: &mut UpsConf, value: &[u8]) -> Result<(), FaultKind>
     ensures { Gives (λ _. shown_in ups.new) result (ups_option (shown_in ups.old) value.now) }
@@ -36,7 +38,7 @@ pub fn add_ups_option(ups: &mut UpsConf, value: &[u8]) -> Result<(), FaultKind>
     }
 }
 
-/// Where the first `=` stands.
+/// Returns the place of the first `=`.
 fn place_of_equals(value: &[u8]) -> Option<usize>
     ensures place { result ≡ position (λ b. b == 61) value.now }
     ensures within { IfSome result (λ i. i < length value.now) }

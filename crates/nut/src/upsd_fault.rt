@@ -1,4 +1,4 @@
-//! What upsd alone meets.
+//! The faults that only upsd has.
 
 use crate::conf_file::FileFault;
 use crate::failure::{Failure, OwnFault};
@@ -7,14 +7,14 @@ use nut_server::ServerFault;
 use nut_server_loop::Stream;
 use std::fmt;
 
-/// What upsd alone meets: before anybody is served, or over standard streams.
+/// The faults that only upsd has: before it serves anybody, or over standard streams.
 #[derive(Drop)]
 pub enum UpsdFault {
-    /// A value of `--ups` doesn't read.
+    /// A value of `--ups` has this fault.
     Ups(FaultKind),
     /// A file gives no configuration.
     File(FileFault<'static>),
-    /// No listener can be made at this address and port.
+    /// It is impossible to listen at this address and port.
     Listen(String, u16),
     /// A read of standard input failed.
     Input,

@@ -1,4 +1,4 @@
-//! What upsmon alone meets.
+//! The faults that only upsmon has.
 
 use crate::conf_file::FileFault;
 use crate::failure::{Failure, OwnFault};
@@ -6,12 +6,12 @@ use crate::halt::HaltFault;
 use nut_monitor::MonitorFault;
 use std::fmt;
 
-/// What upsmon alone meets.
+/// The faults that only upsmon has.
 #[derive(Drop)]
 pub enum UpsmonFault {
     /// upsmon.conf gives no configuration.
     File(FileFault<'static>),
-    /// The machine isn't halted.
+    /// The machine wasn't halted.
     Halt(HaltFault),
 }
 

@@ -1,4 +1,4 @@
-//! What a program can be started with, but shouldn't be.
+//! What a program can be started with but shouldn't be.
 
 ghost use Rattle.std.specs.Prelude.{◌↔◌, ◌≡◌, ◌≢◌, ◌<◌, IsSome, None, bit_and};
 ghost use Rattle.nut_conf.specs.Upsmon.{poll_freq_of, dead_time_of, host_sync_of};
@@ -12,20 +12,20 @@ use std::path::Path;
 use std::rt::Files;
 use std::{fmt, fs};
 
-/// The bit of a file's mode by which those may read it who are neither its owner nor of its group.
+/// The bit of a file's mode that lets users read it who are neither its owner nor in its group.
 const OTHERS_READ: u32 = 0o004;
 
 /// The bits of a file's mode that say who may do what.
 const PERMISSIONS: u32 = 0o777;
 
-/// What an operator should set otherwise. Times are seconds.
+/// What an operator should set otherwise. Times are in seconds.
 #[derive(Clone, Copy, Debug, PartialEq, Eq)]
 pub enum Warning {
-    /// A file with passwords, by its name in its folder, has a mode by which everybody can read it.
+    /// A file with passwords, by its name in its folder. Its mode lets everybody read it.
     Readable { file: &'static str, mode: u32 },
-    /// upsmon has nothing to halt the machine by.
+    /// upsmon has no command to halt the machine with.
     NoShutdownCommand,
-    /// The status is asked for less often than a UPS on battery has to give it.
+    /// The status is asked for less often than a UPS on battery has to answer.
     SlowerThanDeadTime { poll_freq: u32, dead_time: u32 },
     /// The status is asked for less often than the machines of a UPS wait for each other.
     SlowerThanHostSync { poll_freq: u32, host_sync: u32 },
@@ -60,7 +60,7 @@ impl fmt::Display for Warning {
 }
 
 impl Warning {
-    /// Whether a file with passwords can be read by everybody.
+    /// Warns if the mode of a file with passwords lets everybody read it.
     pub fn of_mode(file: &'static str, mode: u32) -> Option<Warning>
         ensures { IsSome result ↔ (bit_and mode 4 ≢ 0) }
     {
@@ -73,7 +73,7 @@ impl Warning {
         })
     }
 
-    /// Whether nothing is set to halt the machine by.
+    /// Warns if no command is set to halt the machine with.
     pub fn of_shutdown_command(config: &UpsmonConf) -> Option<Warning>
         ensures { IsSome result ↔ (config.now.shutdown_cmd ≡ None) }
     {
@@ -83,7 +83,7 @@ impl Warning {
         }
     }
 
-    /// Whether POLLFREQ is above DEADTIME.
+    /// Warns if POLLFREQ is greater than DEADTIME.
     pub fn of_dead_time(config: &UpsmonConf) -> Option<Warning>
         ensures { IsSome result ↔ (dead_time_of config.now < poll_freq_of config.now) }
     {
@@ -98,7 +98,7 @@ impl Warning {
         })
     }
 
-    /// Whether POLLFREQ is above HOSTSYNC.
+    /// Warns if POLLFREQ is greater than HOSTSYNC.
     pub fn of_host_sync(config: &UpsmonConf) -> Option<Warning>
         ensures { IsSome result ↔ (host_sync_of config.now < poll_freq_of config.now) }
     {
@@ -114,8 +114,8 @@ impl Warning {
     }
 }
 
-/// Whether the file of a configuration, which holds passwords, can be read by everybody. Of one that isn't there nothing is
-/// said.
+/// Warns if the file of a configuration, which holds passwords, can be read by everybody. If there is no such file, it
+/// doesn't warn.
 pub fn readable_file<C: ConfFile>(
     files: &impl Files,
     alloc: Global,
@@ -129,7 +129,7 @@ pub fn readable_file<C: ConfFile>(
     }
 }
 
-/// Tells a warning, if there is one.
+/// Writes a warning, if there is one.
 pub fn warn<E: Write>(program: &str, warning: Option<Warning>, err: &mut E) {
     if let Some(warning) = warning {
         let _ = writeln!(err, "{program}: warning: {warning}");

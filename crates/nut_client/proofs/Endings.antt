@@ -29,7 +29,7 @@ Decides script result bytes heard left written =
     ⊎ ((result ≡ Err failures.ConnectionLost) × (Some left ≡ Some [] → length written < length (run_of script heard).queries)
     ⊎ (result ≡ ending (run_of script bytes).standing))
 
--- All that was read was heard, where the connection was lost, or a query was broken off.
+-- If the connection was lost, all that was read was heard, or a query was sent only in part.
 HasReason : Script → Result (List ℕ) Failure → List ℕ → List ℕ → List ℕ → Type 0
 HasReason script result heard unheard written = IfErr result (λ failure. failure ≡ failures.ConnectionLost → (unheard ≡ []) ⊎ (length written < length (run_of script heard).queries))
 

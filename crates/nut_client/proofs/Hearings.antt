@@ -47,7 +47,7 @@ answered_stage stages.Idle outcome some = absurd (cc)
 answered_stage (stages.Asked query) outcome some = absurd (cc)
 answered_stage (stages.Answered other) outcome some = refl
 
--- what the link is once an answer was taken out, if there is one
+-- the link after its answer, if there is one, was taken out
 pub hears_ok : (v v1 v2 : LinkValue) (p : List ℕ) (done : ℕ) (result : Result (Unit {0}) LinkFault) (outcome : Option Outcome) (lost : Type 0) → IsRest v.rest → IsWaiting v.exchange → IsUnbroken p ⊎ IsWhole p
     → Feeds v p done result v1 → result ≡ Ok tt → outcome ≡ outcome_of v1.exchange → v2 ≡ with_exchange (taken_out v1.exchange) v1 → HearsPart v p (Ok outcome) v2 lost
 hears_ok v v1 v2 p done result None lost r waits broken feeds ok is after_is =
@@ -66,7 +66,7 @@ hears_ok v v1 v2 p done result (Some outcome) lost r waits broken feeds ok is af
           ∙ ap (λ f. record { rest = Text []; exchange = record { stage = stages.Idle; fault = f } }) w.1,
     )
 
--- what was read and not used before a part is the part, and then what is left
+-- bytes that were unread, or just read, are the part followed by what is left
 pub part_read : (unread unread' part : List ℕ) (input mid : Option (List ℕ)) (filled : List ℕ) → prepend_known unread input ≡ prepend_known filled mid → IsLinePart filled part → unread' ≡ drop (length part) filled
     → prepend_known unread input ≡ prepend_known part (prepend_known unread' mid)
 part_read unread unread' part input mid filled same is left =
@@ -74,7 +74,7 @@ part_read unread unread' part input mid filled same is left =
     ∙ ap (λ b. prepend_known b mid) (is.0.1 ∙ ap (λ b. part ++ b) (sym (left ∙ ap (drop (length part)) is.0.1 ∙ drop-append_seam part is.0.0)))
     ∙ sym (prepend_twice part unread' mid)
 
--- a part is the front of what was there, and the rest is left
+-- a part is the front of the unread bytes, and the rest is left
 pub part_all : (filled part unread' : List ℕ) → IsLinePart filled part → unread' ≡ drop (length part) filled → part ++ unread' ≡ filled
 part_all filled part unread' is left = ap (λ b. part ++ b) (left ∙ ap (drop (length part)) is.0.1 ∙ drop-append_seam part is.0.0) ∙ sym is.0.1
 
@@ -151,7 +151,7 @@ answers request link link' outcome start unread unread' input mid left before at
       lost = tt;
     }
 
--- of a query only a beginning was written
+-- only a beginning of the query was written
 broken_off : (queries front back all : List ℕ) → all ≡ queries ++ (front ++ back) → 0 < length back → length (queries ++ front) < length all
 broken_off queries front back all is some = omega (arith, ap length is, length-append queries (front ++ back), length-append front back, length-append queries front, some)
 
@@ -226,7 +226,7 @@ ends_unanswered request failure link link' start unread unread' input mid left b
       lost = λ is. inl (h.emptied is);
     }
 
--- the same, where it is known otherwise what came
+-- `listens_more`, for a result that is known otherwise
 pub listens_on : (request : Request) (link link' : LinkValue) (came : Option Outcome) (start unread unread' : List ℕ) (input mid left before at after' : Option (List ℕ)) (lost : Type 0) → came ≡ None → IsListening request link start unread input mid before at → Hears link unread (Ok came) link' unread' mid left lost → after' ≡ at
     → IsListening request link' start unread' input left before after'
 listens_on request link link' came start unread unread' input mid left before at after' lost none l h same =

@@ -66,7 +66,7 @@ located_fails : (h : List ℕ) (o : Option ℕ) → 126 < length h → IsErr (op
 located_fails h None long = bind_fails (host h) (λ x. Ok (x, 3493)) (long_host h (omega (arith, long)))
 located_fails h (Some i) long = parted_fails h i long
 
--- a name that is parted here
+-- a name that is split here
 by_parts : Option (List ℕ × List ℕ) → List ℕ → Result (List ℕ × List ℕ × ℕ) NameFault
 by_parts o bytes =
     option_map_or (λ (p : List ℕ × List ℕ). or_fault BadUps (name UPS_NAME_MAX p.0) >>= (λ u. located p.1 >>= (λ l. Ok (u, l.0, l.1))))

@@ -1,4 +1,4 @@
--- What is told of a command line that makes no options.
+-- What is told of a command line that gives no options.
 use Rattle.std.proofs.Common.{ℕ, List, Result, Err, inl, inr, refl}
 use Rattle.clap.specs.Words.{kind_of}
 use Rattle.nut_client.specs.CommandLine.{CommandLine}

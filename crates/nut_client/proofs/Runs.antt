@@ -1,4 +1,4 @@
--- How a run goes on by the parts of lines that are heard.
+-- How a run continues by the parts of lines that are heard.
 use Rattle.std.proofs.Common.{◌≡◌, ℕ, Bool, ◌++◌, List, [], ◌∷◌, Option, Some, None, is_some, if◌then◌else◌, Result, Ok, Err, refl, sym, ap, ap₂, ◌∙◌, ◌⊎◌, inl, inr}
 use Rattle.std.proofs.lemmas.Bool.{cases_Bool}
 use Rattle.std.proofs.lemmas.List.{append_assoc, append_cancel_left, append-nil}
@@ -64,11 +64,11 @@ part_heard v b p here (inr whole) =
       ended = ap (λ p. rest (b ++ p)) whole.2 ∙ rest_of_line b whole.0 whole.1;
     })
 
--- an exchange that waits, with what goes on by its answer
+-- a run that waits with this exchange, and continues by its answer
 abbrev pub waiting_run : List ℕ → Exchange → (Outcome → Script) → Run
 waiting_run queries e next = record { queries = queries; standing = Waits e next }
 
--- what a line makes of a run that waits
+-- what a line does to a run that waits
 line_run : (v : LinkValue) (b p : List ℕ) (run : Run) (q : List ℕ) (next : Outcome → Script) → after (lines b) run ≡ waiting_run q v.exchange next → (h : HeardPart v b p)
     → after (lines (b ++ p)) run ≡ goes_on q next (fed p v).exchange (outcome_of (fed p v).exchange) (fed p v).exchange.fault
 line_run v b p run q next is h =
@@ -134,7 +134,7 @@ rest_waits v b p here going = ap (λ o. if is_some o then Text [] else rest_afte
 abbrev pub begun : Bool → List ℕ → Request → (Outcome → Script) → Run
 begun b q request next = if b then record { queries = q ++ request_line request; standing = Waits (sent request) next } else record { queries = q; standing = Failed failures.BadQuery }
 
--- A script that is begun asks at most one query more.
+-- A script that begins asks at most one query more.
 pub begin_more : (q : List ℕ) (script : Script) → (back : List ℕ) × ((begin q script).queries ≡ q ++ back)
 begin_more q (Prints text) = ([], sym (append-nil q))
 begin_more q (Fails failure) = ([], sym (append-nil q))

@@ -1,4 +1,4 @@
--- What is left of a tool's work, step by step.
+-- What a tool has left to do, step by step.
 use Rattle.std.proofs.Common.{◌≡◌, ℕ, true, ltb, ◌+◌, ◌<◌, suc, add-one, List, [], ◌∷◌, drop, length, Result, subst, codes, refl, sym, ap, ◌∙◌, get_or}
 use Rattle.std.proofs.Math.Seq.{drop-cons}
 use Rattle.std.proofs.lemmas.Bool.{ltb-true}
@@ -63,7 +63,7 @@ first_leads ups wanted wanted' outcome r is leads = subst (λ w. Leads ups (answ
 pub step_leads : (ups : List ℕ) (step step' : Step) (outcome : Outcome) (r : Result Step Failure) → step ≡ step' → Leads ups (answered outcome (left_at ups step')) r → Leads ups (answered outcome (left_at ups step)) r
 step_leads ups step step' outcome r is leads = subst (λ s. Leads ups (answered outcome (left_at ups s)) r) (sym is) leads
 
--- a row goes on, or the next one comes
+-- a further question about a row, or the next row
 pub row_on : (ups : List ℕ) (question other : Question) (text text' : List ℕ) (rows : List (List (List ℕ))) (n : ℕ) (row : List (List ℕ)) (outcome : Outcome) → drop n rows ≡ row ∷ drop (n + 1) rows
     → answered outcome (showing ups question text (row ∷ drop (n + 1) rows)) ≡ showing ups other text' (row ∷ drop (n + 1) rows) → showing ups other text' (drop n rows) ≡ answered outcome (showing ups question text (drop n rows))
 row_on ups question other text text' rows n row outcome at says = ap (showing ups other text') at ∙ sym says ∙ ap (λ l. answered outcome (showing ups question text l)) (sym at)
@@ -78,7 +78,7 @@ prints_same e = cc
 never_prints : {text : List ℕ} {request : Request} {next : Outcome → Script} → Prints text ≡ Asks request next → ⊥
 never_prints e = cc
 
--- Where nothing is left to ask about the rows, the text is complete.
+-- If nothing is left to ask about the rows, the text is complete.
 prints_shown : (ups : List ℕ) (question : Question) (shown text : List ℕ) (rows : List (List (List ℕ))) → showing ups question shown rows ≡ Prints text → shown ≡ text
 prints_shown ups questions.Kind shown text [] is = prints_same is
 prints_shown ups questions.Values shown text [] is = prints_same is

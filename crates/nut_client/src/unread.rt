@@ -1,4 +1,4 @@
-//! What was read from a connection and not used yet.
+//! Bytes that were read from a connection and not used yet.
 ghost use Rattle.std.specs.Prelude.{◌≡◌, ◌⊎◌, ◌<◌, ◌≤◌, [], IfErr, IfOk, OnErr, OnOk, drop, length};
 ghost use Rattle.std.specs.Io.KnownBytes.{prepend_known};
 ghost use Rattle.nut_client.specs.inside.Unread.{IsLinePart};
@@ -12,7 +12,7 @@ use nut_words::PIECE_MAX;
 use std::marker::Model;
 use std::sync::Wait;
 
-/// What was read from a connection and not used yet.
+/// Bytes that were read from a connection and not used yet.
 #[derive(Drop)]
 pub(crate) struct Unread {
     bytes: ArrayVec<u8, PIECE_MAX>,
@@ -46,7 +46,7 @@ impl Unread {
         &self.bytes.as_slice()[self.used..]
     }
 
-    /// The bytes through the first line feed, or all of them where there is none.
+    /// Returns the bytes through the first line feed, or all of them if there is none.
     pub(crate) fn line_part(&self) -> &[u8]
         ensures part { IsLinePart self.now result.now }
         ensures some { 0 < length self.now → 0 < length result.now }
@@ -58,14 +58,14 @@ impl Unread {
         }
     }
 
-    /// Lets the first `n` bytes go, or all where there are fewer.
+    /// Drops the first `n` bytes, or all if there are fewer.
     pub(crate) fn take(&mut self, n: usize)
         ensures { self.new ≡ drop n self.old }
     {
         self.used = self.used.saturating_add(n).min(self.bytes.len());
     }
 
-    /// Reads from the connection, where nothing is unread. It waits for at least one byte.
+    /// Reads from the connection if nothing is unread. It waits for at least one byte.
     pub(crate) fn fill<S: Stream>(&mut self, rt: &impl Wait, stream: &mut S) -> Result<(), Failure>
         ensures same { prepend_known self.old (S.remaining stream.old) ≡ prepend_known self.new (S.remaining stream.new) }
         ensures some { OnOk result (0 < length self.new) }

@@ -240,7 +240,7 @@ dump_is variables h =
           (ap (λ r. record { rest = r; table = table_after (lines (dump variables)) empty }) ended ∙ ap (λ t. record { rest = Text []; table = t }) led);
     }
 
--- a dump marks variables as told, and tells nothing else of them
+-- marking variables as told changes nothing else of them
 dump_marked : (variables : List Variable) → flat_map (λ v. lines_of true v.name v.value) (map dumped variables) ≡ flat_map (λ v. lines_of true v.name v.value) variables
 dump_marked [] = refl
 dump_marked (v ∷ variables) = ap (λ t. lines_of true v.name v.value ++ t) (dump_marked variables)

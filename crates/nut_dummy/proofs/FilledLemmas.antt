@@ -1,4 +1,4 @@
--- How the changes of a dump fill an empty table: each variable goes behind those before it.
+-- How the changes of a dump fill an empty table: each variable is inserted behind those before it.
 use Rattle.std.proofs.Common.{◌≡◌, ℕ, ◌+◌, ◌<◌, ◌≤◌, Bool, true, false, List, [], ◌∷◌, ◌++◌, Option, Some, None, length, map, nat_lt, nat_le, refl, sym, ap, subst, ◌∙◌, arith, append_assoc, length-append, codes, ℤ, pos}
 use Rattle.std.specs.Prelude.{filter}
 use Rattle.std.specs.List.{AllByRecursion, find, flat_map}
@@ -114,7 +114,7 @@ module _ (name : List ℕ) (xs : List Entry) (low : Each entry_name Less name xs
 
 -- ---- the lines of one variable
 
--- a number's limits
+-- the limits of a number
 number_last : (name value : List ℕ) (most : ℤ) (xs : List Entry) → Each entry_name Less name xs
     → followed (attribute_changes name (number_up_to most)) (filled (xs ++ fresh name value ∷ [])) ≡ filled (xs ++ with_attributes name value (number_up_to most) ∷ [])
 number_last name value most xs low =
@@ -123,7 +123,7 @@ number_last name value most xs low =
     ap (λ t. after t (add_range name (Some range))) (flags_last name xs low (fresh name value) refl a.flags)
     ∙ range_last name xs low (record { name = name; value = value; flags = a.flags; aux = 0; enums = []; ranges = [] }) refl range refl
 
--- a text's number
+-- the largest length of a text
 text_last : (name value : List ℕ) (most : ℕ) (xs : List Entry) → Each entry_name Less name xs → nat_le most VALUE_MAX ≡ true
     → after (after (filled (xs ++ fresh name value ∷ [])) (set_flags name (text_of 0 []).flags)) (set_aux name (Some most)) ≡ filled (xs ++ with_attributes name value (text_of most []) ∷ [])
 text_last name value most xs low fits =
@@ -198,7 +198,7 @@ few_more : (name : List ℕ) (value : Option (List ℕ)) (xs : List Entry) → l
 few_more name None xs = omega (arith, length-append xs [])
 few_more name (Some value) xs = omega (arith, length-append xs (entry name value ∷ []))
 
--- Variables that ascend go one behind the other.
+-- Variables that ascend are inserted one behind the other.
 fills : (variables : List Variable) (xs : List Entry) → AllLow xs variables → IsAscending (map (λ v. v.name) variables) → AllByRecursion IsSound variables → length xs + length variables ≤ VARIABLES_MAX
     → followed (flat_map (λ v. changes_of v.name v.value) variables) (filled xs) ≡ filled (xs ++ flat_map (λ v. entries v.name v.value) variables)
 fills [] xs low up sound few = ap filled (sym (append-nil xs))
@@ -209,7 +209,7 @@ fills (v ∷ variables) xs low up sound few =
     ∙ fills variables (xs ++ entries v.name v.value) (all_low_more v.name v.value xs variables up.0 low.1) up.1 sound.1 (omega (arith, few, few_more v.name v.value xs))
     ∙ ap filled (append_assoc xs (entries v.name v.value) (flat_map (λ v. entries v.name v.value) variables))
 
--- what ends a dump
+-- the changes at the end of a dump
 abbrev pub closing_changes : List Change
 closing_changes = map (λ c. add_command (command_name c)) all_commands ++ data_ok ∷ dump_done ∷ []
 

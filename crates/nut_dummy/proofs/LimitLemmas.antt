@@ -1,4 +1,4 @@
--- What a script that reads says, and what a driver that tells it holds, is within the limits of a table.
+-- A script that was read, and a driver that tells it, stay within the limits of a table.
 use Rattle.std.proofs.Common.{◌≡◌, ℕ, zero, suc, ◌+◌, ◌-◌, ◌==◌, ◌<◌, ◌≤◌, ◌&&◌, ◌||◌, Bool, true, false, not, cond, List, [], ◌∷◌, ◌++◌, Option, Some, None, Result, Ok, Err, drop, length, map, max, take, nat_lt, nat_le, refl, sym, ap, subst, arith}
 use Rattle.std.specs.Prelude.{is_some, if◌then◌else◌}
 use Rattle.std.specs.List.{All, AllByRecursion, list_all, position}
@@ -47,7 +47,7 @@ pub and_right : (a b : Bool) → (a && b) ≡ true → b ≡ true
 and_right true b h = h
 and_right false b h = cc
 
--- what is said behind a refusal, or before one
+-- a test that refuses, before a result and behind it
 module _ {X E : Type 0} where
   behind : (b : Bool) (e : E) (r : Result X E) (x : X) → cond b (Err e) r ≡ Ok x → (b ≡ false) × (r ≡ Ok x)
   behind true e r x h = cc
@@ -130,7 +130,7 @@ steps_good (Some t) h = (h t refl).1
 abbrev name_of : Timeline → List ℕ
 name_of t = t.name
 
--- a variable more, or another under the name of one that is there
+-- a variable more, or another in place of one with the same name
 put_good : (t : Timeline) (variables : List Timeline) → IsGood t → AreGood variables → AreGood (put name_of t.name (Some t) variables)
 put_good t variables good h = record {
   ascending = ascending-put name_of t.name (Some t) variables refl h.ascending;
@@ -218,7 +218,7 @@ abbrev pub IsValued : Option (List ℕ) → Type 0
 IsValued None = Unit {0}
 IsValued (Some value) = is_value value ≡ true
 
--- A variable has a name, and its value, if it has one, and those that it gets are values.
+-- A variable has a name. Its value, if it has one, and those that it gets are values.
 abbrev pub IsSound : Variable → Type 0
 IsSound v = (is_name v.name ≡ true) × AreValues v.steps × IsValued v.value
 
@@ -275,7 +275,7 @@ after_valued (Doing name value) own steps before proper h k = by (bytes_eq own n
   by true = proper
   by false = k
 
--- what changes neither names nor soundness
+-- a function on variables that changes neither names nor soundness
 module _ (f : Variable → Variable) (same_name : (v : Variable) → (f v).name ≡ v.name) (same : (v : Variable) → IsSound v → IsSound (f v)) where
   names_kept : (variables : List Variable) → map (λ v. v.name) (map f variables) ≡ map (λ v. v.name) variables
   names_kept [] = refl
@@ -342,7 +342,7 @@ beginning_sound script start h =
       each = begun_each variables (recursion_from_All IsGood variables all.0.each);
     }
 
--- Whatever calls are made, what a driver holds is sound.
+-- Whatever calls are made, the variables of a driver are sound.
 pub driver_sound : (kind : ScriptKind) (text : List ℕ) (script : Script) (start : ℕ) (h : List Call) → read_script kind text ≡ Ok script → AreSound (driver script start h).teller.variables
 driver_sound kind text script start [] is = beginning_sound script start (script_good kind text script is)
 driver_sound kind text script start (Linked ∷ h) is = relinked_sound (driver script start h).teller (driver_sound kind text script start h is)

@@ -1,8 +1,8 @@
-//! How much a script holds: this project's own limits.
+//! The limits of a script: this project's own.
 
 /// The greatest length of a line of a script in bytes. Its line feed isn't counted, a carriage return is.
 pub const SCRIPT_LINE_MAX: usize = 512;
-/// The greatest number of seconds of a timer.
+/// The longest timer, in seconds.
 pub const TIMER_MAX: u32 = 86400;
 /// The greatest number of variables that a script names: with the three that commands set, they are as many as a table
 /// holds.

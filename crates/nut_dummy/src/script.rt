@@ -15,7 +15,7 @@ use nut_words::cut;
 use std::alloc::{AllocError, Global};
 use std::marker::Model;
 
-/// A script that was read: for each variable the values that it gets, and when.
+/// A script that was read: the values that each variable gets, and when.
 #[derive(Drop)]
 pub struct Script {
     alloc: Global,
@@ -37,7 +37,7 @@ impl Model for Script {
     ghost invariant = { λ s. IsAscending (map (λ t. t.name) s.variables.items) };
 }
 
-/// The variables with one value more for this one.
+/// Returns the variables with one more value for this one.
 fn with_step(
     alloc: Global,
     mut variables: Vec<Timeline>,
@@ -69,7 +69,7 @@ fn with_step(
 }
 
 impl Script {
-    /// A script without lines.
+    /// Returns the script of no lines.
     fn new(alloc: Global) -> Script
         ensures { result ≡ no_script }
     {
@@ -81,14 +81,14 @@ impl Script {
         }
     }
 
-    /// How many seconds a round takes.
+    /// Returns how many seconds a round takes.
     pub(crate) fn round(&self) -> u128
         ensures { result ≡ self.now.round }
     {
         self.round
     }
 
-    /// Its variables, ascending by name.
+    /// Returns its variables, ascending by name.
     pub(crate) fn into_timelines(self) -> Vec<Timeline>
         ensures variables { result.items ≡ self.variables }
         ensures ascending { IsAscending (map (λ t. t.name) result.items) }
@@ -97,7 +97,7 @@ impl Script {
         variables
     }
 
-    /// The script with one value more.
+    /// Returns the script with one more value.
     fn with_setting(self, name: Name, value: Text) -> Result<Script, ScriptFaultKind>
         ensures setting { Gives (λ s. s) result (taken_in self (Ok (said.Setting name value))) }
         ensures memory { result ≡ Err ScriptFaultKind.Memory → IsTrue (has_room self (said.Setting name value)) }
@@ -120,7 +120,7 @@ impl Script {
         })
     }
 
-    /// The script with one wait more.
+    /// Returns the script with one more timer.
     fn with_timer(self, seconds: u32) -> Script
         requires { self.round < 2 ^ 120 }
         ensures { Ok result ≡ taken_in self (Ok (said.Timer seconds)) }
@@ -129,7 +129,7 @@ impl Script {
         Script { round, ..self }
     }
 
-    /// The script with one line more.
+    /// Returns the script with one more line.
     fn with_line(self, kind: ScriptKind, line: &[u8]) -> Result<Script, ScriptFaultKind>
         requires { self.round < 2 ^ 120 }
         ensures line { Gives (λ s. s) result (with_line kind self line.now) }
@@ -145,7 +145,7 @@ impl Script {
         }
     }
 
-    /// A script that goes round has a timer.
+    /// Refuses a script that is repeated but has no timer.
     fn check_round(self, kind: ScriptKind) -> Result<Script, ScriptFault>
         ensures whole { Means result (whole kind self) }
         ensures memory { IfErr result (λ fault. fault.kind ≡ ScriptFaultKind.Memory → ⊥) }
@@ -159,10 +159,10 @@ impl Script {
         Ok(self)
     }
 
-    /// Reads a script (NUT's manual page dummy-ups).
+    /// Reads a script (NUT manual page dummy-ups(8)).
     ///
-    /// Blank lines are skipped, and those whose first byte past blanks is `#`. Of the others each is a timer, which is
-    /// a line without a colon with the words `TIMER` and one to nine digits, or `name: value`.
+    /// Blank lines are skipped, and lines whose first byte after blanks is `#`. Every other line is a timer or
+    /// `name: value`. A timer is a line without a colon whose words are `TIMER` and a number of one to nine digits.
     ///
     /// # Errors
     ///

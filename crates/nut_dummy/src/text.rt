@@ -1,4 +1,4 @@
-//! Names and values, which stand in place and take no memory of their own.
+//! Names and values, kept in place without an allocation.
 ghost use Rattle.std.specs.Prelude.{◌≡◌, ◌≤◌, List, ℕ, length, IsTrue};
 ghost use Rattle.nut_state.specs.Text.{is_name};
 ghost use Rattle.nut_dummy.specs.Item.{is_value};
@@ -22,6 +22,7 @@ impl Model for Name {
 }
 
 impl Name {
+    /// Makes a name of bytes that are one.
     pub fn new(bytes: &[u8]) -> Name
         requires { IsTrue (is_name bytes.now) }
         ensures { result ≡ bytes.now }
@@ -31,7 +32,7 @@ impl Name {
         Name { bytes: name }
     }
 
-    /// The bytes of the name.
+    /// Returns the bytes of the name.
     pub fn as_bytes(&self) -> &[u8]
         ensures value { result.now ≡ self.now }
         ensures named { IsTrue (is_name result.now) }
@@ -62,6 +63,7 @@ impl Model for Text {
 }
 
 impl Text {
+    /// Makes a value of bytes that are one.
     pub fn new(bytes: &[u8]) -> Text
         requires { IsTrue (is_value bytes.now) }
         ensures { result ≡ bytes.now }
@@ -71,7 +73,7 @@ impl Text {
         Text { contents: text }
     }
 
-    /// The bytes of the value.
+    /// Returns the bytes of the value.
     pub fn as_bytes(&self) -> &[u8]
         ensures value { result.now ≡ self.now }
         ensures valued { IsTrue (is_value result.now) }

@@ -1,4 +1,4 @@
--- How a fleet that a program keeps goes on with a step.
+-- How a fleet that a program keeps continues with a step.
 use Rattle.std.proofs.Common.{◌≡◌, ◌⊎◌, ℕ, suc, ◌==◌, ◌&&◌, ◌++◌, ◌≤◌, ◌<◌, not, min, Bool, true, false, inl, inr, List, [], ◌∷◌, length, take, drop, map, None, is_some, is_none, refl, sym, ◌∙◌, ap, subst, arith, append-nil}
 use Rattle.std.specs.Prelude.{if◌then◌else◌}
 use Rattle.std.proofs.lemmas.Bool.{cases_Bool, cases_eq, and_parts, eqb-true, eq-eqb, ne_eqb, not-true, lt-ltb}
@@ -37,7 +37,7 @@ use Rattle.nut_fleet.proofs.Moves.{input-grows, taken-same, drop-more, drop-begi
 use Rattle.nut_fleet.proofs.Entries.{entry-input}
 use Rattle.nut_fleet.proofs.Seen.{both-ways, same-carried, same-counted}
 
--- ---- a monitor's content, once its notices are taken
+-- ---- a monitor's content, after its notices were taken
 
 taken-content : (config : Configuration) (notices : List Notice) (told : List events.Event) → monitor_tests.IsAccepted config told →
     notices_waiting (trace config told) ≡ notices → knowledge.content config (all_taken notices told) ≡ hushed (knowledge.content config told)
@@ -130,11 +130,11 @@ one-other m i x f k j ne = elim (cases_eq k m) [
 
 -- ---- a fleet at a deed
 
--- what an event of the server doesn't bring to this connection, nor take of it
+-- an event of the server brings nothing to this connection and takes nothing of it
 abbrev IsQuiet : ℕ → arrivals.Event → Type 0
 IsQuiet c e = (reached c e ≡ []) × (sent_off c e ≡ 0)
 
--- the same of an event of a monitor, for link i
+-- an event of a monitor neither makes link i nor brings or takes bytes on it
 abbrev IsQuietFor : ℕ → events.Event → Type 0
 IsQuietFor i event = (makes i event ≡ false) × (put_in i event ≡ 0) × (landed i event ≡ [])
 
@@ -185,7 +185,7 @@ module _ (setup : Setup) (earlier : List Step) (s : Sound setup earlier (world s
     ];
   }
 
-  -- the connections of two links differ, where one is open
+  -- the connections of two links differ if one is open
   other-connection : (m i : ℕ) → is_open setup w m i ≡ true → (k j : ℕ) → ((k ≡ m) × (j ≡ i) → ⊥) → (w.connection m i == w.connection k j) ≡ false
   other-connection m i up k j ne = elim (cases_Bool (w.connection m i == w.connection k j)) [
     | inr other ↦ other
@@ -281,7 +281,7 @@ module _ (setup : Setup) (earlier : List Step) (s : Sound setup earlier (world s
         | inr ne ↦ for-other m k new f.monitor ne ∙ keeps.monitor k ∙ sym (ap (knowledge.content (monitor_of setup k)) (for-other m k told w.monitor ne))
       ]
 
-  -- a link of it of which the event says nothing, where its connection is c and these are the server's events
+  -- a link that the monitor's event doesn't concern, if its connection is c and these are the server's events
   informed-quiet : (m : ℕ) (event : events.Event) → monitor_tests.Accepts (known setup w m) event → (i c : ℕ) (h : List arrivals.Event) → has_link setup m i ≡ true →
       IsQuietFor i event → Begins (arrivals.input c h) (monitor.sent (monitor_of setup m) i (seen setup w m)) →
       KeepsLink setup m i c h (w.monitor m) (f.link m i) → KeepsLink setup m i c h (informed (monitor_of setup m) (w.monitor m) event) (f.link m i)
@@ -291,7 +291,7 @@ module _ (setup : Setup) (earlier : List Step) (s : Sound setup earlier (world s
       (λ up. sym (ap (λ n. ends.to_server ++ take n (monitor.waits (monitor_of setup m) i (seen setup w m))) quiet.1 ∙ append-nil ends.to_server))
       (sym (ap (λ x. drop (length x) ends.to_monitor) quiet.2))
 
-  -- any link, where the events of the server and its connection stay
+  -- any link, if the events of the server and its connection stay
   link-informed : (m : ℕ) (event : events.Event) → monitor_tests.Accepts (known setup w m) event → (k j : ℕ) → has_link setup k j ≡ true →
       (k ≡ m → IsQuietFor j event) →
       KeepsLink setup k j (w.connection k j) w.server (for_monitor m (informed (monitor_of setup m) (w.monitor m) event) w.monitor k) (f.link k j)
@@ -571,7 +571,7 @@ module _ (setup : Setup) (earlier : List Step) (s : Sound setup earlier (world s
     to_monitor = λ m i there. if-same (linked_seen f m i) (is_linked setup w m i) _ _ (same-linked m i there) (λ up. (keeps.link m i there).to_monitor up);
   }
 
--- the other way
+-- ---- `Keeps` from `Stands`
 module _ (setup : Setup) (w : World) (tells : ContentsTell setup w) (f : Fleet) (stands : Stands setup w (what_counts f)) where
   is-open : (m i : ℕ) → has_link setup m i ≡ true → open_seen f m i ≡ is_open setup w m i
   is-open m i there =

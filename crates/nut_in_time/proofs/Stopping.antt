@@ -58,7 +58,7 @@ clock-later setup m early late front =
     let grows = clock-grows event (clock (trace config told)) in
     omega (arith, before, same, time, grows))
 
--- ---- words that stop a primary at once
+-- ---- statuses that stop a primary at once
 
 abbrev pub is_urgent : List (List ℕ) → Bool
 is_urgent words = has_fsd words || is_low words
@@ -114,7 +114,7 @@ module _ (setup : Setup) (pace : Pace) (m : ℕ) (Words : List (List ℕ) → Bo
     short = let none : power_where (λ i. not (every i)) (monitor_of setup m).lines ≡ 0 = none-power (monitor_of setup m).lines in omega (arith, none, needed);
   }
 
--- ---- the primary, as long as nobody has forced the shutdown
+-- ---- the primary, while nobody has forced the shutdown
 
 module _ (setup : Setup) (law : IsLawful setup.server) (fine : IsSetup setup) (pace : Pace) (ups : List ℕ) (u p : ℕ) (start schedule : List Step)
     (front : IsFront start schedule) (there : has_link setup p 0 ≡ true) (one : length (monitor_of setup p).lines ≡ 1) (needed : 0 < (monitor_of setup p).min_supplies)
@@ -179,7 +179,7 @@ module _ (setup : Setup) (law : IsLawful setup.server) (fine : IsSetup setup) (p
         reply-same reply replies.FsdSet (sym answered ∙ entitled-forces setup.server line c t line_fine own right)
 
     module _ (e : List Step) (inside : IsFront e schedule) where
-      -- no count was read
+      -- no number of logins was read
       none-counted : (past : List Entry) → EachGenuine setup e p past → is_alone (logins 0 past) ≡ true → ⊥
       none-counted past all alone = elim (found setup e p (λ query outcome. is_some (logins_in query outcome)) 0 past all) [
         | inl none ↦
@@ -197,7 +197,7 @@ module _ (setup : Setup) (law : IsLawful setup.server) (fine : IsSetup setup) (p
           let forced = forced-genuine setup e p law 0 n past is all in
           none-accepted e inside forced.step forced.early forced.played forced.answered
 
-      -- no answer to one that was asked since `start` was read
+      -- no answer to an FSD that was put since `start` was read
       none-read : (past : List Entry) (a : Answer) → Genuine setup e p past a → a.link ≡ 0 → a.asked.query ≡ Fsd → n0 < a.asked.event → ⊥
       none-read past a g link query late =
           let early = g.was.early in

@@ -65,7 +65,7 @@ few_progress query answer few = few_if (length query.waits == 0) _ _ (λ is. go 
   go None few = few_first query.expected answer
   go (Some rows) few = few_next query.expected rows answer few
 
--- where a stage comes of it, that is bounded
+-- a stage that follows is bounded
 abbrev IsWithin : Result Stage LinkFault → Type 0
 IsWithin (Ok stage) = IsStageBounded stage
 IsWithin (Err fault) = Unit {0}
@@ -129,7 +129,7 @@ kept_masked : (b : Bool) (line : LineText) → kept_of line ≤ LINE_MAX → kep
 kept_masked true line h = nothing
 kept_masked false line h = h
 
--- A piece keeps a link within its bounds, also where memory runs out in it.
+-- A piece keeps a link within its bounds, also if memory runs out in it.
 pub fed_within : (v w : LinkValue) (p : List ℕ) (done : ℕ) (result : Result (Unit {0}) LinkFault) → Feeds v p done result w → IsBounded v → IsBounded w
 fed_within v w p done result feeds h = elim feeds.stands [
   | inl said ↦ subst IsBounded (sym said) (record {
@@ -149,14 +149,14 @@ and_left false b e = e
 kept_rest : (bytes : List ℕ) → kept_of (rest bytes) ≤ LINE_MAX
 kept_rest bytes = kept_as_line (last_of (parts bytes))
 
--- A link of an unfinished line and an exchange within its bounds is within them.
+-- A link is within its bounds if its exchange is and it keeps an unfinished line.
 pub link_within : (cutter : LineText) (e : Exchange) → IsRest cutter → IsStageBounded e.stage → IsBounded (link_with cutter e)
 link_within cutter e is h = record {
   stage = h;
   line = kept_masked (is_some e.fault) cutter (subst (λ line. kept_of line ≤ LINE_MAX) (sym is.1) (kept_rest is.0));
 }
 
--- A piece keeps an exchange within its bounds, also where memory runs out in it.
+-- A piece keeps an exchange within its bounds, also if memory runs out in it.
 pub heard_stage_within : (start cutter : LineText) (before after : Exchange) (p : List ℕ) (done : ℕ)
     → (link_with cutter after ≡ fed p (link_with start before)) ⊎ RunsOut (lines_after start p) before done after → IsStageBounded before.stage → IsStageBounded after.stage
 heard_stage_within start cutter before after p done stands h = elim stands [

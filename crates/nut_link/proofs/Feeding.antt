@@ -24,7 +24,7 @@ pub lines_heard_failed : (ls : List LineText) (e : Exchange) → is_some e.fault
 lines_heard_failed [] e over = refl
 lines_heard_failed (l ∷ ls) e over = ap (lines_heard ls) (heard_failed l e over) ∙ lines_heard_failed ls e over
 
--- what more bytes of a stream complete
+-- the lines that further bytes of a stream complete
 pub lines_more : (b x y : List ℕ) (ls : List LineText) → lines ((b ++ x) ++ y) ≡ lines (b ++ x) ++ ls → lines_after (rest b) (x ++ y) ≡ lines_after (rest b) x ++ ls
 lines_more b x y ls brought =
     append_cancel_left (lines b) (lines_after (rest b) (x ++ y)) (lines_after (rest b) x ++ ls) (
@@ -37,7 +37,7 @@ lines_cut b x y = lines_more b x y (lines_after (rest (b ++ x)) y) (lines-append
 pub rest_cut : (b x y : List ℕ) → rest_after (rest b) (x ++ y) ≡ rest_after (rest (b ++ x)) y
 rest_cut b x y = sym (rest-append b (x ++ y)) ∙ ap rest (sym (append_assoc b x y)) ∙ rest-append (b ++ x) y
 
--- a front of what is left goes on with the front before it
+-- a front of what is left continues the front before it
 pub front_more : (n used : ℕ) (p left : List ℕ) → left ≡ drop n p → take n p ++ take used left ≡ take (n + used) p
 front_more n used p left is = ap (λ l. take n p ++ take used l) is ∙ sym (take-add n used p)
 
@@ -58,11 +58,11 @@ whole_lines b r n p here =
     ∙ lines_cut b (take n p) (drop n p)
     ∙ ap (λ r. lines_after r (take n p) ++ lines_after (rest (b ++ take n p)) (drop n p)) (sym here)
 
--- a link that goes on is fed
+-- how a link is fed whose exchange hasn't failed
 pub fed_going : (r : LineText) (e : Exchange) (p : List ℕ) → e.fault ≡ None → fed p (link_with r e) ≡ link_with (rest_after r p) (lines_heard (lines_after r p) e)
 fed_going r e p going = rw going refl
 
--- What a link keeps of an unfinished line doesn't matter once it failed.
+-- Once a link failed, it doesn't matter what it had kept of an unfinished line.
 pub link_failed : (r s : LineText) (e : Exchange) → is_some e.fault ≡ true → link_with r e ≡ link_with s e
 link_failed r s e over = rw over refl
 
@@ -71,7 +71,7 @@ pub all_heard : (b : List ℕ) (r s : LineText) (e e' : Exchange) (p : List ℕ)
 all_heard b r s e e' p going here there is =
     ap₂ link_with (there ∙ rest-append b p ∙ ap (λ r. rest_after r p) (sym here)) is ∙ sym (fed_going r e p going)
 
--- the exchange failed at a line of the piece, by what the line says
+-- the exchange failed at a line of the piece, with the fault that the line leads to
 pub failed_heard : (r s : LineText) (e e' e'' : Exchange) (p : List ℕ) (earlier later : List LineText) (line : LineText) → e.fault ≡ None → is_some e''.fault ≡ true
     → lines_after r p ≡ earlier ++ line ∷ later → e' ≡ lines_heard earlier e → e'' ≡ heard line e' → link_with s e'' ≡ fed p (link_with r e)
 failed_heard r s e e' e'' p earlier later line going over parted is said =
@@ -91,7 +91,7 @@ some_at : (o : Option LinkFault) (fault : LinkFault) → Err fault ≡ answer_by
 some_at None fault is = absurd (cc)
 some_at (Some other) fault is = refl
 
--- an exchange that goes on behind a line has heard it
+-- an exchange that hasn't failed at a line has heard it
 pub heard_on : (e e' : Exchange) (line : LineText) (result : Result (Unit {0}) LinkFault) → result ≡ Ok tt → Hears e line result e' → (e' ≡ heard line e) × (e'.fault ≡ None)
 heard_on e e' line result ok h =
     let going = none_at e'.fault (sym ok ∙ h.answered) in
@@ -100,7 +100,7 @@ heard_on e e' line result ok h =
       | inr lacks ↦ let some : None ≡ Some Memory = sym going ∙ ap (λ e. e.fault) lacks.0 in absurd (cc)
     ]
 
--- one that doesn't has failed
+-- an exchange that returned a fault has failed
 pub heard_over : (e e' : Exchange) (line : LineText) (result : Result (Unit {0}) LinkFault) (fault : LinkFault) → result ≡ Err fault → Hears e line result e' → is_some e'.fault ≡ true
 heard_over e e' line result fault err h = some_at e'.fault fault (sym err ∙ h.answered)
 
@@ -128,7 +128,7 @@ fed_over r e p fault failed =
       stands = inl (link_failed r (rest_after (link_with r e).rest p) e over ∙ ap (link_with (rest_after (link_with r e).rest p)) (sym same));
     }
 
--- What a piece makes of a link is what it makes of its exchange.
+-- What a piece does to a link follows from what it does to its exchange.
 pub fed_link : (r s : LineText) (e e' : Exchange) (p : List ℕ) (done : ℕ) (result : Result (Unit {0}) LinkFault) → e.fault ≡ None → result ≡ answer_by e'.fault
     → (link_with s e' ≡ fed p (link_with r e)) ⊎ RunsOut (lines_after r p) e done e' → Feeds (link_with r e) p done result (link_with s e')
 fed_link r s e e' p done result going answered stands = record {

@@ -29,7 +29,7 @@ or_true false c e = e
 first_true : (b c : Bool) → b ≡ true → (b || c) ≡ true
 first_true b c e = ap (λ b. b || c) e
 
--- where no line may take memory, none runs out
+-- if no line may allocate, memory doesn't run out
 pub without_memory : (v w : LinkValue) (p : List ℕ) (done : ℕ) (result : Result (Unit {0}) LinkFault) → Feeds v p done result w → list_any may_take_memory (lines_after v.rest p) ≡ false → w ≡ fed p v
 without_memory v w p done result feeds none = elim feeds.stands [
   | inl said ↦ said

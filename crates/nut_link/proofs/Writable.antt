@@ -1,4 +1,4 @@
--- Which requests can be written.
+-- Which requests are writable.
 use Rattle.std.proofs.Common.{◌≡◌, ℕ, ◌+◌, ◌<◌, ◌≤◌, ◌&&◌, ◌||◌, Bool, true, false, cond, nat_le, List, [], ◌∷◌, ◌++◌, length, map, drop, refl, sym, ap, ◌∙◌, inl, inr, arith, length-append, leb-true, le-leb, ltb-true, decimal, codes}
 use Rattle.std.proofs.lemmas.Bool.{cases_Bool, false≢true}
 use Rattle.std.specs.Fmt.{signed_decimal}
@@ -32,7 +32,7 @@ length-choice : (b : Bool) (word : List ℕ) → length word ≤ length (cond b 
 length-choice true word = omega arith
 length-choice false word = length-quoted word
 
--- a part is written with no fewer bytes than its word has
+-- a word has at most as many bytes as it is written with
 length-part : (part : Part) → length (part_word part) ≤ length (part_text part)
 length-part (Word word) = length-choice (stands_bare word) word
 length-part (Quoted text) = length-quoted text
@@ -79,7 +79,7 @@ unwritable_line request n fits none not room =
       | inr e ↦ ap (λ b. b && list_all is_printing (message (request_parts request))) (sym e)
     ]
 
--- the line fits, and then its bytes decide
+-- if the line fits, its bytes decide
 pub writable_line : (request : Request) (n : ℕ) → n + length (request_line request) ≤ QUERY_MAX → list_all is_printing (message (request_parts request)) ≡ is_writable request
 writable_line request n fits =
     ap (λ b. b && list_all is_printing (message (request_parts request))) (sym (le-leb (length (message (request_parts request))) LINE_MAX (omega (arith, fits, length_line request))))

@@ -11,14 +11,14 @@ use Rattle.nut_link.specs.declared.expected.Expected.{Expected}
 use Rattle.nut_link.specs.Matching.{expected}
 use Rattle.nut_proto.specs.declared.limits.TheConstants.{ROWS_MAX}
 
--- What it expects, the bytes of its line that the server has not taken yet, and the rows of its list so far once that
--- has begun.
+-- What a query expects, the bytes of its line that the server hasn't taken yet, and the rows of its list so far once
+-- the list has begun.
 pub record Asked : Type 0 where
   pub expected : Expected
   pub waits : List ℕ
   pub rows : Option (List (List (List ℕ)))
 
--- the query of a request, of which nothing is taken yet
+-- the query of a request before the server took any of it
 abbrev pub query_of : Request → Asked
 query_of request = record { expected = expected request; waits = request_line request; rows = None }
 

@@ -1,4 +1,4 @@
--- How a call hears a line or a piece: as the definitions say, unless memory ran out.
+-- How a call hears a line or a piece: as `Link` defines, unless memory runs out.
 use Rattle.std.specs.Prelude.{◌≡◌, ℕ, ◌||◌, Bool, true, false, IsTrue, List, [], ◌∷◌, ◌++◌, length, None, Result, Ok, Err, ◌⊎◌}
 use Rattle.nut_words.specs.Lines.{LineText, Text, TooLong, lines_after}
 use Rattle.nut_words.specs.Reader.{has_backslash}
@@ -23,12 +23,13 @@ abbrev pub keeps_read : Result Answer AnswerFault → Bool
 keeps_read (Ok answer) = keeps_words answer
 keeps_read (Err fault) = false
 
--- Whether a line may take memory: it has a backslash, or it is a row or names an error.
+-- Whether a line may allocate: it has a backslash, or it names an error, or it is none of `OK` and the beginning and
+-- the end of a list.
 abbrev pub may_take_memory : LineText → Bool
 may_take_memory (Text text) = has_backslash text || keeps_read (answer_in text)
 may_take_memory TooLong = false
 
--- Memory ran out at this line.
+-- Memory ran out at this line, which may allocate.
 abbrev pub LacksMemory : Exchange → LineText → Exchange → Type 0
 LacksMemory before line after = (after ≡ failed Memory before) × IsTrue (may_take_memory line)
 
@@ -37,7 +38,8 @@ pub record Hears (before : Exchange) (line : LineText) (result : Result (Unit {0
   pub answered : result ≡ answer_by after.fault
   pub stands : (after ≡ heard line before) ⊎ LacksMemory before line after
 
--- Memory ran out in a piece behind so many of the lines that it completes: those were heard, and then the link failed.
+-- Memory ran out in a piece behind the first `done` of the lines that it completes: those were heard, and then the link
+-- failed.
 pub record RunsOut (lines : List LineText) (before : Exchange) (done : ℕ) (after : Exchange) : Type 0 where
   pub earlier : List LineText
   pub line : LineText

@@ -20,7 +20,8 @@ use Rattle.nut_link.specs.declared.outcome.Outcome.{Outcome}
 use Rattle.nut_link.specs.declared.outcome.Outcome.TheVariants as outcomes
 use Rattle.nut_proto.specs.declared.limits.TheConstants.{ROWS_MAX}
 
--- what a LIST expects: the words behind LIST at both ends, and rows that begin with them and have so many more
+-- what a LIST expects: the words behind LIST in its first and last line, and rows that begin with them and have this
+-- many further words
 abbrev pub listing : ListQuery → Expected
 listing queries.Ups = expects.Listing (codes "UPS" ∷ []) 2
 listing (queries.Var ups) = expects.Listing (codes "VAR" ∷ ups ∷ []) 2
@@ -30,8 +31,8 @@ listing (queries.Enum ups variable) = expects.Listing (codes "ENUM" ∷ ups ∷ 
 listing (queries.Range ups variable) = expects.Listing (codes "RANGE" ∷ ups ∷ variable ∷ []) 2
 listing (queries.Client ups) = expects.Listing (codes "CLIENT" ∷ ups ∷ []) 1
 
--- What a request expects: a GET the words behind it and one more, which is a number for NUMLOGINS, or for TYPE several;
--- the commands that are answered `OK` just that; VER, NETVER and HELP any line.
+-- What a request expects. A GET: the words behind GET and one more, which for NUMLOGINS is a number; for TYPE one or
+-- more. The commands that are answered `OK`: that. VER, NETVER and HELP: any line.
 abbrev pub expected : Request → Expected
 expected (requests.GetNumLogins ups) = expects.Line (codes "NUMLOGINS" ∷ ups ∷ []) mores.Number
 expected (requests.GetUpsDesc ups) = expects.Line (codes "UPSDESC" ∷ ups ∷ []) mores.One
@@ -53,7 +54,7 @@ expected requests.NetVer = expects.AnyLine
 expected requests.Help = expects.AnyLine
 expected requests.StartTls = expects.Refusal
 
--- Words begin with these, byte for byte.
+-- These words begin with those of the heading, byte for byte.
 abbrev pub begins : List (List ℕ) → List (List ℕ) → Bool
 begins [] words = true
 begins (first ∷ others) [] = false
@@ -63,30 +64,30 @@ begins (first ∷ others) (word ∷ words) = bytes_eq first word && begins other
 abbrev pub is_count : List ℕ → Bool
 is_count word = nat_lt 0 (length word) && nat_le (length word) 9 && list_all is_ascii_digit word
 
--- whether the words behind the query's are as many as there have to be, and of that kind
+-- whether the words behind the query's are as many as there have to be, and of the right kind
 abbrev pub has_more : More → List (List ℕ) → Bool
 has_more mores.One words = length words == 1
 has_more mores.Number words = length words == 1 && list_all is_count words
 has_more mores.OneOrMore words = nat_le 1 (length words)
 
--- What a line that matches makes of a query: a list goes on, with these rows so far, or the query has come to its end.
+-- What a line that matches does to a query: its list goes on, with these rows so far, or it is complete.
 pub data Progress : Type 0 where
   Listing : List (List (List ℕ)) → Progress
   Complete : Outcome → Progress
 
--- the same words
+-- the words are exactly those of the heading
 abbrev pub is_heading : List (List ℕ) → List (List ℕ) → Bool
 is_heading heading words = length words == length heading && begins heading words
 
--- the query's words, and so many more
+-- the words are those of the heading and `count` further ones
 abbrev pub is_row : List (List ℕ) → ℕ → List (List ℕ) → Bool
 is_row heading count words = length words == length heading + count && begins heading words
 
--- the query's words, and more behind them
+-- the words are those of the heading and further ones that fit
 abbrev pub is_line : List (List ℕ) → More → List (List ℕ) → Bool
 is_line heading more words = begins heading words && has_more more (drop (length heading) words)
 
--- What the first line makes of a query. A refusal answers any.
+-- What the first line does to a query. A refusal answers any query.
 abbrev pub first : Expected → Answer → Result Progress LinkFault
 first e (answers.Err name) = Ok (Complete (outcomes.Refused name))
 first expects.Success (answers.Ok words) = Ok (Complete outcomes.Done)
@@ -106,8 +107,8 @@ next (expects.Listing heading count) rows (answers.End words) =
     if is_heading heading words then Ok (Complete (outcomes.List rows)) else Err NotMine
 next e rows answer = Err NotMine
 
--- What a line makes of a query that expects this, where the rows of its list so far are there once that has begun. A line
--- that isn't as it has to be is `NotMine`.
+-- What a line does to a query that expects this. `rows` are those of its list so far, once that has begun. A line that
+-- doesn't match is `NotMine`.
 abbrev pub progress : Expected → Option (List (List (List ℕ))) → Answer → Result Progress LinkFault
 progress e None answer = first e answer
 progress e (Some rows) answer = next e rows answer

@@ -1,11 +1,11 @@
-//! Words of answers, copied out of their lines.
+//! Words of answers, copied from their lines.
 ghost use Rattle.std.specs.Prelude.{◌≡◌, ◌==◌, ◌++◌, ◌∷◌, [], IfOk, OnOk, OnErr, drop, length, slice_index_or};
 
 use nut_proto::Rest;
 use std::alloc::{AllocError, Global};
 use std::marker::Model;
 
-/// The bytes of one word.
+/// The bytes of a word.
 #[derive(Debug, Drop)]
 pub struct Text {
     bytes: Vec<u8>,
@@ -20,14 +20,14 @@ impl Model for Text {
 }
 
 impl Text {
-    /// These bytes.
+    /// Wraps these bytes.
     pub fn of(bytes: Vec<u8>) -> Text
         ensures { result ≡ bytes.items }
     {
         Text { bytes }
     }
 
-    /// A copy of these bytes. An `Err` is for want of memory.
+    /// Copies these bytes. `AllocError` if memory cannot be allocated.
     pub(crate) fn copy(alloc: Global, bytes: &[u8]) -> Result<Text, AllocError>
         ensures { IfOk result (λ t. t ≡ bytes.now) }
     {
@@ -36,7 +36,7 @@ impl Text {
         })
     }
 
-    /// Its bytes.
+    /// Returns its bytes.
     pub fn as_bytes(&self) -> &[u8]
         ensures { result.now ≡ self.now }
     {
@@ -44,7 +44,7 @@ impl Text {
     }
 }
 
-/// The words of one line that stand behind those of the query.
+/// The words of a line behind those of the query.
 #[derive(Debug, Drop)]
 pub struct Fields {
     words: Vec<Text>,
@@ -59,7 +59,7 @@ impl Model for Fields {
 }
 
 impl Fields {
-    /// A copy of the words from the place `start` on. An `Err` is for want of memory.
+    /// Copies the words from the place `start` on. `AllocError` if memory cannot be allocated.
     pub(crate) fn copy(alloc: Global, words: &Rest<'_>, start: usize) -> Result<Fields, AllocError>
         ensures { IfOk result (λ f. f ≡ drop start words.now) }
     {
@@ -70,28 +70,28 @@ impl Fields {
         Ok(Fields { words: copies })
     }
 
-    /// The words in turn.
+    /// Returns the words in order.
     pub fn as_slice(&self) -> &[Text]
         ensures { result.now ≡ self.now }
     {
         self.words.as_slice()
     }
 
-    /// How many words there are.
+    /// Returns the number of words.
     pub fn len(&self) -> usize
         ensures { result ≡ length self.now }
     {
         self.words.len()
     }
 
-    /// Whether there are none.
+    /// Whether there are no words.
     pub fn is_empty(&self) -> bool
         ensures { result ≡ (length self.now == 0) }
     {
         self.len() == 0
     }
 
-    /// The word with this number, counted from 0, or an empty slice.
+    /// Returns the word with this number, counted from 0, or an empty slice if there is none.
     pub fn get(&self, index: usize) -> &[u8]
         ensures { result.now ≡ slice_index_or self.now index [] }
     {
@@ -117,7 +117,7 @@ impl Model for Rows {
 }
 
 impl Rows {
-    /// No rows. Takes no memory.
+    /// Makes an empty list of rows. It allocates nothing.
     pub(crate) fn new(alloc: Global) -> Rows
         ensures { result ≡ [] }
     {
@@ -126,7 +126,7 @@ impl Rows {
         }
     }
 
-    /// Adds a row at the end.
+    /// Appends a row.
     pub(crate) fn push(&mut self, row: Fields) -> Result<(), AllocError>
         ensures ok { OnOk result (self.new ≡ self.old ++ row ∷ []) }
         ensures err { OnErr result (self.new ≡ self.old) }
@@ -135,7 +135,7 @@ impl Rows {
         Ok(())
     }
 
-    /// The rows in turn.
+    /// Returns the rows in order.
     pub fn as_slice(&self) -> &[Fields]
         ensures { result.now ≡ self.now }
     {
@@ -149,7 +149,7 @@ impl Rows {
         self.rows.len()
     }
 
-    /// Whether there are none.
+    /// Whether there are no rows.
     pub fn is_empty(&self) -> bool
         ensures { result ≡ (length self.now == 0) }
     {

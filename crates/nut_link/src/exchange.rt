@@ -13,18 +13,18 @@ use nut_words::Line;
 use std::alloc::Global;
 use std::mem;
 
-/// How far the exchange is.
+/// How far an exchange has come.
 #[derive(Debug, Drop)]
 pub enum Stage {
-    /// No query is there.
+    /// No query was asked, or its answer was taken out.
     Idle,
-    /// A query that has no complete answer yet.
+    /// A query without a complete answer.
     Asked(Query),
-    /// A complete answer, which wasn't taken out yet.
+    /// A complete answer that wasn't taken out yet.
     Answered(Outcome),
 }
 
-/// How far the exchange is, and the fault with which it failed, if it did.
+/// How far an exchange has come, and the fault with which it failed, if it did.
 #[derive(Debug, Drop)]
 pub struct Exchange {
     pub(crate) stage: Stage,
@@ -44,7 +44,7 @@ impl Stage {
         matches!(self, Stage::Answered(_))
     }
 
-    /// Hears an answer.
+    /// Takes in an answer.
     fn hear_answer(&mut self, alloc: Global, answer: &Answer<'_>) -> Result<(), LinkFault>
         ensures { Moves (on_answer self.old answer.now) (keeps_words answer.now) self.old result self.new }
     {
@@ -58,7 +58,7 @@ impl Stage {
         Ok(())
     }
 
-    /// Hears a line.
+    /// Takes in a line.
     fn hear(&mut self, alloc: Global, line: Line<'_>) -> Result<(), LinkFault>
         ensures { Moves (on_line self.old (line_of line.entry)) (may_take_memory (line_of line.entry)) self.old result self.new }
     {
@@ -74,7 +74,7 @@ impl Stage {
 }
 
 impl Exchange {
-    /// Asks a query, which a refused one leaves undone.
+    /// Asks a query. A query that is refused changes nothing.
     pub(crate) fn ask(&mut self, request: &Request<'_>) -> Result<(), LinkFault>
         ensures answered { result ≡ answer_by (ask_fault request.now self.old) }
         ensures stands { self.new ≡ asked request.now self.old }
@@ -92,7 +92,7 @@ impl Exchange {
         Ok(())
     }
 
-    /// The bytes of the query that wait to be taken.
+    /// Returns the bytes of the query that wait to be sent.
     pub(crate) fn waiting(&self) -> &[u8]
         ensures { result.now ≡ waits self.now }
     {
@@ -102,7 +102,7 @@ impl Exchange {
         }
     }
 
-    /// The server took the first `n` of the bytes that wait.
+    /// Removes the first `n` of the bytes that wait: the server took them.
     pub(crate) fn took(&mut self, n: usize) -> Result<(), LinkFault>
         ensures answered { result ≡ answer_by (take_fault n self.old) }
         ensures stands { self.new ≡ taken n self.old }
@@ -133,7 +133,7 @@ impl Exchange {
         }
     }
 
-    /// Fails. A query is over, and an answer that is complete can still be taken out.
+    /// Fails with this fault. A query is dropped; an answer that is complete can still be taken out.
     fn fail(&mut self, fault: LinkFault)
         ensures { self.new ≡ failed fault self.old }
     {
@@ -143,7 +143,7 @@ impl Exchange {
         self.fault = Some(fault);
     }
 
-    /// Hears a line. An `Err` is the fault with which the exchange failed at it.
+    /// Takes in a line. An `Err` is the fault with which the exchange failed at it.
     pub(crate) fn hear(&mut self, alloc: Global, line: Line<'_>) -> Result<(), LinkFault>
         requires { self.old.fault ≡ None }
         ensures { Hears self.old (line_of line.entry) result self.new }

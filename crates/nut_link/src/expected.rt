@@ -1,4 +1,4 @@
-//! What answer a query expects.
+//! The answer that a query expects.
 ghost use Rattle.std.specs.Prelude.{◌≡◌, ◌≤◌, [], IfSome, IfNone, IsTrue, drop, length};
 ghost use Rattle.std.specs.Char.{is_ascii_digit};
 ghost use Rattle.std.specs.List.{list_all, list_any};
@@ -15,7 +15,7 @@ use crate::outcome::Outcome;
 use nut_proto::{ListQuery, Request, Rest};
 use std::alloc::Global;
 
-/// How many words stand behind the query's in a line that answers a GET.
+/// How many words follow those of the query in the answer to a GET.
 #[derive(Clone, Copy, Debug, PartialEq, Eq)]
 pub enum More {
     /// Exactly one.
@@ -26,18 +26,18 @@ pub enum More {
     OneOrMore,
 }
 
-/// What answer a query expects, if it isn't refused.
+/// The answer that a query expects, unless it is refused.
 #[derive(Debug, Drop)]
 pub enum Expected {
     /// `OK`, whatever follows.
     Success,
-    /// A line that begins with these words and has more behind them.
+    /// A line that begins with these words and has further words.
     Line(Heading, More),
-    /// Any line that isn't one of the other kinds.
+    /// Any line but `OK`, a refusal, and the beginning and the end of a list.
     AnyLine,
-    /// A list with these words at its ends, whose rows begin with them and have so many more.
+    /// A list whose first and last line have these words; each row begins with them and has this many further words.
     Listing(Heading, u8),
-    /// Nothing but a refusal.
+    /// Only a refusal.
     Refusal,
 }
 
@@ -55,7 +55,7 @@ fn is_count(word: &[u8]) -> bool
 }
 
 impl More {
-    /// Whether the words from the place `start` on are as many as there have to be, and of that kind.
+    /// Whether the words from the place `start` on are as many as there have to be, and of the right kind.
     fn fits(self, words: &Rest<'_>, start: usize) -> bool
         ensures { result ≡ has_more self (drop start words.now) }
     {
@@ -68,7 +68,7 @@ impl More {
     }
 }
 
-/// Whether a line's words are those of the heading and more behind them.
+/// Whether a line's words are those of the heading and further ones that fit.
 fn is_line(heading: &Heading, more: More, words: &Rest<'_>) -> bool
     ensures { result ≡ is_line heading.now more words.now }
 {
@@ -76,7 +76,8 @@ fn is_line(heading: &Heading, more: More, words: &Rest<'_>) -> bool
 }
 
 impl Expected {
-    /// Hears a line without a mark as the first.
+    /// Takes in a line that is neither `OK`, a refusal, nor the beginning or the end of a list, as the first line of
+    /// the answer.
     pub(crate) fn say(&self, alloc: Global, words: &Rest<'_>) -> Result<Option<Outcome>, LinkFault>
         ensures { Gives (first self.now (answers.Row words.now)) (answers.Row words.now) result [] }
     {
@@ -98,7 +99,7 @@ impl Expected {
         }
     }
 
-    /// Hears `OK` as the first line.
+    /// Takes in `OK` as the first line.
     pub(crate) fn succeed(&self, words: &Rest<'_>) -> Result<Option<Outcome>, LinkFault>
         ensures { Gives (first self.now (answers.Ok words.now)) (answers.Ok words.now) result [] }
     {
@@ -111,7 +112,7 @@ impl Expected {
         }
     }
 
-    /// Hears the beginning of a list as the first line.
+    /// Takes in the beginning of a list as the first line.
     pub(crate) fn begin(&self, words: &Rest<'_>) -> Result<Option<Outcome>, LinkFault>
         ensures { Gives (first self.now (answers.Begin words.now)) (answers.Begin words.now) result [] }
     {
@@ -170,7 +171,7 @@ pub(crate) fn expected_of(request: &Request<'_>) -> Option<Expected>
     })
 }
 
-/// What a LIST expects, in the same way.
+/// Returns what a LIST expects. `None` only if a word of it is longer than 512 bytes. It allocates nothing.
 fn listing_of(query: &ListQuery<'_>) -> Option<Expected>
     ensures some { IfSome result (λ e. e ≡ listing query.now) }
     ensures none { IfNone result (IsTrue (list_any is_long (message_words (query_parts query.now)))) }

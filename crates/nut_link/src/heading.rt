@@ -24,7 +24,7 @@ impl Model for Name {
 }
 
 impl Name {
-    /// A copy of these bytes, where they are not too many. Takes no memory.
+    /// Copies these bytes, if there are at most 512. It allocates nothing.
     fn copy(bytes: &[u8]) -> Option<Name>
         ensures some { IfSome result (λ n. n ≡ bytes.now) }
         ensures none { IfNone result (IsTrue (is_long bytes.now)) }
@@ -51,7 +51,7 @@ impl Default for Name {
     }
 }
 
-/// The words with which an answer begins: those of the query behind GET or LIST, at most three.
+/// The words with which an answer begins: those of the query behind GET or LIST. There are at most three.
 #[derive(Debug, Drop)]
 pub struct Heading {
     words: ArrayVec<Name, 3>,
@@ -79,7 +79,7 @@ impl Heading {
         Some(Heading { words: copied })
     }
 
-    /// How many words there are.
+    /// Returns the number of words.
     pub(crate) fn len(&self) -> usize
         ensures value { result ≡ length self.now }
         ensures few { result ≤ 3 }
@@ -104,14 +104,14 @@ impl Heading {
         true
     }
 
-    /// Whether a line's words are just these.
+    /// Whether a line's words are exactly these.
     pub(crate) fn is_heading(&self, words: &Rest<'_>) -> bool
         ensures { result ≡ is_heading self.now words.now }
     {
         words.len() == self.len() && self.begins(words)
     }
 
-    /// Whether a line's words are these and `count` more.
+    /// Whether a line's words are these and `count` further ones.
     pub(crate) fn is_row(&self, count: u8, words: &Rest<'_>) -> bool
         ensures { result ≡ is_row self.now count words.now }
     {

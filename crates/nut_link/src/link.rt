@@ -18,12 +18,12 @@ use std::marker::Model;
 
 /// A client's link to a server: it asks one query after the other, and takes what the server sends as their answers.
 ///
-/// A query is asked by [`ask`](Link::ask). Its bytes wait to be sent: [`waiting`](Link::waiting) and
+/// [`ask`](Link::ask) asks a query. Its bytes then wait to be sent: see [`waiting`](Link::waiting) and
 /// [`took`](Link::took). What the server sends is fed in pieces, cut anywhere: [`feed`](Link::feed). Once the answer is
-/// complete it is taken out: [`answer`](Link::answer). Then the next query can be asked.
+/// complete, [`answer`](Link::answer) takes it out, and the next query can be asked.
 ///
-/// A link takes a line only where it answers the query that is there, by the words of RFC 9271, and the query's bytes
-/// were all taken. At any other line it fails, and from then on each call answers the fault.
+/// A link takes a line only if it answers the outstanding query, by the words of RFC 9271, and the server took all
+/// bytes of the query. At any other line it fails, and from then on each call returns the fault.
 ///
 /// It keeps one query of at most [`LINE_MAX`](nut_words::LINE_MAX) bytes before its line feed, at most as many bytes of an
 /// unfinished line, and at most [`ROWS_MAX`](nut_proto::ROWS_MAX) rows.
@@ -47,7 +47,7 @@ impl Model for Link {
 }
 
 impl Link {
-    /// A link on which nothing was said. Takes no memory; answers with words take theirs from `alloc`.
+    /// Makes a link on which nothing was said. It allocates nothing; answers with words are allocated in `alloc`.
     pub fn new(alloc: Global) -> Link
         ensures { result ≡ fresh }
     {
@@ -61,7 +61,7 @@ impl Link {
         }
     }
 
-    /// Asks a query, whose bytes then wait to be sent. Takes no memory.
+    /// Asks a query, whose bytes then wait to be sent. It allocates nothing.
     ///
     /// # Errors
     ///
@@ -83,12 +83,12 @@ impl Link {
         self.exchange.waiting()
     }
 
-    /// The server took the first `n` of the bytes that wait. Takes no memory.
+    /// Removes the first `n` of the bytes that wait: the server took them. It allocates nothing.
     ///
     /// # Errors
     ///
     /// The first of these that applies, and then nothing changed: the fault with which the link failed; `TooMuchTaken`
-    /// where fewer bytes wait.
+    /// if fewer than `n` bytes wait.
     pub fn took(&mut self, n: usize) -> Result<(), LinkFault>
         ensures answered { result ≡ answer_by (take_fault n self.old.exchange) }
         ensures stands { self.new ≡ with_exchange (taken n self.old.exchange) self.old }
@@ -96,7 +96,7 @@ impl Link {
         self.exchange.took(n)
     }
 
-    /// Takes out the answer to the query, if it is complete, also where the link failed after it. Takes no memory.
+    /// Takes out the answer to the query if it is complete, also if the link failed after it. It allocates nothing.
     pub fn answer(&mut self) -> Option<Outcome>
         ensures answer { result ≡ outcome_of self.old.exchange }
         ensures stands { self.new ≡ with_exchange (taken_out self.old.exchange) self.old }
@@ -104,8 +104,8 @@ impl Link {
         self.exchange.answer()
     }
 
-    /// Takes the next piece of what the server sends, of any length and cut anywhere. The lines that it completes are
-    /// heard in turn, and what is left is kept.
+    /// Takes in the next piece of what the server sends, of any length and cut anywhere. The lines that it completes
+    /// are heard in turn, and what follows the last is kept.
     ///
     /// # Errors
     ///
@@ -116,7 +116,7 @@ impl Link {
     pub fn feed(&mut self, piece: &[u8]) -> Result<(), LinkFault>
         ensures feeds { (done : ℕ) × Feeds self.old piece.now done result self.new }
 
-        // Where no line may take memory, none runs out.
+        // If no line may allocate, memory doesn't run out.
         ensures no_memory { list_any may_take_memory (lines_after self.old.rest piece.now) ≡ false
             → (self.new ≡ fed piece.now self.old) × (result ≡ answer_by (fed piece.now self.old).exchange.fault) }
 
@@ -126,8 +126,8 @@ impl Link {
         self.feed_lines(piece).1
     }
 
-    /// [`feed`](Link::feed), which also tells how many of the lines that the piece completes were heard before the link
-    /// failed, or how many there are.
+    /// Does what [`feed`](Link::feed) does. Also returns how many of the lines that the piece completes were heard
+    /// before the link failed, or how many there are if it didn't.
     pub fn feed_lines(&mut self, piece: &[u8]) -> (usize, Result<(), LinkFault>)
         ensures feeds { Feeds self.old piece.now result.0 result.1 self.new }
         ensures bounded { IsBounded self.new }
@@ -139,8 +139,8 @@ impl Link {
     }
 }
 
-/// Hears the lines that a piece completes, in turn, up to the first at which the exchange fails, and tells how many were
-/// heard before.
+/// Takes in the lines that a piece completes, in turn, up to the first at which the exchange fails. Returns how many
+/// were heard before.
 fn hear_piece(
     cutter: &mut LineCutter,
     exchange: &mut Exchange,

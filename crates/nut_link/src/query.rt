@@ -1,4 +1,4 @@
-//! A query that was asked, until its answer is complete.
+//! A query that was asked and has no complete answer yet.
 ghost use Rattle.std.specs.Prelude.{◌≡◌, ◌<◌, ◌≤◌, ◌⊎◌, ◌++◌, ◌∷◌, [], ℕ, List, IfSome, IfErr, OnOk, OnErr, drop, false, length, is_some};
 ghost use Rattle.std.specs.List.{list_all};
 ghost use Rattle.nut_words.specs.Spelling.{is_printing};
@@ -19,8 +19,8 @@ use std::alloc::Global;
 use std::marker::Model;
 use std::mem;
 
-/// A query that was asked: what it expects, its line with how much of it the server took, and the rows of its list so far
-/// once that has begun.
+/// A query that was asked: what it expects, its line and how much of that the server took, and the rows of its list so
+/// far once the list has begun.
 #[derive(Debug, Drop)]
 pub struct Query {
     expected: Expected,
@@ -42,7 +42,7 @@ impl Model for Query {
     ghost invariant = { λ q. (q.taken ≤ array_vec_len q.line) × (array_vec_len q.line ≤ QUERY_MAX) × HasFewRows q.rows };
 }
 
-/// Whether the bytes of a line before its line feed are 0x20 to 0x7E.
+/// Whether a line has only bytes of 0x20 to 0x7E before its line feed.
 fn is_printing_line(line: &[u8]) -> bool
     ensures line { (text : List ℕ) → line.now ≡ text ++ 10 ∷ [] → result ≡ list_all is_printing text }
     ensures empty { line.now ≡ [] → result ≡ false }
@@ -54,7 +54,7 @@ fn is_printing_line(line: &[u8]) -> bool
 }
 
 impl Query {
-    /// The query of a request, unless it can't be written. Takes no memory.
+    /// Makes the query of a request. `None` exactly if it isn't writable. It allocates nothing.
     pub(crate) fn new(request: &Request<'_>) -> Option<Query>
         ensures some { IfSome result (λ q. q ≡ query_of request.now) }
         ensures exact { is_some result ≡ is_writable request.now }
@@ -77,14 +77,14 @@ impl Query {
         })
     }
 
-    /// The bytes that wait to be taken.
+    /// Returns the bytes that wait to be sent.
     pub(crate) fn waiting(&self) -> &[u8]
         ensures { result.now ≡ self.now.waits }
     {
         &self.line.as_slice()[self.taken..]
     }
 
-    /// The server took the first `n` of the bytes that wait.
+    /// Removes the first `n` of the bytes that wait: the server took them.
     pub(crate) fn took(&mut self, n: usize)
         requires { n ≤ length self.old.waits }
         ensures { self.new ≡ record self.old { waits = drop n self.old.waits } }
@@ -92,7 +92,7 @@ impl Query {
         self.taken += n;
     }
 
-    /// Hears an answer. It gives what came of the query, or none where its list goes on.
+    /// Takes in an answer. Returns the outcome of the query, or `None` if its list goes on.
     pub(crate) fn hear(
         &mut self,
         alloc: Global,
@@ -114,7 +114,7 @@ impl Query {
     }
 }
 
-/// Hears the first line. It gives what came of the query, or none where a list begins.
+/// Takes in the first line. Returns the outcome of the query, or `None` if a list begins.
 fn hear_first(
     alloc: Global,
     expected: &Expected,
@@ -134,7 +134,7 @@ fn hear_first(
     }
 }
 
-/// Hears a line behind the beginning of a list, with these rows so far.
+/// Takes in a line behind the beginning of a list that has these rows so far.
 fn hear_next(
     alloc: Global,
     expected: &Expected,
@@ -165,7 +165,7 @@ fn hear_next(
     }
 }
 
-/// Adds the words of a row from the place `start` on, unless there are as many rows as there may be.
+/// Appends the words of a row from the place `start` on, unless there are 512 rows already.
 fn push_row(alloc: Global, rows: &mut Rows, words: &Rest<'_>, start: usize) -> Result<(), LinkFault>
     ensures ok { OnOk result ((rows.new ≡ rows.old ++ drop start words.now ∷ []) × (length rows.old < ROWS_MAX)) }
     ensures err { IfErr result (λ fault. (fault ≡ Memory) ⊎ ((fault ≡ BadLine) × (ROWS_MAX ≤ length rows.old))) }

@@ -1,4 +1,4 @@
--- What stands after an event, and after the oldest notice was asked for.
+-- The history and the content after an event, and after the oldest notice was asked for.
 use Rattle.std.proofs.Common.{◌≡◌, ℕ, Bool, refl, sym, ap, subst, ◌∙◌, List, [], ◌∷◌, length, drop, Option, Some, None, Result, Ok, arith}
 use Rattle.std.proofs.lemmas.Bool.{lt-ltb}
 use Rattle.nut_monitor_spec.specs.Acceptance.{Tells, is_linked, waiting_on, watch_at}
@@ -51,6 +51,6 @@ pub waiting_told : (s : Content) (i : ℕ) (bytes : List ℕ) → bytes ≡ wait
 waiting_told s i bytes is configuration events told =
     is ∙ ap (λ (x : Content). waiting_on (watch_at i x.watches)) told.1 ∙ links-told.left configuration events i told.0
 
--- what is kept in an orderly monitor
+-- an orderly monitor keeps little
 pub orderly_little : (s : Content) → IsOrderly s → KeepsLittle s
 orderly_little s o = record { notices = omega (arith, o.few); links = o.links }

@@ -1,4 +1,4 @@
--- The links of a monitor keep no more than they may.
+-- The links of a monitor keep no more than `IsLinkBounded` allows.
 use Rattle.std.proofs.Common.{◌≡◌, ℕ, zero, suc, ◌<◌, ◌≤◌, Bool, true, false, List, [], ◌∷◌, length, map, sym, subst, Option, Some, None, is_some, Result, slice_set, slice_index_or, arith, leb-true}
 use Rattle.std.specs.Prelude.{if◌then◌else◌, nat_le}
 use Rattle.std.specs.List.{AllByRecursion, list_all}
@@ -52,7 +52,7 @@ heard_bounded c clock b v l w p done r feeds is h =
 
 -- ---- a query is put
 
--- the queries of these lines can be written
+-- the queries of these lines are writable
 abbrev pub AreWritable : List Line → Type 0
 AreWritable lines = AllByRecursion (λ line. (query : Query) → is_writable (request line query) ≡ true) lines
 

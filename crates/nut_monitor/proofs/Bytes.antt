@@ -1,4 +1,4 @@
--- What a piece makes of a monitor's content.
+-- What a piece changes in a monitor's content.
 use Rattle.std.proofs.Common.{◌≡◌, ℕ, ◌<◌, ◌≤◌, Bool, true, false, List, [], ◌++◌, length, refl, sym, ap, subst, ◌∙◌, Option, Some, None, is_some, is_none, Result, Ok, Err, inl, inr, slice_set, slice_index_or}
 use Rattle.std.specs.Prelude.{if◌then◌else◌}
 use Rattle.std.proofs.lemmas.Bool.{false≢true}

@@ -1,4 +1,4 @@
--- Counts of those who are logged in, as numerals.
+-- Numbers of logins, as numerals.
 use Rattle.std.proofs.Common.{◌≡◌, ℕ, suc, ◌+◌, ◌-◌, ◌*◌, ◌^◌, ◌<◌, ◌≤◌, nat_le, Bool, true, false, ◌&&◌, cond, List, [], ◌∷◌, length, fold, refl, sym, ap, ◌∙◌, Option, Some, None, Result, Ok, Err, slice_get, arith, leb-true, le-leb}
 use Rattle.std.proofs.lemmas.Grind.{pow_more}
 use Rattle.std.proofs.lemmas.Bool.{false≢true}
@@ -20,7 +20,7 @@ pub right_true : (x y : Bool) → (x && y) ≡ true → y ≡ true
 right_true true y h = h
 right_true false y h = absurd (false≢true h)
 
--- one digit more
+-- a number with one more digit
 abbrev more : ℕ → ℕ → ℕ
 more n c = n * 10 + (c - 48)
 

@@ -1,4 +1,4 @@
--- What lines make of a link: an answer to a question for a count is a numeral, and want of memory is told by none.
+-- What lines do to a link: the answer to a query for a number is a numeral, and no line says that memory is lacking.
 use Rattle.std.proofs.Common.{◌≡◌, ℕ, ◌+◌, ◌++◌, Bool, true, false, ◌&&◌, cond, nat_le, nat_lt, List, [], ◌∷◌, length, drop, refl, sym, ap, subst, ◌∙◌, Option, Some, None, is_some, is_err, Result, Ok, Err, inl, inr, arith, le-leb, leb-true, ltb-true}
 use Rattle.std.specs.Prelude.{◌==◌, if◌then◌else◌}
 use Rattle.std.specs.List.{list_all}
@@ -182,7 +182,7 @@ pub fed_sound : (last : Option LastQuery) (v : LinkValue) (p : List ℕ) (done :
 fed_sound None v p done r w sound feeds going = record { going = going; stage = sound_anew w.exchange.stage }
 fed_sound (Some last) v p done r w sound feeds going = record { going = going; stage = sound_without last w.exchange.stage (fine_fed last v p done r w sound feeds) }
 
--- ---- no line tells that memory is wanting
+-- ---- no line says that memory is lacking
 
 abbrev NotMemory : LinkFault → Type 0
 NotMemory NotMine = Unit {0}
@@ -299,7 +299,7 @@ nm_lines : (ls : List LineText) (e : Exchange) → NotLacking e.fault → NotLac
 nm_lines [] e h = h
 nm_lines (l ∷ ls) e h = nm_lines ls (heard l e) (nm_either (is_some e.fault) e (moved e (on_line e.stage l)) h (nm_moved e (on_line e.stage l) (nm_line e.stage l)))
 
--- a link that fails for want of memory ran out of it
+-- a link that failed for lack of memory ran out of it at one of the lines
 pub ran_out : (v : LinkValue) (p : List ℕ) (done : ℕ) (r : Result (Unit {0}) LinkFault) (w : LinkValue) → v.exchange.fault ≡ None → Feeds v p done r w → w.exchange.fault ≡ Some Memory
     → RunsOut (lines_after v.rest p) v.exchange done w.exchange
 ran_out v p done r w going feeds lacks = elim feeds.stands [

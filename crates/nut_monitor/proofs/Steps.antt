@@ -1,4 +1,4 @@
--- What each event makes of a monitor's content.
+-- What each event changes in a monitor's content.
 use Rattle.std.proofs.Common.{◌≡◌, ℕ, zero, suc, ◌+◌, ◌<◌, ◌≤◌, nat_lt, Bool, true, false, List, [], ◌∷◌, ◌++◌, length, map, take, refl, sym, ap, ap₂, subst, ◌∙◌, Option, Some, None, is_some, is_none, Result, Ok, Err, slice_set, slice_index_or, arith, append_assoc, append-nil, length-set, le-ltb}
 use Rattle.std.specs.Prelude.{if◌then◌else◌, sum_by}
 use Rattle.std.proofs.lemmas.List.Sums.{sum_by-cons, sum_by-set}
@@ -79,7 +79,7 @@ set_orderly s i w w' lt is same bounded o =
       links = set_bounded s.watches i w' o.links bounded;
     }
 
--- what is told between two moments or pieces fits
+-- the notices between two moments or pieces fit
 pub anew_orderly : (s : Content) (clock : ℕ) (news : List Notice) (ws : List Watch) → length ws ≡ length s.watches → length news ≤ MONITORS_MAX → AreLinksBounded ws → IsOrderly s
     → IsOrderly (record s { clock = clock; notices = news; watches = ws })
 anew_orderly s clock news ws same few bounded o = record {
@@ -141,7 +141,7 @@ asked_orderly s p writable o =
       links = asked_bounded s.configuration s.clock p s.configuration.lines s.watches writable o.links;
     }
 
--- ---- what stands before it
+-- ---- what holds before it
 
 pub if_news : (b : Bool) (xs ys : List Notice) → xs ++ (if b then ys else []) ≡ (if b then xs ++ ys else xs)
 if_news true xs ys = refl

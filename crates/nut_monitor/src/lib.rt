@@ -1,4 +1,5 @@
-//! A monitor of UPSes (upsmon(8)): what it is told, one event at a time, and what it asks, tells and decides.
+//! A monitor of UPSes (upsmon(8)): it is told one event at a time, and decides what it asks, which notices it gives,
+//! and when its machine shuts down.
 #![tactic(auto)]
 
 mod answer;

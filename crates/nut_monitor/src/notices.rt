@@ -1,4 +1,4 @@
-//! Notices that wait.
+//! The notices that wait.
 ghost use Rattle.std.specs.Prelude.{◌≡◌, ◌+◌, ◌<◌, ◌≤◌, ◌==◌, ◌++◌, [], IfOk, drop, length};
 ghost use Rattle.nut_monitor_spec.specs.Decision.{when};
 ghost use Rattle.nut_monitor.specs.inside.Sound.{first_of};
@@ -8,7 +8,7 @@ use std::alloc::{AllocError, Global};
 use std::collections::VecDeque;
 use std::marker::Model;
 
-/// The notices that wait, the oldest first. There is room for all that may wait.
+/// The notices that wait, the oldest first, with room for all that may wait.
 #[derive(Drop)]
 pub struct Notices {
     queue: VecDeque<Notice>,
@@ -28,7 +28,7 @@ impl Model for Notices {
 }
 
 impl Notices {
-    /// None, with room for as many as may wait.
+    /// Makes an empty queue with room for all notices that may wait.
     pub fn new(alloc: Global) -> Result<Notices, AllocError>
         ensures { IfOk result (λ n. n ≡ []) }
     {
@@ -37,14 +37,14 @@ impl Notices {
         })
     }
 
-    /// Whether none waits.
+    /// Whether no notice waits.
     pub fn is_empty(&self) -> bool
         ensures { result ≡ (length self.now == 0) }
     {
         self.queue.is_empty()
     }
 
-    /// Tells this behind the others, where the test holds.
+    /// Queues a notice if the test holds.
     pub fn tell_when(&mut self, test: bool, notice: Notice)
         requires { length self.old < NOTICES_MAX }
         ensures told { self.new ≡ self.old ++ when test notice }
@@ -55,14 +55,14 @@ impl Notices {
         }
     }
 
-    /// The oldest, if one waits.
+    /// Returns the oldest notice, if one waits.
     pub fn first(&self) -> Option<Notice>
         ensures { result ≡ first_of self.now }
     {
         self.queue.front().copied()
     }
 
-    /// Takes the oldest out, if one waits.
+    /// Removes and returns the oldest notice, if one waits.
     pub fn take(&mut self) -> Option<Notice>
         ensures taken { result ≡ first_of self.old }
         ensures left { self.new ≡ drop 1 self.old }

@@ -1,4 +1,4 @@
--- What an event that the world gave, and the monitor's answer to it, make of what is watched.
+-- How an event that the world gave, and the monitor's answer to it, continue what is watched.
 use Rattle.std.proofs.Common.{◌≡◌, ℕ, List, [], Option, Some, None, Result, Ok, Err, OnOk, refl, sym, ◌∙◌, ap, subst}
 use Rattle.std.specs.Prelude.{option_map}
 use Rattle.nut_monitor_spec.specs.declared.MonitorFault.{MonitorFault}
@@ -19,7 +19,7 @@ use Rattle.nut_monitor_loop.specs.declared.types.Next.TheVariants as next
 use Rattle.nut_monitor_loop.specs.Watched.{history_of, entries_of, with_event, handed, sender, lost_of, lost_by, Watched, WatchedBefore}
 use Rattle.nut_monitor_loop.proofs.Steps.{goes_on, IsQuiet, IsQuietIf, sent_on, notices_on}
 
--- what `next` gives is none of what was taken
+-- `next` never gives that bytes or a notice were taken
 given_next : (n : Next) (items : List ℕ) (e : Event) → event_given n items ≡ Some e → IsQuiet e
 given_next n items (event.Moment t) is = tt
 given_next n items (event.Linked i) is = tt
@@ -39,7 +39,7 @@ given_next (next.LinkLost j) items event.NoticeTaken is = cc
 given_next next.Again items event.NoticeTaken is = cc
 given_next next.End items event.NoticeTaken is = cc
 
--- ---- what stands for an event by the answer
+-- ---- the event that stands for one given, by the answer
 
 abbrev for_fault : MonitorFault → Event → Option Event
 for_fault (Memory link k) e = Some (cut_short k e)
@@ -101,8 +101,8 @@ gave_event first o o' s s' e r watched more quiet silent answer moved =
     (λ i. sent_on first h (standing r e) i _ here.0 (standing_quiet r e quiet) (watched.sent_is i))
     (notices_on first h s s' (standing r e) (handed (entries_of watched.steps)) watched.holds here (standing_quiet r e quiet) watched.notices_are)
 
--- What `next` gave was handed to the monitor as the event that it stands for; `sent` is the link on which it came, where it
--- is a piece, and `lost` that link where it is gone.
+-- What `next` gave was told to the monitor as the event that it is. `sent` is the link on which it came, if it is a
+-- piece, and `lost` is that link if it is no longer up.
 pub gave_ending : (first : Configuration) (o' : Option (List Entry)) (s s' : Content) (n : Next) (items : List ℕ) (found : Option Told) (told : Told) (r : Result (Unit {0}) MonitorFault) (sent lost known : Option ℕ)
     → WatchedBefore first o' s n items → option_map event_of found ≡ event_given n items → found ≡ Some told → s.notices ≡ []
     → IsAnswer s (event_of told) r → s' ≡ content_after r s (event_of told) → sent ≡ sender (event_of told) s → lost ≡ lost_of sent s' → lost ≡ known → Watched first o' s' known
@@ -115,7 +115,7 @@ gave_ending first o' s s' n items found told r sent lost known before stands is 
 
 -- ---- closes
 
--- the link that is over is closed
+-- the link that has to be closed is closed
 pub closed : (first : Configuration) (o o' : Option (List Entry)) (s : Content) (i : ℕ) → Watched first o s (Some i) → o' ≡ tells (WasClosed i) o → Watched first o' s None
 closed first o o' s i watched more =
     goes_on first o o' s s (Some i) None (WasClosed i) None watched more (refl, refl, refl) watched.holds watched.sent_is watched.notices_are

@@ -13,11 +13,11 @@ event_is : (first : Configuration) (past : List Entry) (e : Event) → (entry_of
 unfolding entry_of
 event_is first past e = refl
 
--- how many are taken after an event
+-- how many notices are taken after an event
 taken_after_event : (first : Configuration) (past : List Entry) (e : Event) → notices_taken (entry_of first past e ∷ past) ≡ taken_notice e (notices_taken past)
 taken_after_event first past e = ap (λ x. taken_notice x (notices_taken past)) (event_is first past e)
 
--- no more are taken than there are
+-- no more notices are taken than there are
 taken_fits : (first : Configuration) (h : List Event) (e : Event) → IsAccepted first (e ∷ h) → notices_taken (trace first h) ≤ length (notices (trace first h))
     → taken_notice e (notices_taken (trace first h)) ≤ length (notices (trace first h))
 taken_fits first h (Moment t) accepted few = few
@@ -36,7 +36,7 @@ few_taken first (e ∷ h) accepted =
     let past = trace first h in
     omega (arith, taken_after_event first past e, taken_fits first h e accepted (few_taken first h accepted.0), length-append (notices past) (entry_of first past e).notices)
 
--- what waits after an event: what waited, less what it took, and what it told
+-- what waits after an event: what waited, without the m that it took, and then what it gave
 waits_after : (first : Configuration) (h : List Event) (e : Event) (m : ℕ) → IsAccepted first (e ∷ h) → taken_notice e (notices_taken (trace first h)) ≡ notices_taken (trace first h) + m
     → notices_waiting (trace first (e ∷ h)) ≡ drop m (notices_waiting (trace first h)) ++ (entry_of first (trace first h) e).notices
 waits_after first h e m accepted some =
@@ -48,7 +48,7 @@ waits_after first h e m accepted some =
     ∙ drop-append-le (k + m) (notices past) more fits
     ∙ ap (λ x. x ++ more) (sym (drop-drop m k (notices past)))
 
--- by an event that takes none
+-- by an event that takes no notice
 pub handed-given : (first : Configuration) (h : List Event) (e : Event) (before : List Notice) → IsAccepted first (e ∷ h) → ((n : ℕ) → taken_notice e n ≡ n)
     → before ++ notices_waiting (trace first h) ≡ notices (trace first h) → before ++ notices_waiting (trace first (e ∷ h)) ≡ notices (trace first (e ∷ h))
 handed-given first h e before accepted none same =
@@ -58,7 +58,7 @@ handed-given first h e before accepted none same =
     let one : taken_notice e k ≡ k + 0 = omega (arith, none k) in
     ap (λ x. before ++ x) (waits_after first h e 0 accepted one) ∙ sym (append_assoc before (notices_waiting past) more) ∙ ap (λ x. x ++ more) same
 
--- by the taking of the oldest
+-- by the event that takes the oldest
 pub handed-taken : (first : Configuration) (h : List Event) (notice : Notice) (others before : List Notice) → IsAccepted first (NoticeTaken ∷ h) → (content first h).notices ≡ notice ∷ others
     → before ++ notices_waiting (trace first h) ≡ notices (trace first h) → (before ++ notice ∷ []) ++ notices_waiting (trace first (NoticeTaken ∷ h)) ≡ notices (trace first (NoticeTaken ∷ h))
 handed-taken first h notice others before accepted oldest same =

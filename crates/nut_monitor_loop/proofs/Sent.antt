@@ -32,7 +32,7 @@ module _ (first : Configuration) (past : List Entry) (i : ℕ) where
   abbrev pub IsFew : Type 0
   IsFew = taken i past ≤ length (due first i past)
 
-  -- what is due when an event has come, before queries are put at its end
+  -- what is due after an event, before queries are put at its end
   abbrev pub still_due : Event → List ℕ
   still_due e = joined_queries (line_in first.lines i) (since_linked [] i e (queries i past))
 
@@ -54,7 +54,7 @@ found i f [] = inl refl
 found zero f (line ∷ lines) = inr refl
 found (suc i) f (line ∷ lines) = found i (λ j. f (suc j)) lines
 
--- Nothing waits, or the rest of what is due does.
+-- Nothing waits, or what is due without what was taken.
 abbrev Waits : Configuration → List Entry → ℕ → List ℕ → Type 0
 Waits first past i bytes = (bytes ≡ []) ⊎ (bytes ≡ drop (taken i past) (due first i past))
 
@@ -79,7 +79,7 @@ at_watch first past i o which =
 pub offered : (first : Configuration) (past : List Entry) (i : ℕ) → Waits first past i (waiting_on (watch_at i (content_of first past).watches))
 offered first past i = at_watch first past i _ (found i (watch first past) first.lines)
 
--- the test that bytes which are taken pass
+-- taken bytes passed the test that refuses too many
 within_test : (b : Bool) (n m : ℕ) (fault other : MonitorFault) → (if b then (if ltb m n then Some other else None) else Some fault) ≡ None → n ≤ m
 within_test true n m fault other is =
     elim (cases_Bool (ltb m n)) [
@@ -138,7 +138,7 @@ made_sent : (b : Bool) (line : Line) (t : ℕ) (older : List Asked) → take (if
 made_sent true line t older = refl
 made_sent false line t older = refl
 
--- by an event that takes nothing: a link that is made begins anew
+-- by an event that takes no bytes: a link that is made begins anew
 pub sent-given : (first : Configuration) (h : List Event) (i : ℕ) (e : Event) → IsAccepted first (e ∷ h) → ((t : ℕ) → taken_after i e t ≡ since_linked 0 i e t)
     → sent first i (trace first (e ∷ h)) ≡ since_linked [] i e (sent first i (trace first h))
 sent-given first h i (Moment t) accepted nothing = sent_here first h i (Moment t) accepted
@@ -150,7 +150,7 @@ sent-given first h i (LinkTook j n) accepted nothing =
 sent-given first h i (OutOfMemory j piece k) accepted nothing = sent_here first h i (OutOfMemory j piece k) accepted
 sent-given first h i NoticeTaken accepted nothing = sent_here first h i NoticeTaken accepted
 
--- of what waits for a link it was sent what was taken
+-- what was taken of the bytes that wait was sent
 pub sent-took : (first : Configuration) (h : List Event) (i n : ℕ) → IsAccepted first (LinkTook i n ∷ h)
     → sent first i (trace first (LinkTook i n ∷ h)) ≡ sent first i (trace first h) ++ take n (waiting_on (watch_at i (content first h).watches))
 sent-took first h i n accepted =
@@ -168,7 +168,7 @@ sent-took first h i n accepted =
             | inr is ↦ ap (take m) (sym is)
           ]
 
--- of another link it was sent what it was
+-- taking bytes of another link changes nothing of what this one was sent
 pub sent-took_other : (first : Configuration) (h : List Event) (i j n : ℕ) → IsAccepted first (LinkTook j n ∷ h) → eqb j i ≡ false
     → sent first i (trace first (LinkTook j n ∷ h)) ≡ sent first i (trace first h)
 sent-took_other first h i j n accepted other =

@@ -1,4 +1,4 @@
--- What a write changes: what waits on the link alone.
+-- What a write changes: only what waits on its link.
 use Rattle.std.proofs.Common.{◌≡◌, ◌≢◌, ℕ, zero, suc, ◌<◌, ◌≤◌, Bool, true, false, List, [], ◌∷◌, length, drop, Option, Some, None, is_some, Result, if◌then◌else◌, refl, sym, ◌∙◌, ap, subst, inl, inr, arith, length-drop, le-leb}
 use Rattle.std.specs.Prelude.{option_map, nat_le}
 use Rattle.nut_link.specs.declared.exchange.Exchange.{Exchange}
@@ -44,7 +44,7 @@ update_as_many i change [] = refl
 update_as_many zero change (w ∷ ws) = refl
 update_as_many (suc i) change (w ∷ ws) = ap suc (update_as_many i change ws)
 
--- ---- no link that is there has failed
+-- ---- no link that is up has failed
 
 abbrev IsWhole : Option LinkValue → Type 0
 IsWhole None = Unit {0}

@@ -1,4 +1,4 @@
--- One step of the loop at a time: what is watched stays watched.
+-- What is watched stays watched at each step of the loop.
 use Rattle.std.proofs.Common.{◌≡◌, ℕ, List, [], ◌∷◌, ◌++◌, Option, Some, None, Result, Ok, Err, IfSome, OnErr, refl, sym, ◌∙◌, ap, subst}
 use Rattle.nut_monitor_spec.specs.declared.MonitorFault.{MonitorFault}
 use Rattle.nut_monitor_spec.specs.declared.MonitorFault.TheVariants.{NoSuchLink, WrongLinkState, PieceTooLong, TooMuchTaken, Busy, Memory}
@@ -36,11 +36,11 @@ goes_on first o o' s s' owed owed' entry event watched more stands holds same al
       notices_are = all;
     }
 
--- a fault tells nothing
+-- a fault adds nothing to the record
 pub stays : (first : Configuration) (o o' : Option (List Entry)) (s : Content) (owed : Option ℕ) → o' ≡ o → Watched first o s owed → Watched first o' s owed
 stays first o o' s owed same watched = subst (λ q. Watched first q s owed) (sym same) watched
 
--- what is watched with something still to be closed is so at an Err
+-- what is watched at a fault, with or without a link to be closed
 pub at_err : {T E : Type 0} (r : Result T E) (first : Configuration) (o : Option (List Entry)) (s : Content) (owed : Option ℕ) → Watched first o s owed
     → OnErr r ((x : Option ℕ) × Watched first o s x)
 at_err (Ok _) first o s owed watched = tt
@@ -51,7 +51,7 @@ pub faulted : {T E : Type 0} (r : Result T E) (first : Configuration) (o o' : Op
 faulted (Ok _) first o o' s owed watched same = tt
 faulted (Err _) first o o' s owed watched same = (owed, stays first o o' s owed same watched)
 
--- ---- events by which nothing is taken
+-- ---- events that take nothing
 
 abbrev pub IsQuiet : Event → Type 0
 IsQuiet (LinkTook i n) = ⊥
@@ -96,7 +96,7 @@ notices_on first h s s' (Some e) before told told' quiet same =
 
 -- ---- events that take no memory
 
--- no memory is lacking at an event that brings no bytes
+-- memory cannot be lacking at this event
 abbrev pub TakesNoMemory : Event → Type 0
 TakesNoMemory e = (s : Content) (link : Option ℕ) (k : ℕ) → MayLack s link k e → ⊥
 

@@ -1,4 +1,4 @@
--- What a write to a link, and a notice that is handed over, make of what is watched.
+-- How a write to a link, and a notice that is handed over, continue what is watched.
 use Rattle.std.proofs.Common.{◌≡◌, ℕ, ◌<◌, ◌≤◌, true, eqb, ltb, List, [], ◌∷◌, ◌++◌, length, take, Option, Some, None, is_some, Result, Ok, if◌then◌else◌, refl, sym, ◌∙◌, ap, subst, inl, inr, arith}
 use Rattle.std.proofs.lemmas.Bool.{cases_Bool, eqb-true, le-ltb, lt-ltb}
 use Rattle.std.proofs.lemmas.List.{length-take-le}
@@ -23,7 +23,7 @@ use Rattle.nut_monitor_loop.proofs.Sent.{sent-given, sent-took, sent-took_other}
 use Rattle.nut_monitor_loop.proofs.Handed.{handed-given, handed-taken}
 use Rattle.nut_monitor_loop.proofs.Steps.{goes_on, sent_on, notices_on, holds_on, no_memory_took, no_memory_lost}
 
--- a link on which bytes wait is there
+-- a link on which bytes wait is up
 there : (w : Watch) → 0 < length (waits_on w.link) → is_some w.link ≡ true
 there w some = some_there w.link some where
   some_there : (o : _) → 0 < length (waits_on o) → is_some o ≡ true
@@ -46,7 +46,7 @@ lost_free (Some w) some = ap (λ b. if b then None else Some WrongLinkState) (th
 pub may_lose : (s : Content) (i : ℕ) → 0 < length (waiting_of i s.watches) → refusal s (LinkLost i) ≡ None
 may_lose s i some = lost_free (watch_at i s.watches) some
 
--- bytes of link i were taken, a front of those that waited
+-- the first of the bytes that waited on link i were taken
 more_taken : (first : Configuration) (h : List Event) (s : Content) (i j n : ℕ) (before : List ℕ) → Tells first h s → Tells first (LinkTook i n ∷ h) (advance s (LinkTook i n))
     → before ≡ sent first j (trace first h) → (if eqb i j then before ++ take n (waiting_of i s.watches) else before) ≡ sent first j (trace first (LinkTook i n ∷ h))
 more_taken first h s i j n before told told' same =
@@ -66,7 +66,7 @@ took_notices first h s s' i n before told told' same =
     ap (λ (t : Content). before ++ t.notices) told'.1
     ∙ handed-given first h (LinkTook i n) before told'.0 (λ m. refl) (sym (ap (λ (t : Content). before ++ t.notices) told.1) ∙ same)
 
--- some of what waits was taken
+-- a write took some of what waits
 pub write_took : (first : Configuration) (o o' : Option (List Entry)) (s s' : Content) (i : ℕ) (part : List ℕ) (w : Written) (n : ℕ) (r : Result (Unit {0}) MonitorFault)
     → Watched first o s None → w ≡ Took n → o' ≡ tells_write w i part o → IsWithin w (length part) → part ≡ waiting_of i s.watches
     → IsAnswer s (LinkTook i n) r → s' ≡ content_after r s (LinkTook i n) → Watched first o' s' None
@@ -90,7 +90,7 @@ write_took first o o' s s' i part w n r watched is more within all answer moved 
     (more_taken first h s i j n (taken j watched.steps) watched.holds base (watched.sent_is j)))
     (took_notices first h s s' i n (handed (entries_of watched.steps)) watched.holds holds watched.notices_are)
 
--- a write is to come later
+-- a write was late
 pub write_late : (first : Configuration) (o o' : Option (List Entry)) (s : Content) (i : ℕ) (part : List ℕ) (w : Written) → Watched first o s None → w ≡ Later → o' ≡ tells_write w i part o → Watched first o' s None
 write_late first o o' s i part w watched is more =
     goes_on first o o' s s None None (WasLate i) None watched (more ∙ ap (λ v. tells_write v i part o) is) (refl, refl) watched.holds watched.sent_is watched.notices_are
@@ -118,7 +118,7 @@ oldest (x ∷ others) notice is = (others, cc)
 is_waiting : (s : Content) (notice : Notice) (others : List Notice) → s.notices ≡ notice ∷ others → is_busy s ≡ true
 is_waiting s notice others is = lt-ltb 0 (length s.notices) (omega (arith, ap length is))
 
--- the oldest notice was handed over, and taken
+-- the oldest notice was handed over and taken
 pub told_one : (first : Configuration) (o o' : Option (List Entry)) (s s' : Content) (notice : Notice) → Watched first o s None → o' ≡ tells (WasTold notice) o → first_of s.notices ≡ Some notice
     → s' ≡ advance s NoticeTaken → Watched first o' s' None
 told_one first o o' s s' notice watched more is moved =

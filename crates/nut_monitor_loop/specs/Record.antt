@@ -15,9 +15,9 @@ use Rattle.nut_monitor_loop.specs.declared.types.Next.TheVariants.{Moment, Linke
 pub data Entry : Type 0 where
   -- it gave this event
   Gave : (e : Event) → Entry
-  -- of a write to link i it took these bytes
+  -- it took these bytes of a write to link i
   TookBytes : (i : ℕ) (bytes : List ℕ) → Entry
-  -- a write to link i is to come later
+  -- it took none of the bytes of a write to link i, which may be tried later
   WasLate : (i : ℕ) → Entry
   -- a write to link i failed
   WriteBroke : (i : ℕ) → Entry
@@ -26,11 +26,11 @@ pub data Entry : Type 0 where
   -- it was handed this notice
   WasTold : (notice : Notice) → Entry
 
--- a record after one more entry; a world that tells none goes on to tell none
+-- a record after one more entry; a world that tells nothing goes on telling nothing
 abbrev pub tells : Entry → Option (List Entry) → Option (List Entry)
 tells entry o = option_map (λ entries. entry ∷ entries) o
 
--- the event that `next` gave by this, with these bytes in the piece
+-- the event that `next` gave by this value, with these bytes in the piece
 abbrev pub event_given : Next → List ℕ → Option Event
 event_given (Moment t) piece = Some (event.Moment t)
 event_given (Linked i) piece = Some (event.Linked i)
@@ -39,12 +39,12 @@ event_given (LinkLost i) piece = Some (event.LinkLost i)
 event_given Again piece = None
 event_given End piece = None
 
--- a record after an event was given, if one was
+-- a record after an event was given, if one was given
 abbrev pub tells_event : Option Event → Option (List Entry) → Option (List Entry)
 tells_event None o = o
 tells_event (Some e) o = tells (Gave e) o
 
--- a record after `next` gave this, with these bytes in the piece
+-- a record after `next` gave this value, with these bytes in the piece
 abbrev pub tells_next : Next → List ℕ → Option (List Entry) → Option (List Entry)
 tells_next n piece o = tells_event (event_given n piece) o
 
@@ -54,7 +54,7 @@ tells_write (Took n) i bytes o = tells (TookBytes i (take n bytes)) o
 tells_write Later i bytes o = tells (WasLate i) o
 tells_write Failed i bytes o = tells (WriteBroke i) o
 
--- at least one byte is taken, and no more than were offered
+-- a write took at least one byte and no more than were offered, if it took any
 abbrev pub IsWithin : Written → ℕ → Type 0
 IsWithin (Took n) offered = (0 < n) × (n ≤ offered)
 IsWithin Later offered = Unit {0}
@@ -66,7 +66,7 @@ late_after (Took n) i late j = late j
 late_after Later i late j = late j || (j == i)
 late_after Failed i late j = late j
 
--- what waits on link i, nothing where it isn't there
+-- what waits on link i; nothing if it isn't up
 abbrev pub waiting_of : ℕ → List Watch → List ℕ
 waiting_of i watches = waiting_on (watch_at i watches)
 
@@ -78,7 +78,7 @@ IsSettled late watches i = 0 < length (waiting_of i watches) → late i ≡ true
 abbrev pub NothingIsWithheld : (ℕ → Bool) → Content → Type 0
 NothingIsWithheld late s = (i : ℕ) → IsSettled late s.watches i
 
--- the monitor has decided that its machine is to be halted
+-- the monitor has decided that its machine has to be halted
 abbrev pub is_halted : Phase → Bool
 is_halted Watching = false
 is_halted Forcing = false

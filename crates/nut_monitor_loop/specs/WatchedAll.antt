@@ -1,4 +1,4 @@
--- A list of events that was watched until the machine was to be halted, or to its end.
+-- A list of events that was watched until the machine had to be halted, or to its end.
 use Rattle.std.specs.Prelude.{◌≡◌, ◌⊎◌, ◌++◌, ℕ, true, List, [], map, None}
 use Rattle.nut_monitor_spec.specs.declared.Phase.{Phase}
 use Rattle.nut_monitor_spec.specs.Configuration.{Configuration}
@@ -9,9 +9,10 @@ use Rattle.nut_monitor_loop.specs.Record.{is_halted}
 use Rattle.nut_monitor_loop.specs.Watched.{Step, entries_of, history_of, Told, taken, handed}
 use Rattle.nut_monitor_loop.specs.Memory.{MemoryState, event_of, given_in}
 
--- Of the events that `old` had left the first were given, in order, and `new` has the others left: none, unless the machine
--- is to be halted. What was given, taken, closed and told tells a history whose content the monitor has; what was taken of
--- each link since it was made was sent; and the notices that were handed over are those of the history, in order.
+-- The first of the events that `old` had left were given in order, and `new` has the others left: none, unless the
+-- machine has to be halted. What was given, taken, closed and handed over tells a history whose content the monitor
+-- has. The bytes taken of each link since it was made are those that were sent on it. The notices handed over are those
+-- of the history, in order.
 pub record WatchedAll (first : Configuration) (old new : MemoryState) (s : Content) (phase : Phase) : Type 0 where
   pub steps : List Step
   pub tells : new.log ≡ entries_of steps

@@ -1,4 +1,4 @@
-//! The outer loop of a monitor over a world that gives events, takes bytes and is handed notices, and the world over
+//! The outer loop of a monitor over a world that gives events, takes bytes and is handed notices; and such a world over
 //! memory.
 #![tactic(auto)]
 

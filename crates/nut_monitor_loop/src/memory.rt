@@ -12,7 +12,7 @@ use nut_server_loop::{Fault, Piece, Written};
 use std::alloc::Global;
 use std::marker::Model;
 
-/// A world that gives a list of events, takes all bytes at once, and keeps what happened.
+/// A world that gives a list of events, takes all bytes that it is offered, and notes what happened.
 #[derive(Drop)]
 pub struct MemoryMonWorld {
     alloc: Global,
@@ -30,7 +30,7 @@ impl Model for MemoryMonWorld {
 }
 
 impl MemoryMonWorld {
-    /// A world that gives these events and has noted nothing. What it notes grows in `alloc`.
+    /// Makes a world that gives these events and has noted nothing. Its notes are allocated in `alloc`.
     pub fn new(alloc: Global, events: Vec<Given>) -> Self
         ensures { result ≡ record { left = events.items; log = []; faults = 0 } }
     {
@@ -42,7 +42,7 @@ impl MemoryMonWorld {
         }
     }
 
-    /// What happened so far, the oldest first.
+    /// Returns what happened so far, the oldest first.
     pub fn notes(&self) -> &[Note]
         ensures { log_of result.now ≡ self.now.log }
     {
@@ -80,7 +80,7 @@ impl MonWorld for MemoryMonWorld {
         ensures gives { IfOk result (λ n. Gives self.old.left self.new.left n piece.new.items) }
         ensures left_err { OnErr result (self.new.left ≡ self.old.left) }
 
-        // The end is given without memory.
+        // The end is given without an allocation.
         ensures at_end { self.old.left ≡ [] → is_ok result ≡ true }
     {
         match give(&mut self.left, &mut self.notes, piece) {
@@ -150,7 +150,7 @@ impl MonWorld for MemoryMonWorld {
     }
 }
 
-/// Gives the first event that is left and notes it, gives the end where none is, or does nothing.
+/// Gives the first event that is left and notes it, or gives the end if none is left. Changes nothing on a fault.
 #[tactic(auto, using(crate::proofs::Noted::log_more, crate::proofs::Noted::tells_given))]
 fn give(left: &mut Vec<Given>, notes: &mut Vec<Note>, piece: &mut Piece) -> Result<Next, Fault>
     ensures given { IfOk result (λ n. Gives left.old.items left.new.items n piece.new.items) }
@@ -174,7 +174,7 @@ fn give(left: &mut Vec<Given>, notes: &mut Vec<Note>, piece: &mut Piece) -> Resu
     }
 }
 
-/// The event as `next` gives it.
+/// Returns the event as `next` gives it.
 fn show(given: &Given, piece: &mut Piece) -> Next
     ensures { event_given result piece.new.items ≡ Some (event_of given.now) }
 {
@@ -189,7 +189,7 @@ fn show(given: &Given, piece: &mut Piece) -> Next
     }
 }
 
-/// Puts the bytes into the piece, in place of those that were there.
+/// Replaces the bytes in the piece by these.
 fn show_bytes(bytes: &Piece, piece: &mut Piece)
     ensures { piece.new.items ≡ bytes.now.items }
 {

@@ -1,4 +1,4 @@
-//! The loop over a world in memory.
+//! The loop over a world over memory.
 
 ghost use Rattle.std.specs.Prelude.{◌≡◌, ◌<◌, ◌-◌, ◌^◌, ℕ, [], Option, Some, IfOk, OnErr};
 ghost use Rattle.nut_monitor_spec.specs.Content.{content, phase_of};
@@ -11,10 +11,11 @@ use nut_monitor::{Monitor, Phase};
 use nut_server_loop::ServeFault;
 use std::sync::Wait;
 
-/// Watches a list of events until the machine is to be halted, or to its end, and gives the phase.
+/// Watches a list of events until the machine has to be halted or the list ends. Returns the phase.
 ///
 /// # Errors
-/// `ServeFault::World` where memory for a note was refused: what was noted before stands.
+///
+/// `ServeFault::World` if memory for a note cannot be allocated. What was noted before stays noted.
 pub fn watch_memory(
     rt: &impl Wait,
     monitor: &mut Monitor,

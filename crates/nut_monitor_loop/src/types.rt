@@ -1,46 +1,46 @@
-//! What a world gives, and what a world over memory notes down.
+//! What a world gives, and what a world over memory notes.
 
 use nut_monitor::Notice;
 use nut_server_loop::Piece;
 
-/// What comes next. Links go by the numbers of their MONITOR lines, from 0 on.
+/// What a world gives next. A link has the number of its MONITOR line, from 0 on.
 #[derive(Drop)]
 pub enum Next {
-    /// It is so many seconds since the start.
+    /// This many seconds have passed since the start.
     Moment(u64),
-    /// The link with this number is made.
+    /// The link with this number was made.
     Linked(usize),
-    /// The server of the link with this number sent the bytes that stand in the piece.
+    /// The server of the link with this number sent the bytes that are now in the piece.
     LinkBytes(usize),
-    /// The link with this number is lost.
+    /// The link with this number was lost.
     LinkLost(usize),
-    /// Nothing came. Writes that were late may be tried again.
+    /// Nothing came. Links on which a write was late may be written to again.
     Again,
-    /// Nothing will come any more.
+    /// Nothing more will come.
     End,
 }
 
-/// An event as a world over memory keeps it.
+/// An event, with its bytes, that a world over memory will give or has given.
 #[derive(Drop)]
 pub enum Given {
-    /// It is so many seconds since the start.
+    /// This many seconds have passed since the start.
     Moment(u64),
-    /// The link with this number is made.
+    /// The link with this number was made.
     Linked(usize),
-    /// The server of the link with this number sends these bytes.
+    /// The server of the link with this number sent these bytes.
     LinkBytes(usize, Piece),
-    /// The link with this number is lost.
+    /// The link with this number was lost.
     LinkLost(usize),
 }
 
-/// What a world over memory notes down.
+/// What a world over memory notes.
 #[derive(Drop)]
 pub enum Note {
     /// It gave this event.
     Gave(Given),
-    /// It took these bytes of a link.
+    /// It took these bytes, offered on this link.
     Took(usize, Vec<u8>),
-    /// It closed a link.
+    /// It closed this link.
     Closed(usize),
     /// It was handed this notice.
     Told(Notice),

@@ -1,4 +1,4 @@
-//! The loop over a world.
+//! The loop over any world.
 
 ghost use Rattle.std.specs.Prelude.{◌≡◌, ◌≢◌, ◌⊎◌, ◌+◌, ◌-◌, ◌^◌, ◌<◌, ℕ, true, false, List, [], length, Option, Some, None, Ok, IfSome, IfOk, OnOk, OnErr, is_ok, option_map, if◌then◌else◌};
 ghost use Rattle.nut_monitor_spec.specs.Configuration.{Configuration};
@@ -14,18 +14,21 @@ use nut_monitor::{Event, Monitor, Notice, Phase};
 use nut_server_loop::{Fault, Piece, ServeFault, Written};
 use std::sync::Wait;
 
-/// Watches until the machine is to be halted or the world ends, and gives the phase.
+/// Watches until the machine has to be halted or the world ends. Returns the phase.
 ///
-/// The monitor is told each event of the world, and what became of each write. Before the next event is asked for, each link
-/// was offered all that waits on it, until nothing did or the world took no more; each link that the monitor lost by itself,
-/// or that a failed write ended, is closed; and the world was handed each notice. No other link is closed.
+/// The monitor must have been told nothing yet, and the world's record must be empty if the world tells one. The
+/// monitor is told each event of the world, and the result of each write. Before the next event is asked for, the bytes
+/// that wait on each link were offered until none waited or the world took no more; each link that the monitor dropped
+/// by itself, or that a failed write ended, was closed; and each notice was handed to the world. No other link is
+/// closed.
 ///
-/// What the monitor holds at the return is the content of a history of accepted events that the world's record tells, the
-/// bytes that the world took of each link since it was made are those that were sent, and the notices that it was handed are
-/// those of the history, in order.
+/// At the return, with or without an error, the monitor's content is that of a history of accepted events which the
+/// world's record tells. The bytes that the world took of each link since it was made are those that were sent on it.
+/// The notices that the world was handed are those of the history, in order; after an error some may still wait.
 ///
 /// # Errors
-/// `ServeFault::World` where a call of the world answered a fault.
+///
+/// `ServeFault::World` if a call of the world returned a fault.
 pub fn watch<W: MonWorld>(
     rt: &impl Wait,
     monitor: &mut Monitor,
@@ -45,7 +48,7 @@ pub fn watch<W: MonWorld>(
     go_on(rt, monitor, world)
 }
 
-/// Watches until the machine is to be halted or the world ends, from where the loop stands.
+/// Continues the loop of `watch` from where it is.
 fn go_on<W: MonWorld>(
     rt: &impl Wait,
     monitor: &mut Monitor,
@@ -64,7 +67,7 @@ fn go_on<W: MonWorld>(
 {
     let mut piece = Piece::new();
     for _ in rt.forever() {
-        // What a lost link changes may let others ask more: behind a failed write all links are gone through again.
+        // A lost link may let queries be put on other links, so after a failed write all links are settled again.
         if !settle_links(monitor, world)? {
             continue;
         }
@@ -76,7 +79,7 @@ fn go_on<W: MonWorld>(
     unreachable!()
 }
 
-/// Asks for the next event, unless the machine is to be halted, and hands it on. It says whether to go on.
+/// Asks for the next event, unless the machine has to be halted, and handles it. Returns whether the loop goes on.
 fn turn<W: MonWorld>(monitor: &mut Monitor, world: &mut W, piece: &mut Piece) -> Result<bool, Fault>
     ghost first: { Configuration }
     requires few { W.fault_count world.old < 2 ^ 64 - 1 }
@@ -101,7 +104,7 @@ fn turn<W: MonWorld>(monitor: &mut Monitor, world: &mut W, piece: &mut Piece) ->
     Ok(true)
 }
 
-/// Whether the machine is to be halted.
+/// Whether the machine has to be halted.
 fn has_halted(monitor: &Monitor) -> bool
     ensures { result ≡ is_halted (phase_of monitor.now.content) }
 {
@@ -111,7 +114,7 @@ fn has_halted(monitor: &Monitor) -> bool
     }
 }
 
-/// Hands on what the world gave, if it gave an event, and closes the link that the monitor lost by it.
+/// Tells the monitor the event that the world gave, if it gave one, and closes the link that the monitor dropped at it.
 fn hand_on<W: MonWorld>(
     monitor: &mut Monitor,
     world: &mut W,
@@ -138,7 +141,7 @@ fn hand_on<W: MonWorld>(
     }
 }
 
-/// The event that the world gave, if it gave one.
+/// Returns the event that the world gave, if it gave one.
 fn event_of<'a>(next: &'a Next, piece: &'a Piece) -> Option<Event<'a>>
     ensures { option_map told_as result ≡ event_given next.now piece.now.items }
 {
@@ -151,7 +154,7 @@ fn event_of<'a>(next: &'a Next, piece: &'a Piece) -> Option<Event<'a>>
     }
 }
 
-/// The link on which a piece comes, where it is there.
+/// Returns the link on which a piece comes, if the event is a piece and that link is up.
 fn sender_of(monitor: &Monitor, event: Event<'_>) -> Option<usize>
     ensures { result ≡ sender (told_as event.entry) monitor.now.content }
 {
@@ -165,7 +168,7 @@ fn sender_of(monitor: &Monitor, event: Event<'_>) -> Option<usize>
     }
 }
 
-/// The link that sent a piece, where it isn't there any more.
+/// Returns the link that sent a piece, if it is no longer up.
 fn lost_link(monitor: &Monitor, sender: Option<usize>) -> Option<usize>
     ensures { result ≡ lost_of sender monitor.now.content }
 {
@@ -173,7 +176,8 @@ fn lost_link(monitor: &Monitor, sender: Option<usize>) -> Option<usize>
     if monitor.linked(i) { None } else { Some(i) }
 }
 
-/// Writes what waits on each link, as far as the world takes it. It says whether all is done: it stops where a write fails.
+/// Writes what waits on each link, as far as the world takes it. Stops at the first write that fails. Returns whether
+/// none failed.
 fn settle_links<W: MonWorld>(monitor: &mut Monitor, world: &mut W) -> Result<bool, Fault>
     ghost first: { Configuration }
     requires few { W.fault_count world.old < 2 ^ 64 - 1 }
@@ -195,7 +199,7 @@ fn settle_links<W: MonWorld>(monitor: &mut Monitor, world: &mut W) -> Result<boo
     Ok(true)
 }
 
-/// Writes until nothing waits on a link or the world takes no more. It says whether no write failed.
+/// Writes until nothing waits on a link or the world takes no more. Returns whether no write failed.
 fn flush<W: MonWorld>(monitor: &mut Monitor, world: &mut W, i: usize) -> Result<bool, Fault>
     ghost first: { Configuration }
     requires few { W.fault_count world.old < 2 ^ 64 - 1 }
@@ -218,7 +222,7 @@ fn flush<W: MonWorld>(monitor: &mut Monitor, world: &mut W, i: usize) -> Result<
     Ok(true)
 }
 
-/// One write of what waits, and what follows from its answer.
+/// Offers what waits on a link to the world once, and tells the monitor the result.
 fn write_once<W: MonWorld>(monitor: &mut Monitor, world: &mut W, i: usize) -> Result<Written, Fault>
     ghost first: { Configuration }
     requires few { W.fault_count world.old < 2 ^ 64 - 1 }
@@ -247,7 +251,7 @@ fn write_once<W: MonWorld>(monitor: &mut Monitor, world: &mut W, i: usize) -> Re
     }
 }
 
-/// Hands each notice that waits to the world, the oldest first. No link changes.
+/// Hands each waiting notice to the world, the oldest first. No link changes.
 fn tell_all<W: MonWorld>(monitor: &mut Monitor, world: &mut W) -> Result<(), Fault>
     ghost first: { Configuration }
     requires few { W.fault_count world.old < 2 ^ 64 - 1 }
@@ -266,7 +270,7 @@ fn tell_all<W: MonWorld>(monitor: &mut Monitor, world: &mut W) -> Result<(), Fau
     Ok(())
 }
 
-/// Hands the oldest notice to the world, and takes it.
+/// Hands the oldest notice to the world and removes it from the monitor.
 fn tell<W: MonWorld>(monitor: &mut Monitor, world: &mut W, notice: Notice) -> Result<(), Fault>
     ghost first: { Configuration }
     requires few { W.fault_count world.old < 2 ^ 64 - 1 }

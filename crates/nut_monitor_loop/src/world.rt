@@ -8,34 +8,35 @@ use crate::Next;
 use nut_monitor::{Monitor, Notice};
 use nut_server_loop::{Fault, Piece, Written};
 
-/// Who gives events, takes bytes, closes links and is handed notices. Links go by the numbers of their MONITOR lines, from 0
-/// on.
+/// A world that gives events, takes bytes, closes links and is handed notices. A link has the number of its MONITOR
+/// line, from 0 on.
 ///
-/// Each call may answer a fault instead, where a device failed: it has then done nothing but to count that.
+/// Each call but `faults` may return a fault instead, if a device failed. Its record is then as before, and the fault
+/// is counted.
 pub trait MonWorld {
-    /// What it gave, took, closed and was handed, the newest first; None where it tells nothing.
+    /// What it gave, took, closed and was handed, the newest first; None if it tells nothing.
     ghost log: { Self → Option (List Entry) };
 
     /// On which links a write was `Later` since the last `next`.
     ghost late: { Self → ℕ → Bool };
 
-    /// How many calls answered a fault.
+    /// How many calls returned a fault.
     ghost fault_count: { Self → ℕ };
 
-    /// Nothing more comes.
+    /// Nothing more will come.
     ghost has_ended: { Self → Type 0 };
 
     /// What it may become by its calls.
     ghost reached: { Self → Self → Type 0 };
 
-    /// How many calls answered a fault so far.
+    /// Returns how many calls have returned a fault.
     fn faults(&self) -> u64
         ensures { result ≡ fault_count self.now };
 
-    /// The next event; the bytes of a `Next::LinkBytes` are then in the piece.
+    /// Returns the next event. The bytes of a `Next::LinkBytes` are then in the piece.
     ///
-    /// It is asked for where each link with waiting bytes is late, each notice is handed over, and the machine isn't to be
-    /// halted. No link is late afterwards.
+    /// It may be called only if each link with waiting bytes is late, each notice was handed over, and the machine need
+    /// not be halted. No link is late afterwards.
     fn next(&mut self, monitor: &Monitor, piece: &mut Piece) -> Result<Next, Fault>
         requires few { fault_count self.old < 2 ^ 64 - 1 }
         requires withheld { NothingIsWithheld (late self.old) monitor.now.content }
@@ -48,7 +49,8 @@ pub trait MonWorld {
         ensures counted { fault_count self.new ≡ (if is_ok result then fault_count self.old else fault_count self.old + 1) }
         ensures reached { reached self.old self.new };
 
-    /// Offers bytes to the server of link i, of which there is at least one, and says what became of them.
+    /// Offers at least one byte to the server of link i. Returns how many the server took, or that the write was late,
+    /// or that it failed.
     fn write(&mut self, i: usize, bytes: &[u8]) -> Result<Written, Fault>
         requires few { fault_count self.old < 2 ^ 64 - 1 }
         requires some { 0 < length bytes.now }
@@ -68,7 +70,7 @@ pub trait MonWorld {
         ensures counted { fault_count self.new ≡ (if is_ok result then fault_count self.old else fault_count self.old + 1) }
         ensures reached { reached self.old self.new };
 
-    /// Takes note of a notice of this monitor, as a device that prints its text does.
+    /// Takes note of a notice of this monitor, for example by printing its text.
     fn notice(&mut self, monitor: &Monitor, notice: Notice) -> Result<(), Fault>
         requires few { fault_count self.old < 2 ^ 64 - 1 }
         ensures ok { OnOk result (log self.new ≡ tells (WasTold notice) (log self.old)) }
@@ -77,7 +79,7 @@ pub trait MonWorld {
         ensures counted { fault_count self.new ≡ (if is_ok result then fault_count self.old else fault_count self.old + 1) }
         ensures reached { reached self.old self.new };
 
-    /// It may become what it is.
+    /// It may become what it is: no call, no change.
     ghost reached_self: { (w : Self) → reached w w };
 
     /// What it may become by calls after calls.

@@ -39,7 +39,7 @@ skip-first test xs ys none = list_any-append test xs ys ∙ ap (λ b. b || list_
 pub skip-last : (test : Notice → Bool) (xs ys : List Notice) → list_any test ys ≡ false → list_any test (xs ++ ys) ≡ list_any test xs
 skip-last test xs ys none = list_any-append test xs ys ∙ ap (λ b. list_any test xs || b) none ∙ or-false (list_any test xs)
 
--- only the last of six may pass the test
+-- if the first five of six notices fail the test, only the sixth may pass it
 six : (test : Notice → Bool) (a b c d e f : Bool) (k l m n o p : Notice) → test k ≡ false → test l ≡ false → test m ≡ false → test n ≡ false → test o ≡ false →
     list_any test (when a k ++ when b l ++ when c m ++ when d n ++ when e o ++ when f p) ≡ (f && test p)
 six test a b c d e f k l m n o p k' l' m' n' o' =
@@ -104,7 +104,7 @@ module _ (configuration : Configuration) (time i j : ℕ) (known : Known) where
       (when-none (is_silence j) (is_no_status query outcome && not (is_bad known.communication)) (told kinds.Commbad i) refl)
       ∙ in-silence (status_in query outcome)
 
--- the notices of an event: of an answer, of a loss, of a moment, and SHUTDOWN
+-- the notices of an event: those of an answer, of a loss, of a moment, and SHUTDOWN
 abbrev pub of_event : Bool → List Notice → List Notice → List Notice → Bool → List Notice
 of_event begun answer loss moment ends = (if begun then [] else answer ++ loss ++ moment) ++ when ends shutdown_told
 
@@ -142,7 +142,7 @@ module _ (configuration : Configuration) (past : List Entry) (i : ℕ) (event : 
   told-kept : (test : Notice → Bool) (entry : Entry) → list_any test entry.notices ≡ false → told_at test (entry ∷ past) ≡ told_at test past
   told-kept test entry none = told-step test entry past ∙ ap (λ b. if b then Some (clock (entry ∷ past)) else told_at test past) none
 
-  -- without an answer
+  -- an event without an answer
   pub known-none : (lost : Option ℕ) (notices : List Notice) → list_any (is_replace i) notices ≡ false → list_any (is_silence i) notices ≡ false →
       known i (entry_by None lost notices ∷ past) ≡ record (known i past) { communication = if is_link i lost then Bad else communication i past }
   known-none lost notices replace silence =
@@ -151,7 +151,7 @@ module _ (configuration : Configuration) (past : List Entry) (i : ℕ) (event : 
       ap (λ m. record k { replace_told = m }) (told-kept (is_replace i) x replace)
       ∙ ap (λ m. record k { replace_told = told_at (is_replace i) past; silence_told = m }) (told-kept (is_silence i) x silence)
 
-  -- with one
+  -- an event with an answer
   flags-law : (words before : Option (List (List ℕ))) → option_map flags_of (if true && is_some words then words else before) ≡ flags_then words (option_map flags_of before)
   flags-law None before = refl
   flags-law (Some words) before = refl

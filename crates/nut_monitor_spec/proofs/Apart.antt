@@ -15,7 +15,7 @@ use Rattle.nut_monitor_spec.specs.Trace.{Asked, Answer, Entry, is_any, is_link, 
 use Rattle.nut_monitor_spec.specs.Content.{Watch, stage_in, watch}
 use Rattle.nut_monitor_spec.proofs.Newest.{status-step, polled-step, calm-step, forced-step, logins-step, told-step}
 
--- a watch by the parts of its past
+-- a watch, made from the parts of its past
 abbrev pub watch_by : Configuration → ℕ → Bool → List ℕ → List Asked → List Answer → ℕ → Known → Watch
 watch_by configuration i there bytes asked said took known = record {
   link =
@@ -53,7 +53,7 @@ other-communication i j (Some answer) before differ is =
     let then' = communication_then answer.asked.query answer.outcome before in
     ap (λ l. if eqb l j then then' else before) is ∙ ap (λ b. if b then then' else before) differ
 
--- what of line j an event leaves as it was
+-- what an event leaves unchanged of line j
 pub record IsApart (i j : ℕ) (entry : Entry) (past : List Entry) : Type 0 where
   pub differ : eqb i j ≡ false
   pub answer : IsOf i entry.answer

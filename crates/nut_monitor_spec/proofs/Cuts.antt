@@ -1,4 +1,4 @@
--- However an unfinished line is cut into pieces, the content is the same.
+-- Cutting an unfinished line into pieces doesn't change the content.
 use Rattle.std.proofs.Common.{◌≡◌, ℕ, zero, suc, ◌<◌, Bool, true, false, not, ◌&&◌, eqb, List, [], ◌∷◌, ◌++◌, length, drop, refl, sym, ◌∙◌, ap, subst, Option, Some, None, is_none, if◌then◌else◌, append-nil}
 use mathlib.Core.Path.{fun_ext}
 use Rattle.std.proofs.lemmas.Bool.{eq-eqb}
@@ -30,7 +30,7 @@ update-twice i f g [] = refl
 update-twice zero f g (w ∷ watches) = refl
 update-twice (suc i) f g (w ∷ watches) = ap (λ ws. w ∷ ws) (update-twice i f g watches)
 
--- a watch whose unfinished line goes on
+-- a link whose unfinished line grows
 abbrev link_on : List ℕ → Option LinkValue → Option LinkValue
 link_on x None = None
 link_on x (Some v) = Some (record v { rest = rest_after v.rest x })
@@ -95,7 +95,7 @@ module _ (configuration : Configuration) (newest : Entry) (older : List Entry) (
       ∙ ap (λ ws. let r : Content = record s { watches = ws } in r)
       (for_each-update i (watch configuration past) (watch configuration (bare event ∷ past)) (goes_on_by x) configuration.lines piece-other piece-own)
 
-  -- the link fed the whole is the link fed the rest of it
+  -- feeding the whole piece gives the link that feeding its two parts gives
   fed-same : (y : List ℕ) → fed y (link_at configuration (bare event ∷ past) i) ≡ fed (x ++ y) (link_at configuration past i)
   fed-same y =
       let a = input i past in
@@ -121,7 +121,7 @@ module _ (configuration : Configuration) (newest : Entry) (older : List Entry) (
 
 -- ---- the law
 
--- the content after a piece on a link that is there
+-- the content after a piece on a link that is up
 heard-settled : (configuration : Configuration) (past : List Entry) (i : ℕ) (piece : List ℕ) → Holds configuration past → (there : IsThere configuration past i) →
     content_of configuration (entry_of configuration past (LinkBytes i piece) ∷ past)
     ≡ settled (piece_heard i piece (watch configuration past i) (Some (link_at configuration past i)) (content_of configuration past))

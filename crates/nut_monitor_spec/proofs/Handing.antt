@@ -34,7 +34,7 @@ hands_out configuration events NoticeTaken accepted =
     let past = trace configuration events in
     (1, (refl, refl, omega (arith, ltb-true 0 (length (notices_waiting past)) accepted.1.1)))
 
--- what was handed out of those that waited, and the rest with more behind it, is all
+-- what was handed out and what waits are still all notices, after m more were handed out and others were added
 whole_with : (m : ℕ) (handed waiting more all : List Notice) → handed ++ waiting ≡ all → (handed ++ take m waiting) ++ (drop m waiting ++ more) ≡ all ++ more
 whole_with m handed waiting more all is =
     append_assoc handed (take m waiting) (drop m waiting ++ more)
@@ -42,7 +42,7 @@ whole_with m handed waiting more all is =
     ∙ sym (append_assoc handed waiting more)
     ∙ ap (λ x. x ++ more) is
 
--- what waits after an event that hands out the first m
+-- what waits after an event that hands out the first m notices
 waits_behind : (configuration : Configuration) (events : List Event) (event : Event) (m : ℕ) → IsAccepted configuration events → HandsOut configuration events event m
     → notices_waiting (trace configuration (event ∷ events))
     ≡ drop m (notices_waiting (trace configuration events)) ++ (entry_of configuration (trace configuration events) event).notices

@@ -1,4 +1,4 @@
--- What the lines of a piece come to: the link's answer and failure are those that the definitions say.
+-- What the lines of a piece lead to: the link has the answer and the failure that the definitions give.
 use Rattle.std.proofs.Common.{◌≡◌, ℕ, Bool, true, false, ◌⊎◌, inl, inr, List, [], ◌∷◌, length, refl, sym, ◌∙◌, ap, subst, Option, Some, None, is_some, if◌then◌else◌}
 use Rattle.std.specs.Prelude.{Result, Ok, Err, ◌==◌}
 use Rattle.std.specs.Option.{option_map}
@@ -69,7 +69,7 @@ is-whole line NumLogins (answers.Row words) rows is = tests-whole _ _ _ rows is
 
 -- ---- one line
 
--- Both say that a line is no answer, or both that it is this one.
+-- Either both say that a line is no answer, or both that it is this answer.
 abbrev Agrees : Result Stage LinkFault → Option Outcome → Type 0
 Agrees result said =
     ((said ≡ None) × (fault : LinkFault) × (result ≡ Err fault))
@@ -80,11 +80,11 @@ by-progress query (Ok (Listing rows)) whole = absurd (whole rows refl)
 by-progress query (Ok (Complete outcome)) whole = inr (outcome, refl, refl)
 by-progress query (Err fault) whole = inl (refl, fault, refl)
 
--- the query of a monitor, of which these bytes wait
+-- the query of a monitor, while these of its bytes wait
 abbrev pending : Line → Ask → List ℕ → Query
 pending line ask waits = record { expected = expected (request line ask); waits = waits; rows = None }
 
--- what a line makes of a query, where its bytes are all taken or not
+-- what a line makes of a query, by whether all its bytes are taken
 abbrev read_by : Bool → Query → Result Said AnswerFault → Result Stage LinkFault
 read_by all query (Ok said) = stage_after query (if all then progress query.expected query.rows said else Err OutOfOrder)
 read_by all query (Err fault) = Err BadLine
@@ -111,7 +111,7 @@ by-line line ask waits (Text text) =
     (by-reading (length waits == 0) line ask waits (answer_in text))
 by-line line ask waits TooLong = inl (none-either (length waits == 0), BadLine, refl)
 
--- a line where no query is outstanding
+-- a line while no query is outstanding
 idle-read : (read : Result Said AnswerFault) → (fault : LinkFault) × (on_read stages.Idle read ≡ Err fault)
 idle-read (Ok said) = (OutOfOrder, refl)
 idle-read (Err fault) = (BadLine, refl)
@@ -141,7 +141,7 @@ stays-stopped : (texts : List LineText) (stage : Stage) (fault : LinkFault) → 
 stays-stopped [] stage fault = refl
 stays-stopped (text ∷ texts) stage fault = stays-stopped texts stage fault
 
--- a line at which the exchange fails ends it
+-- the first line at which the exchange fails ends it
 fails-at : (text : LineText) (texts : List LineText) (stage : Stage) (fault : LinkFault) → on_line stage text ≡ Err fault →
     lines_heard (text ∷ texts) (going stage) ≡ stopped (left_of stage) fault
 fails-at text texts stage fault is =
@@ -152,7 +152,7 @@ abbrev pub first_by : Line → ℕ → Option Asked → List ℕ → List LineTe
 first_by line i asked waits [] = None
 first_by line i asked waits (text ∷ texts) = answer_to line i asked (length waits == 0) text
 
--- What the lines come to.
+-- What the lines lead to.
 pub record Comes (line : Line) (i : ℕ) (asked : Option Asked) (waits : List ℕ) (texts : List LineText) (after : Exchange) : Type 0 where
   pub outcome : outcome_of after ≡ option_map (λ a. a.outcome) (first_by line i asked waits texts)
   pub fault : is_some after.fault ≡ is_some (lost_by i (first_by line i asked waits texts) texts)

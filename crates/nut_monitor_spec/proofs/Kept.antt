@@ -51,7 +51,7 @@ module _ (configuration : Configuration) (past : List Entry) (i : ℕ) where
   there-by : (w : Watch) → found ≡ Some w → is_some w.link ≡ true → linked i past ≡ true
   there-by w is some = link-is (linked i past) refl (ap (λ x. let y : Watch = x in is_some y.link) (sym (found_at i (watch configuration past) configuration.lines w is)) ∙ some)
 
-  -- the line is there, and its link is
+  -- there is such a line, and its link is up
   abbrev pub IsThere : Type 0
   IsThere = (found ≡ Some (watch configuration past i)) × (linked i past ≡ true)
 
@@ -113,7 +113,7 @@ keeps-settled configuration past event none holds tidy law = record {
   };
 }
 
--- what is tidy on link i, and on the others
+-- if link i is tidy, and every other link is, then all are
 either-link : (configuration : Configuration) (i : ℕ) (past : List Entry) → IsTidy configuration i past → ((j : ℕ) → eqb i j ≡ false → IsTidy configuration j past) →
     (j : ℕ) → IsTidy configuration j past
 either-link configuration i past own other j =
@@ -142,7 +142,7 @@ keeps-lost configuration past i holds there =
     (λ j differ. tidy-apart configuration i j (told_entry configuration past (LinkLost i)) past (lost-apart configuration past i j differ) (holds.tidy j)))
     (ap settled (lost-law configuration past i ∙ ap (λ o. link_lost i o (content_of configuration past)) (sym there.0)))
 
--- the link of a watch that is there
+-- the link of a watch whose link is up
 pub link-there : (configuration : Configuration) (past : List Entry) (i : ℕ) → linked i past ≡ true → (watch configuration past i).link ≡ Some (link_at configuration past i)
 link-there configuration past i there = ap (λ b. if b then Some (link_at configuration past i) else None) there
 

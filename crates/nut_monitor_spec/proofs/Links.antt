@@ -1,4 +1,4 @@
--- What an event of a link makes of the content, before the event ends.
+-- What an event of a link makes of the content, before the end of the event.
 use Rattle.std.proofs.Common.{◌≡◌, ℕ, suc, ◌≤◌, Bool, true, false, not, ◌&&◌, ◌||◌, ◌⊎◌, inl, inr, eqb, List, [], ◌∷◌, ◌++◌, length, take, refl, sym, ◌∙◌, ap, subst, arith, Option, Some, None, is_some, is_none, if◌then◌else◌, append-nil}
 use Rattle.std.specs.List.{list_any}
 use Rattle.std.specs.Option.{option_map}
@@ -34,13 +34,13 @@ none-either : (b : Bool) → (let xs : List Notice = if b then [] else [] in xs)
 none-either true = refl
 none-either false = refl
 
--- notices that are given unless the shutdown has begun
+-- notices are added unless the shutdown has begun
 given-law : (front : List Entry) (waiting more : List Notice) →
     waiting ++ (if is_any front then [] else more) ≡ (if is_none (moment_of front) then waiting ++ more else waiting)
 given-law [] waiting more = refl
 given-law (entry ∷ front) waiting more = append-nil waiting
 
--- no test of a line's notices finds any where nothing is told
+-- a test that SHUTDOWN fails finds nothing among the notices of an event that gives none of a line
 quiet : (test : Notice → Bool) → test shutdown_told ≡ false → (begun ends : Bool) → list_any test (of_event begun [] [] [] ends) ≡ false
 quiet test last begun ends = event-any test last begun ends [] [] [] ∙ false-either begun
 
@@ -135,7 +135,7 @@ module _ (configuration : Configuration) (past : List Entry) (i : ℕ) where
 
 -- ---- a piece
 
--- the answer to the first of some lines: there is none, or this one
+-- the answer to the first of some lines: there is none, or it is this outcome
 by-outcome : (i : ℕ) (asked : Asked) (all : Bool) (said : Option Outcome) →
     (answered i asked (if all then said else None) ≡ None)
     ⊎ ((outcome : Outcome) × (all ≡ true) × (answered i asked (if all then said else None) ≡ Some (record { link = i; asked = asked; outcome = outcome })))
@@ -143,7 +143,7 @@ by-outcome i asked true None = inl refl
 by-outcome i asked true (Some outcome) = inr (outcome, refl, refl)
 by-outcome i asked false said = inl refl
 
--- An answer of link i: none, or this outcome of the query that is outstanding.
+-- An answer of link i: none, or an outcome of its outstanding query.
 abbrev pub IsAnswerOf : Configuration → List Entry → ℕ → Option Answer → Type 0
 IsAnswerOf configuration past i answer =
     (answer ≡ None)
@@ -179,7 +179,7 @@ loss-cases i None (text ∷ texts) = inr refl
 loss-cases i (Some answer) (text ∷ []) = inl refl
 loss-cases i (Some answer) (text ∷ other ∷ texts) = inr refl
 
--- the last query is the one that is outstanding
+-- the last query is the outstanding one
 pub last-asked : (configuration : Configuration) (past : List Entry) (i : ℕ) (asked : Asked) → IsIdle configuration i past ⊎ IsAsked configuration i past →
     outstanding i past ≡ Some asked → last_query i past ≡ Some (record { query = asked.query; moment = asked.moment })
 last-asked configuration past i asked (inl idle) is =
@@ -196,7 +196,7 @@ pub few-queries : (configuration : Configuration) (past : List Entry) (i : ℕ) 
 few-queries configuration past i (inl idle) = omega (arith, idle.answered)
 few-queries configuration past i (inr waiting) = omega (arith, ap length waiting.queries, waiting.answered)
 
--- without an answer nothing is known anew
+-- without an answer nothing changes in what is known
 after-none : (configuration : Configuration) (time : ℕ) (watching : Bool) (last : Option LastQuery) (known : Known) →
     known_after configuration time watching last None known ≡ known
 after-none configuration time watching None known = refl
@@ -274,7 +274,7 @@ module _ (configuration : Configuration) (past : List Entry) (i : ℕ) (event : 
       let m : Known = record k { communication = if is_link i lost then Bad else k.communication } in m) (sym (last-asked configuration past i some.0 tidy some.2)) in
       subst P (sym some.4) base
 
-  -- the notices of the lines
+  -- the notices that the lines give
   said-told : (answer : Option Answer) → IsIdle configuration i past ⊎ IsAsked configuration i past → IsAnswerOf configuration past i answer →
       notices_of_answer configuration past (clock_after event (clock past)) answer
       ≡ answer_told configuration (clock_after event (clock past)) i (last_query i past) (option_map (λ a. a.outcome) answer) (known i past)
@@ -288,7 +288,7 @@ module _ (configuration : Configuration) (past : List Entry) (i : ℕ) (event : 
       ∙ ap (λ l. answer_told configuration time i l (Some some.1) (known i past)) (sym (last-asked configuration past i some.0 tidy some.2))
       ∙ ap (λ a. answer_told configuration time i (last_query i past) (option_map (λ x. x.outcome) a) (known i past)) (sym some.4)
 
-  -- communication before the loss
+  -- communication before the loss of the link
   communication-law : (answer : Option Answer) → IsIdle configuration i past ⊎ IsAsked configuration i past → IsAnswerOf configuration past i answer →
       communication_after i answer (communication i past) ≡ (after_lines answer).communication
   communication-law answer tidy (inl none) =
@@ -402,7 +402,7 @@ module _ (configuration : Configuration) (past : List Entry) (i : ℕ) (piece : 
   known-is : known i (entry ∷ past) ≡ known_now loss
   known-is = lines-known configuration past i (LinkBytes i piece) ends_now answer loss tidy (answer-cases configuration past i texts)
 
-  -- the watch by the parts of the past
+  -- the watch, made from the parts of the past
   abbrev parts : Option ℕ → Watch
   parts l = watch_by configuration i (if is_link i l then false else linked i past) (if eqb i i then input i past ++ piece else input i past) (queries i past)
       (answered_in i answer (answers i past)) (taken i past) (known_now l)

@@ -1,4 +1,4 @@
--- Lists of one thing a MONITOR line, and pasts: what they are after one more.
+-- Lists with an element for each MONITOR line, and pasts: what they are after one more element.
 use Rattle.std.proofs.Common.{◌≡◌, ℕ, zero, suc, ◌+◌, ◌<◌, ◌≤◌, Bool, true, false, not, ◌&&◌, ◌||◌, eqb, List, [], ◌∷◌, ◌++◌, length, refl, sym, ◌∙◌, ap, arith, Some, None, is_none, if◌then◌else◌, append-nil}
 use Rattle.std.specs.Prelude.{slice_get}
 use Rattle.std.proofs.lemmas.Bool.{ne_eqb, eq-eqb, eqb-false}
@@ -10,7 +10,7 @@ use Rattle.nut_monitor_spec.specs.Trace.{Entry, or_else, earliest, is_any, numbe
 use Rattle.nut_monitor_spec.specs.Content.{Watch, for_each_line}
 use Rattle.nut_monitor_spec.specs.machine.Machine.{update, supply_of, all_alone, all_asked, asked_next}
 
--- ---- one thing a line
+-- ---- one element a line
 
 pub for_each-same : {A : Type 0} (f g : ℕ → A) (lines : List Line) → ((i : ℕ) → i < length lines → g i ≡ f i) → for_each_line g lines ≡ for_each_line f lines
 for_each-same f g [] same = refl
@@ -105,7 +105,7 @@ pub earliest-any : (test : List Entry → Bool) (past : List Entry) (entry : Ent
     (is_any (earliest test (entry ∷ past)) && not (is_any (earliest test past))) ≡ begins_now test past entry
 earliest-any test past entry = any-or_else (earliest test past) past entry (test (entry ∷ past))
 
--- where nothing has begun, the last past doesn't pass the test
+-- if nothing has begun, the newest past doesn't pass the test
 or_else-none : (front past : List Entry) (entry : Entry) (b : Bool) → or_else front (if b then entry ∷ past else []) ≡ [] → b ≡ false
 or_else-none front past entry false none = refl
 or_else-none [] past entry true none = cc

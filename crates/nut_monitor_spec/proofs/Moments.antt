@@ -1,4 +1,4 @@
--- What a moment makes of the content, before the event ends.
+-- What a moment makes of the content, before the end of the event.
 use Rattle.std.proofs.Common.{◌≡◌, ℕ, zero, suc, ◌+◌, ◌<◌, Bool, true, false, not, ◌&&◌, ◌||◌, List, [], ◌∷◌, ◌++◌, length, refl, sym, ◌∙◌, ap, arith, Some, is_none, if◌then◌else◌, append-nil}
 use Rattle.std.specs.List.{list_any}
 use Rattle.std.proofs.lemmas.Bool.{eq-eqb, ne_eqb}
@@ -95,7 +95,7 @@ module _ (configuration : Configuration) (past : List Entry) (t : ℕ) where
   moment-any : (test : Notice → Bool) → test shutdown_told ≡ false → list_any test entry.notices ≡ (if has_begun configuration past then false else list_any test all)
   moment-any test last = event-any test last (has_begun configuration past) ends_now [] [] all
 
-  -- a watch, where the shutdown has begun or not
+  -- a watch after the moment, by whether the shutdown has begun
   abbrev told_then : Bool → ℕ → Watch
   told_then begun i = record (watch configuration past i) {
     known = record (known i past) { silence_told = if (if begun then false else is_told configuration past time i) then Some time else told_at (is_silence i) past };
@@ -119,7 +119,7 @@ module _ (configuration : Configuration) (past : List Entry) (t : ℕ) where
           let e : 0 + i ≡ i = omega arith in
           ap (λ j. list_any (is_silence j) all) (sym e) ∙ some-at configuration past time i 0 configuration.lines less ∙ ap (is_told configuration past time) e
 
-  -- the watches and the notices, where the shutdown has begun or not
+  -- the content after the moment, by the past in which the shutdown began
   abbrev moment_content : List Entry → Content
   moment_content front = record (unsettled configuration past (Moment t)) {
     notices = notices_waiting past ++ (if is_any front then [] else [] ++ [] ++ all);

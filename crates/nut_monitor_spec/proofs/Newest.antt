@@ -1,4 +1,4 @@
--- What is known after one more event, and that what is told and put at an event doesn't change it.
+-- What is known after one more event, and that queries put and notices given at an event don't change it.
 use Rattle.std.proofs.Common.{◌≡◌, ℕ, Bool, true, false, not, ◌&&◌, List, ◌∷◌, refl, sym, ◌∙◌, ap, Option, Some, is_some, if◌then◌else◌}
 use Rattle.std.specs.Prelude.{nat_lt}
 use Rattle.std.specs.List.{list_any}
@@ -12,7 +12,7 @@ use Rattle.nut_monitor_spec.specs.Query.{is_forced, logins_in, flags_of}
 use Rattle.nut_monitor_spec.specs.Decision.{is_critical, power_where, each_primary, is_alone}
 use Rattle.nut_monitor_spec.specs.Trace.{Entry, latest, is_any, clock, moment_of, gives, gives_status, at_status, at_calm, are_calm, status_of_answer, newest_answer, status, polled, calm, told_at, forced, logins, logins_of_answer, critical, is_short, alone, known, is_replace, is_silence}
 
--- a function of one of two things
+-- a function of a conditional is the conditional of the function
 if-ap : {A B : Type 0} (f : A → B) (b : Bool) (x y : A) → f (if b then x else y) ≡ (if b then f x else f y)
 if-ap f true x y = refl
 if-ap f false x y = refl
@@ -86,7 +86,7 @@ pub told-same : (entry : Entry) (put other : ℕ → Option Query) (notices : Li
 told-same entry put other notices past test =
     told-step test (marked entry put notices) past ∙ sym (told-step test (marked entry other notices) past)
 
--- what is put doesn't change what is known
+-- the queries that are put don't change what is known
 pub known-same : (entry : Entry) (put other : ℕ → Option Query) (notices : List Notice) (past : List Entry) (i : ℕ) →
     known i (marked entry put notices ∷ past) ≡ known i (marked entry other notices ∷ past)
 known-same entry put other notices past i =

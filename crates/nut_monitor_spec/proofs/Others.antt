@@ -12,7 +12,7 @@ use Rattle.nut_monitor_spec.proofs.Links.{made-apart, lost-apart, heard-apart, o
 use Rattle.nut_monitor_spec.proofs.Quiet.{took-entry}
 use Rattle.nut_monitor_spec.proofs.Kept.{Holds, IsThere, found, all-hold, bytes-there, took-there}
 
--- where the event leaves the line as it was
+-- if the event leaves line j apart, nothing changes in what is known of it
 by-apart : (configuration : Configuration) (past : List Entry) (event : Event) (i j : ℕ) → IsApart i j (told_entry configuration past event) past →
     known j (entry_of configuration past event ∷ past) ≡ known j past
 by-apart configuration past event i j apart =

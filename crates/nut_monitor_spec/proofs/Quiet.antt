@@ -1,4 +1,4 @@
--- What the server took, and that a notice was taken, move no phase and put no query.
+-- `LinkTook` and `NoticeTaken` move no phase and put no query.
 use Rattle.std.proofs.Common.{◌≡◌, ℕ, ◌+◌, ◌≤◌, ◌<◌, Bool, true, false, not, ◌&&◌, inl, inr, eqb, List, [], ◌∷◌, ◌++◌, length, drop, refl, sym, ◌∙◌, ap, subst, arith, Option, Some, None, is_some, is_none, if◌then◌else◌, append-nil, drop-drop, length-drop}
 use Rattle.std.specs.Prelude.{nat_le}
 use mathlib.Core.Path.{fun_ext}
@@ -27,7 +27,7 @@ use Rattle.nut_monitor_spec.proofs.Settled.{IsTidy, entry_is}
 abbrev pub bare : Event → Entry
 bare event = record { event = event; answer = None; lost = None; put = λ i. None; notices = [] }
 
--- nothing begins with an entry that changes nothing
+-- nothing begins at an entry that changes nothing
 none-begins : (front : List Entry) (b : Bool) → (front ≡ [] → b ≡ false) → (is_none (moment_of front) && b) ≡ false
 none-begins [] b not-yet = not-yet refl
 none-begins (entry ∷ front) b not-yet = refl
@@ -41,7 +41,7 @@ either-idle : (b : Bool) → (let r : Stage = if is_some (let f : Option LinkFau
 either-idle true = refl
 either-idle false = refl
 
--- the exchange on a link once the server took n bytes
+-- the exchange on a link after the server took n bytes
 stage-took : (line : Line) (asked : Option Asked) (n : ℕ) (waits : List ℕ) → (is_some asked ≡ true → n ≤ length waits) →
     (let e : Exchange = record { stage = stage_in line asked (drop n waits); fault = None } in e)
     ≡ Link.taken n (record { stage = stage_in line asked waits; fault = None })
@@ -134,7 +134,7 @@ module _ (configuration : Configuration) (newest : Entry) (older : List Entry) w
       ∙ ap (λ p. next_query configuration (line_in configuration.lines j) (clock past) p (may_ask j past) (last_query j past) (forced j past)) (quiet-phase (LinkTook i n) refl refl refl)
       ∙ still j
 
-  -- on this link
+  -- ---- the link on which bytes were taken
   took-own : (i n : ℕ) → (linked i past ≡ true → n ≤ length (waits configuration i past)) →
       watch configuration (bare (LinkTook i n) ∷ past) i ≡ took n (watch configuration past i)
   took-own i n within =
@@ -177,7 +177,7 @@ module _ (configuration : Configuration) (newest : Entry) (older : List Entry) w
       ∙ ap (λ ws. let r : Content = record s { watches = ws } in r)
       (for_each-update i (watch configuration past) (watch configuration (e ∷ past)) (took n) configuration.lines (took-other i n) (took-own i n within))
 
-  -- what is asked and answered stays tidy
+  -- every link stays tidy
   pub took-tidy : (i n j : ℕ) → ((k : ℕ) → query_put configuration past k ≡ None) → (linked i past ≡ true → n ≤ length (waits configuration i past)) →
       IsTidy configuration j past → IsTidy configuration j (entry_of configuration past (LinkTook i n) ∷ past)
   took-tidy i n j still within tidy =
@@ -216,7 +216,7 @@ module _ (configuration : Configuration) (newest : Entry) (older : List Entry) w
         | inr asked ↦ inr (record { asked = asked.asked; older = asked.older; queries = asked.queries; answered = asked.answered; turn = asked.turn; sent = asked.sent; taken = asked.taken })
       ])
 
-  -- no more notices are taken than were given
+  -- at most as many notices were taken as were given
   pub took-waiting : (i n : ℕ) → ((k : ℕ) → query_put configuration past k ≡ None) → notices_taken past ≤ length (Trace.notices past) →
       notices_taken (entry_of configuration past (LinkTook i n) ∷ past) ≤ length (Trace.notices (entry_of configuration past (LinkTook i n) ∷ past))
   took-waiting i n still less =

@@ -23,12 +23,13 @@ use Rattle.nut_monitor_spec.proofs.Lists.{for_each-same, supply-law, alone-law, 
 abbrev pub asked_by : List Answer → List Asked
 asked_by answers = map (λ a. a.asked) answers
 
--- How far the exchange of link i is: no query is outstanding and all bytes are taken, or one is outstanding.
+-- The exchange of link i is idle: no query is outstanding, and all bytes are taken.
 pub record IsIdle (configuration : Configuration) (i : ℕ) (past : List Entry) : Type 0 where
   pub answered : length (queries i past) ≡ length (answers i past)
   pub turn : queries i past ≡ asked_by (answers i past)
   pub taken : taken i past ≡ length (due configuration i past)
 
+-- One query is outstanding on link i; all older ones were taken whole and answered.
 pub record IsAsked (configuration : Configuration) (i : ℕ) (past : List Entry) : Type 0 where
   pub asked : Asked
   pub older : List Asked
@@ -85,7 +86,7 @@ judged-law configuration past event =
 
 -- ---- the phase moves
 
--- what is told and put at an event doesn't move the shutdown
+-- notices given and queries put at an event don't move the shutdown
 module _ (configuration : Configuration) (past : List Entry) (entry : Entry) (queries : ℕ → Option Query) (told : List Notice) where
   pub begun-same : moment_of (begun configuration (marked entry queries told ∷ past)) ≡ moment_of (begun configuration (entry ∷ past))
   begun-same = moment-same (is_short configuration) past (marked entry queries told) entry (short-same entry queries told past configuration) refl
@@ -135,7 +136,7 @@ moved-law configuration past event =
 
 -- ---- the queries are put
 
--- whether a query may be put, by the link
+-- whether a query may be put, read from the link of the watch
 may-law : (configuration : Configuration) (past : List Entry) (i : ℕ) → may_put (watch configuration past i).link ≡ may_ask i past
 may-law configuration past i = may-cases (linked i past) (outstanding i past)
   where
@@ -147,7 +148,7 @@ may-law configuration past i = may-cases (linked i past) (outstanding i past)
     may-cases false None = refl
     may-cases false (Some asked) = refl
 
--- the past with these queries on link i, and no other
+-- a watch whose link has these queries
 abbrev watch_with : Configuration → List Entry → ℕ → List Asked → Watch
 watch_with configuration past i asked = record {
   link =
@@ -166,7 +167,7 @@ watch_with configuration past i asked = record {
   known = known i past;
 }
 
--- a query is put where none is outstanding
+-- a query is put if none is outstanding
 pub put-law : (configuration : Configuration) (past : List Entry) (i moment event : ℕ) (query : Option Query) →
     IsTidy configuration i past → (is_some query ≡ true → may_ask i past ≡ true) →
     watch_with configuration past i (asked_in moment event query (queries i past))
@@ -199,7 +200,7 @@ phase-same configuration past entry queries told =
     ap (λ m. phase_at configuration (clock (entry ∷ past)) m (moment_of (ended configuration (marked entry queries told ∷ past)))) (begun-same configuration past entry queries told)
     ∙ ap (λ m. phase_at configuration (clock (entry ∷ past)) (moment_of (begun configuration (entry ∷ past))) m) (ended-same configuration past entry queries told)
 
--- the entry of an event is what came, with what was put and told
+-- the entry of an event is what `came` gives, with queries put and notices given
 pub entry_is : (configuration : Configuration) (past : List Entry) (event : Event) →
     entry_of configuration past event
     ≡ marked (came configuration past event) (query_put configuration (came configuration past event ∷ past)) (notices_of configuration past (came configuration past event))
@@ -228,11 +229,11 @@ watch-law configuration past event i tidy =
     ∙ put-law configuration (told ∷ past) i time (length (told ∷ past)) query tidy (λ is. may-of_some (may_ask i (entry ∷ past)) _ is)
     ∙ ap (λ q. put line time q w) same
 
--- notices behind those that wait
+-- more notices, appended to those of which some wait
 waiting-append : (n : ℕ) (before more : List Notice) → n ≤ length before → drop n (before ++ more) ≡ drop n before ++ more
 waiting-append n before more less = drop-append-le n before more less
 
--- The end of an event: the content after it is what the machine makes of the content before it ends.
+-- The end of an event: the content after it is what `settled` makes of the content before the end.
 pub settled-law : (configuration : Configuration) (past : List Entry) (event : Event) →
     ((i : ℕ) → IsTidy configuration i (told_entry configuration past event ∷ past)) →
     notices_taken past ≤ length (notices past) → taken_notice event (notices_taken past) ≡ notices_taken past →

@@ -1,4 +1,4 @@
--- One query is outstanding on a link at most, and it is answered only once all its bytes are taken.
+-- At most one query is outstanding on a link, and it is answered only once all its bytes are taken.
 use Rattle.std.proofs.Common.{◌≡◌, ℕ, ◌≤◌, true, false, ◌&&◌, ◌⊎◌, inl, inr, eqb, List, [], ◌∷◌, length, drop, refl, sym, ◌∙◌, ap, arith, Option, Some, None, is_some, is_none, if◌then◌else◌, length-append, length-drop}
 use Rattle.std.proofs.lemmas.Bool.{eq-eqb, eqb-true, and_parts}
 use Rattle.nut_words.specs.Lines.{LineText}
@@ -16,7 +16,7 @@ use Rattle.nut_monitor_spec.proofs.Apart.{IsApart, other-linked, other-queries, 
 use Rattle.nut_monitor_spec.proofs.Settled.{IsTidy, IsIdle, IsAsked, asked_by, told_entry, phase-same, may-of_some}
 use Rattle.nut_monitor_spec.proofs.Links.{IsAnswerOf, answer-cases}
 
--- what doesn't change stays tidy
+-- an event that changes neither the queries, the answers nor the bytes taken leaves a link tidy
 pub tidy-same : (configuration : Configuration) (i : ℕ) (entry : Entry) (past : List Entry) → linked i (entry ∷ past) ≡ linked i past → queries i (entry ∷ past) ≡ queries i past →
     answers i (entry ∷ past) ≡ answers i past → taken i (entry ∷ past) ≡ taken i past → IsTidy configuration i past → IsTidy configuration i (entry ∷ past)
 tidy-same configuration i entry past l q a t tidy there =
@@ -51,7 +51,7 @@ tidy-made configuration past i there =
       taken = ap (λ b. if b then 0 else taken i past) self ∙ sym (ap (λ b. length (joined_queries line (if b then [] else queries i past))) self);
     })
 
--- a link that is lost
+-- a link that was lost is tidy
 pub tidy-lost : (configuration : Configuration) (i : ℕ) (entry : Entry) (past : List Entry) → entry.lost ≡ Some i → IsTidy configuration i (entry ∷ past)
 tidy-lost configuration i entry past lost there =
     let gone : linked i (entry ∷ past) ≡ false =
@@ -59,7 +59,7 @@ tidy-lost configuration i entry past lost there =
     ∙ ap (λ b. if b then false else since_linked true i entry.event (linked i past)) (eq-eqb i i refl) in
     let e : true ≡ false = sym there ∙ gone in cc
 
--- a piece that is heard
+-- a link that heard a piece is tidy
 module _ (configuration : Configuration) (past : List Entry) (i : ℕ) (piece : List ℕ) (there : linked i past ≡ true)
     (tidy : IsIdle configuration i past ⊎ IsAsked configuration i past) where
   abbrev texts : List LineText
@@ -155,7 +155,7 @@ module _ (configuration : Configuration) (past : List Entry) (event : Event) (i 
   pub tidy-settled : IsTidy configuration i before → IsTidy configuration i full
   tidy-settled tidy there = as-tidy (put-tidy (queries_now i) may-now (tidy there))
 
-  -- and no other query may be put then
+  -- then no further query may be put
   still-by : (query : Option Query) → queries_now i ≡ query → IsTidy configuration i before → query_put configuration full i ≡ None
   still-by None none tidy =
       let line = line_in configuration.lines i in

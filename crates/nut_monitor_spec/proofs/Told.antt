@@ -1,4 +1,4 @@
--- A link that is there, and what waits on it, of every number: none is there of a number that no MONITOR line has.
+-- Which links are up and what waits on them, for every number: no link of a number that no MONITOR line has is up.
 use Rattle.std.proofs.Common.{◌≡◌, ℕ, ◌≤◌, Bool, true, false, eqb, List, [], ◌∷◌, length, drop, refl, sym, ◌∙◌, ap, arith, Option, Some, None, if◌then◌else◌, inl, inr}
 use Rattle.std.specs.Prelude.{nat_lt}
 use Rattle.std.proofs.lemmas.Bool.{cases_Bool, eqb-true, ltb-true, ltb-false}
@@ -20,14 +20,14 @@ none-there configuration events i past_end = by_found (watch_at i (content confi
   by_found None is = refl
   by_found (Some w) is = absurd (omega (arith, past_end, found_within i (watch configuration (trace configuration events)) configuration.lines w is))
 
--- an event that makes no link i leaves it away
+-- an event that doesn't make link i leaves it down
 away : (i : ℕ) (o : Option ℕ) (before : Bool) → before ≡ false → (if is_link i o then false else before) ≡ false
 away i o before is = by_test (is_link i o) where
   by_test : (b : Bool) → (if b then false else before) ≡ false
   by_test true = refl
   by_test false = is
 
--- link i after an event, by the event
+-- link i stays down if an event doesn't make it
 linked-after : (configuration : Configuration) (past : List Entry) (event : Event) (i : ℕ) → since_linked true i event (linked i past) ≡ false
     → linked i (entry_of configuration past event ∷ past) ≡ false
 linked-after configuration past event i is =

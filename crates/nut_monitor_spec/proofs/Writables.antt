@@ -68,7 +68,7 @@ tail_printing (w ∷ ws) h =
     list_all-append is_printing (32 ∷ word_text w) (tail ws)
     ∙ and_from (list_all is_printing (word_text w)) (list_all is_printing (tail ws)) (chosen_printing (stands_bare w) w h.0) (tail_printing ws h.1)
 
--- how long words are at most that are written behind a blank each
+-- a bound for the length of words when each is written behind a blank
 abbrev room : List (List ℕ) → ℕ
 room [] = 0
 room (w ∷ ws) = (2 * length w + 3) + room ws
@@ -96,7 +96,7 @@ text_length : (least most : ℕ) (w : List ℕ) → is_text least most w ≡ tru
 text_length least most w h =
     leb-true (length w) most (right_true (nat_le least (length w)) (nat_le (length w) most) (left_true (nat_le least (length w) && nat_le (length w) most) (list_all is_printing w) h))
 
--- a word of a request, from a text of the protocol
+-- a word of bytes 0x20 to 0x7E is printable
 word_printable : (w : List ℕ) → list_all is_printing w ≡ true → IsPrintable w
 word_printable [] h = tt
 word_printable (c ∷ w) h = (left_true (is_printing c) (list_all is_printing w) h, word_printable w (right_true (is_printing c) (list_all is_printing w) h))

@@ -6,8 +6,8 @@ use Rattle.nut_conf.specs.declared.users.Role.{Role}
 use Rattle.nut_conf.specs.declared.users.Role.TheVariants as roles
 use Rattle.nut_conf.specs.Upsmon.{min_supplies_of, poll_freq_of, dead_time_of, host_sync_of, final_delay_of, rb_warn_time_of, no_comm_warn_time_of}
 
--- A MONITOR line: the name of the UPS at its server, how many power supplies of this machine it feeds, the user and the
--- password, and whether this machine is its primary, which goes last.
+-- A MONITOR line: the name of the UPS at its server, how many power supplies of this machine it feeds, the user, the
+-- password, and whether this machine is the primary of the UPS, which shuts down last.
 pub record Line : Type 0 where
   pub ups : List ℕ
   pub power : ℕ
@@ -27,7 +27,7 @@ pub record Configuration : Type 0 where
   pub rb_warn_time : ℕ
   pub no_comm_warn_time : ℕ
 
--- what stands for the line of a number that there isn't
+-- what `line_in` gives for a number that no line has
 abbrev pub no_line : Line
 no_line = record { ups = []; power = 0; user = []; password = []; primary = false }
 
@@ -37,7 +37,7 @@ line_in [] i = no_line
 line_in (line ∷ lines) zero = line
 line_in (line ∷ lines) (suc i) = line_in lines i
 
--- whether this machine is the primary of a UPS
+-- whether this machine is the primary of at least one UPS
 abbrev pub has_primary : List Line → Bool
 has_primary [] = false
 has_primary (line ∷ lines) = line.primary || has_primary lines
@@ -55,7 +55,7 @@ line_of m = record {
   primary = is_primary m.role;
 }
 
--- what upsmon.conf says, where what isn't set has its default
+-- what upsmon.conf says; a value that isn't set has its default
 abbrev pub configuration_of : UpsmonConf → Configuration
 configuration_of c = record {
   lines = map line_of c.monitors.lines.items;

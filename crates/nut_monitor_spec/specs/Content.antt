@@ -1,4 +1,4 @@
--- What a monitor has to know of its past: its content. Two histories of the same content are answered alike.
+-- The content of a monitor: what it has to know of its past. Two histories with the same content are answered alike.
 use Rattle.std.specs.Prelude.{ℕ, suc, List, [], ◌∷◌, if◌then◌else◌, Option, Some, None}
 use Rattle.nut_words.specs.Lines.{rest}
 use Rattle.nut_link.specs.declared.exchange.Stage.{Stage}
@@ -15,14 +15,15 @@ use Rattle.nut_monitor_spec.specs.Event.{Event}
 use Rattle.nut_monitor_spec.specs.Query.{request}
 use Rattle.nut_monitor_spec.specs.Trace.{Asked, Entry, clock, moment_of, linked, input, outstanding, waits, last_query, known, begun, ended, trace, notices_waiting}
 
--- A MONITOR line: its link, while that is there; the last query on it since it was made; and what is known of the UPS.
+-- What is watched for a MONITOR line: its link if that is up, the last query since the link was last made, and what is
+-- known of the UPS.
 pub record Watch : Type 0 where
   pub link : Option LinkValue
   pub last : Option LastQuery
   pub known : Known
 
--- `begun` and `ended` are the moments at which the shutdown began and at which Final did, where they did; `notices` are
--- those that wait, the oldest first; and `watches` the MONITOR lines in the order of the file.
+-- `begun` and `ended` are the moments at which the shutdown and Final began, None before. `notices` are those that
+-- wait, the oldest first. `watches` has one watch for each MONITOR line, in the order of the file.
 pub record Content : Type 0 where
   pub configuration : Configuration
   pub clock : ℕ
@@ -31,13 +32,13 @@ pub record Content : Type 0 where
   pub notices : List Notice
   pub watches : List Watch
 
--- how far the exchange on a link is: a query of which these bytes wait, or none
+-- the stage of the exchange on a link: no query is outstanding, or one is, and these of its bytes wait
 abbrev pub stage_in : Line → Option Asked → List ℕ → Stage
 stage_in line None waits = stages.Idle
 stage_in line (Some asked) waits =
     stages.Asked (record { expected = expected (request line asked.query); waits = waits; rows = None })
 
--- what the past says of link i
+-- the link of line i as the past tells it
 abbrev pub link_at : Configuration → List Entry → ℕ → LinkValue
 link_at configuration past i = record {
   rest = rest (input i past);
@@ -54,7 +55,7 @@ watch configuration past i = record {
   known = known i past;
 }
 
--- this of each line, by its number
+-- the value of `of` for each line's number, in order
 abbrev pub for_each_line : {A : Type 0} → (ℕ → A) → List Line → List A
 for_each_line of [] = []
 for_each_line of (line ∷ lines) = of 0 ∷ for_each_line (λ i. of (suc i)) lines

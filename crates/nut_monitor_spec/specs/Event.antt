@@ -3,9 +3,9 @@ use Rattle.std.specs.Prelude.{ℕ, List}
 
 -- A link has the number of its MONITOR line, from 0 on.
 pub data Event : Type 0 where
-  -- it is t seconds since the start
+  -- t seconds have passed since the start
   Moment : (t : ℕ) → Event
-  -- link i is made: its server answers the call
+  -- link i is made: its server accepted the connection
   Linked : (i : ℕ) → Event
   -- a piece of the bytes that the server sends on link i
   LinkBytes : (i : ℕ) (piece : List ℕ) → Event
@@ -13,8 +13,8 @@ pub data Event : Type 0 where
   LinkLost : (i : ℕ) → Event
   -- the server took the first n of the bytes that wait on link i
   LinkTook : (i : ℕ) (n : ℕ) → Event
-  -- Such a piece, at which memory ran out behind the first k of the lines that it completes: those stand, and at the
-  -- next one the link is lost.
+  -- memory ran out at a piece of bytes on link i: the first k of the lines that it completes took effect, and at the
+  -- next one the link was lost
   OutOfMemory : (i : ℕ) (piece : List ℕ) (k : ℕ) → Event
-  -- the oldest of the notices that wait was taken
+  -- the oldest waiting notice was taken
   NoticeTaken : Event

@@ -4,17 +4,17 @@ use Rattle.nut_monitor_spec.specs.declared.Notice.{Notice}
 use Rattle.nut_monitor_spec.specs.Event.{Event, NoticeTaken}
 use Rattle.nut_monitor_spec.specs.Trace.{Entry, notices_waiting}
 
--- the notice that an event hands out of those that wait: the oldest, where one is taken
+-- the notices that an event hands out: the oldest one that waits if the event takes one, else none
 abbrev pub handed_by : Event → List Notice → List Notice
 handed_by NoticeTaken waiting = take 1 waiting
 handed_by event waiting = []
 
--- all that were handed out, the oldest first
+-- all notices that were handed out, the oldest first
 abbrev pub notices_handed : List Entry → List Notice
 notices_handed [] = []
 notices_handed (entry ∷ past) = notices_handed past ++ handed_by entry.event (notices_waiting past)
 
--- The history after the oldest notice was asked for: where one was handed out, that is its newest event.
+-- The history after the oldest notice was asked for. If one was handed out, its taking is the newest event.
 abbrev pub after_asking : Option Notice → List Event → List Event
 after_asking None events = events
 after_asking (Some notice) events = NoticeTaken ∷ events

@@ -1,4 +1,4 @@
--- How a monitor may answer an event, and the history that stands after it.
+-- How a monitor may answer an event, and the history and the content after that.
 use Rattle.std.specs.Prelude.{◌≡◌, ℕ, List, ◌∷◌, Option, Some, None, Result, Ok, Err}
 use Rattle.nut_words.specs.Lines.{lines_after}
 use Rattle.nut_link.specs.declared.exchange.Exchange.{Exchange}
@@ -10,7 +10,7 @@ use Rattle.nut_monitor_spec.specs.Event.{Event, LinkBytes, OutOfMemory}
 use Rattle.nut_monitor_spec.specs.Content.{Watch, Content}
 use Rattle.nut_monitor_spec.specs.Acceptance.{refusal, Accepts, watch_at}
 
--- Memory may run out on a link behind the first k of the lines that a piece completes.
+-- Memory may run out on a link behind the first k of the lines that a piece completes. Not on a link that isn't up.
 abbrev pub MayRunOut : ℕ → List ℕ → Option LinkValue → Type 0
 MayRunOut k piece None = ⊥
 MayRunOut k piece (Some v) = (after : Exchange) × RunsOut (lines_after v.rest piece) v.exchange k after
@@ -19,13 +19,13 @@ abbrev pub MayRunOutIn : ℕ → List ℕ → Option Watch → Type 0
 MayRunOutIn k piece None = ⊥
 MayRunOutIn k piece (Some w) = MayRunOut k piece w.link
 
--- Memory may run out in a piece alone, at a line that may take memory. All other events take none.
+-- Memory may run out only at a piece, on its link, at a line that may take memory. No other event takes any.
 abbrev pub MayLack : Content → Option ℕ → ℕ → Event → Type 0
 MayLack s (Some i) k (LinkBytes j piece) = (i ≡ j) × MayRunOutIn k piece (watch_at j s.watches)
 MayLack s link k event = ⊥
 
--- A monitor with this content may answer so: a refusal names the first test that refuses the event, and memory is lacking
--- only where no test does.
+-- A monitor with this content may refuse the event with this fault: it is the fault of the first test that refuses the
+-- event; or no test refuses it, and memory may run out there.
 abbrev pub IsRefusal : Content → Event → MonitorFault → Type 0
 IsRefusal s event (Memory link k) = (refusal s event ≡ None) × MayLack s link k event
 IsRefusal s event NoSuchLink = refusal s event ≡ Some NoSuchLink
@@ -39,14 +39,14 @@ abbrev pub IsAnswer : {U : Type 0} → Content → Event → Result U MonitorFau
 IsAnswer s event (Ok u) = Accepts s event
 IsAnswer s event (Err fault) = IsRefusal s event fault
 
--- ---- what stands after an answer
+-- ---- the history and the content after an answer
 
--- The event that stands in the history where memory ran out in a piece.
+-- The event that enters the history if memory ran out behind the first k lines of a piece.
 abbrev pub cut_short : ℕ → Event → Event
 cut_short k (LinkBytes i piece) = OutOfMemory i piece k
 cut_short k event = event
 
--- the history after a refusal: no other than a lack of memory changes it
+-- the history after a refusal: only a lack of memory changes it
 abbrev pub after_refusal : MonitorFault → Event → List Event → List Event
 after_refusal (Memory link k) event events = cut_short k event ∷ events
 after_refusal fault event events = events

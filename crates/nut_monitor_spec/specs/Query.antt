@@ -19,7 +19,7 @@ use Rattle.nut_monitor_spec.specs.declared.Query.TheVariants.{Username, Password
 use Rattle.nut_monitor_spec.specs.declared.StatusFlags.{StatusFlags}
 use Rattle.nut_monitor_spec.specs.Configuration.{Line}
 
--- the request of a query
+-- the request that a query sends
 abbrev pub request : Line → Query → Request
 request line Username = requests.Username line.user
 request line Password = requests.Password line.password
@@ -29,7 +29,7 @@ request line Status = requests.GetVar line.ups (codes "ups.status")
 request line Fsd = requests.Fsd line.ups
 request line NumLogins = requests.GetNumLogins line.ups
 
--- ---- how a line is the answer to a query
+-- ---- whether a line answers a query
 
 abbrev pub complete : Result Progress LinkFault → Option Outcome
 complete (Ok (Complete outcome)) = Some outcome
@@ -40,18 +40,19 @@ abbrev pub outcome_by : Request → Result Answer AnswerFault → Option Outcome
 outcome_by asked (Ok answer) = complete (progress (expected asked) None answer)
 outcome_by asked (Err fault) = None
 
--- What a line says as the answer to a request, where it reads and matches that.
+-- The outcome of a line as the answer to a request. None if it doesn't read as an answer, or not as one to this
+-- request.
 abbrev pub outcome_in : Request → LineText → Option Outcome
 outcome_in asked (Text text) = outcome_by asked (answer_in text)
 outcome_in asked TooLong = None
 
 -- ---- what an answer says
 
--- the words of a value, parted at blanks
+-- the words of a value, separated by blanks
 abbrev pub parted : List ℕ → List (List ℕ)
 parted value = slice_split (λ byte. byte == blank) value
 
--- the words of the status, where one is answered to the status query
+-- the words of the status, if this is the answer to the status query and has one
 abbrev pub status_in : Query → Outcome → Option (List (List ℕ))
 status_in Status (outcomes.Said (value ∷ more)) = Some (parted value)
 status_in query outcome = None
@@ -66,7 +67,7 @@ abbrev pub is_forced : Query → Outcome → Bool
 is_forced Fsd outcomes.Done = true
 is_forced query outcome = false
 
--- how many are logged in, where that is answered
+-- how many are logged in, if this is the answer to that query and has it
 abbrev pub logins_in : Query → Outcome → Option ℕ
 logins_in NumLogins (outcomes.Said (digits ∷ more)) = Some (decimal digits)
 logins_in query outcome = None
@@ -74,7 +75,7 @@ logins_in query outcome = None
 abbrev pub has : List ℕ → List (List ℕ) → Bool
 has word words = list_any (bytes_eq word) words
 
--- what the words of a status say
+-- the flags that the words of a status set
 abbrev pub flags_of : List (List ℕ) → StatusFlags
 flags_of words = record {
   on_line = has (codes "OL") words;

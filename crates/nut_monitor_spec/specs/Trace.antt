@@ -1,5 +1,5 @@
--- The past of a monitor: each event with what it brought, the newest first, and what the past says. Where a moment
--- matters, a look-back gives the past as it was then: a tail of the list.
+-- The past of a monitor: each event with what it brought, the newest first, and what the past says. To ask for a
+-- moment, a definition gives the past as it was then: a tail of the list.
 use Rattle.std.specs.Prelude.{ℕ, suc, ◌==◌, ◌+◌, max, nat_lt, Bool, true, false, not, ◌&&◌, if◌then◌else◌, List, [], ◌∷◌, ◌++◌, length, take, drop, Option, Some, None, is_some, is_none}
 use Rattle.std.specs.List.{list_any}
 use Rattle.std.specs.Option.{option_map}
@@ -20,21 +20,21 @@ use Rattle.nut_monitor_spec.specs.Event.{Event, Moment, Linked, LinkBytes, LinkL
 use Rattle.nut_monitor_spec.specs.Query.{request, outcome_in, status_in, is_forced, logins_in, flags_of}
 use Rattle.nut_monitor_spec.specs.Decision.{is_critical, power_where, each_primary, is_alone, is_calm, communication_then, told, shutdown_told, when, answer_notices, loss_notices, tells_silence, phase_at, is_over_by, next_query}
 
--- A query that was put on a link: at which moment, and at the end of which event, counted from 1.
+-- A query that was put on a link, with the moment, and the number of the event at whose end it was put, counted from 1.
 pub record Asked : Type 0 where
   pub query : Query
   pub moment : ℕ
   pub event : ℕ
 
--- the answer that a query on a link was given
+-- the outcome of a query on a link
 pub record Answer : Type 0 where
   pub link : ℕ
   pub asked : Asked
   pub outcome : Outcome
 
--- An event, the answer that it completed, the link that it lost, the queries that were put at its end, link by link, and
--- what it told, in order. It completes no more than one answer: one query is outstanding on a link, and the next is put
--- at the end of an event.
+-- An event, the answer that it completed, the link that it lost, the query that was put on each link at its end, and
+-- the notices that it gave, in order. An event completes at most one answer: only one query is outstanding on a link,
+-- and the next is put only at the end of an event.
 pub record Entry : Type 0 where
   pub event : Event
   pub answer : Option Answer
@@ -42,20 +42,20 @@ pub record Entry : Type 0 where
   pub put : ℕ → Option Query
   pub notices : List Notice
 
--- ---- words on pasts
+-- ---- functions on pasts
 
--- the past when the newest entry came that passes the test, which sees the entry and what came before it; empty where
--- none passes
+-- the past as it was when the newest entry came that passes the test; empty if none passes. The test sees an entry and
+-- the past before it.
 abbrev pub latest : (Entry → List Entry → Bool) → List Entry → List Entry
 latest test [] = []
 latest test (entry ∷ past) = if test entry past then entry ∷ past else latest test past
 
--- the first of two pasts in which anything came
+-- the first of two pasts if it isn't empty, else the second
 abbrev pub or_else : List Entry → List Entry → List Entry
 or_else [] other = other
 or_else (entry ∷ past) other = entry ∷ past
 
--- the past when it first passed the test; empty where it never did
+-- the past when it first passed the test; empty if it never did
 abbrev pub earliest : (List Entry → Bool) → List Entry → List Entry
 earliest test [] = []
 earliest test (entry ∷ past) = or_else (earliest test past) (if test (entry ∷ past) then entry ∷ past else [])
@@ -64,7 +64,7 @@ abbrev pub is_any : List Entry → Bool
 is_any [] = false
 is_any (entry ∷ past) = true
 
--- the element that has this many older ones
+-- the element that has this many older ones, in a list with the newest first
 abbrev pub number : {X : Type 0} → ℕ → List X → Option X
 number n [] = None
 number n (x ∷ xs) = if length xs == n then Some x else number n xs
@@ -81,7 +81,7 @@ abbrev pub clock : List Entry → ℕ
 clock [] = 0
 clock (entry ∷ past) = clock_after entry.event (clock past)
 
--- the time of a past, where anything came
+-- the time of a past that isn't empty
 abbrev pub moment_of : List Entry → Option ℕ
 moment_of [] = None
 moment_of (entry ∷ past) = Some (clock (entry ∷ past))
@@ -92,12 +92,12 @@ abbrev pub is_link : ℕ → Option ℕ → Bool
 is_link i None = false
 is_link i (Some j) = j == i
 
--- What an event leaves of something that is known of link i since it was made: it begins anew there.
+-- What an event leaves of a value that is counted anew on link i each time the link is made.
 abbrev pub since_linked : {A : Type 0} → A → ℕ → Event → A → A
 since_linked start i (Linked j) before = if j == i then start else before
 since_linked start i event before = before
 
--- whether link i is there: it was made, and not lost since
+-- whether link i is up: it was made, and not lost since
 abbrev pub linked : ℕ → List Entry → Bool
 linked i [] = false
 linked i (entry ∷ past) = if is_link i entry.lost then false else since_linked true i entry.event (linked i past)
@@ -139,7 +139,7 @@ abbrev pub answers : ℕ → List Entry → List Answer
 answers i [] = []
 answers i (entry ∷ past) = answered_in i entry.answer (since_linked [] i entry.event (answers i past))
 
--- the query whose answer is still to come: the next line answers it
+-- the query whose answer is still to come: the oldest without an answer
 abbrev pub outstanding : ℕ → List Entry → Option Asked
 outstanding i past = number (length (answers i past)) (queries i past)
 
@@ -155,16 +155,16 @@ last_in (asked ∷ older) = Some (record { query = asked.query; moment = asked.m
 abbrev pub last_query : ℕ → List Entry → Option LastQuery
 last_query i past = last_in (queries i past)
 
--- these queries of a line, joined
+-- the bytes of these queries of a line, joined, the oldest first
 abbrev pub joined_queries : Line → List Asked → List ℕ
 joined_queries line [] = []
 joined_queries line (asked ∷ older) = joined_queries line older ++ request_line (request line asked.query)
 
--- all that the server is to be sent on link i since it was made
+-- all bytes that the server is to be sent on link i since it was made
 abbrev pub due : Configuration → ℕ → List Entry → List ℕ
 due configuration i past = joined_queries (line_in configuration.lines i) (queries i past)
 
--- what it was sent of that, and what still waits for it; nothing once the link is lost
+-- the bytes of these that the server took, and those that still wait for it; none wait once the link is lost
 abbrev pub sent : Configuration → ℕ → List Entry → List ℕ
 sent configuration i past = take (taken i past) (due configuration i past)
 
@@ -173,7 +173,7 @@ waits configuration i past = if linked i past then drop (taken i past) (due conf
 
 -- ---- what is known of a UPS
 
--- whether an answer of link i passes the test, by its query and outcome
+-- whether an answer belongs to link i and passes the test, by its query and outcome
 abbrev pub gives : (Query → Outcome → Bool) → ℕ → Option Answer → Bool
 gives test i None = false
 gives test i (Some answer) = answer.link == i && test answer.asked.query answer.outcome
@@ -181,7 +181,7 @@ gives test i (Some answer) = answer.link == i && test answer.asked.query answer.
 abbrev pub gives_status : ℕ → Option Answer → Bool
 gives_status i answer = gives (λ query outcome. is_some (status_in query outcome)) i answer
 
--- the past when the last status of line i came
+-- the past when the last status of line i came; empty if none came
 abbrev pub at_status : ℕ → List Entry → List Entry
 at_status i past = latest (λ entry before. gives_status i entry.answer) past
 
@@ -197,7 +197,7 @@ newest_answer (entry ∷ past) = entry.answer
 abbrev pub status : ℕ → List Entry → Option (List (List ℕ))
 status i past = status_of_answer (newest_answer (at_status i past))
 
--- the moment of the last status, 0 where there is none
+-- the moment of the last status, 0 if there is none
 abbrev pub polled : ℕ → List Entry → ℕ
 polled i past = clock (at_status i past)
 
@@ -205,8 +205,8 @@ abbrev pub are_calm : Option (List (List ℕ)) → Bool
 are_calm None = false
 are_calm (Some words) = is_calm words
 
--- The past when the last status came that wasn't both OB and LB, and where there is none when the first status came. The first is
--- older than all others, so the newest of these is the one.
+-- The past when the last status came that wasn't both OB and LB; if there is none, the past when the first status came.
+-- The first is older than all others, so the newest of these is the one.
 abbrev pub at_calm : ℕ → List Entry → List Entry
 at_calm i past =
     latest (λ entry before. gives_status i entry.answer && (if is_any (at_status i before) then are_calm (status_of_answer entry.answer) else true)) past
@@ -214,7 +214,7 @@ at_calm i past =
 abbrev pub calm : ℕ → List Entry → ℕ
 calm i past = clock (at_calm i past)
 
--- communication after an event: an answer first, and then the loss of the link
+-- communication after an answer, if it belongs to line i; `communication` lets the loss of the link follow
 abbrev pub communication_after : ℕ → Option Answer → Communication → Communication
 communication_after i None before = before
 communication_after i (Some answer) before =
@@ -225,7 +225,7 @@ communication i [] = Never
 communication i (entry ∷ past) =
     if is_link i entry.lost then Bad else communication_after i entry.answer (communication i past)
 
--- whether a notice is of this kind, and of the UPS of line i
+-- whether a notice is REPLBATT for the UPS of line i
 abbrev pub is_replace : ℕ → Notice → Bool
 is_replace i notice = is_kind notice.kind && is_link i notice.line
   where
@@ -233,6 +233,7 @@ is_replace i notice = is_kind notice.kind && is_link i notice.line
     is_kind kinds.Replbatt = true
     is_kind kind = false
 
+-- whether a notice is NOCOMM for the UPS of line i
 abbrev pub is_silence : ℕ → Notice → Bool
 is_silence i notice = is_kind notice.kind && is_link i notice.line
   where
@@ -240,7 +241,7 @@ is_silence i notice = is_kind notice.kind && is_link i notice.line
     is_kind kinds.Nocomm = true
     is_kind kind = false
 
--- when the last such notice was given
+-- the moment of the last notice that passes the test
 abbrev pub told_at : (Notice → Bool) → List Entry → Option ℕ
 told_at test past = moment_of (latest (λ entry before. list_any test entry.notices) past)
 
@@ -248,7 +249,7 @@ told_at test past = moment_of (latest (λ entry before. list_any test entry.noti
 abbrev pub forced : ℕ → List Entry → Bool
 forced i past = is_any (latest (λ entry before. gives is_forced i entry.answer) past)
 
--- the last number of logins that was answered for line i
+-- the number of logins in the last answer for line i that gave one
 abbrev pub logins_of_answer : Option Answer → Option ℕ
 logins_of_answer None = None
 logins_of_answer (Some answer) = logins_in answer.asked.query answer.outcome
@@ -276,31 +277,31 @@ abbrev pub critical : Configuration → ℕ → List Entry → Bool
 critical configuration i past =
     is_critical configuration (line_in configuration.lines i) (clock past) (calm i past) (polled i past) (option_map flags_of (status i past))
 
--- the power values of the lines whose UPS isn't critical, summed
+-- the sum of the power values of the lines whose UPS isn't critical
 abbrev pub supply : Configuration → List Entry → ℕ
 supply configuration past = power_where (λ i. not (critical configuration i past)) configuration.lines
 
--- the supply is too small
+-- the supply is less than MINSUPPLIES
 abbrev pub is_short : Configuration → List Entry → Bool
 is_short configuration past = nat_lt (supply configuration past) configuration.min_supplies
 
--- the past when the shutdown began: when the supply was first too small, at the end of an event. Empty before
+-- the past when the shutdown began: at the end of the first event after which the supply was too small. Empty before
 abbrev pub begun : Configuration → List Entry → List Entry
 begun configuration past = earliest (is_short configuration) past
 
 abbrev pub has_begun : Configuration → List Entry → Bool
 has_begun configuration past = is_any (begun configuration past)
 
--- nobody else is logged in where this machine is the primary, by the last answer for each of these lines
+-- nobody else is logged in to any UPS of which this machine is the primary, by the last answer for each of these lines
 abbrev pub alone : Configuration → List Entry → Bool
 alone configuration past = each_primary (λ i. is_alone (logins i past)) configuration.lines
 
--- whether Forcing is over; where no line is primary, it is over when it begins
+-- Whether Forcing is over. If no line is primary, it is over as soon as it begins.
 abbrev pub is_over_at : Configuration → List Entry → Bool
 is_over_at configuration past =
     is_over_by configuration (clock past) (alone configuration past) (moment_of (begun configuration past))
 
--- the past when Final began. Empty before
+-- the past when Final began: at the end of the first event after which Forcing was over. Empty before
 abbrev pub ended : Configuration → List Entry → List Entry
 ended configuration past = earliest (is_over_at configuration) past
 
@@ -321,7 +322,7 @@ abbrev pub answered : ℕ → Asked → Option Outcome → Option Answer
 answered i asked None = None
 answered i asked (Some outcome) = Some (record { link = i; asked = asked; outcome = outcome })
 
--- A line answers the outstanding query where all bytes of that are taken.
+-- A line answers the outstanding query if it matches that, and if the server took all bytes of the query.
 abbrev pub answer_to : Line → ℕ → Option Asked → Bool → LineText → Option Answer
 answer_to line i None taken text = None
 answer_to line i (Some asked) taken text = answered i asked (if taken then outcome_in (request line asked.query) text else None)
@@ -330,7 +331,7 @@ answer_to line i (Some asked) taken text = answered i asked (if taken then outco
 abbrev pub all_taken : Configuration → ℕ → List Entry → Bool
 all_taken configuration i past = length (waits configuration i past) == 0
 
--- The first of the lines that an event brings may be an answer.
+-- The first line that an event brings may be an answer, no later one.
 abbrev pub first_answer : Configuration → List Entry → ℕ → List LineText → Option Answer
 first_answer configuration past i [] = None
 first_answer configuration past i (text ∷ texts) =
@@ -341,7 +342,7 @@ answer_of configuration past (LinkBytes i piece) = first_answer configuration pa
 answer_of configuration past (OutOfMemory i piece k) = first_answer configuration past i (take k (brought i past piece))
 answer_of configuration past event = None
 
--- A line that is no answer is the loss of its link, and so is one behind an answer: no query is outstanding there.
+-- A line that is no answer loses its link. So does any line behind an answer: no query is outstanding there.
 abbrev pub lost_by : ℕ → Option Answer → List LineText → Option ℕ
 lost_by i answer [] = None
 lost_by i None (text ∷ texts) = Some i
@@ -354,7 +355,7 @@ lost_of answer past (OutOfMemory i piece k) = Some i
 lost_of answer past (LinkLost i) = Some i
 lost_of answer past event = None
 
--- the event with what it brought, before anything is put or told
+-- the event with its answer and the link that it lost, before queries are put and notices given
 abbrev pub came : Configuration → List Entry → Event → Entry
 came configuration past event = record {
   event = event;
@@ -364,7 +365,7 @@ came configuration past event = record {
   notices = [];
 }
 
--- ---- what is told
+-- ---- which notices are given
 
 abbrev pub notices_of_answer : Configuration → List Entry → ℕ → Option Answer → List Notice
 notices_of_answer configuration past time None = []
@@ -375,7 +376,7 @@ abbrev pub notices_of_loss : List Entry → Option Answer → Option ℕ → Lis
 notices_of_loss past answer None = []
 notices_of_loss past answer (Some i) = loss_notices i (communication_after i answer (communication i past))
 
--- at a moment, line by line from number i on
+-- the NOCOMM notices of a moment, line by line from number i on
 abbrev pub silences : Configuration → List Entry → ℕ → ℕ → List Line → List Notice
 silences configuration past time i [] = []
 silences configuration past time i (line ∷ lines) =
@@ -386,7 +387,7 @@ abbrev pub notices_of_moment : Configuration → List Entry → ℕ → Event �
 notices_of_moment configuration past time (Moment t) = silences configuration past time 0 configuration.lines
 notices_of_moment configuration past time event = []
 
--- The notices of an event, in their order. Once the shutdown has begun only SHUTDOWN is given, as Final begins.
+-- The notices of an event, in order. Once the shutdown has begun, only SHUTDOWN is given, when Final begins.
 abbrev pub notices_of : Configuration → List Entry → Entry → List Notice
 notices_of configuration past entry =
     (if has_begun configuration past then []
@@ -395,7 +396,7 @@ notices_of configuration past entry =
     ++ notices_of_moment configuration past (clock (entry ∷ past)) entry.event)
     ++ when (has_ended configuration (entry ∷ past) && not (has_ended configuration past)) shutdown_told
 
--- the query that is put on link i at the end of the newest event
+-- the query that is put on link i at the end of the newest event, if any
 abbrev pub query_put : Configuration → List Entry → ℕ → Option Query
 query_put configuration past i =
     next_query configuration (line_in configuration.lines i) (clock past) (phase configuration past)
@@ -409,7 +410,7 @@ entry_of configuration past event =
       notices = notices_of configuration past entry;
     }
 
--- Each event with what it brought: that depends on the past before it.
+-- Each event with what it brought, which depends on the past before it.
 abbrev pub trace : Configuration → List Event → List Entry
 trace configuration [] = []
 trace configuration (event ∷ events) =
@@ -422,7 +423,7 @@ abbrev pub notices : List Entry → List Notice
 notices [] = []
 notices (entry ∷ past) = notices past ++ entry.notices
 
--- how many were taken
+-- how many notices were taken
 abbrev pub taken_notice : Event → ℕ → ℕ
 taken_notice NoticeTaken before = before + 1
 taken_notice event before = before
@@ -431,6 +432,6 @@ abbrev pub notices_taken : List Entry → ℕ
 notices_taken [] = 0
 notices_taken (entry ∷ past) = taken_notice entry.event (notices_taken past)
 
--- those that wait
+-- the notices that wait, the oldest first
 abbrev pub notices_waiting : List Entry → List Notice
 notices_waiting past = drop (notices_taken past) (notices past)

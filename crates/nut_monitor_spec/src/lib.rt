@@ -1,5 +1,5 @@
 //! What a monitor of UPSes is told and what it decides (upsmon(8)): definitions, and the laws that tie the machine of a
-//! monitor to the events that it was told.
+//! monitor to the history of its events.
 #![tactic(auto)]
 
 ghost use Rattle.nut_monitor_spec.specs.machine.Machine.{KeepsContent};
@@ -12,7 +12,7 @@ pub use limits::{NOTICES_MAX, notice_limits};
 use nut_conf::Notice as NoticeKind;
 use thiserror::Error;
 
-/// What the words of a UPS's `ups.status` say, as far as a monitor goes by them.
+/// The flags in a UPS's `ups.status` that a monitor acts on.
 #[derive(Clone, Copy, Debug, PartialEq, Eq)]
 pub struct StatusFlags {
     /// `OL`
@@ -29,18 +29,18 @@ pub struct StatusFlags {
     pub calibrating: bool,
 }
 
-/// Whether a UPS's status can be had.
+/// Whether the status of a UPS is available.
 #[derive(Clone, Copy, Debug, PartialEq, Eq)]
 pub enum Communication {
-    /// No status came yet, and nothing was lost.
+    /// No status query was answered or refused yet, and no link was lost.
     Never,
-    /// The last question for its status was answered by one.
+    /// The last status query was answered by a status, and the link wasn't lost since.
     Good,
-    /// The last question for its status was refused, or the link was lost since.
+    /// The last status query was refused, or the link was lost since.
     Bad,
 }
 
-/// What a monitor asks its server on the link of a MONITOR line.
+/// What a monitor asks its server on the link of a MONITOR line (RFC 9271, section 4).
 #[derive(Clone, Copy, Debug, PartialEq, Eq)]
 pub enum Query {
     /// `USERNAME user`
@@ -59,135 +59,145 @@ pub enum Query {
     NumLogins,
 }
 
-/// The last query on a link, and the moment at which it was put.
+/// The last query on a link, and the moment at which it was put, in seconds since the start.
 #[derive(Clone, Copy, Debug, PartialEq, Eq)]
 pub struct LastQuery {
     pub query: Query,
     pub moment: u64,
 }
 
-/// What is known of the UPS of a MONITOR line. Moments are seconds since the start.
+/// What is known of the UPS of a MONITOR line. Moments are in seconds since the start.
 #[derive(Clone, Copy, Debug, PartialEq, Eq)]
 pub struct Known {
-    /// What the last status says, where there is one.
+    /// The flags of the last status, if there was one.
     pub flags: Option<StatusFlags>,
-    /// The moment of the last status, 0 where there is none.
+    /// The moment of the last status, 0 if there was none.
     pub polled: u64,
-    /// The moment of the last status without both OB and LB, and where there is none that of the first status.
+    /// The moment of the last status without both OB and LB; if there is none, the moment of the first status.
     pub calm: u64,
     pub communication: Communication,
-    /// The moment of the last notice that the battery needs to be replaced.
+    /// The moment of the last REPLBATT notice: the battery needs to be replaced.
     pub replace_told: Option<u64>,
-    /// The moment of the last notice that the UPS is unavailable.
+    /// The moment of the last NOCOMM notice: the UPS is unavailable.
     pub silence_told: Option<u64>,
-    /// Whether its FSD was answered OK.
+    /// Whether an FSD for it was answered OK.
     pub forced: bool,
-    /// How many were logged in to it, by the last answer.
+    /// The number of clients logged in to it, by the last answer.
     pub logins: Option<u32>,
 }
 
-/// A notice.
+/// A notice to the administrator (NOTIFYFLAG in upsmon.conf(5)).
 #[derive(Clone, Copy, Debug, PartialEq, Eq)]
 pub struct Notice {
     pub kind: NoticeKind,
-    /// The number of the MONITOR line whose UPS it is of, from 0 on; none for SHUTDOWN.
+    /// The number of the MONITOR line of the UPS that it is about, from 0 on; `None` for SHUTDOWN.
     pub line: Option<usize>,
 }
 
-/// How far a shutdown is.
+/// How far a shutdown has come.
 #[derive(Clone, Copy, Debug, PartialEq, Eq)]
 pub enum Phase {
-    /// There is none.
+    /// No shutdown has begun.
     Watching,
-    /// A primary waits until the others are gone.
+    /// A primary waits until all other clients have logged out, or until HOSTSYNC has passed.
     Forcing,
-    /// It was told, and FINALDELAY passes.
+    /// SHUTDOWN was given, and FINALDELAY passes.
     Final,
-    /// The machine is to be halted. `flag` tells whether a MONITOR line is primary, so that the UPS is to be told to
-    /// cut its power.
+    /// The machine has to be halted. `flag` says whether a MONITOR line is primary: then the UPS has to be told to cut
+    /// its power.
     Halted { flag: bool },
 }
 
-/// Why an event isn't accepted. All but `Memory` change nothing.
+/// Why an event is refused. All faults but `Memory` leave the monitor unchanged.
 #[derive(Clone, Copy, Debug, PartialEq, Eq, Error)]
 pub enum MonitorFault {
     /// No MONITOR line has this number.
     #[error("no such link")]
     NoSuchLink,
-    /// The link isn't there, or for `Linked` is there already.
+    /// The link isn't up; for `Linked`, it is up already.
     #[error("the link is in the wrong state")]
     WrongLinkState,
     /// The piece has more than [`PIECE_MAX`](nut_words::PIECE_MAX) bytes.
     #[error("the piece is too long")]
     PieceTooLong,
-    /// More bytes were taken than wait.
+    /// The server is said to have taken more bytes than wait on the link.
     #[error("more was taken than waits")]
     TooMuchTaken,
-    /// A notice waits: it has to be taken first.
+    /// A notice waits and has to be taken first.
     #[error("a notice waits")]
     Busy,
-    /// Memory was refused: in a piece of this link, at the line behind so many that were done. Those stand, and the
-    /// link is lost. Where a monitor is made there is no link, and no monitor.
+    /// Memory could not be allocated at a piece on `link`. The first `lines` lines that the piece completes took
+    /// effect; at the next one the link was lost. When a monitor is made, `link` is `None`, and there is no monitor.
     #[error("out of memory")]
     Memory { link: Option<usize>, lines: usize },
 }
 
-/// The machine that a monitor runs keeps what its answers depend on, for every history of accepted events.
+/// States a law and does nothing when called: the machine keeps the content of every history of accepted events: a step
+/// needs the content and not the past.
 pub fn machine_keeps_content()
     ensures { KeepsContent }
 {}
 
-/// Whatever a monitor may answer to an event, what it has then is the content of the history after it.
+/// States a law and does nothing when called: whatever a monitor may answer to an event, its content afterwards is the
+/// content of the history after that answer.
 pub fn answers_keep_content()
     ensures { AnswersKeepContent }
 {}
 
-/// A link is there exactly where it was made and not lost since.
+/// States a law and does nothing when called: a link is up in the content exactly if it was made and not lost since.
 pub fn linked_is_made()
     ensures { LinkedIsMade }
 {}
 
-/// What waits on a link is what is left of the queries that were put on it since it was made, joined.
+/// States a law and does nothing when called: what waits on a link is what the server hasn't taken of the queries put
+/// on it since it was made, joined; nothing if the link isn't up.
 pub fn waiting_is_left()
     ensures { WaitingIsLeft }
 {}
 
-/// The same of every number, also of one that no MONITOR line has, after every history of accepted events.
+/// States a law and does nothing when called: `linked_is_made` and `waiting_is_left` for every number, also for one
+/// that no MONITOR line has, after every history of accepted events.
 pub fn links_are_told()
     ensures { LinksAreTold }
 {}
 
-/// What the server was sent on a link that is there, and then what waits on it, is the queries put on it, joined.
+/// States a law and does nothing when called: on a link that is up, the bytes that the server took, followed by those
+/// that wait, are the queries put on it since it was made, joined.
 pub fn sent_and_waiting_is_due()
     ensures { SentAndWaitingIsDue }
 {}
 
-/// A shutdown that has begun isn't taken back, nor does its end begin anew.
+/// States a law and does nothing when called: once the shutdown has begun, the moment of its beginning never changes;
+/// nor does that of Final once that has begun.
 pub fn shutdown_stays()
     ensures { ShutdownStays }
 {}
 
-/// The answers on a link are those to its queries in turn: each has its answer but the newest, which may have none.
+/// States a law and does nothing when called: the answers on a link that is up belong to its queries in turn: each
+/// query but the newest has its answer, and the newest may have none.
 pub fn answers_come_in_turn()
     ensures { AnswersComeInTurn }
 {}
 
-/// An accepted event of a link changes nothing that is known of another line's UPS.
+/// States a law and does nothing when called: an accepted event of a link changes nothing that is known of another
+/// line's UPS.
 pub fn others_stay()
     ensures { OthersStay }
 {}
 
-/// A query is put only on a link that is there and on which none is outstanding.
+/// States a law and does nothing when called: a query is put only on a link that is up and has no outstanding query.
 pub fn queries_come_alone()
     ensures { QueriesComeAlone }
 {}
 
-/// How many are logged in to a UPS is asked only once its FSD was answered OK.
+/// States a law and does nothing when called: GET NUMLOGINS is put only once an FSD for the UPS was answered OK, and
+/// only if this machine is its primary.
 pub fn logins_follow_fsd()
     ensures { LoginsFollowFsd }
 {}
 
-/// However an unfinished line is cut into pieces, the content is the same.
+/// States a law and does nothing when called: a piece that completes no line, and then another piece, lead to the same
+/// content as both pieces joined in one.
 pub fn cuts_do_not_matter()
     ensures { CutsDoNotMatter }
 {}
@@ -204,13 +214,14 @@ pub fn notices_are_few()
     ensures { NoticesAreFew }
 {}
 
-/// The notices that were handed out, and then those that wait, are all notices, in their order: none is lost, none comes
-/// twice, and each one handed out was the oldest.
+/// States a law and does nothing when called: the notices handed out, followed by those that wait, are all notices in
+/// their order: none is lost, none comes twice, and each one handed out was the oldest.
 pub fn notices_come_in_order()
     ensures { NoticesComeInOrder }
 {}
 
-/// What is told, asked, decided and refused in some runs, computed from the definitions.
+/// States worked examples and does nothing when called: what is told, asked, decided and refused in some runs, computed
+/// from the definitions.
 pub fn worked_examples()
     ensures primaries { PrimaryExamples }
     ensures secondaries { SecondaryExamples }

@@ -27,7 +27,7 @@ turned-log m k s e before later first then_log last ok one two was is moved =
     ∙ ap (λ x. logged k (map (Noticed m) (advance s e).notices ++ x)) (sym moved ∙ ap (λ p. turned m p later) was ∙ ap (turned m (phase_of s)) is)
     ∙ sym (ap (λ b. logged k (told_news (if b then Inform m e else Skip) s)) (ap is_none ok)))
 
--- a link that isn't there is made, where there is such a line
+-- a link that is down may be made, if there is such a line
 pub link-free : (s : Content) (i : ℕ) → i < length s.watches → linked_by s i ≡ false → refusal s (Linked i) ≡ None
 link-free s i lt cut = at s.watches i lt cut
   where
@@ -39,7 +39,7 @@ link-free s i lt cut = at s.watches i lt cut
     at (w ∷ ws) zero lt e = of w e
     at (w ∷ ws) (suc j) lt e = at ws j (omega arith) e
 
--- the server takes no more than waits on a link that is there
+-- the server may take as many bytes as wait on a link that is up
 pub took-fits : (s : Content) (i n : ℕ) → linked_by s i ≡ true → n ≤ length (waits_by s i) → refusal s (LinkTook i n) ≡ None
 took-fits s i n up le = by (watch_at i s.watches) up le
   where

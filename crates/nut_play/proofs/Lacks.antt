@@ -1,4 +1,4 @@
--- Where memory may be lacking.
+-- At which steps memory may be lacking.
 use Rattle.std.proofs.Common.{◌≡◌, ◌<◌, ◌++◌, ℕ, Bool, true, false, ◌||◌, List, [], ◌∷◌, length, map, Option, Some, None, is_none, Result, Ok, Err, OnErr, is_err, refl, sym, ◌∙◌, ap, arith}
 use Rattle.std.specs.Prelude.{IsTrue, if◌then◌else◌}
 use Rattle.nut_server_spec.specs.declared.Place.{Place}

@@ -1,4 +1,4 @@
--- A fleet that is that of a world goes on as the world does.
+-- A fleet that is that of a world continues as the world does.
 use Rattle.std.proofs.Common.{◌≡◌, ℕ, zero, suc, Bool, true, false, ◌&&◌, List, [], ◌∷◌, ◌++◌, length, map, slice_get, slice_index_or, refl, sym, ◌∙◌, ap, subst}
 use Rattle.std.specs.Prelude.{nat_lt}
 use Rattle.std.specs.List.{AllByRecursion}
@@ -71,7 +71,7 @@ module _ (setup : Setup) (w : World) (k : Kept) (is : IsFleet setup w k) where
       ∙ ap (λ n. nat_lt m (length setup.monitors) && nat_lt i (length (monitor_of setup m).lines) && nat_lt i n) (watches m)
       ∙ twice (nat_lt m (length setup.monitors)) (nat_lt i (length (monitor_of setup m).lines))
 
-  -- a fleet plays the steps that may be played in its world
+  -- the same steps fit a fleet and its world
   pub same-fit : (step : Step) → fits k step ≡ is_fit setup step
   same-fit (ServerClock t) = refl
   same-fit (MonitorClock m t) = ap (nat_lt m) seats
@@ -86,7 +86,7 @@ module _ (setup : Setup) (w : World) (k : Kept) (is : IsFleet setup w k) where
   same-fit (CutServer m i) = same-link_there m i
   same-fit (CutMonitor m i) = same-link_there m i
 
--- ---- what a step leaves as it was
+-- ---- what a step leaves unchanged
 
 abbrev config_of : Seat → Configuration
 config_of seat = configuration_of seat.monitor.config
@@ -164,7 +164,7 @@ module _ (setup : Setup) (before : List Step) (k : Kept) (go : (schedule : List 
 
 -- ---- the monitors of a fleet
 
--- they were read from files, so that the laws hold of them
+-- the monitors were read from files, so the laws hold of them
 pub monitors-fine : ConfigurationsAreSpoken → (seats : List Seat) (monitors : List Configuration) → map config_of seats ≡ monitors → AllByRecursion IsMonitor monitors
 monitors-fine spoken [] monitors is = subst (AllByRecursion IsMonitor) is tt
 monitors-fine spoken (seat ∷ seats) monitors is =

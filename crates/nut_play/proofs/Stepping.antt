@@ -42,7 +42,7 @@ same-keeps setup w f g same keeps = record {
   link = λ m i there. subst (λ x. KeepsLink setup m i (w.connection m i) w.server (w.monitor m) x) (sym (same.link m i)) (keeps.link m i there);
 }
 
--- what is put where it was
+-- a function with its own value put back
 same-for : {A : Type 0} (m : ℕ) (f : ℕ → A) (n : ℕ) → for_monitor m (f m) f n ≡ f n
 same-for m f n = elim (cases_eq n m) [
   | inl same ↦ subst (λ x. for_monitor m (f m) f x ≡ f x) (sym same) (for-own m (f m) f)
@@ -126,7 +126,7 @@ module _ (k : Kept) (m : ℕ) (x : Seat) (is : slice_get k.seats m ≡ Some x) w
 abbrev Goes : Kept → Step → Type 0
 Goes k step = IsSame (fleet_of (next k step)) (moved_on (fleet_of k) step) × (told_at k step ≡ news_seen (fleet_of k) step)
 
--- the server alone is told something
+-- only the server is told something
 told-goes : (k : Kept) (step : Step) (event : arrivals.Event) → ((e : arrivals.Event) → moved_by (fleet_of k) (Tell e) step ≡ told_on e (fleet_of k)) →
     IsSame (fleet_of (told_to k event)) (moved_by (fleet_of k) (tell_by k.server event) step)
     × (told_if (is_played (tell_by k.server event)) [] ≡ news_by (fleet_of k) (tell_by k.server event))
@@ -137,7 +137,7 @@ told-goes k step event only =
     (subst (λ g. IsSame (told_on event (fleet_of k)) g) (sym (only event)) (same-self (told_on event (fleet_of k))), refl)
 
 module _ (k : Kept) (m : ℕ) (x : Seat) (is : slice_get k.seats m ≡ Some x) where
-  -- monitor m alone is told something
+  -- only monitor m is told something
   heard-goes : (step : Step) (event : events.Event) →
       (moved_by (fleet_of k) (Inform m event) step ≡ (let g : Fleet = record (fleet_of k) { monitor = for_monitor m (heard_by (Inform m event) ((fleet_of k).monitor m)) (fleet_of k).monitor } in g)) →
       IsSame (fleet_of (with_seat k m (hear_seat m event))) (moved_by (fleet_of k) (inform_by m (known_of k m) event) step)
@@ -165,7 +165,7 @@ module _ (k : Kept) (m : ℕ) (x : Seat) (is : slice_get k.seats m ≡ Some x) w
       )
 
   module _ (i : ℕ) (lt : i < length x.links) where
-    -- bytes reach the server
+    -- bytes arrive at the server
     reach-goes : (n : ℕ) → Goes k (Reach m i n)
     reach-goes n =
         let after : Deed → Fleet = λ d. record (fleet_of k) {
@@ -194,7 +194,7 @@ module _ (k : Kept) (m : ℕ) (x : Seat) (is : slice_get k.seats m ≡ Some x) w
           goes.1,
         )
 
-    -- bytes go from the server into a pipe
+    -- bytes move from the server into a pipe
     back-goes : (n : ℕ) → Goes k (Back m i n)
     back-goes n =
         let up : Bool = linked_by (known_of k m) i in
@@ -226,7 +226,7 @@ module _ (k : Kept) (m : ℕ) (x : Seat) (is : slice_get k.seats m ≡ Some x) w
           goes.1,
         )
 
-    -- bytes go from the monitor into a pipe
+    -- bytes move from the monitor into a pipe
     out-goes : (n : ℕ) → Goes k (Out m i n)
     out-goes n =
         let s : knowledge.Content = known_of k m in
@@ -260,7 +260,7 @@ module _ (k : Kept) (m : ℕ) (x : Seat) (is : slice_get k.seats m ≡ Some x) w
           goes.1,
         )
 
-    -- bytes land at the monitor
+    -- bytes arrive at the monitor
     land-goes : (n : ℕ) → Goes k (Land m i n)
     land-goes n =
         let s : knowledge.Content = known_of k m in

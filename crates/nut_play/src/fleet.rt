@@ -48,11 +48,11 @@ impl Model for Fleet {
 }
 
 impl Fleet {
-    /// A fleet of which nothing was played yet.
+    /// Makes a fleet of which no step was played yet.
     ///
     /// # Errors
     ///
-    /// `Memory(0)` where memory was refused.
+    /// `Memory(0)` if memory cannot be allocated.
     pub fn new(
         alloc: Global,
         config: Config,
@@ -76,7 +76,7 @@ impl Fleet {
         })
     }
 
-    /// What a monitor was made with.
+    /// Returns the configuration that a monitor was made with; `None` if there is no such monitor.
     pub fn config(&self, m: usize) -> Option<&UpsmonConf>
         ensures { option_map (λ c. c.now) result ≡ option_map (λ seat. seat.monitor.config) (slice_get self.now.seats m) }
     {
@@ -86,7 +86,7 @@ impl Fleet {
         Some(self.seats[m].monitor.config())
     }
 
-    /// The server is told something.
+    /// Tells the server an event. Returns whether it was accepted.
     fn serve(&mut self, arrival: Arrival<'_>) -> Result<bool, Lack>
         ensures played { IfOk result (λ played. played ≡ is_played (tell_by self.old.server (event_of arrival.entry))) }
         ensures fleet { OnOk result (self.new ≡ told_to self.old (event_of arrival.entry)) }
@@ -95,7 +95,7 @@ impl Fleet {
         tell(&mut self.server, arrival)
     }
 
-    /// A monitor is told something.
+    /// Tells a monitor an event, and logs what it tells. Returns whether it was accepted.
     fn hear(
         &mut self,
         m: usize,
@@ -114,7 +114,7 @@ impl Fleet {
         self.seats[m].hear(m, event, step, log)
     }
 
-    /// Bytes of a link reach the server.
+    /// Moves bytes of a link from its pipe to the server. Returns whether the step was played.
     fn reach(&mut self, m: usize, i: usize, n: usize) -> Result<bool, Lack>
         requires within { m < length self.old.seats }
         requires there { i < length (links_in (slice_get self.old.seats m)) }
@@ -124,7 +124,7 @@ impl Fleet {
         self.seats[m].reach(&mut self.server, i, n)
     }
 
-    /// Bytes go from the server into the pipe of a link.
+    /// Moves bytes from the server into the pipe of a link. Returns whether the step was played.
     fn back(&mut self, m: usize, i: usize, n: usize) -> Result<bool, Lack>
         requires within { m < length self.old.seats }
         requires there { i < length (links_in (slice_get self.old.seats m)) }
@@ -134,7 +134,7 @@ impl Fleet {
         self.seats[m].back(&mut self.server, i, n)
     }
 
-    /// Bytes go from a monitor into the pipe of a link.
+    /// Moves bytes from a monitor into the pipe of a link. Returns whether the step was played.
     fn send(&mut self, place: Place, n: usize, log: &mut Vec<Logged>) -> Result<bool, Lack>
         requires within { place.monitor < length self.old.seats }
         requires there { place.link < length (links_in (slice_get self.old.seats place.monitor)) }
@@ -146,7 +146,7 @@ impl Fleet {
         self.seats[place.monitor].send(&self.server, place, n, log)
     }
 
-    /// Bytes of a link land at a monitor.
+    /// Moves bytes of a link from its pipe to the monitor. Returns whether the step was played.
     fn land(&mut self, place: Place, n: usize, log: &mut Vec<Logged>) -> Result<bool, Lack>
         requires within { place.monitor < length self.old.seats }
         requires there { place.link < length (links_in (slice_get self.old.seats place.monitor)) }
@@ -158,7 +158,7 @@ impl Fleet {
         self.seats[place.monitor].land(place, n, log)
     }
 
-    /// A link is made.
+    /// Makes a link. Returns whether the step was played.
     fn join(&mut self, place: Place, log: &mut Vec<Logged>) -> Result<bool, Lack>
         requires within { place.monitor < length self.old.seats }
         requires there { place.link < length (links_in (slice_get self.old.seats place.monitor)) }
@@ -172,7 +172,7 @@ impl Fleet {
         self.seats[place.monitor].join(&mut self.server, place, log)
     }
 
-    /// The connection of a link.
+    /// Returns the number of a link's last connection, 0 if it was never made.
     fn connection(&self, m: usize, i: usize) -> u64
         requires within { m < length self.now.seats }
         requires there { i < length (links_in (slice_get self.now.seats m)) }
@@ -182,7 +182,7 @@ impl Fleet {
         seat.links[i].connection
     }
 
-    /// Plays one step, and logs what its monitor tells. It says whether the step was played, and else skipped.
+    /// Plays one step, and logs what its monitor tells. Returns whether the step was played; if not, it is skipped.
     #[tactic(auto, using(crate::proofs::Fits::fits_line, crate::proofs::Fits::fits_within, crate::proofs::Fits::fits_there, crate::proofs::Fits::fits_watched))]
     fn step(&mut self, step: &Step, k: usize, log: &mut Vec<Logged>) -> Result<bool, Lack>
         requires fit { fits self.old (step_of step.now) ≡ true }
@@ -224,7 +224,7 @@ impl Fleet {
         i < seat.links.len() && i < seat.monitor.lines()
     }
 
-    /// Whether a step names only what there is, and its line isn't too long.
+    /// Whether what a step names exists, and its line isn't too long.
     fn is_fit(&self, step: &Step) -> bool
         ensures { result ≡ fits self.now (step_of step.now) }
     {
@@ -243,7 +243,7 @@ impl Fleet {
         }
     }
 
-    /// Plays one step, and logs what it tells.
+    /// Plays one step and logs what it tells, also that it was skipped.
     #[tactic(auto, using(crate::proofs::Lacks::lacks_skipped, crate::proofs::Lacks::lacks_told))]
     fn play_one(&mut self, step: &Step, k: usize, log: &mut Vec<Logged>) -> Result<(), Lack>
         requires fit { fits self.old (step_of step.now) ≡ true }
@@ -257,7 +257,7 @@ impl Fleet {
         note(log, k, News::Skipped)
     }
 
-    /// Plays the steps in their order, up to the first that doesn't fit.
+    /// Plays the steps in order, up to the first that doesn't fit.
     fn run(&mut self, schedule: &[Step]) -> Result<FleetLog, FleetFault>
         ensures failed { self.old.failed ≡ true → (result ≡ Err Failed) × (self.new ≡ self.old) }
         ensures played { self.old.failed ≡ false → IfOk result (λ log. IsLog self.old (map step_of schedule.now) (map logged_of log.items) self.new) }
@@ -279,17 +279,17 @@ impl Fleet {
         Ok(log)
     }
 
-    /// Plays the steps in their order. The log and the numbers of steps are of this call's, from 1 on.
+    /// Plays the steps in order. Returns what they told; there the steps of this call are numbered from 1.
     ///
-    /// Whatever was played before, the fleet then is that of the world to which the whole schedule leads, and what holds of
-    /// every world holds of it: each status that a monitor has was shown by the server; whoever began a shutdown had a cause;
-    /// and a primary that goes on to the end was alone, or has waited.
+    /// Whatever was played before, the fleet is then that of the world to which the whole schedule leads. What holds of
+    /// every world holds of it, see [`rooms_hold`](crate::rooms_hold).
     ///
     /// # Errors
     ///
-    /// `BadStep` where a step isn't one that may be played: those before it stand. `Memory` where memory was refused, at a
-    /// line of a driver, a step that moves bytes, or one that tells something: the fleet has failed, nothing is claimed of
-    /// it, and `Failed` is the answer to every later call.
+    /// `BadStep` if a step names what doesn't exist or has a line that is too long; the steps before it took effect.
+    /// `Memory` if memory cannot be allocated, which can happen at a line of a driver, at a step that moves bytes, and
+    /// at one that tells something. The fleet has then failed: nothing is claimed of it, and every later call returns
+    /// `Failed`.
     pub fn play(&mut self, schedule: &[Step]) -> Result<FleetLog, FleetFault>
         ensures failed { self.old.failed ≡ true → (result ≡ Err Failed) × (self.new ≡ self.old) }
         ensures played { (setup : Setup) (before : List S.Step) → HasPlayed setup before self.old
@@ -306,7 +306,7 @@ impl Fleet {
     }
 }
 
-/// The seats of these monitors, to whom nothing was told.
+/// Makes the seats of these monitors, which were told nothing.
 fn seats_of(alloc: Global, monitors: Vec<UpsmonConf>) -> Result<Vec<Seat>, Lack>
     ensures { IfOk result (λ seats. seats.items ≡ map fresh_seat monitors.items) }
 {
@@ -318,7 +318,7 @@ fn seats_of(alloc: Global, monitors: Vec<UpsmonConf>) -> Result<Vec<Seat>, Lack>
     Ok(seats)
 }
 
-/// One more seat.
+/// Appends a seat.
 fn put_seat(seats: &mut Vec<Seat>, seat: Seat) -> Result<(), Lack>
     ensures { OnOk result (seats.new.items ≡ seats.old.items ++ seat ∷ []) }
 {
@@ -328,7 +328,7 @@ fn put_seat(seats: &mut Vec<Seat>, seat: Seat) -> Result<(), Lack>
     }
 }
 
-/// A link of a monitor at a step.
+/// Returns a link of a monitor at a step.
 fn place(monitor: usize, link: usize, step: usize) -> Place
     ensures { result ≡ record { monitor = monitor; link = link; step = step } }
 {
@@ -339,7 +339,7 @@ fn place(monitor: usize, link: usize, step: usize) -> Place
     }
 }
 
-/// A driver's line with its line feed.
+/// Returns a driver's line with its line feed.
 fn with_feed(line: &[u8]) -> ArrayVec<u8, PIECE_MAX>
     requires fit { length line.now < PIECE_MAX }
     ensures { result.items ≡ line.now ++ 10 ∷ [] }

@@ -1,11 +1,11 @@
-//! What a driver is asked, as it is written and read.
+//! Requests to a driver, as they are written and read.
 use super::word;
 use arrayvec::ArrayVec;
 use nut_proto::DriverAsk;
 use nut_words::{WordFault, split};
 use std::alloc::{AllocError, Global};
 
-/// Whether a request is written where it just fits, and not at all where it doesn't.
+/// Whether a request is written if it just fits, and not at all if it doesn't.
 fn fits_exactly(setting: &DriverAsk<'_>) -> bool {
     let mut exact: ArrayVec<u8, 17> = ArrayVec::new();
     setting.put_in(&mut exact)
@@ -13,7 +13,7 @@ fn fits_exactly(setting: &DriverAsk<'_>) -> bool {
         && !DriverAsk::Ping.put_in(&mut exact)
 }
 
-/// Whether each request is written, behind what was there.
+/// Whether each request is appended to what was there.
 fn is_written(alloc: Global, setting: &DriverAsk<'_>) -> Result<bool, AllocError> {
     let mut out = Vec::new(alloc);
     setting.put(&mut out)?;
@@ -37,7 +37,7 @@ fn written(rt: HostRuntime) {
     assert!(rt; is_written(rt.alloc(), &setting) == Ok(true));
 }
 
-/// The line that is written of what a line asks, or nothing.
+/// Returns the line that is written for the request that a line spells, or nothing if it spells none.
 fn rewritten(alloc: Global, line: &[u8]) -> Result<ArrayVec<u8, 64>, WordFault> {
     let words = split(alloc, line)?;
     let mut out = ArrayVec::new();

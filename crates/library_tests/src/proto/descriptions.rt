@@ -1,4 +1,4 @@
-//! What the names of variables and commands tell.
+//! The descriptions of variables and commands.
 use nut_proto::{command_description, variable_description};
 
 /// A name, and its text as a variable and as a command.

@@ -10,11 +10,11 @@ use Rattle.nut_client.specs.declared.wanted.Deed.TheVariants as deeds
 use Rattle.nut_client.specs.declared.wanted.Wanted.{Wanted}
 use Rattle.nut_client.specs.declared.wanted.Wanted.TheVariants as wanteds
 
--- a command line that asks for something
+-- a command line that asks for this
 abbrev pub asks : List ℕ → List ℕ → ℕ → Wanted → CommandLine
 asks ups host port wanted = Ok (Ok (record { ups = ups; host = host; port = port; wanted = wanted }))
 
--- Words that read, and make a query or no command line of the tool; words that clap refuses; and the help.
+-- Words that ask for something, or are no combination that the tool knows; words that clap refuses; and the help.
 pub record CommandLineExamples : Type 0 where
   pub all : upsc_line (codes "upsc" ∷ codes "su700" ∷ []) ≡ asks (codes "su700") (codes "localhost") 3493 wanteds.Variables
   pub object : upsc_line (codes "upsc" ∷ codes "-j" ∷ codes "su700" ∷ []) ≡ asks (codes "su700") (codes "localhost") 3493 wanteds.Object
@@ -39,7 +39,7 @@ pub record CommandLineExamples : Type 0 where
 abbrev pub value_of_v : Script
 value_of_v = script (codes "u") (wanteds.Value (codes "v"))
 
--- The bytes that a server sends, and what a tool asks and comes to by them.
+-- Bytes that a server sends, and what a tool asks and how it ends by them.
 pub record RunExamples : Type 0 where
   pub answered : run_of value_of_v (codes "VAR u v \"1 2\"\n") ≡ record { queries = codes "GET VAR u v\n"; standing = Printed (codes "1 2\n") }
   pub bytes_behind : run_of value_of_v (codes "VAR u v \"1 2\"\nERR DATA-STALE\nVA") ≡ record { queries = codes "GET VAR u v\n"; standing = Printed (codes "1 2\n") }
@@ -54,7 +54,7 @@ pub record RunExamples : Type 0 where
   pub cut_list : ending (run_of (script (codes "u") wanteds.Variables) (codes "BEGIN LIST VAR u\nVAR u v \"1 2\"\n")).standing ≡ Err failures.ConnectionLost
   pub done : run_of (script (codes "u") (wanteds.Does (codes "a") (codes "p") (deeds.Command (codes "load.off")))) (codes "OK\nOK\nOK TRACKING\n")
       ≡ record { queries = codes "USERNAME a\nPASSWORD p\nINSTCMD u load.off\n"; standing = Printed (codes "OK\n") }
-  -- Of a stream with these bytes, each run has this end that lacks neither memory nor its connection.
+  -- Every run over a stream with these bytes ends so, unless memory or the connection is lacking.
   pub decided : (result : Result (List ℕ) Failure) (left before after : Option (List ℕ)) → (e : Ends value_of_v result (Some (codes "VAR u v \"1 2\"\nERR DATA-STALE\nVA")) left before after)
       → (result ≡ Err failures.Memory)
       ⊎ ((result ≡ Err failures.ConnectionLost) × (left ≡ Some [] → length e.written < length (run_of value_of_v e.heard).queries)

@@ -20,18 +20,18 @@ use Rattle.nut_client.specs.inside.Unread.{IsUnbroken, IsWhole}
 abbrev pub IsWaiting : Exchange → Type 0
 IsWaiting e = (e.fault ≡ None) × (outcome_of e ≡ None)
 
--- the link once a query was asked on it and sent
+-- the link after a query was asked on it and sent
 abbrev pub link_sent : Request → LinkValue
 link_sent request = record { rest = Text []; exchange = sent request }
 
--- A query was sent, or it can't be written, or the connection was lost on the way.
+-- A query was sent; or it isn't writable; or the connection was lost before all of it was sent.
 abbrev pub Sends : Request → Result (Unit {0}) Failure → LinkValue → Option (List ℕ) → Option (List ℕ) → Type 0 → Type 0
 Sends request (Ok done) link before after lost = (is_writable request ≡ true) × (link ≡ link_sent request) × (after ≡ append_known before (request_line request))
 Sends request (Err failure) link before after lost =
     (failure ≡ BadQuery) × (is_writable request ≡ false) × (after ≡ before)
     ⊎ (failure ≡ ConnectionLost) × (is_writable request ≡ true) × lost × ((front : List ℕ) × (back : List ℕ) × (request_line request ≡ front ++ back) × (after ≡ append_known before front) × (0 < length back))
 
--- What a part of a line, with or without its line feed, came to.
+-- The result of hearing a part of a line, with or without its line feed.
 abbrev pub HearsPart : LinkValue → List ℕ → Result (Option Outcome) Failure → LinkValue → Type 0 → Type 0
 HearsPart before part (Ok None) after lost = (after ≡ fed part before) × IsWaiting after.exchange
 HearsPart before part (Ok (Some outcome)) after lost = (outcome_of (fed part before).exchange ≡ Some outcome) × (after ≡ fresh)
@@ -40,7 +40,7 @@ HearsPart before part (Err failure) after lost =
     ⊎ ((failure ≡ ConnectionLost) × (part ≡ []) × lost)
     ⊎ ((fault : LinkFault) × ((fed part before).exchange.fault ≡ Some fault) × (failure ≡ failure_of fault))
 
--- The next part of what the server sent was heard, at least a byte. More was read only where nothing was left to hear.
+-- The next part of what the server sent was heard, at least a byte. More was read only if nothing was left to hear.
 pub record Hears (before : LinkValue) (unread : List ℕ) (result : Result (Option Outcome) Failure) (after : LinkValue) (unread' : List ℕ) (input left : Option (List ℕ)) (lost : Type 0) : Type 0 where
   pub part : List ℕ
   pub read : input ≡ prepend_known part left
@@ -50,17 +50,17 @@ pub record Hears (before : LinkValue) (unread : List ℕ) (result : Result (Opti
   pub emptied : IfErr result (λ failure. failure ≡ ConnectionLost → unread' ≡ [])
   pub came : HearsPart before part result after lost
 
--- What came of a query by the bytes that were heard, whatever was asked before and whatever goes on with it.
+-- The outcome of a query by the bytes that were heard, whatever was asked before and whatever follows.
 abbrev pub Comes : Request → List ℕ → Result Outcome Failure → Type 0
 Comes request heard (Ok outcome) = (rest heard ≡ Text []) × ((queries : List ℕ) (next : Outcome → Script) → after (lines heard) (begin queries (Asks request next)) ≡ begin (queries ++ request_line request) (next outcome))
 Comes request heard (Err failure) = (failure ≡ Memory) ⊎ ((queries : List ℕ) (next : Outcome → Script) → Err failure ≡ ending (after (lines heard) (begin queries (Asks request next))).standing)
 
--- What was written for a query, behind what was asked before.
+-- What was written for a query, behind what was written before.
 abbrev pub Asked : Request → List ℕ → Result Outcome Failure → List ℕ → Type 0
 Asked request heard (Ok outcome) written = written ≡ request_line request
 Asked request heard (Err failure) written = (queries : List ℕ) (next : Outcome → Script) → WasWrittenBy failure (queries ++ written) (after (lines heard) (begin queries (Asks request next))).queries
 
--- Less was written than was asked, with what was asked before.
+-- Less was written than was asked, together with what was asked before.
 abbrev pub IsBrokenOff : Request → List ℕ → List ℕ → Type 0
 IsBrokenOff request heard written = (queries : List ℕ) (next : Outcome → Script) → length (queries ++ written) < length (after (lines heard) (begin queries (Asks request next))).queries
 
@@ -70,7 +70,7 @@ abbrev pub IsReadFor : Request → List ℕ → List ℕ → Type 0
 IsReadFor request unread bytes =
     (bytes ≡ unread) ⊎ ((queries : List ℕ) (next : Outcome → Script) → LastRead (λ heard. after (lines heard) (begin queries (Asks request next))) bytes)
 
--- A query was asked and answered, or not.
+-- A query was asked and answered, or failed.
 pub record Answered (request : Request) (result : Result Outcome Failure) (unread unread' : List ℕ) (input left : Option (List ℕ)) (before after : Option (List ℕ)) : Type 0 where
   pub heard : List ℕ
   pub written : List ℕ
@@ -81,13 +81,13 @@ pub record Answered (request : Request) (result : Result Outcome Failure) (unrea
   pub asked : Asked request heard result written
   pub lost : IfErr result (λ failure. failure ≡ ConnectionLost → (unread' ≡ []) ⊎ IsBrokenOff request heard written)
 
--- A query that was sent and waits for its answer, of which these bytes were heard.
+-- A query was sent and waits for its answer, of which these bytes were heard.
 pub record Listens (request : Request) (heard : List ℕ) (link : LinkValue) : Type 0 where
   pub rest_is : link.rest ≡ rest heard
   pub waits : IsWaiting link.exchange
   pub runs : (queries : List ℕ) (next : Outcome → Script) → after (lines heard) (begin queries (Asks request next)) ≡ record { queries = queries ++ request_line request; standing = Waits link.exchange next }
 
--- And how the connection stands.
+-- Such a query, and the state of the connection.
 pub record IsListening (request : Request) (link : LinkValue) (unread unread' : List ℕ) (input left : Option (List ℕ)) (before now_taken : Option (List ℕ)) : Type 0 where
   pub heard : List ℕ
   pub listens : Listens request heard link

@@ -23,7 +23,7 @@ abbrev pub IsRefusalOf : Error → Refusal → Type 0
 IsRefusalOf error (Usage other) = (other ≡ error) × (kind_of error ≡ OutOfMemory → ⊥)
 IsRefusalOf error (Failed failure) = failure ≡ Memory
 
--- clap reads the words of a command, or finds a fault in them, unless memory was refused
+-- clap reads the words of a command or finds a fault in them, unless memory could not be allocated
 abbrev pub IsReadBy : App → List (List ℕ) → Result ArgMatches Refusal → Type 0
 IsReadBy app words (Ok matches) = (fault_of app words ≡ []) × (rows_of (found_of matches) ≡ matches_of app words)
 IsReadBy app words (Err (Usage error)) = IsAmong (kind_of error) (fault_of app words)
@@ -42,18 +42,18 @@ abbrev pub AreOptions : Result Options Failure → Result Read Failure → Type 
 AreOptions meant (Ok options) = meant ≡ Ok (options_view options)
 AreOptions meant (Err failure) = meant ≡ Err failure
 
--- the command line that is meant, unless memory was refused
+-- the command line that is meant, unless memory could not be allocated
 abbrev pub IsRead : CommandLine → Result Read Refusal → Type 0
 IsRead line (Ok options) = line ≡ Ok (Ok (options_view options))
 IsRead line (Err (Usage error)) = (faults : _) × (line ≡ Err faults) × IsAmong (kind_of error) faults
 IsRead line (Err (Failed failure)) = (failure ≡ Memory) ⊎ (line ≡ Ok (Err failure))
 
--- why the words of a command line can't be had, by the kind of the error with which their reading ended
+-- why the words of a command line are not available, by the kind of error with which their reading ended
 abbrev pub words_failure : IoErrorKind → Failure
 words_failure io_kinds.OutOfMemory = Memory
 words_failure kind = BadArguments
 
--- what is told of a refusal; of clap's text this, where there is memory for it
+-- what is told of a refusal: clap's text for its error if memory for it can be allocated; or the failure
 abbrev pub TellsRefusal : Refusal → ℕ → Written → Written → Type 0
 TellsRefusal (Usage error) status out err = Explains (is_asked_for (kind_of error)) status out err ⊎ Tells (Err Memory) status out err
 TellsRefusal (Failed failure) status out err = Tells (Err failure) status out err

@@ -1,4 +1,4 @@
--- A query that is on its way.
+-- A query that is being sent.
 use Rattle.std.specs.Prelude.{◌≡◌, ℕ, List, [], ◌++◌, Option, None}
 use Rattle.std.specs.Io.KnownBytes.{append_known}
 use Rattle.nut_words.specs.Lines.{Text}
@@ -8,7 +8,7 @@ use Rattle.nut_link.specs.declared.exchange.Stage.TheVariants as stages
 use Rattle.nut_link.specs.Asking.{query_of}
 use Rattle.nut_link.specs.Link.{LinkValue}
 
--- the link once a query was asked on it of which these bytes still wait
+-- the link on which a query was asked, while these of its bytes wait
 abbrev pub link_sending : Request → List ℕ → LinkValue
 link_sending request waits = record { rest = Text []; exchange = record { stage = stages.Asked (record (query_of request) { waits = waits }); fault = None } }
 

@@ -1,4 +1,4 @@
--- What is left of a tool's work at each of its steps.
+-- What a tool has left to do at each of its steps.
 use Rattle.std.specs.Prelude.{◌≡◌, ℕ, false, List, [], ◌∷◌, ◌++◌, drop, Option, Some, None, Result, Ok, Err, ◌⊎◌}
 use Rattle.nut_proto.specs.declared.request.ListQuery.TheVariants as queries
 use Rattle.nut_proto.specs.declared.request.Request.{Request}
@@ -40,12 +40,12 @@ row_query ups questions.Values name = requests.List (queries.Enum ups name)
 row_query ups questions.Ranges name = requests.List (queries.Range ups name)
 row_query ups questions.Description name = requests.GetCmdDesc ups name
 
--- the variable at the head of the rows is shown but for what it takes
+-- the variable of the first row was shown, except for the values that it may have
 abbrev pub ends_row : List ℕ → Taken → List ℕ → List (List (List ℕ)) → Script
 ends_row ups kind text [] = Prints text
 ends_row ups kind text (row ∷ rows) = with_values ups (word 0 row) kind text (λ shown. settings ups (shown ++ line []) rows)
 
--- what is left where this is asked about the head of the rows, behind the text so far
+-- what is left if this is asked about the first row, behind the text so far
 abbrev pub showing : List ℕ → Question → List ℕ → List (List (List ℕ)) → Script
 showing ups questions.Kind text rows = settings ups text rows
 showing ups questions.Values text rows = ends_row ups values.Enum text rows
@@ -69,18 +69,18 @@ left_at ups (steps.Deed deed) = does ups deed
 left_at ups (steps.Shows question shown) = showing_of ups question shown
 left_at ups (steps.Done text) = Prints text.items
 
--- what is left once a query was answered
+-- what is left after a query was answered
 abbrev pub answered : Outcome → Script → Script
 answered outcome (Asks request next) = next outcome
 answered outcome (Prints text) = Prints text
 answered outcome (Fails failure) = Fails failure
 
--- A script goes on by a query, or by its text.
+-- A script continues with a query, or with its text.
 abbrev pub Says : Script → Next → Type 0
 Says script (nexts.Asks request) = (next : Outcome → Script) × (script ≡ Asks request next)
 Says script nexts.Prints = (text : List ℕ) × (script ≡ Prints text)
 
--- A call ends in this failure: it is that of the script, which is none of the connection, or memory ran out.
+-- A call ends in this failure: that of the script, which isn't one of the connection; or memory could not be allocated.
 abbrev pub FailsBy : Script → Failure → Type 0
 FailsBy script failure = (failure ≡ Memory) ⊎ (script ≡ Fails failure) × (breaks_off failure ≡ false)
 
@@ -97,7 +97,7 @@ abbrev pub GoesOn : Script → Result Task Failure → Type 0
 GoesOn script (Ok task) = left_of task ≡ script
 GoesOn script (Err failure) = FailsBy script failure
 
--- The rows of an answer: whatever goes on with the rows goes on with these, or fails.
+-- The rows of an answer: whatever continues with the rows of the outcome continues with these, or fails.
 abbrev pub GivesRows : Outcome → Result (List (List (List ℕ))) Failure → Type 0
 GivesRows outcome (Ok rows) = (next : List (List (List ℕ)) → Script) → on_rows next outcome ≡ next rows
 GivesRows outcome (Err failure) = (breaks_off failure ≡ false) × ((next : List (List (List ℕ)) → Script) → on_rows next outcome ≡ Fails failure)
@@ -110,7 +110,8 @@ abbrev pub IsDone : Outcome → Result (Unit {0}) Failure → Type 0
 IsDone outcome (Ok done) = (next : Script) → on_done next outcome ≡ next
 IsDone outcome (Err failure) = (breaks_off failure ≡ false) × ((next : Script) → on_done next outcome ≡ Fails failure)
 
--- An answer about a row leaves this text, and the next question about the row, or the rows behind it.
+-- After an answer about a row, this is the text, and this is the next question about the row, or the rows behind it are
+-- left.
 abbrev pub ShowsRow : List ℕ → Question → List ℕ → List (List ℕ) → List (List (List ℕ)) → Outcome → List ℕ → Result (Option Question) Failure → Type 0
 ShowsRow ups question text row rows outcome text' (Ok (Some other)) = answered outcome (showing ups question text (row ∷ rows)) ≡ showing ups other text' (row ∷ rows)
 ShowsRow ups question text row rows outcome text' (Ok None) = answered outcome (showing ups question text (row ∷ rows)) ≡ showing ups (first_question question) text' rows

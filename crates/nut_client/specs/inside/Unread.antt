@@ -10,6 +10,6 @@ IsUnbroken bytes = parts bytes ≡ bytes ∷ []
 abbrev pub IsWhole : List ℕ → Type 0
 IsWhole part = (text : List ℕ) × IsUnbroken text × (part ≡ text ++ 10 ∷ [])
 
--- It begins the bytes, and has no line feed but perhaps as its last byte.
+-- The part begins these bytes, and has no line feed except perhaps as its last byte.
 abbrev pub IsLinePart : List ℕ → List ℕ → Type 0
 IsLinePart bytes part = ((more : List ℕ) × (bytes ≡ part ++ more)) × (IsUnbroken part ⊎ IsWhole part)

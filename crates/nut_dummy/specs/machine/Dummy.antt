@@ -1,4 +1,4 @@
--- A dummy driver: how it begins, and how each call moves it.
+-- A dummy driver: how it begins, and how each call changes it.
 use Rattle.std.specs.Prelude.{◌≡◌, ℕ, ◌-◌, ◌<◌, Bool, true, false, not, List, [], ◌∷◌, Option, Some, None, Result, Ok, Err, if◌then◌else◌, is_some, length, drop, map, max, take, nat_lt}
 use Rattle.nut_words.specs.Lines.{LineText, Text, lines_after, rest, rest_after}
 use Rattle.nut_words.specs.declared.limits.TheConstants.{PIECE_MAX}
@@ -10,8 +10,8 @@ use Rattle.nut_dummy.specs.Due.{at_start}
 use Rattle.nut_dummy.specs.Script.{Script, Timeline, timeline}
 use Rattle.nut_dummy.specs.machine.Teller.{Variable, Teller, Passing, changed, heard_all, relinked}
 
--- the moment of the start and the greatest so far, in seconds; the seconds of a round; whether a link is there, and its
--- unfinished line; what is held and told
+-- The moment of the start and the greatest so far, in seconds; the seconds of a round; whether there is a link, and its
+-- unfinished line; what is held and told.
 pub record Content : Type 0 where
   pub start : ℕ
   pub clock : ℕ
@@ -22,12 +22,12 @@ pub record Content : Type 0 where
 
 -- ---- the beginning
 
--- the variables with one of this name, which gets no value from the script where it isn't there
+-- the variables, with one of this name added if there was none; it gets no value from the script
 abbrev pub declared : List ℕ → List Timeline → List Timeline
 declared name variables =
     if is_some (timeline name variables) then variables else put (λ t. t.name) name (Some (record { name = name; steps = [] })) variables
 
--- the variables with each of these names
+-- the variables, with one of each of these names
 abbrev pub all_declared : List (List ℕ) → List Timeline → List Timeline
 all_declared [] variables = variables
 all_declared (name ∷ names) variables = all_declared names (declared name variables)
@@ -36,7 +36,7 @@ all_declared (name ∷ names) variables = all_declared names (declared name vari
 abbrev pub begun : Timeline → Variable
 begun t = record { name = t.name; steps = t.steps; value = at_start t.steps; told = false }
 
--- No link is there. The variables are those that the script names and those that commands set.
+-- There is no link. The variables are those that the script names and those that commands set.
 abbrev pub beginning : Script → ℕ → Content
 beginning script start = record {
   start = start;
@@ -52,7 +52,7 @@ beginning script start = record {
 abbrev pub waits_of : Content → List ℕ
 waits_of s = s.teller.waits
 
--- a new link
+-- a new link is made
 abbrev pub linked : Content → Content
 linked s = record s { linked = true; rest = Text []; teller = relinked s.teller }
 
@@ -60,7 +60,7 @@ linked s = record s { linked = true; rest = Text []; teller = relinked s.teller 
 abbrev pub cut : Content → Content
 cut s = record s { linked = false; rest = Text []; teller = relinked s.teller }
 
--- Time never goes back. What became due since the last moment is told.
+-- Time never runs back. Values that became due since the last moment are told.
 abbrev pub passed : ℕ → Content → Content
 passed t s = record s {
   clock = max s.clock t;
@@ -75,7 +75,7 @@ brought piece s = lines_after s.rest piece
 abbrev pub told_bytes : List ℕ → Content → Content
 told_bytes piece s = record s { rest = rest_after s.rest piece; teller = heard_all (brought piece s) s.teller }
 
--- a piece in which memory ran out behind k lines: these stand, and the link is cut
+-- a piece at which memory ran out behind k lines: these took effect, and the link is cut
 abbrev pub cut_behind : ℕ → List ℕ → Content → Content
 cut_behind k piece s = cut (record s { teller = heard_all (take k (brought piece s)) s.teller })
 
@@ -97,13 +97,13 @@ bytes_refusal piece s =
 abbrev pub took_refusal : ℕ → Content → Option DummyFault
 took_refusal n s = if nat_lt (length (waits_of s)) n then Some faults.TooMuchTaken else None
 
--- ---- what a call owes
+-- ---- the result of a call
 
--- A fault is that of the first test that fails, and changes nothing.
+-- A fault is that of the first test that refuses the call, and nothing changed.
 abbrev pub IsRefused : Content → Content → Option DummyFault → DummyFault → Type 0
 IsRefused old new refusal fault = (refusal ≡ Some fault) × (new ≡ old)
 
--- A moment passes, or is refused; where memory ran out nothing changed.
+-- A moment passes or is refused. If memory ran out, nothing changed.
 abbrev pub Passes : {U : Type 0} → ℕ → Content → Content → Result U DummyFault → Type 0
 Passes t old new (Ok u) = (moment_refusal old ≡ None) × (new ≡ passed t old)
 Passes t old new (Err (faults.Memory k)) = (moment_refusal old ≡ None) × (k ≡ 0) × (new ≡ old)
@@ -112,7 +112,7 @@ Passes t old new (Err faults.Busy) = IsRefused old new (moment_refusal old) faul
 Passes t old new (Err faults.TooMuchTaken) = IsRefused old new (moment_refusal old) faults.TooMuchTaken
 Passes t old new (Err faults.PieceTooLong) = IsRefused old new (moment_refusal old) faults.PieceTooLong
 
--- A piece is heard, or refused; where memory ran out the lines before stand, and the link is cut.
+-- A piece is heard or refused. If memory ran out, the lines before took effect, and the link is cut.
 abbrev pub Hears : {U : Type 0} → List ℕ → Content → Content → Result U DummyFault → Type 0
 Hears piece old new (Ok u) = (bytes_refusal piece old ≡ None) × (new ≡ told_bytes piece old)
 Hears piece old new (Err (faults.Memory k)) =
@@ -122,13 +122,13 @@ Hears piece old new (Err faults.Busy) = IsRefused old new (bytes_refusal piece o
 Hears piece old new (Err faults.TooMuchTaken) = IsRefused old new (bytes_refusal piece old) faults.TooMuchTaken
 Hears piece old new (Err faults.PieceTooLong) = IsRefused old new (bytes_refusal piece old) faults.PieceTooLong
 
--- The bytes taken are gone, or the call is refused.
+-- The bytes taken are removed, or the call is refused.
 abbrev pub Takes : {U : Type 0} → ℕ → Content → Content → Result U DummyFault → Type 0
 Takes n old new (Ok u) = (took_refusal n old ≡ None) × (new ≡ taken n old)
 Takes n old new (Err fault) = IsRefused old new (took_refusal n old) fault
 
 -- ---- inside
 
--- It is the unfinished line of some stream.
+-- this is the unfinished line of some bytes
 abbrev pub IsRest : LineText → Type 0
 IsRest line = (b : List ℕ) × (line ≡ rest b)

@@ -1,5 +1,5 @@
--- What the driver holds and tells, and how each call and each line moves it. That this is what looking back over all
--- calls says is the law `looks_back`.
+-- What a driver holds and tells, and how each call and each line changes it. The law `looks_back` says that this is
+-- what looking back over all calls says.
 use Rattle.std.specs.Prelude.{ℕ, ◌||◌, ◌&&◌, Bool, true, false, not, List, [], ◌∷◌, ◌++◌, Option, Some, None, if◌then◌else◌, codes, is_some, map}
 use Rattle.std.specs.List.{flat_map}
 use Rattle.std.specs.Option.{option_and_then, option_map_or, option_or}
@@ -17,14 +17,14 @@ use Rattle.nut_dummy.specs.Script.{Step}
 use Rattle.nut_dummy.specs.Telling.{text, variable_messages, closing_messages}
 use Rattle.nut_dummy.specs.Writable.{may_be}
 
--- a variable: the values that a round gives it, its value, if it has one, and whether it was told on this link
+-- a variable: the values that it gets in a round, its value if it has one, and whether it was told on this link
 pub record Variable : Type 0 where
   pub name : List ℕ
   pub steps : List Step
   pub value : Option (List ℕ)
   pub told : Bool
 
--- the variables, ascending; whether this link has asked DUMPALL; the bytes that wait
+-- the variables, ascending by name; whether DUMPALL was asked on this link; the bytes that wait
 pub record Teller : Type 0 where
   pub variables : List Variable
   pub asked : Bool
@@ -32,7 +32,7 @@ pub record Teller : Type 0 where
 
 -- what may change values
 pub data Change : Type 0 where
-  -- time passes, in seconds since the start
+  -- time passes, from `after` to `until`, in seconds since the start
   Passing : (round after until : ℕ) → Change
   -- a client sets a variable
   Assigning : (name value : List ℕ) → Change
@@ -41,11 +41,11 @@ pub data Change : Type 0 where
 
 -- ---- one variable
 
--- A client sets a variable that has a value, where it may be set so.
+-- A client's SET is obeyed if the variable has a value and may be set to the new one.
 abbrev pub is_assigned : List ℕ → List ℕ → List ℕ → Option (List ℕ) → Bool
 is_assigned name value own before = bytes_eq own name && is_some before && may_be own value
 
--- its value after a change: each says what it makes of the value before
+-- the value of the variable `own` after a change
 abbrev pub value_after : Change → List ℕ → List Step → Option (List ℕ) → Option (List ℕ)
 value_after (Passing round after until) own steps before = option_or (latest round after until steps) before
 value_after (Assigning name value) own steps before = if is_assigned name value own before then Some value else before
@@ -58,7 +58,7 @@ differ None (Some b) = true
 differ (Some a) None = true
 differ (Some a) (Some b) = not (bytes_eq a b)
 
--- Whether a change is told of a variable: where its value is another, and where a client set it.
+-- Whether a change is told of a variable: its value differs, or a client set it.
 abbrev pub is_told : Change → List ℕ → List Step → Option (List ℕ) → Bool
 is_told (Passing round after until) own steps before = differ before (value_after (Passing round after until) own steps before)
 is_told (Assigning name value) own steps before = is_assigned name value own before
@@ -68,7 +68,7 @@ is_told (Doing name value) own steps before = differ before (value_after (Doing 
 abbrev pub lines_of : Bool → List ℕ → Option (List ℕ) → List ℕ
 lines_of limited name value = option_map_or (λ x. text (variable_messages limited name x)) value []
 
--- what a change tells of a variable: its limits too where it wasn't told on this link before
+-- the lines that tell a change of a variable, with its limits if it wasn't told on this link before
 abbrev pub says : Change → Variable → List ℕ
 says change v = if is_told change v.name v.steps v.value then lines_of (not v.told) v.name (value_after change v.name v.steps v.value) else []
 
@@ -81,17 +81,17 @@ followed asked change v = record {
   told = v.told || (asked && is_told change v.name v.steps v.value);
 }
 
--- the variable after a dump, which told all that have a value
+-- the variable after a dump, which told it if it has a value
 abbrev pub dumped : Variable → Variable
 dumped v = record { name = v.name; steps = v.steps; value = v.value; told = v.told || is_some v.value }
 
 -- ---- all of them
 
--- What a dump tells: each variable with its limits, and what ends a dump.
+-- A dump: each variable that has a value, with its limits, and the end of a dump.
 abbrev pub dump : List Variable → List ℕ
 dump variables = flat_map (λ v. lines_of true v.name v.value) variables ++ text closing_messages
 
--- a change is told only once DUMPALL was asked
+-- All variables follow a change. It is told only if DUMPALL was asked.
 abbrev pub changed : Change → Teller → Teller
 changed change s = record {
   variables = map (followed s.asked change) s.variables;
@@ -102,12 +102,12 @@ changed change s = record {
 abbrev pub dumped_all : Teller → Teller
 dumped_all s = record { variables = map dumped s.variables; asked = true; waits = s.waits ++ dump s.variables }
 
--- a command that is known sets its variable
+-- a command that the driver knows sets its variable
 abbrev pub commanded : Option Command → Teller → Teller
 commanded None s = s
 commanded (Some c) s = changed (Doing (variable_set c) (value_set c)) s
 
--- what is asked is done
+-- what was asked is done
 abbrev pub answered : Option DriverAsk → Teller → Teller
 answered None s = s
 answered (Some asks.Ping) s = record s { waits = s.waits ++ codes "PONG\n" }
@@ -120,7 +120,7 @@ abbrev pub asked_by : LineText → Option DriverAsk
 asked_by (Text line) = option_and_then ask_of (result_ok (spelled line))
 asked_by TooLong = None
 
--- the lines in turn
+-- a line, and lines in turn
 abbrev pub heard : LineText → Teller → Teller
 heard line s = answered (asked_by line) s
 
@@ -128,11 +128,11 @@ abbrev pub heard_all : List LineText → Teller → Teller
 heard_all [] s = s
 heard_all (line ∷ lines) s = heard_all lines (heard line s)
 
--- ---- a link that is new, or cut
+-- ---- a link that is made or cut
 
 abbrev pub untold : Variable → Variable
 untold v = record v { told = false }
 
--- Nothing waits, nothing was told, and DUMPALL wasn't asked.
+-- No bytes wait, nothing was told, and DUMPALL wasn't asked.
 abbrev pub relinked : Teller → Teller
 relinked s = record { variables = map untold s.variables; asked = false; waits = [] }

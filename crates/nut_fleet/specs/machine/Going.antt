@@ -1,4 +1,4 @@
--- How a fleet that a program keeps goes on with a step, and what that tells.
+-- How a fleet that a program keeps continues with a step, and what that step tells.
 use Rattle.std.specs.Prelude.{ℕ, ◌≡◌, ◌++◌, suc, Bool, true, if◌then◌else◌, List, [], ◌∷◌, length, take, drop, map, is_some}
 use Rattle.nut_server_spec.specs.Event as arrivals
 use Rattle.nut_server_spec.specs.Content as server
@@ -18,8 +18,8 @@ use Rattle.nut_fleet.specs.Seen.{Ends, Fleet, Stands, open_seen, linked_seen, de
 
 -- ---- what is kept
 
--- What a program keeps of link i of monitor m, where its connection is c and these are the events of the server and of the
--- monitor. What it keeps of the pipe to an end that is cut doesn't count.
+-- What a program keeps of link i of monitor m, if its connection is c and these are the events of the server and of the
+-- monitor. What it keeps of a pipe to an end that is cut doesn't matter.
 pub record KeepsLink (setup : Setup) (m i c : ℕ) (h : List arrivals.Event) (told : List events.Event) (ends : Ends) : Type 0 where
   pub connection : ends.connection ≡ c
   pub to_server : is_some (server_tests.session_of c (server.content setup.server h).sessions) ≡ true →
@@ -32,7 +32,7 @@ pub record Keeps (setup : Setup) (w : World) (f : Fleet) : Type 0 where
   pub monitor : (m : ℕ) → f.monitor m ≡ known setup w m
   pub link : (m i : ℕ) → has_link setup m i ≡ true → KeepsLink setup m i (w.connection m i) w.server (w.monitor m) (f.link m i)
 
--- The same without what doesn't count.
+-- The fleet without the pipes to ends that are cut.
 abbrev pub what_counts : Fleet → Fleet
 what_counts f = record f {
   link = λ m i. record (f.link m i) {
@@ -41,12 +41,12 @@ what_counts f = record f {
   };
 }
 
--- ---- how it goes on
+-- ---- how it continues
 
 abbrev pub told_on : arrivals.Event → Fleet → Fleet
 told_on event f = record f { server = server_machine.advance f.server event }
 
--- what a monitor knows once its notices are taken
+-- what a monitor knows after its notices were taken
 abbrev pub hushed : knowledge.Content → knowledge.Content
 hushed s = record s { notices = [] }
 
@@ -56,7 +56,7 @@ informed_on m event f = record f { monitor = for_monitor m (hushed (monitor_mach
 abbrev pub with_ends : ℕ → ℕ → Ends → Fleet → Fleet
 with_ends m i ends f = record f { link = for_monitor m (for_monitor i ends (f.link m)) f.link }
 
--- bytes go into a pipe, where its other end isn't cut
+-- bytes are put into a pipe, unless its other end is cut
 abbrev pub put_on : Bool → List ℕ → List ℕ → List ℕ
 put_on there more bytes = if there then bytes ++ more else bytes
 
@@ -85,7 +85,7 @@ ends_landed f m i event = record (f.link m i) { to_monitor = drop (length (lande
 abbrev pub ends_made : Fleet → Ends
 ends_made f = record { connection = suc f.server.opened; to_server = []; to_monitor = [] }
 
--- what is kept after a step at which this is done
+-- what is kept after a step that does this
 abbrev pub moved_by : Fleet → Deed → Step → Fleet
 moved_by f Skip step = f
 moved_by f Rest step = f
@@ -119,7 +119,7 @@ news_seen f step = news_by f (deed_by f step)
 
 -- ---- the laws
 
--- A fleet that is that of a world goes on to that of the world after the step, and tells what that one tells.
+-- A fleet that is that of a world continues to that of the world after the step, and tells what the step tells there.
 pub record FleetsGoOn (setup : Setup) (schedule : List Step) : Type 0 where
   pub goes_on : (f : Fleet) (step : Step) → is_fit setup step ≡ true → Keeps setup (world setup schedule) f →
       Keeps setup (world setup (step ∷ schedule)) (moved_on f step)

@@ -1,4 +1,4 @@
--- How the pipes of a link go on with what its two ends are told.
+-- How the pipes of a link continue with what its two ends are told.
 use Rattle.std.specs.Prelude.{ℕ, ◌≡◌, ◌==◌, Bool, true, false, if◌then◌else◌, List, [], ◌++◌, length, take, drop, None}
 use Rattle.nut_server_spec.specs.Event as arrivals
 use Rattle.nut_server_spec.specs.Acceptance as server_tests
@@ -6,7 +6,7 @@ use Rattle.nut_monitor_spec.specs.Event as events
 use Rattle.nut_monitor_spec.specs.Acceptance as monitor_tests
 use Rattle.nut_fleet.specs.World.{Setup, World, Tell, Inform, Join, served, known, is_open, is_linked, to_server, to_monitor, server_waits, monitor_waits, has_link, after, address_of}
 
--- the piece of c that an event brings to the server, and how many bytes of what waits for c it takes
+-- the piece of c that an event brings to the server, and how many of the bytes that wait for c it takes
 abbrev pub reached : ℕ → arrivals.Event → List ℕ
 reached c (arrivals.Bytes d piece) = if d == c then piece else []
 reached c event = []
@@ -15,7 +15,7 @@ abbrev pub sent_off : ℕ → arrivals.Event → ℕ
 sent_off c (arrivals.Took d n) = if d == c then n else 0
 sent_off c event = 0
 
--- the same of link i, of an event of its monitor
+-- the piece of link i that an event brings to its monitor, and how many of the bytes that wait on link i it takes
 abbrev pub landed : ℕ → events.Event → List ℕ
 landed i (events.LinkBytes j piece) = if j == i then piece else []
 landed i event = []
@@ -29,9 +29,9 @@ abbrev pub makes : ℕ → events.Event → Bool
 makes i (events.Linked j) = j == i
 makes i event = false
 
--- What the server or a monitor is told moves each pipe so: what comes to an end leaves its pipe at the front, what an end
--- takes goes into its pipe behind what is there, a new link's pipes are empty, and where an end is cut nothing is on its way
--- to it.
+-- How each pipe continues with what the server or a monitor is told: what comes to an end is taken from the front of
+-- its pipe; what an end puts in is appended; the pipes of a new link are empty; and nothing is in a pipe to an end that
+-- is cut.
 pub record PipesMove (setup : Setup) (w : World) : Type 0 where
   pub at_server : (event : arrivals.Event) (m i : ℕ) → has_link setup m i ≡ true → server_tests.refusal (served setup w) event ≡ None →
       is_open setup (after setup w (Tell event)) m i ≡ true →
@@ -49,8 +49,8 @@ pub record PipesMove (setup : Setup) (w : World) : Type 0 where
       server_tests.refusal (served setup w) (arrivals.Open (address_of m)) ≡ None →
       (to_server setup (after setup w (Join m i)) m i ≡ []) × (to_monitor setup (after setup w (Join m i)) m i ≡ [])
 
--- What the contents of the server and of the monitors tell of a world, as far as it decides what a step does. No notice waits
--- between two steps.
+-- What the contents of the server and of the monitors say of a world, as far as it decides what a step does. No notice
+-- waits between two steps.
 pub record ContentsTell (setup : Setup) (w : World) : Type 0 where
   pub quiet : (m : ℕ) → (known setup w m).notices ≡ []
   pub linked : (m i : ℕ) → has_link setup m i ≡ true →

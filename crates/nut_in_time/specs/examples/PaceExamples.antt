@@ -1,5 +1,5 @@
--- More schedules that keep a pace: a clock that leaves out seconds, answers that take longer than POLLFREQ, and a machine that needs
--- two UPSes. Each of these is computed from the definitions.
+-- More schedules that keep a pace: a clock that leaves out seconds, answers that take longer than POLLFREQ, and a
+-- machine that needs two UPSes. Each example is computed from the definitions.
 use Rattle.std.specs.Prelude.{◌≡◌, ℕ, zero, suc, List, [], ◌∷◌, ◌++◌, codes, reverse, Bool, true, false}
 use Rattle.nut_monitor_spec.specs.Trace.{clock, begun, has_begun}
 use Rattle.nut_fleet.specs.Schedule.{Step, MonitorClock, Link, Out, Reach, Back, Land}
@@ -12,7 +12,7 @@ use Rattle.nut_in_time.specs.examples.Examples.{all, both_on_line, pace, rounds_
 
 -- ---- a clock that leaves out seconds, and answers that take longer than POLLFREQ
 
--- The primary's clock goes on by two seconds at a time, so its next query comes a second late.
+-- The primary's clock moves on by two seconds at a time, so its next query is put a second late.
 abbrev pub skipping : Pace
 skipping = record { delay = 2; skip = 1 }
 
@@ -41,7 +41,7 @@ abbrev pub only_first : ℕ → Bool
 only_first zero = true
 only_first (suc i) = false
 
--- The first is on a low battery, of which the news takes 2 seconds. The second link is emptied each time.
+-- The first UPS is on a low battery, and the news of that takes 2 seconds. The second link is emptied each time.
 abbrev pub first_low : List Step
 first_low = says (codes "OB LB") ∷ both_on_line
 
@@ -61,7 +61,7 @@ pub record PaceExamples : Type 0 where
   pub late_by : seen_by (monitor_of alone 0) sluggish (clock (seen_at alone 0 on_its_way)) ≡ 14
   pub late_not_begun : has_begun (monitor_of alone 0) (seen_at alone 0 (comes ++ on_its_way)) ≡ false
   pub late_begun : clock (begun (monitor_of alone 0) (seen_at alone 0 (comes_at_last ++ on_its_way))) ≡ 14
-  -- two UPSes of which both are needed: the one that is low stops the machine, as late as it may
+  -- two UPSes, both of them needed: the one on a low battery stops the machine, as late as it may
   pub setup_of_both : IsSetup needs_both
   pub first_fails : IsFailing needs_both pace 0 is_low only_first first_low (reads_first ++ first_low)
   pub first_by : seen_by (monitor_of needs_both 0) pace (clock (seen_at needs_both 0 first_low)) ≡ 7

@@ -1,4 +1,4 @@
--- How a line hears a piece: as its link does.
+-- How a line hears a piece: its link does.
 use Rattle.std.specs.Prelude.{◌≡◌, ℕ, ◌++◌, List, [], if◌then◌else◌, Option, Some, None, is_some, Result}
 use Rattle.nut_link.specs.Hearing.{Feeds}
 use Rattle.nut_link.specs.Link.{LinkValue, outcome_of, taken_out, with_exchange}
@@ -10,14 +10,15 @@ use Rattle.nut_monitor_spec.specs.Content.{Watch}
 use Rattle.nut_monitor_spec.specs.machine.Machine.{told_heard, watch_heard}
 use Rattle.nut_monitor.specs.declared.answer.Scene.{Scene}
 
--- A link is fed a piece; the answer that is complete then is taken out, and a link that failed is let go.
+-- A link is fed a piece. Its answer is taken out if one is complete, and the link is dropped if it failed.
 pub record IsFed (v : LinkValue) (piece : List ℕ) (done : ℕ) (result : Result (Unit {0}) LinkFault) (outcome : Option Outcome) (left : Option LinkValue) : Type 0 where
   pub link : LinkValue
   pub feeds : Feeds v piece done result link
   pub answer : outcome ≡ outcome_of link.exchange
   pub stands : left ≡ (if is_some link.exchange.fault then None else Some (with_exchange (taken_out link.exchange) link))
 
--- Fed the piece, the link becomes another; then the answer that is complete is heard, and where the link failed it is lost.
+-- Fed the piece, the link becomes another. Then the answer that is complete is heard; and if the link failed, it is
+-- lost.
 pub record HearsPiece (configuration : Configuration) (scene : Scene) (piece : List ℕ) (v : LinkValue) (before : Watch) (told : List Notice) (result : ℕ × Result (Unit {0}) LinkFault) (after : Watch) (news : List Notice) : Type 0 where
   pub going : v.exchange.fault ≡ None
   pub link : LinkValue

@@ -1,4 +1,4 @@
--- What always holds inside a monitor.
+-- What always holds of a monitor's content.
 use Rattle.std.specs.Prelude.{◌≡◌, ◌≤◌, ◌+◌, ℕ, Bool, true, false, not, ◌||◌, List, length, sum_by, if◌then◌else◌, Option, Some, None, is_some}
 use Rattle.nut_conf.specs.declared.limits.TheConstants.{MONITORS_MAX}
 use Rattle.nut_monitor_spec.specs.declared.Communication.TheVariants as communications
@@ -25,20 +25,20 @@ unwatched = record {
   };
 }
 
--- the power of a line's UPS, as far as that isn't critical
+-- the power value of a line whose UPS isn't critical, else 0
 abbrev pub power_of : Configuration → ℕ → Line → Known → ℕ
 power_of configuration clock line known =
     if not (is_critical configuration line clock known.calm known.polled known.flags) then line.power else 0
 
--- a line doesn't keep this machine from halting
+-- whether a line lets this machine halt
 abbrev pub lets_halt : Line → Known → Bool
 lets_halt line known = not line.primary || is_alone known.logins
 
--- whether the loss of a line's link would be told
+-- 1 if the loss of a line's link would give COMMBAD, else 0
 abbrev pub to_lose : Watch → ℕ
 to_lose w = if is_bad w.known.communication then 0 else 1
 
--- whether the shutdown is still to be told
+-- 1 if SHUTDOWN is still to be given, else 0
 abbrev pub to_shut : Option ℕ → ℕ
 to_shut ended = if is_some ended then 0 else 1
 

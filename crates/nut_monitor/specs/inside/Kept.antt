@@ -11,7 +11,7 @@ abbrev pub IsLinkBounded : Option LinkValue → Type 0
 IsLinkBounded None = Unit {0}
 IsLinkBounded (Some v) = IsBounded v
 
--- so does that of each MONITOR line
+-- the link of each MONITOR line does so
 abbrev pub AreLinksBounded : List Watch → Type 0
 AreLinksBounded watches = AllByRecursion (λ w. IsLinkBounded w.link) watches
 

@@ -1,4 +1,4 @@
--- What is always so of a MONITOR line, and words that the clauses share.
+-- What always holds of a MONITOR line, and definitions that the clauses share.
 use Rattle.std.specs.Prelude.{◌≡◌, ℕ, Bool, true, false, not, Result, Ok, Err, ◌||◌, ◌&&◌, if◌then◌else◌, List, [], ◌∷◌, Option, Some, None, is_none, codes}
 use Rattle.std.specs.Str.{bytes_eq}
 use Rattle.nut_link.specs.Asking.{Asked}
@@ -22,7 +22,7 @@ use Rattle.nut_monitor_spec.specs.declared.Query.{Query}
 use Rattle.nut_monitor_spec.specs.declared.Query.TheVariants as queries
 use Rattle.nut_monitor_spec.specs.declared.StatusFlags.{StatusFlags}
 
--- what a word more says
+-- the flags with the one that a further word sets
 abbrev pub with_word : List ℕ → StatusFlags → StatusFlags
 with_word w f = record {
   on_line = f.on_line || bytes_eq (codes "OL") w;
@@ -33,7 +33,7 @@ with_word w f = record {
   calibrating = f.calibrating || bytes_eq (codes "CAL") w;
 }
 
--- what is known after a status that says this
+-- what is known after a status with these flags
 abbrev pub with_flags : Configuration → ℕ → Bool → StatusFlags → Known → Known
 with_flags configuration clock watching flags known = record {
   flags = Some flags;
@@ -47,12 +47,12 @@ with_flags configuration clock watching flags known = record {
   logins = known.logins;
 }
 
--- the first of a list
+-- the first element of a list
 abbrev pub first_of : List Notice → Option Notice
 first_of [] = None
 first_of (notice ∷ others) = Some notice
 
--- the answer to a question for the number of logins is a numeral, where it is there
+-- the number of logins that an answer gives is a numeral
 abbrev pub IsCount : Query → Outcome → Type 0
 IsCount queries.NumLogins (outcomes.Said (digits ∷ more)) = is_numeral digits ≡ true
 IsCount query outcome = Unit {0}
@@ -61,7 +61,7 @@ abbrev pub IsCountAfter : Option LastQuery → Option Outcome → Type 0
 IsCountAfter (Some last) (Some outcome) = IsCount last.query outcome
 IsCountAfter last outcome = Unit {0}
 
--- a question for the number of logins expects a number
+-- a query for the number of logins expects a number
 abbrev pub ExpectsCount : Query → Asked → Type 0
 ExpectsCount queries.NumLogins asked =
     ((heading : List (List ℕ)) × (asked.expected ≡ expects.Line heading mores.Number)) × (asked.rows ≡ None)
@@ -71,13 +71,13 @@ abbrev pub ExpectsAfter : Option LastQuery → Asked → Type 0
 ExpectsAfter (Some last) asked = ExpectsCount last.query asked
 ExpectsAfter None asked = Unit {0}
 
--- the exchange on a link is idle, or at the query that was put last
+-- the exchange on a link is idle, or waits for the answer to the last query
 abbrev pub IsSoundStage : Option LastQuery → Stage → Type 0
 IsSoundStage last stages.Idle = Unit {0}
 IsSoundStage last (stages.Asked asked) = ExpectsAfter last asked
 IsSoundStage last (stages.Answered outcome) = ⊥
 
--- a link that is there didn't fail
+-- the link hasn't failed, and its stage fits the last query
 pub record IsSoundLink (last : Option LastQuery) (v : LinkValue) : Type 0 where
   pub going : v.exchange.fault ≡ None
   pub stage : IsSoundStage last v.exchange.stage
@@ -86,7 +86,7 @@ abbrev pub IsSound : Option LastQuery → Option LinkValue → Type 0
 IsSound last None = Unit {0}
 IsSound last (Some v) = IsSoundLink last v
 
--- a link failed for want of memory
+-- a link failed because memory could not be allocated
 abbrev pub is_memory : LinkFault → Bool
 is_memory faults.Memory = true
 is_memory faults.NotMine = false

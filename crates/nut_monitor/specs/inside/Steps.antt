@@ -1,4 +1,4 @@
--- What a call makes of the state of a monitor.
+-- What a call changes in the state of a monitor.
 use Rattle.std.specs.Prelude.{◌≡◌, Bool, true, false, not, Option, Some, None, Result, if◌then◌else◌, is_some}
 use Rattle.nut_monitor_spec.specs.declared.MonitorFault.{MonitorFault}
 use Rattle.nut_monitor_spec.specs.declared.MonitorFault.TheVariants.{NoSuchLink, WrongLinkState}
@@ -21,13 +21,13 @@ content_in configuration s = record {
   watches = s.watches.items;
 }
 
--- an event was answered so, and the state moved as the answer says
+-- an event was answered by this result, and the state became what that answer leads to
 pub record Steps (configuration : Configuration) (before : State) (event : Event) (result : Result (Unit {0}) MonitorFault) (after : State) : Type 0 where
   pub answered : IsAnswer (content_in configuration before) event result
   pub content : content_in configuration after ≡ content_after result (content_in configuration before) event
   pub orderly : IsOrderly (content_in configuration after)
 
--- why something that is told of a link in this state is refused, if it is
+-- why an event of a link is refused that has to be up (or down), if it is
 abbrev pub checked_fault : Bool → Option Watch → Option MonitorFault
 checked_fault linked None = Some NoSuchLink
 checked_fault true (Some w) = if is_some w.link then None else Some WrongLinkState

@@ -13,7 +13,7 @@ given_in-append (entry.WriteBroke i ∷ r) ys = given_in-append r ys
 given_in-append (entry.WasClosed i ∷ r) ys = given_in-append r ys
 given_in-append (entry.WasTold notice ∷ r) ys = given_in-append r ys
 
--- it may become what it is
+-- a world may become what it is
 pub goes_on_self : (a : MemoryState) → GoesOn a a
 goes_on_self a = record { more = []; grown = refl; each = refl }
 

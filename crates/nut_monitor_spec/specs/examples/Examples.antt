@@ -1,4 +1,4 @@
--- Runs of a monitor, and what it tells, asks and decides in them: each of these is computed from the definitions.
+-- Runs of a monitor, and what it tells, asks and decides in them. Each example is computed from the definitions.
 use Rattle.std.specs.Prelude.{◌≡◌, ℕ, ◌+◌, zero, suc, if◌then◌else◌, Bool, true, false, List, [], ◌∷◌, ◌++◌, codes, length, ◌&&◌, Some, None, is_none}
 use Rattle.nut_words.specs.declared.limits.TheConstants.{PIECE_MAX}
 use Rattle.nut_conf.specs.declared.notice.Notice.TheVariants as kinds
@@ -15,17 +15,17 @@ use Rattle.nut_monitor_spec.specs.Acceptance.{refusal}
 
 -- ---- runs
 
--- What happens in a run: an event, or that the server takes all that waits on a link and answers this line.
+-- A move of a run: an event; or the server takes all that waits on link i and answers this line.
 pub data Move : Type 0 where
   Happens : (event : Event) → Move
   Says : (i : ℕ) (text : List ℕ) → Move
 
--- so many notices are taken
+-- the history after this many notices were taken
 abbrev pub all_told : ℕ → List Event → List Event
 all_told zero events = events
 all_told (suc n) events = NoticeTaken ∷ all_told n events
 
--- the notices that wait are taken
+-- the history after all waiting notices were taken
 abbrev pub noticed : Configuration → List Event → List Event
 noticed configuration events = all_told (length (notices_waiting (trace configuration events))) events
 
@@ -34,7 +34,7 @@ moved configuration events (Happens event) = event ∷ events
 moved configuration events (Says i text) =
     LinkBytes i (text ++ codes "\n") ∷ LinkTook i (length (waits configuration i (trace configuration events))) ∷ events
 
--- The events of a run, whose moves are given the oldest first. The notices are taken after each move.
+-- The events of a run. Moves are listed with the oldest first, and all waiting notices are taken after each move.
 abbrev pub played : Configuration → List Move → List Event → List Event
 played configuration [] events = events
 played configuration (move ∷ moves) events = played configuration moves (noticed configuration (moved configuration events move))
@@ -92,20 +92,20 @@ secondary_room = room (su700 false ∷ [])
 abbrev pub two_primaries : Configuration
 two_primaries = room (su700 true ∷ su900 true ∷ [])
 
--- one in which a UPS may be silent for long
+-- a room in which a UPS may be silent for 1,000,000 seconds before NOCOMM
 abbrev pub patient_room : Configuration
 patient_room = record secondary_room { no_comm_warn_time = 1_000_000 }
 
--- one of two supplies is enough
+-- a room with two supplies, of which one is enough
 abbrev pub two_supplies : Configuration
 two_supplies = room (su700 false ∷ su900 false ∷ [])
 
--- the first queries of a link, answered OK
+-- link i is made, and its opening queries are answered OK
 abbrev pub opens : Bool → ℕ → List Move
 opens primary i =
     Happens (Linked i) ∷ Says i (codes "OK") ∷ Says i (codes "OK") ∷ Says i (codes "OK") ∷ (if primary then Says i (codes "OK") ∷ [] else [])
 
--- the status query, answered by this
+-- the status query on link 0 is answered by this status
 abbrev pub shows : List ℕ → Move
 shows value = Says 0 (codes "VAR su700 ups.status \"" ++ value ++ codes "\"")
 
@@ -117,15 +117,15 @@ logins_are count = Says 0 (codes "NUMLOGINS su700 " ++ count)
 
 -- ---- a primary
 
--- it hears this status at moment 0
+-- a primary that hears this status at moment 0
 abbrev pub primary_hears : List ℕ → List Move
 primary_hears value = at_moment 0 ∷ opens true 0 ++ shows value ∷ []
 
--- its FSD is accepted, and so many are logged in
+-- its FSD is accepted, and the number of logins is this one
 abbrev pub forces : List ℕ → List Move
 forces count = Says 0 (codes "OK FSD-SET") ∷ logins_are count ∷ []
 
--- a primary that hears of a low battery, forces the shutdown, and waits until it is alone
+-- a primary that hears of a low battery, forces the shutdown, and waits until nobody else is logged in
 pub record PrimaryExamples : Type 0 where
   pub first : asks primary_room (at_moment 0 ∷ Happens (Linked 0) ∷ []) ≡ codes "USERNAME mon\n"
   pub asks_status : asks primary_room (at_moment 0 ∷ opens true 0) ≡ codes "GET VAR su700 ups.status\n"
@@ -153,7 +153,7 @@ pub record PrimaryExamples : Type 0 where
 
 -- ---- a secondary
 
--- it hears that the power is there at moment 0
+-- a secondary that hears this status at moment 0
 abbrev pub secondary_hears : List ℕ → List Move
 secondary_hears value = at_moment 0 ∷ opens false 0 ++ shows value ∷ []
 
@@ -162,11 +162,11 @@ abbrev pub hears_at : List ℕ → List ℕ → List Move
 hears_at [] value = []
 hears_at (t ∷ moments) value = at_moment t ∷ shows value ∷ hears_at moments value
 
--- the battery is low from moment 5 on
+-- on line at moment 0, and on battery with a low battery at moments 5, 10 and 15
 abbrev pub low_run : List Move
 low_run = secondary_hears (codes "OL") ++ hears_at (5 ∷ 10 ∷ 15 ∷ []) (codes "OB LB")
 
--- the status is refused at moment 5, and there again at moment 10
+-- the status query is refused at moment 5
 abbrev pub refused_run : List Move
 refused_run = secondary_hears (codes "OL") ++ at_moment 5 ∷ Says 0 (codes "ERR DATA-STALE") ∷ []
 
@@ -185,11 +185,11 @@ pub record SecondaryExamples : Type 0 where
 
 -- ---- communication
 
--- the first line is answered, and memory runs out at the second
+-- a piece of two lines, the first an answer; memory runs out behind k of them
 abbrev pub out_of_memory : ℕ → Event
 out_of_memory k = OutOfMemory 0 (codes "VAR su700 ups.status \"OB\"\nERR X\n") k
 
--- communication, and the notices that come again
+-- communication that turns bad and good, and the notices that are repeated
 pub record CommunicationExamples : Type 0 where
   pub lost : all_notices secondary_room refused_run ≡ told kinds.Commbad 0 ∷ []
   pub established :
@@ -223,7 +223,7 @@ pub record CommunicationExamples : Type 0 where
 
 -- ---- what is critical, and the shutdown
 
--- with two UPSes, and at the edges of the seconds
+-- rooms with two UPSes, and moments just before and just after a limit
 pub record RoomExamples : Type 0 where
   pub dead_not_yet : phase_after primary_room (primary_hears (codes "OB CAL") ++ at_moment 15 ∷ []) ≡ Watching
   pub dead : phase_after primary_room (primary_hears (codes "OB CAL") ++ at_moment 16 ∷ []) ≡ Forcing
@@ -259,41 +259,41 @@ pub record RoomExamples : Type 0 where
 
 -- ---- edges
 
--- one that is halted as soon as the shutdown was told
+-- a room in which the machine is halted as soon as SHUTDOWN was given
 abbrev pub hasty_room : Configuration
 hasty_room = record primary_room { final_delay = 0 }
 
--- both of two supplies are needed
+-- a room in which both supplies are needed
 abbrev pub both_supplies : Configuration
 both_supplies = record two_supplies { min_supplies = 2 }
 
--- at each of these moments the status is refused
+-- the status query is refused at each of these moments
 abbrev pub refused_at : List ℕ → List Move
 refused_at [] = []
 refused_at (t ∷ moments) = at_moment t ∷ Says 0 (codes "ERR DATA-STALE") ∷ refused_at moments
 
--- the status of a UPS on battery is refused from moment 5 on
+-- the status query of a UPS on battery is refused at moments 5, 10 and 15
 abbrev pub stale_run : List Move
 stale_run = secondary_hears (codes "OB") ++ refused_at (5 ∷ 10 ∷ 15 ∷ [])
 
--- the battery isn't low at moment 10, and is again from 15 on
+-- the battery is low at moment 5, not low at moment 10, and low again at moments 15, 20 and 25
 abbrev pub calm_run : List Move
 calm_run =
     secondary_hears (codes "OL") ++ hears_at (5 ∷ []) (codes "OB LB") ++ hears_at (10 ∷ []) (codes "OB") ++ hears_at (15 ∷ 20 ∷ 25 ∷ []) (codes "OB LB")
 
--- one of two UPSes is heard at moment 10, and then no more; the other one never
+-- the UPS of link 0 is heard at moment 10 and never again
 abbrev pub silent_run : List Move
 silent_run = at_moment 10 ∷ opens false 0 ++ shows (codes "OL") ∷ at_moment 301 ∷ at_moment 310 ∷ at_moment 311 ∷ at_moment 602 ∷ []
 
--- a primary is told how many are logged in where it asked for a shutdown
+-- a primary whose FSD is answered by a number of logins
 abbrev pub unasked_run : List Move
 unasked_run = primary_hears (codes "OB LB") ++ logins_are (codes "0") ∷ []
 
--- its FSD is refused at 0 and at 1
+-- its FSD is refused at moments 0 and 1
 abbrev pub denied_run : List Move
 denied_run = primary_hears (codes "OB LB") ++ Says 0 (codes "ERR ACCESS-DENIED") ∷ at_moment 1 ∷ Says 0 (codes "ERR ACCESS-DENIED") ∷ []
 
--- at the edges of the seconds, and of what a line says
+-- moments at a limit, and lines at the edge of what is an answer
 pub record EdgeExamples : Type 0 where
   pub halts_at_once : phase_after hasty_room (primary_hears (codes "OB LB") ++ forces (codes "1")) ≡ Halted true
   pub hasty_tells :
@@ -330,15 +330,15 @@ abbrev pub many : ℕ → ℕ → List ℕ
 many zero b = []
 many (suc n) b = b ∷ many n b
 
--- the content of a run
+-- the content after a run
 abbrev pub content_after : List Move → Content
 content_after moves = content primary_room (run primary_room moves)
 
--- a primary whose first query waits
+-- a primary whose first query waits on link 0
 abbrev pub linked_run : List Move
 linked_run = at_moment 0 ∷ Happens (Linked 0) ∷ []
 
--- a monitor of which notices wait
+-- a monitor with a waiting notice and no link
 abbrev pub busy : Content
 busy = content primary_room (LinkLost 0 ∷ run primary_room linked_run)
 
@@ -354,11 +354,11 @@ pub record RefusalExamples : Type 0 where
   pub moment_is_busy : refusal busy (Moment 0) ≡ Some Busy
   pub link_is_not_busy : refusal busy (Linked 0) ≡ None
 
--- with a notice that waits, on a link that was made anew
+-- a monitor with a waiting notice, on a link that was made anew
 abbrev pub busy_link : Content
 busy_link = content primary_room (Linked 0 ∷ LinkLost 0 ∷ run primary_room linked_run)
 
--- the order of the tests
+-- which test comes first
 pub record OrderExamples : Type 0 where
   pub bytes_without_line : refusal busy (LinkBytes 1 (many (PIECE_MAX + 1) 65)) ≡ Some NoSuchLink
   pub took_without_line : refusal busy (LinkTook 1 14) ≡ Some NoSuchLink

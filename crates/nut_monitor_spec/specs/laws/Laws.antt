@@ -1,4 +1,5 @@
--- What holds of every history of accepted events. Each of these is the contract of a function of the crate.
+-- What holds of every history, in most laws of every history of accepted events. Each law is the contract of a function
+-- of the crate.
 use Rattle.std.specs.Prelude.{◌≡◌, ◌==◌, ℕ, ◌<◌, ◌≤◌, true, false, List, [], ◌∷◌, ◌++◌, length, map, ◌⊎◌, Option, None, Some, Result}
 use Rattle.nut_conf.specs.declared.limits.TheConstants.{MONITORS_MAX}
 use Rattle.nut_words.specs.Lines.{lines_after, rest}
@@ -19,29 +20,31 @@ use Rattle.nut_monitor_spec.specs.Outcome.{IsAnswer, after}
 use Rattle.nut_monitor_spec.specs.MachineOutcome.{content_after}
 use Rattle.nut_monitor_spec.specs.declared.limits.TheConstants.{NOTICES_MAX}
 
--- these are all queries, or all but the newest
+-- these answers belong to all queries, or to all but the newest
 abbrev pub IsInTurn : List Asked → List Asked → Type 0
 IsInTurn queries answered = (queries ≡ answered) ⊎ ((newest : Asked) × (queries ≡ newest ∷ answered))
 
--- What a monitor has after any answer that it may give to an event is the content of the history after it.
+-- Whatever a monitor may answer to an event, its content afterwards is the content of the history after that answer.
 abbrev pub AnswersKeepContent : Type 0
 AnswersKeepContent =
     (configuration : Configuration) (events : List Event) (s : Content) (event : Event) (r : Result (Unit {0}) MonitorFault) →
     Tells configuration events s → IsAnswer s event r → Tells configuration (after r event events) (content_after r s event)
 
--- A link is there exactly where it was made and not lost since.
+-- A link of a MONITOR line is up in the content exactly if it was made and not lost since.
 abbrev pub LinkedIsMade : Type 0
 LinkedIsMade =
     (configuration : Configuration) (events : List Event) (i : ℕ) → i < length configuration.lines →
     is_linked (watch_at i (content configuration events).watches) ≡ linked i (trace configuration events)
 
--- What waits on a link is what is left of the queries that were put on it since it was made, joined.
+-- What waits on a link of a MONITOR line is what the server hasn't taken of the queries put on it since it was made,
+-- joined; nothing if the link isn't up.
 abbrev pub WaitingIsLeft : Type 0
 WaitingIsLeft =
     (configuration : Configuration) (events : List Event) (i : ℕ) → IsAccepted configuration events → i < length configuration.lines →
     waiting_on (watch_at i (content configuration events).watches) ≡ waits configuration i (trace configuration events)
 
--- The same of every number, also of one that no MONITOR line has, after every history of accepted events.
+-- `LinkedIsMade` and `WaitingIsLeft` for every number, also for one that no MONITOR line has, after every history of
+-- accepted events.
 pub record LinksAreTold : Type 0 where
   pub there :
       (configuration : Configuration) (events : List Event) (i : ℕ) → IsAccepted configuration events →
@@ -50,15 +53,15 @@ pub record LinksAreTold : Type 0 where
       (configuration : Configuration) (events : List Event) (i : ℕ) → IsAccepted configuration events →
       waiting_on (watch_at i (content configuration events).watches) ≡ waits configuration i (trace configuration events)
 
--- What the server was sent on a link that is there, and then what waits on it, is the queries that were put on it since
--- it was made, joined.
+-- On a link that is up, the bytes that the server took, followed by those that wait, are the queries put on it since it
+-- was made, joined.
 abbrev pub SentAndWaitingIsDue : Type 0
 SentAndWaitingIsDue =
     (configuration : Configuration) (events : List Event) (i : ℕ) → linked i (trace configuration events) ≡ true →
     sent configuration i (trace configuration events) ++ waits configuration i (trace configuration events)
     ≡ due configuration i (trace configuration events)
 
--- A shutdown that has begun isn't taken back, nor does its end begin anew.
+-- Once the shutdown has begun, the moment of its beginning never changes; nor does that of Final once that has begun.
 pub record ShutdownStays : Type 0 where
   pub begun :
       (configuration : Configuration) (events : List Event) (event : Event) (m : ℕ) →
@@ -67,7 +70,7 @@ pub record ShutdownStays : Type 0 where
       (configuration : Configuration) (events : List Event) (event : Event) (m : ℕ) →
       (content configuration events).ended ≡ Some m → (content configuration (event ∷ events)).ended ≡ Some m
 
--- However an unfinished line is cut into pieces, the content is the same.
+-- A piece x that completes no line, and then a piece y, lead to the same content as the piece x ++ y.
 abbrev pub CutsDoNotMatter : Type 0
 CutsDoNotMatter =
     (configuration : Configuration) (events : List Event) (i : ℕ) (x y : List ℕ) → IsAccepted configuration (LinkBytes i x ∷ events) →
@@ -80,31 +83,32 @@ NoticesAreFew =
     (configuration : Configuration) (events : List Event) → IsAccepted configuration events → length configuration.lines ≤ MONITORS_MAX →
     length (content configuration events).notices ≤ NOTICES_MAX
 
--- The notices that were handed out, and then those that wait, are all notices, in their order.
+-- The notices handed out, followed by those that wait, are all notices, in their order.
 abbrev pub NoticesComeInOrder : Type 0
 NoticesComeInOrder =
     (configuration : Configuration) (events : List Event) → IsAccepted configuration events →
     notices_handed (trace configuration events) ++ (content configuration events).notices ≡ notices (trace configuration events)
 
--- A query is put only on a link that is there and on which none is outstanding.
+-- A query is put only on a link that is up and has no outstanding query.
 abbrev pub QueriesComeAlone : Type 0
 QueriesComeAlone =
     (configuration : Configuration) (past : List Entry) (i : ℕ) (query : Query) → query_put configuration past i ≡ Some query →
     (linked i past ≡ true) × (outstanding i past ≡ None)
 
--- How many are logged in to a UPS is asked only once its FSD was answered OK, and only where this machine is its primary.
+-- GET NUMLOGINS is put only once an FSD for the UPS was answered OK, and only if this machine is its primary.
 abbrev pub LoginsFollowFsd : Type 0
 LoginsFollowFsd =
     (configuration : Configuration) (past : List Entry) (i : ℕ) → query_put configuration past i ≡ Some NumLogins →
     (forced i past ≡ true) × ((line_in configuration.lines i).primary ≡ true)
 
--- The answers on a link are those to its queries in turn: each query has its answer but the newest, which may have none.
+-- The answers on a link that is up belong to its queries in turn: each query but the newest has its answer, and the
+-- newest may have none.
 abbrev pub AnswersComeInTurn : Type 0
 AnswersComeInTurn =
     (configuration : Configuration) (events : List Event) (i : ℕ) → IsAccepted configuration events → linked i (trace configuration events) ≡ true →
     IsInTurn (queries i (trace configuration events)) (map (λ a. a.asked) (answers i (trace configuration events)))
 
--- the link that an event is of
+-- the number of the link that an event concerns
 abbrev pub link_of : Event → Option ℕ
 link_of (Moment t) = None
 link_of (Linked i) = Some i

@@ -1,4 +1,4 @@
--- What the code keeps of a fleet, and what a step does to that.
+-- What the code keeps of a fleet, and how a step changes it.
 use Rattle.std.specs.Prelude.{ℕ, zero, suc, ◌≡◌, ◌++◌, min, Bool, true, false, not, ◌&&◌, nat_lt, if◌then◌else◌, List, [], ◌∷◌, length, take, drop, map, slice_get, slice_index_or, Option, Some, None, is_some, is_none}
 use Rattle.nut_words.specs.Bytes.{line_feed}
 use Rattle.nut_words.specs.declared.limits.TheConstants.{PIECE_MAX}
@@ -47,7 +47,7 @@ abbrev pub links_in : Option Seat → List Ends
 links_in None = []
 links_in (Some seat) = seat.links
 
--- the same as a fleet of the definitions
+-- what is kept, as a fleet of the definitions
 abbrev pub fleet_of : Kept → Fleet
 fleet_of k = record {
   server = k.server;
@@ -55,7 +55,7 @@ fleet_of k = record {
   link = λ m i. ends_at (links_in (slice_get k.seats m)) i;
 }
 
--- ---- what is done at a step of a server and a link, of a monitor, or of both
+-- ---- what a step does, by the server and a link, by the monitor, or by both
 
 abbrev pub is_played : Deed → Bool
 is_played Skip = false
@@ -99,7 +99,7 @@ abbrev pub link_by : ℕ → server.Content → knowledge.Content → ℕ → En
 link_by m s t i ends =
     if not (open_by s ends) && not (linked_by t i) && is_none (server_tests.refusal s (arrivals.Open (address_of m))) then Join m i else Skip
 
--- ---- what it does to each
+-- ---- how it changes each of these
 
 abbrev pub told_by : Deed → ℕ → server.Content → server.Content
 told_by (Tell event) m s = server_machine.advance s event
@@ -138,7 +138,7 @@ abbrev pub made_by : Deed → server.Content → Ends → Ends
 made_by (Join m i) s ends = record { connection = suc s.opened; to_server = []; to_monitor = [] }
 made_by d s ends = ends
 
--- ---- a seat, and all
+-- ---- a seat, and all seats
 
 abbrev pub changed_at : {A : Type 0} → ℕ → (A → A) → List A → List A
 changed_at i change [] = []
@@ -233,7 +233,7 @@ next k (Land m i n) = with_seat k m (land_seat m i n)
 next k (CutServer m i) = told_to k (arrivals.Close (link_of k m i).connection)
 next k (CutMonitor m i) = with_seat k m (hear_seat m (events.LinkLost i))
 
--- what a monitor tells at a step, where it is told anything
+-- what a monitor tells at a step, if it is told anything
 abbrev pub said : Kept → Step → List News
 said k (MonitorClock m t) = told_news (inform_by m (known_of k m) (events.Moment t)) (known_of k m)
 said k (Link m i) = told_news (link_by m k.server (known_of k m) i (link_of k m i)) (known_of k m)
@@ -242,7 +242,7 @@ said k (Land m i n) = told_news (land_by m (known_of k m) i (link_of k m i) n) (
 said k (CutMonitor m i) = told_news (inform_by m (known_of k m) (events.LinkLost i)) (known_of k m)
 said k step = []
 
--- whether a step may be played
+-- whether a step fits: what it names exists, and its line isn't too long
 abbrev pub fits_link : Kept → ℕ → ℕ → Bool
 fits_link k m i = nat_lt m (length k.seats) && nat_lt i (length (links_in (slice_get k.seats m))) && nat_lt i (length (known_of k m).watches)
 
@@ -271,9 +271,9 @@ fresh_seat c = record {
 abbrev pub fresh_fleet : ServerConfiguration → List UpsmonConf → Kept
 fresh_fleet first monitors = record { server = server.content first []; seats = map fresh_seat monitors; failed = false }
 
--- ---- whose it is
+-- ---- the world that it belongs to
 
--- This is the fleet of a world.
+-- What is kept is the fleet of this world, which hasn't failed.
 pub record IsFleet (setup : Setup) (w : World) (k : Kept) : Type 0 where
   pub monitors : map (λ (seat : Seat). configuration_of seat.monitor.config) k.seats ≡ setup.monitors
   pub links : map (λ (seat : Seat). length seat.links) k.seats ≡ map (λ (c : Configuration). length c.lines) setup.monitors

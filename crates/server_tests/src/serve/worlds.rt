@@ -68,7 +68,7 @@ fn deeds_of(
     Ok(deeds)
 }
 
-/// Counts one thing that the world did.
+/// Adds a note of the world to its deeds.
 fn add_note(deeds: &mut Deeds, note: &Note, c: u64, u: usize) -> Result<(), AllocError> {
     match note {
         Note::Took(d, part) if *d == c => deeds.replies.extend_from_slice(part.as_slice()),
@@ -87,7 +87,7 @@ fn add_note(deeds: &mut Deeds, note: &Note, c: u64, u: usize) -> Result<(), Allo
     }
 }
 
-/// What is done where these arrivals are served, of the connection c and the driver u.
+/// Serves these arrivals, and returns what is done for the connection c and the driver u.
 fn serve_rows(
     rt: &impl Wait,
     alloc: Global,
@@ -113,7 +113,7 @@ fn arrivals_of(alloc: Global, rows: &[Row]) -> Result<Vec<Given>, Fail> {
     Ok(arrivals)
 }
 
-/// Serves these arrivals, and gives what is done.
+/// Serves these arrivals, and returns what is done.
 fn serve_all(
     rt: &impl Wait,
     alloc: Global,
@@ -132,7 +132,8 @@ fn serve_all(
     deeds
 }
 
-/// Whether the first connection is answered so, and this is asked of the driver of the first UPS, and so much is closed.
+/// Whether the first connection gets these replies, the driver of the first UPS these requests, and this much is
+/// closed.
 fn gives(
     rt: &impl Wait,
     alloc: Global,
@@ -161,7 +162,7 @@ fn rows_cut_at_every_place(rt: HostRuntime) -> Result<(), Fail> {
 
 #[test]
 fn two_connections(rt: HostRuntime) -> Result<(), Fail> {
-    // bytes come before the connection is open, and wait for it
+    // bytes that come before the connection is open wait for it
     let rows = [
         Row::Bytes(2, b"LIST UPS\nLO"),
         Row::Open(b"a"),
