@@ -319,12 +319,12 @@ class Tests:
         """Each name in docs/definitions.md is in the file that the page gives."""
         missing, modules = [], []
         for line in read(NAMES).splitlines():
-            heads = re.fullmatch(r"(`\w+: \w+`(?:[,;] `(?:\w+: )?\w+`)*).*", line)
+            heads = re.fullmatch(r"(`\w+: [\w/]+`(?:[,;] `(?:\w+: )?[\w/]+`)*).*", line)
             if heads and not line.startswith("|"):
                 modules, crate = [], None
-                for named, module in re.findall(r"`(?:(\w+): )?(\w+)`", heads[1]):
+                for named, module in re.findall(r"`(?:(\w+): )?([\w/]+)`", heads[1]):
                     crate = named or crate
-                    modules.append((crate, module))
+                    modules.append((crate, module.replace("/", ".")))
             elif line.startswith("| `"):
                 for name in re.findall(r"`([^`]+)`", line.split("|")[1]):
                     if not any(self.library.home(*it, name) for it in modules):
