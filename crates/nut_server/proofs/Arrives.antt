@@ -14,7 +14,7 @@ use Rattle.nut_server_spec.specs.Event.{Event}
 use Rattle.nut_server_spec.specs.Content.{Session, Supply, Content}
 use Rattle.nut_server_spec.specs.Acceptance.{Tells, refusal, session_of, bytes_refusal, took_refusal, close_refusal, asks_of}
 use Rattle.nut_server_spec.specs.machine.Machine.{without, down, update_at}
-use Rattle.nut_server_spec.specs.Laws.{IsUpTo}
+use Rattle.nut_server_spec.specs.laws.Laws.{IsUpTo}
 use Rattle.nut_server_spec.specs.Outcome.{IsAnswer, after}
 use Rattle.nut_server_spec.specs.MachineOutcome.{Answers, content_after}
 use Rattle.nut_server_spec.proofs.Tells.{answers-told, tells-after}

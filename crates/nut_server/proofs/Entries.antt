@@ -12,7 +12,7 @@ use Rattle.slab.specs.Slab.{Slab, get, ContainsKey, slab_len, with_value, Update
 use Rattle.slab.proofs.SlabLemmas.{Updates-with_value, ContainsKey-within}
 use Rattle.nut_server_spec.specs.Content.{Session}
 use Rattle.nut_server_spec.specs.Acceptance.{session_of}
-use Rattle.nut_server_spec.specs.Laws.{IsBelow, IsRising, IsUpTo}
+use Rattle.nut_server_spec.specs.laws.Laws.{IsBelow, IsRising, IsUpTo}
 use Rattle.nut_server_spec.specs.machine.Machine.{without}
 use Rattle.nut_server.specs.declared.connections.Key.{Key}
 use Rattle.nut_server.specs.declared.connections.Connections.TheInside.{Inside}

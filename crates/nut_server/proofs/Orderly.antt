@@ -5,7 +5,7 @@ use Rattle.std.proofs.lemmas.Bool.{cases_Bool, eqb-true, eq-eqb, ne_eqb, falseâ‰
 use Rattle.std.proofs.lemmas.Bool.Decides.{nat_tests}
 use Rattle.nut_server_spec.specs.Content.{Session}
 use Rattle.nut_server_spec.specs.Acceptance.{session_of}
-use Rattle.nut_server_spec.specs.Laws.{IsBelow, IsRising, IsUpTo}
+use Rattle.nut_server_spec.specs.laws.Laws.{IsBelow, IsRising, IsUpTo}
 use Rattle.nut_server_spec.specs.machine.Machine.{update, without}
 use Rattle.nut_server.specs.inside.Inside.{numbers_of}
 use Rattle.nut_server.specs.Settling.{is_unsettled, settles, IsNextUnsettled}

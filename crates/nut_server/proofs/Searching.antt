@@ -10,7 +10,7 @@ use Rattle.std.proofs.lemmas.Option.{slice_get-get_or}
 use Rattle.slab.specs.Slab.{Slab}
 use Rattle.nut_server_spec.specs.Content.{Session}
 use Rattle.nut_server_spec.specs.Acceptance.{session_of}
-use Rattle.nut_server_spec.specs.Laws.{IsBelow, IsRising}
+use Rattle.nut_server_spec.specs.laws.Laws.{IsBelow, IsRising}
 use Rattle.nut_server.specs.inside.Inside.{numbers_of}
 use Rattle.nut_server.specs.inside.Place.{IsPlace, Stands}
 use Rattle.nut_server.specs.inside.Entries.{AreEntries, AreNamed, key_numbers, sessions_of}

@@ -10,7 +10,7 @@ ghost use Rattle.nut_words.specs.Lines.{Text};
 ghost use Rattle.nut_server_spec.specs.Content.{Session};
 ghost use Rattle.nut_server_spec.specs.Acceptance.{session_of};
 ghost use Rattle.nut_server_spec.specs.Answer.{guests_of};
-ghost use Rattle.nut_server_spec.specs.Laws.{IsRising, IsUpTo};
+ghost use Rattle.nut_server_spec.specs.laws.Laws.{IsRising, IsUpTo};
 ghost use Rattle.nut_server_spec.specs.machine.Machine.{guest_of, update, with_rest, without};
 ghost use Rattle.nut_server.specs.declared.connections.Key.{Key};
 ghost use Rattle.nut_server.specs.inside.Effects.{affected, said};

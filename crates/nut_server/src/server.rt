@@ -8,7 +8,7 @@ ghost use Rattle.nut_server_spec.specs.Content.{content};
 ghost use Rattle.nut_server_spec.specs.Trace.{below};
 ghost use Rattle.nut_server.specs.inside.Server.{unheard};
 ghost use Rattle.nut_server_spec.specs.Acceptance.{Tells, refusal, session_of, supply_of, waiting_of, asks_of, may_read, leaves, kept, is_connected};
-ghost use Rattle.nut_server_spec.specs.Laws.{HasFewConnections};
+ghost use Rattle.nut_server_spec.specs.laws.Laws.{HasFewConnections};
 ghost use Rattle.nut_server_spec.specs.laws.Limits.{IsWithin, most_waits};
 ghost use Rattle.nut_server_spec.specs.Outcome.{IsAnswer, after};
 ghost use Rattle.nut_server_spec.specs.MachineOutcome.{Answers, content_after};

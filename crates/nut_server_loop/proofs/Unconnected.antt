@@ -7,7 +7,7 @@ use Rattle.nut_server_spec.specs.Event.{Event, Moment, Open, Bytes, Took, Close,
 use Rattle.nut_server_spec.specs.Trace.{configuration, driver_sent, ups_numbers, below}
 use Rattle.nut_server_spec.specs.Content.{Content, content, past, supply}
 use Rattle.nut_server_spec.specs.Acceptance.{IsAccepted, Tells, supply_of}
-use Rattle.nut_server_spec.specs.Laws.{driver_received}
+use Rattle.nut_server_spec.specs.laws.Laws.{driver_received}
 use Rattle.nut_server_spec.proofs.Others.{configuration_lines, configuration_reports}
 use Rattle.nut_server_spec.proofs.DriverSent.{connected_took, driver_sent-received}
 

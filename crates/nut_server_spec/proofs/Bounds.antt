@@ -19,7 +19,7 @@ use Rattle.nut_server_spec.specs.Event.{Event, Moment, Open, Bytes, Took, Close,
 use Rattle.nut_server_spec.specs.Answer.{device_at}
 use Rattle.nut_server_spec.specs.Trace.{Entry, configuration, clock, device, connected, logged_out, driver_due, driver_taken, driver_waits, scene, caller, with_request, request_for, ping, trace, answer_to, asks_at}
 use Rattle.nut_server_spec.specs.Content.{Session, Supply, past, supply}
-use Rattle.nut_server_spec.specs.Laws.{IsBoundedSession, IsBoundedSupply, BoundsHold}
+use Rattle.nut_server_spec.specs.laws.Laws.{IsBoundedSession, IsBoundedSupply, BoundsHold}
 use Rattle.nut_server_spec.proofs.Kept.{session_is, supply_is}
 use Rattle.nut_server_spec.proofs.Places.{get_below, found_below}
 use Rattle.nut_server_spec.proofs.Requests.{asked-fits}

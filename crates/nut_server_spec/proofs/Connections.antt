@@ -5,7 +5,7 @@ use Rattle.nut_server_spec.specs.Event.{Event, Moment, Open, Bytes, Took, Close,
 use Rattle.nut_server_spec.specs.Trace.{opened}
 use Rattle.nut_server_spec.specs.Content.{content, past}
 use Rattle.nut_server_spec.specs.Acceptance.{IsAccepted}
-use Rattle.nut_server_spec.specs.Laws.{ConnectionsAreFew}
+use Rattle.nut_server_spec.specs.laws.Laws.{ConnectionsAreFew}
 use Rattle.nut_server_spec.proofs.Kept.{opened_lines, opened_reports}
 use Rattle.nut_server_spec.proofs.Numbers.{numbers-rise}
 use Rattle.nut_server_spec.proofs.Waiting.{configuration_stays, few_history, opened_few}

@@ -7,7 +7,7 @@ use Rattle.nut_server_spec.specs.Configuration.{Configuration}
 use Rattle.nut_server_spec.specs.Event.{Event, Bytes, DriverBytes, Step, Said, Reported, input, taken, driver_input, steps, with_lines, with_reports, brought}
 use Rattle.nut_server_spec.specs.Trace.{trace}
 use Rattle.nut_server_spec.specs.Content.{content, past}
-use Rattle.nut_server_spec.specs.Laws.{CutsDoNotMatter, DriverCutsDoNotMatter}
+use Rattle.nut_server_spec.specs.laws.Laws.{CutsDoNotMatter, DriverCutsDoNotMatter}
 use Rattle.nut_server_spec.proofs.LineLaws.{brought_none, brought-append}
 use Rattle.nut_server_spec.proofs.Law.{content_from, rests_of, takes_of, reports_of}
 

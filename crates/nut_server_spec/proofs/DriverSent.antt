@@ -15,7 +15,7 @@ use Rattle.nut_server_spec.specs.Trace.{connected, driver_due, driver_taken, dri
 use Rattle.nut_server_spec.specs.Content.{Supply, Content, past, content}
 use Rattle.nut_server_spec.specs.Acceptance.{refusal, IsAccepted, Tells, supply_of, drain_refusal, asks_in, asks_of, front, lost, lost_report}
 use Rattle.nut_server_spec.specs.Outcome.{after_refusal}
-use Rattle.nut_server_spec.specs.Laws.{driver_received, DriverSentIsReceived, DriverSentAndWaitingIsDue}
+use Rattle.nut_server_spec.specs.laws.Laws.{driver_received, DriverSentIsReceived, DriverSentAndWaitingIsDue}
 use Rattle.nut_server_spec.proofs.Kept.{supply_is, drivers_covered}
 
 -- how many bytes the driver of u takes in an event, and whether the event connects it anew

@@ -11,7 +11,7 @@ use Rattle.nut_server_spec.specs.Answer.{Answer, Silence, answer}
 use Rattle.nut_server_spec.specs.Content.{Session, Supply, Content}
 use Rattle.nut_server_spec.specs.Acceptance.{session_of, front, line_feeds}
 use Rattle.nut_server_spec.specs.machine.Machine.{update, update_at, with_rest, with_sessions, guest_of, caller_of, scene_of, answered, answer_in, act_on, acted, after_answer, line_heard, byte_heard, bytes_heard}
-use Rattle.nut_server_spec.specs.Laws.{numbers}
+use Rattle.nut_server_spec.specs.laws.Laws.{numbers}
 use Rattle.nut_server_spec.proofs.Sessions.{KeepsNumber, session_of-update}
 
 pub bytes_heard-append : (c : ℕ) (x y : List ℕ) (s : Content) → bytes_heard c (x ++ y) s ≡ bytes_heard c y (bytes_heard c x s)

@@ -11,7 +11,7 @@ use Rattle.nut_server_spec.specs.Trace.{Entry, configuration, opened, open_numbe
 use Rattle.nut_server_spec.specs.Content.{Session, Supply, past, content, session, supply}
 use Rattle.nut_server_spec.specs.Acceptance.{refusal, IsAccepted, session_of, supply_of, bytes_refusal, took_refusal, drain_refusal}
 use Rattle.nut_server_spec.specs.machine.Machine.{advance, fresh, KeepsContent}
-use Rattle.nut_server_spec.specs.Laws.{IsUpTo}
+use Rattle.nut_server_spec.specs.laws.Laws.{IsUpTo}
 use Rattle.nut_server_spec.proofs.Numbers.{numbers_up_to}
 use Rattle.nut_server_spec.proofs.Places.{found_at, below_counts}
 use Rattle.nut_server_spec.proofs.Law.{IsDriverCovered, law-moment, law-close, law-write_failed, law-took, law-driver_up, law-driver_took, law-driver_down}

@@ -15,7 +15,7 @@ use Rattle.nut_server_spec.specs.Event.{Event, Moment, Took, Close, WriteFailed,
 use Rattle.nut_server_spec.specs.Answer.{Answer, text_of}
 use Rattle.nut_server_spec.specs.Trace.{Entry, configuration, clock, opened, open_numbers, address, user, password, login, logged_out, due, device, connected, forced, driver_due, driver_taken, driver_waits, ups_numbers, scene, with_request, request_for, ping, pinged_then, pinged_at}
 use Rattle.nut_server_spec.specs.Content.{Session, Supply, Content, past, content, session, supply}
-use Rattle.nut_server_spec.specs.Laws.{IsBelow, IsRising}
+use Rattle.nut_server_spec.specs.laws.Laws.{IsBelow, IsRising}
 use Rattle.nut_server_spec.specs.machine.Machine.{advance, update, with_rest, with_sessions, with_supplies, without, answered, acted, act_on, reported_by, ticked, up, down, drained, guest_of, scene_of}
 use Rattle.nut_server_spec.proofs.Numbers.{open_numbers_rise}
 use Rattle.nut_server_spec.proofs.Places.{update-below, map-twice, map-same}

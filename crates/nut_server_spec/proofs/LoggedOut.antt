@@ -13,7 +13,7 @@ use Rattle.nut_server_spec.specs.Answer.{Answer, Silence, text_of, answer}
 use Rattle.nut_server_spec.specs.Effect.{user_then, password_then, login_then, logged_out_then, due_then, target, forced_then, request_of, at_target}
 use Rattle.nut_server_spec.specs.Trace.{Entry, configuration, address, user, password, login, logged_out, due, connected, reports, heard_at, pinged_at, forced, driver_due, driver_taken, scene, caller, with_request, request_for, answer_to, trace}
 use Rattle.nut_server_spec.specs.Content.{Session, past}
-use Rattle.nut_server_spec.specs.Laws.{LogoutIsFinal}
+use Rattle.nut_server_spec.specs.laws.Laws.{LogoutIsFinal}
 
 -- ---- a silent answer changes nothing
 

@@ -1,7 +1,7 @@
 -- The numbers of open connections rise, each is at least 1, and none is greater than how many were opened.
 use Rattle.std.proofs.Common.{◌≡◌, ℕ, ◌+◌, ◌<◌, Bool, List, [], ◌∷◌, ◌++◌, filter, map, refl, sym, subst, arith, inl, inr}
 use Rattle.std.proofs.lemmas.Bool.{cases_Bool}
-use Rattle.nut_server_spec.specs.Laws.{IsBelow, IsRising, IsUpTo, numbers, NumbersRise}
+use Rattle.nut_server_spec.specs.laws.Laws.{IsBelow, IsRising, IsUpTo, numbers, NumbersRise}
 use Rattle.nut_server_spec.specs.Configuration.{Configuration}
 use Rattle.nut_server_spec.specs.Content.{Session, Content, content, session, past}
 use Rattle.nut_server_spec.specs.Acceptance.{Tells}

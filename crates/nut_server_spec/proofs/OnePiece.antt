@@ -7,7 +7,7 @@ use Rattle.nut_server_spec.specs.Event.{Event, Moment, Open, Bytes, Took, Close,
 use Rattle.nut_server_spec.specs.Trace.{due}
 use Rattle.nut_server_spec.specs.Content.{Session, content, past, sent, waits}
 use Rattle.nut_server_spec.specs.Acceptance.{IsAccepted, bytes_refusal, refusal, session_of, waiting_of}
-use Rattle.nut_server_spec.specs.Laws.{WaitsForOnePiece, before_piece}
+use Rattle.nut_server_spec.specs.laws.Laws.{WaitsForOnePiece, before_piece}
 use Rattle.nut_server_spec.proofs.Kept.{all_covered}
 use Rattle.nut_server_spec.proofs.Sent.{sent-bytes, sent-step, sent-waiting-due, sent-waits, taken_by, waiting_is}
 use Rattle.nut_server_spec.proofs.Waiting.{piece_accepted}

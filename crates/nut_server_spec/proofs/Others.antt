@@ -9,7 +9,7 @@ use Rattle.nut_server_spec.specs.Trace.{configuration, opened, open_numbers, tra
 use Rattle.nut_server_spec.specs.Content.{Session, Content, past, content, session}
 use Rattle.nut_server_spec.specs.Acceptance.{refusal, Tells, session_of, supply_of, bytes_refusal, took_refusal, close_refusal, waiting_of, asks_of}
 use Rattle.nut_server_spec.specs.machine.Machine.{advance, bytes_reported, up, down, drained, fresh}
-use Rattle.nut_server_spec.specs.Laws.{IsUpTo, IsOther, connection_of, driver_of, OthersStay, OtherDriversStay, OpenedIsFresh, ClosedStaysClosed}
+use Rattle.nut_server_spec.specs.laws.Laws.{IsUpTo, IsOther, connection_of, driver_of, OthersStay, OtherDriversStay, OpenedIsFresh, ClosedStaysClosed}
 use Rattle.nut_server_spec.proofs.Law.{eqb_turn}
 use Rattle.nut_server_spec.proofs.Numbers.{numbers_up_to}
 use Rattle.nut_server_spec.proofs.Kept.{keeps-content}

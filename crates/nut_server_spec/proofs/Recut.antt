@@ -8,7 +8,7 @@ use Rattle.nut_server_spec.specs.Configuration.{Configuration}
 use Rattle.nut_server_spec.specs.Event.{Event, Bytes, DriverBytes, Step, Reported, input, driver_input, steps, with_lines, with_reports, brought}
 use Rattle.nut_server_spec.specs.Device.{Device}
 use Rattle.nut_server_spec.specs.Trace.{Entry, clock, due, connected, reports, reported, is_heard, heard_at, pinged_at, forced, driver_due, trace}
-use Rattle.nut_server_spec.specs.Laws.{Turn, Piece, Taken, bytes_of, sending, reporting, SameStepsSameAnswers, CutsAndWritesDoNotMatter, DriverCutsAndWritesDoNotMatter}
+use Rattle.nut_server_spec.specs.laws.Laws.{Turn, Piece, Taken, bytes_of, sending, reporting, SameStepsSameAnswers, CutsAndWritesDoNotMatter, DriverCutsAndWritesDoNotMatter}
 use Rattle.nut_server_spec.proofs.LineLaws.{brought_none, brought-append}
 use Rattle.nut_server_spec.proofs.Cuts.{with_lines-append, with_reports-append}
 

@@ -16,7 +16,7 @@ use Rattle.nut_server_spec.specs.Trace.{due, trace, answer_to}
 use Rattle.nut_server_spec.specs.Content.{Session, Content, past, content, sent, waits}
 use Rattle.nut_server_spec.specs.Acceptance.{refusal, IsAccepted, Tells, session_of, took_refusal, waiting_in, waiting_of, front, lost, lost_report}
 use Rattle.nut_server_spec.specs.Outcome.{after_refusal}
-use Rattle.nut_server_spec.specs.Laws.{received, SentIsReceived, SentAndWaitingIsDue, SentIsFrontOfDue}
+use Rattle.nut_server_spec.specs.laws.Laws.{received, SentIsReceived, SentAndWaitingIsDue, SentIsFrontOfDue}
 use Rattle.nut_server_spec.proofs.Pieces.{IsCovered}
 use Rattle.nut_server_spec.proofs.Kept.{session_is, all_covered, due_reports}
 

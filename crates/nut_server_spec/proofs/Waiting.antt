@@ -22,7 +22,7 @@ use Rattle.nut_server_spec.specs.Trace.{Entry, configuration, reports, ups_numbe
 use Rattle.nut_server_spec.specs.Content.{Session, Supply, Content, content, past, supply}
 use Rattle.nut_server_spec.specs.Acceptance.{IsAccepted, refusal, session_of, waiting_in, waiting_of, is_address, open_refusal, bytes_refusal}
 use Rattle.nut_server_spec.specs.machine.Machine.{advance, update, update_at, act_on, acted, answered, after_answer, answer_in, caller_of, scene_of, guest_of, with_rest, line_heard, byte_heard, bytes_heard, without, fresh}
-use Rattle.nut_server_spec.specs.Laws.{IsOther, connection_of}
+use Rattle.nut_server_spec.specs.laws.Laws.{IsOther, connection_of}
 use Rattle.nut_server_spec.specs.laws.Limits.{IsWithin, WaitsAreBounded, most_waits}
 use Rattle.nut_server_spec.proofs.Alls.{all_append, all_filter, all_map}
 use Rattle.nut_server_spec.proofs.AnswerLengths.{IsFit, IsShortScene, answer_fit, fewer, fit_silence}

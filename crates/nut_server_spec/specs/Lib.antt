@@ -9,7 +9,6 @@ pub mod Content
 pub mod Acceptance
 pub mod Outcome
 pub mod MachineOutcome
-pub mod Laws
 pub mod machine
 pub mod laws
 pub mod examples

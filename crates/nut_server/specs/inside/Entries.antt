@@ -3,7 +3,7 @@ use Rattle.std.specs.Prelude.{◌≡◌, ◌≤◌, ℕ, List, [], ◌∷◌, co
 use Rattle.nut_conf.specs.declared.limits.TheConstants.{CONNECTIONS_MAX}
 use Rattle.slab.specs.Slab.{Slab, get, slab_len}
 use Rattle.nut_server_spec.specs.Content.{Session}
-use Rattle.nut_server_spec.specs.Laws.{IsRising}
+use Rattle.nut_server_spec.specs.laws.Laws.{IsRising}
 use Rattle.nut_server.specs.declared.connections.Key.{Key}
 use Rattle.nut_server.specs.Settling.{is_unsettled}
 use Rattle.nut_server.specs.declared.connections.Connections.TheInside.{Inside}

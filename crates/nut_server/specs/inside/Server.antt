@@ -3,7 +3,7 @@ use Rattle.std.specs.Prelude.{◌≡◌, ◌≤◌, [], length}
 use Rattle.nut_words.specs.Lines.{Text}
 use Rattle.nut_server_spec.specs.Content.{Supply}
 use Rattle.nut_server_spec.specs.Device.{absent}
-use Rattle.nut_server_spec.specs.Laws.{IsUpTo}
+use Rattle.nut_server_spec.specs.laws.Laws.{IsUpTo}
 use Rattle.nut_server_spec.specs.laws.Limits.{IsWithin}
 use Rattle.nut_server_spec.specs.declared.limits.TheConstants.{OPENED_MAX}
 use Rattle.nut_server.specs.inside.Inside.{numbers_of}

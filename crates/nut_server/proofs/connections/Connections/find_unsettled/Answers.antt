@@ -1,5 +1,5 @@
 use Rattle.std.proofs.Common.{arith, sym, ◌∙◌, ap, subst, option_map, Some}
-use Rattle.nut_server_spec.specs.Laws.{IsRising}
+use Rattle.nut_server_spec.specs.laws.Laws.{IsRising}
 use Rattle.nut_server.specs.inside.Inside.{numbers_of}
 use Rattle.nut_server.specs.Settling.{settles}
 use Rattle.nut_server.proofs.Entries.{as_many, sessions_rise, key_tells, nothing_found}

@@ -1,5 +1,5 @@
 use Rattle.std.proofs.Common.{subst, sym, ap, ◌∙◌, length, slice_get, arith}
-use Rattle.nut_server_spec.specs.Laws.{IsUpTo}
+use Rattle.nut_server_spec.specs.laws.Laws.{IsUpTo}
 use Rattle.nut_server.specs.inside.Inside.{numbers_of}
 use Rattle.nut_server.proofs.Arrives.{numbers-length, fewer}
 use Rattle.nut_server.proofs.Heard.{standing}

@@ -5,7 +5,7 @@ use Rattle.nut_words.specs.Cutter.{handed_out, line_of}
 use Rattle.nut_server_spec.specs.Acceptance.{front, line_feeds}
 use Rattle.nut_server_spec.specs.Command.{command_of}
 use Rattle.nut_server_spec.specs.Content.{Content}
-use Rattle.nut_server_spec.specs.Laws.{IsUpTo}
+use Rattle.nut_server_spec.specs.laws.Laws.{IsUpTo}
 use Rattle.nut_server_spec.specs.machine.Machine.{after_answer, answer_in, answered, bytes_heard, with_rest, with_sessions, without}
 use Rattle.nut_server_spec.proofs.Hearing.{first_line, with_unfinished, bytes_heard-append, line_heard_front, rest_heard}
 use Rattle.nut_server.specs.inside.Effects.{answered_by}

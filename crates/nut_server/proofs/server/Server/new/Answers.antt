@@ -1,6 +1,6 @@
 use Rattle.std.proofs.Common.{length, subst, sym, ap, ◌∙◌, arith}
 use Rattle.std.proofs.lemmas.List.{length-map}
-use Rattle.nut_server_spec.specs.Laws.{IsUpTo}
+use Rattle.nut_server_spec.specs.laws.Laws.{IsUpTo}
 use Rattle.nut_server_spec.specs.laws.Limits.{IsWithin}
 use Rattle.nut_server_spec.specs.Trace.{below}
 use Rattle.nut_server.specs.inside.Inside.{numbers_of}

@@ -1,5 +1,5 @@
 use Rattle.std.proofs.Common.{◌+◌, [], ◌∷◌, length, subst, sym, ap, arith, length-append}
-use Rattle.nut_server_spec.specs.Laws.{IsUpTo}
+use Rattle.nut_server_spec.specs.laws.Laws.{IsUpTo}
 use Rattle.nut_server.specs.inside.Inside.{numbers_of}
 use Rattle.nut_server.proofs.Orderly.{IsUpTo-push}
 use Rattle.nut_server.proofs.Arrives.{numbers-length}
