@@ -514,7 +514,7 @@ class Tests:
         expect(self.checked(conf + "MINSUPPLIES 0\n", upsc="echo 1")[2], "", "a machine that needs no UPS")
 
     def test_start_asks_how_early_lb_is_said(self):
-        """A server that can be asked only after some time: its answer is told once, and a shutdown ends the asking."""
+        """A server that can be asked only after some time: its answer is told once, and it isn't asked again."""
         library = build_library("hasten", self.folder)
         late = "upsmon: warning: UPS %s: battery.runtime.low is 12, and this machine stops within 28 s of OB LB"
         with tempfile.TemporaryDirectory(dir=self.folder) as folder, Upstream() as server:

@@ -16,7 +16,8 @@ const TEXT_MAX: usize = 233;
 /// IGNORE neither is done, whatever stands beside it.
 ///
 /// A run of the command that can't be started is let go, which is told on `err`, as is a UPS that says LB later than this
-/// machine needs to stop. From the notice of the shutdown on no UPS is asked for that any more.
+/// machine needs to stop. The notice of the shutdown ends the questions for that; one that is under way may be repeated, after
+/// 25 seconds at the earliest.
 #[derive(Drop)]
 pub struct Crier<'a, R: Processes, O, E> {
     out: O,
