@@ -56,6 +56,7 @@ check-peers: all
 bench: all
 	@python3 bench/stdio.py bin/upsd
 	@python3 bench/sockets.py bin/upsd bin/dummy-ups
+	@python3 bench/instructions.py bin/upsd bin/dummy-ups
 
 install: all
 	@$(MAKE) --no-print-directory install-built

@@ -1,11 +1,11 @@
 #!/usr/bin/env python3
-"""How long the first builds and the whole gate take on some of this machine's processors.
+"""Measures how long the first builds and the whole gate take on some of this machine's processors.
 
 usage: builds.py PROCESSORS..
 
-For each number it clones the repository into a folder of its own, and there runs `make upsd`, then `make` (both times from
-nothing, so the second has the first's in it), and then `make check`. It prints minutes of the clock and of processors, and
-leaves what each crate took where `make check-times` looks for it."""
+For each number it clones the repository into a folder of its own, and there runs `make upsd`, then `make` (both from
+nothing, so the second time includes the first's work), and then `make check`. It prints the elapsed minutes and the
+processor minutes, and leaves the times of each crate where `make check-times` looks for them."""
 
 import os
 import resource

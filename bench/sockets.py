@@ -1,11 +1,11 @@
 #!/usr/bin/env python3
-"""Measures upsd over sockets, and beside it NUT's own upsd where Debian's package has put it: the same table, told by two
-of this project's dummy drivers, the same machine, one after the other in turn.
+"""Measures upsd over sockets, and beside it NUT's own upsd if Debian's package has installed it: the same table, told by two of
+this project's dummy drivers, on the same machine, taking turns.
 
     bench/sockets.py UPSD DUMMY_UPS [SECONDS]
 
-SECONDS (1 where none is given) is how long each measurement takes. For answers a second more is better, for the time to
-an answer, for the processor's time that the server takes for one, and for memory less. It reads /proc, so it needs Linux."""
+SECONDS (by default 1) is how long each measurement takes. More answers a second are better; of the time to an answer, the
+server's processor time for an answer, and memory, less is better. It reads /proc, so it needs Linux."""
 
 import getpass
 import os
@@ -17,9 +17,9 @@ import tempfile
 import time
 
 HERE = os.path.dirname(os.path.abspath(__file__))
-sys.path.insert(0, os.path.join(os.path.dirname(HERE), "tests"))
+sys.path.insert(0, os.path.dirname(HERE))
 
-from harness import processor_time
+from tests.support.harness import processor_time
 
 NUT_UPSD = "/lib/nut/upsd"
 VARIABLES = 60
@@ -85,7 +85,8 @@ class Server:
         sys.exit(f"{self.name} doesn't serve")
 
     def load(self, program, seconds, request, lines, clients, in_flight):
-        """Answers a second, median and 99th percentile in microseconds, and the server's own time for an answer in them."""
+        """Returns the answers a second, the median and 99th percentile of the time to one in microseconds, and the server's
+        processor time for one in microseconds."""
         words = [program, self.port, clients, in_flight, lines, seconds, request]
         before = processor_time(self.process.pid)
         done = subprocess.run([str(word) for word in words], stdout=subprocess.PIPE, check=True)
@@ -93,7 +94,7 @@ class Server:
         return rate, middle, worst, (processor_time(self.process.pid) - before) * 1e6 / (rate * seconds)
 
     def resident(self):
-        """The resident memory in KiB."""
+        """Returns the resident memory in KiB."""
         with open(f"/proc/{self.process.pid}/status") as status:
             return next(int(line.split()[1]) for line in status if line.startswith("VmRSS:"))
 
@@ -104,7 +105,7 @@ class Server:
 
 
 def best(rounds):
-    """The most answers a second, and the least times. What else the machine does only slows a round down, so that the best
+    """Returns the most answers a second, and the least times. Other work of the machine only slows a round down, so the best
     of many rounds says more than their middle."""
     rates, middles, worsts, costs = zip(*rounds)
     return max(rates), min(middles), min(worsts), min(costs)

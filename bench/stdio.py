@@ -3,8 +3,8 @@
 
     bench/stdio.py PROGRAM [LINES]
 
-LINES (10,000,000 where none is given) times 'GET UPSDESC su700' go through standard input, and the answers to a file
-that forgets them. The same run with a tenth of the lines shows whether memory grows with the work."""
+LINES (by default 10,000,000) times 'GET UPSDESC su700' is sent through standard input, and the answers to a file that
+discards them. The same run with a tenth of the lines shows whether memory grows with the work."""
 
 import os
 import subprocess
@@ -21,7 +21,7 @@ def command(program):
 
 
 def greatest_resident(pid):
-    """Gives the greatest resident size so far of a running process in KiB, or 0 once it has ended."""
+    """Returns the greatest resident size so far of a running process in KiB, or 0 if it has ended."""
     try:
         with open(f"/proc/{pid}/status") as status:
             return next((int(line.split()[1]) for line in status if line.startswith("VmHWM:")), 0)
@@ -30,7 +30,7 @@ def greatest_resident(pid):
 
 
 def run(program, file):
-    """Gives the seconds, processor seconds and greatest resident size in KiB of one run over the file."""
+    """Returns the seconds, the processor seconds and the greatest resident size in KiB of one run over the file."""
     with open(file, "rb") as lines, open(os.devnull, "wb") as nowhere:
         begun = time.monotonic()
         process = subprocess.Popen(command(program), stdin=lines, stdout=nowhere)
@@ -48,7 +48,7 @@ def run(program, file):
 
 
 def check_answers(program, count):
-    """Sees once that each line gets its answer."""
+    """Checks once that each line gets its answer."""
     done = subprocess.run(command(program), input=LINE * count, stdout=subprocess.PIPE, check=True)
     if done.stdout != ANSWER * count:
         sys.exit(f"{program} doesn't answer as it should")

@@ -1,8 +1,8 @@
 #!/usr/bin/env python3
-"""Passes all tests: the toolchain's gate (every proof from nothing, an edit of some crates that must fail, the tests and the
-stored runs), then all wrong bodies in rounds, and the tests that run the programs which the gate has built. It shows what
-each crate took of the processor beside the last landing, and once more which lines told of a failure. The last line is
-'N passed, M failed'."""
+"""Runs all tests: the toolchain's gate (every proof from nothing, an edit of some crates that must fail, the tests and the
+stored runs), then all wrong bodies in rounds, and the tests that run the programs that the gate has built. It shows how much
+processor time each crate took, beside that of the last landing, and at the end repeats the lines that reported a failure.
+The last line is 'N passed, M failed'."""
 
 import os
 import re
@@ -37,7 +37,7 @@ TESTS = (
     ("programs.packages", ("upsd", "dummy_ups", "upsc", "upsrw", "upscmd", "upsmon", "nutsim")),
 )
 
-# How a line of the toolchain or of a test begins or ends that tells of a failure, and how many are shown again.
+# The beginnings and the ends of lines by which the toolchain or a test reports a failure, and how many of these are repeated.
 FAILURE = re.compile(
     r"FAILED|.*\b(NOT PROVED|not refused|BAD EDIT|FAILED)\b|rt: .*: the program (ended|was stopped|had not)|rt: .*is not what its file|rt: .*was not run"
 )
@@ -45,14 +45,14 @@ FAILURES_SHOWN = 60
 
 
 class Count:
-    """How many tests passed and failed, and the lines that told of a failure."""
+    """How many tests passed and failed, and the lines that reported a failure."""
 
     def __init__(self):
         self.passed, self.failed, self.failures = 0, 0, []
 
     def run(self, command):
         """Runs a command, shows what it prints, and adds the counts of its last line."""
-        # run as root, the toolchain runs tests as the user 'nobody', who has to reach the folders that it makes for them
+        # run as root, the toolchain runs tests as the user 'nobody', who needs access to the folders that it makes for them
         run = subprocess.Popen(command, cwd=ROOT, stdout=subprocess.PIPE, stderr=subprocess.STDOUT, text=True, errors="replace", umask=0o022)
         last = ""
         for line in run.stdout:
@@ -75,7 +75,7 @@ class Count:
 
 
 def pass_all(count):
-    # an edit that cannot be applied is told before an hour of proofs
+    # an edit that cannot be applied is reported before an hour of proofs
     count.run_test("gate.wrong_bodies", "--look")
     if count.failed == 0:
         count.run(["rt", "ci"])

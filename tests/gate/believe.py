@@ -1,7 +1,7 @@
 #!/usr/bin/env python3
-"""What has to be believed. For each promise of the programs, this finds the definitions that its clauses lead to, and lists
-them in docs/believe.md: `believe.py --write` writes that page. Without an option it tests that the page is the list, and that
-each name in docs/definitions.md stands in the file of definitions that the page names for it. The last line is
+"""Lists what has to be believed. For each promise of the programs, it finds the definitions that its clauses lead to, and
+lists them in docs/believe.md: `believe.py --write` writes that page. Without an option it tests that the page is that list,
+and that each name in docs/definitions.md is in the file of definitions that the page gives for it. The last line is
 'N passed, M failed'."""
 
 import os
@@ -13,20 +13,20 @@ from tests.support.harness import ensure, expect, ROOT, run_tests
 PAGE = os.path.join(ROOT, "docs", "believe.md")
 NAMES = os.path.join(ROOT, "docs", "definitions.md")
 
-# The promises: what each is called, and the functions, methods and traits whose clauses say it, by their files.
+# The promises: the title of each, and the functions, methods and traits whose clauses make it, by their files.
 PROMISES = (
     ("A server", "`Server::new` and `Server::arrive`: what a server answers, keeps and asks of its drivers", (
         ("nut_server", "server.rt", ("Server.new", "Server.arrive")),)),
     ("What a server sends", "the laws over whole histories of what connections and drivers are sent", (
-        ("nut_history", "lib.rt", ("sent_and_waiting_is_due", "sent_is_front_of_due", "driver_sent_and_waiting_is_due")),)),
+        ("nut_server_spec", "lib.rt", ("sent_and_waiting_is_due", "sent_is_front_of_due", "driver_sent_and_waiting_is_due")),)),
     ("The server's loop", "`serve`: what a world gives and takes is what a server is told and sends", (
-        ("nut_serve", "serving.rt", ("serve",)), ("nut_serve", "world.rt", ("World.*",)))),
+        ("nut_server_loop", "serving.rt", ("serve",)), ("nut_server_loop", "world.rt", ("World.*",)))),
     ("A monitor", "`Monitor::new`, `arrive`, `take_notice` and `notice_text`: what a monitor asks, tells and decides", (
         ("nut_monitor", "monitor.rt", ("Monitor.new", "Monitor.arrive", "Monitor.take_notice", "Monitor.notice_text")),)),
     ("The monitor's loop", "`watch`: what a world gives and takes is what a monitor is told and asks", (
-        ("nut_watch", "watching.rt", ("watch",)), ("nut_watch", "world.rt", ("MonWorld.*",)))),
-    ("Configuration files", "`read_ups`, `read_users`, `read_upsd`, `read_upsmon`: what a file means", (
-        ("nut_conf", None, ("read_ups", "read_users", "read_upsd", "read_upsmon")),)),
+        ("nut_monitor_loop", "watching.rt", ("watch",)), ("nut_monitor_loop", "world.rt", ("MonWorld.*",)))),
+    ("Configuration files", "`read_ups`, `read_users`, `read_upsd`, `read_descriptions`, `read_upsmon`: what a file means", (
+        ("nut_conf", None, ("read_ups", "read_users", "read_upsd", "read_descriptions", "read_upsmon")),)),
     ("The tools", "`run_upsc`, `run_upsrw`, `run_upscmd` and their targets: what is asked, printed and dialed", (
         ("nut_client", None, ("run_upsc", "run_upsrw", "run_upscmd", "upsc_target", "upsrw_target", "upscmd_target")),
         ("nut_client", "output.rt", ("Output.*",)), ("nut_client", "stream.rt", ("Stream.*",)))),
@@ -59,7 +59,7 @@ def read(path):
 
 
 def crates():
-    """The crates, each behind those that it stands on."""
+    """Returns the crates, each behind those that it depends on."""
     depends = {}
     for line in read(os.path.join(ROOT, "crates.txt")).splitlines():
         line = line.split("#")[0]
@@ -80,8 +80,8 @@ def crates():
 
 
 def imports(text):
-    """The names that a text brings in from definitions: of each the crate, the module and its name there; and the modules
-    that it names otherwise."""
+    """Returns the names that a text imports from definitions, with the crate, the module and the name there of each, and the
+    modules that it imports under another name."""
     names, modules = {}, {}
     found = re.findall(r"use Rattle\.(\w+)\.specs\.([\w.]+?)(?:\.\{([^}]*)\}| as ([\w]+))?\s*;?\s*$", text, re.M)
     for crate, module, listed, other in found:
@@ -94,7 +94,7 @@ def imports(text):
 
 
 def without_blocks(lines):
-    """The lines of a file, with what stands in a block `module _` moved to the left."""
+    """Returns the lines of a file, with the contents of a block `module _` moved to the left."""
     kept, is_inside = [], False
     for line in lines:
         if line and not line[0].isspace():
@@ -104,7 +104,7 @@ def without_blocks(lines):
 
 
 class Definition:
-    """A definition: its text with its comment, and how many lines that has."""
+    """A definition: its text with its comment, and the number of lines of that."""
 
     def __init__(self, crate, module, name, text):
         self.crate, self.module, self.name = crate, module, name
@@ -122,7 +122,7 @@ class Module:
         text = read(path)
         self.names, self.modules = imports(text)
         self.definitions = {}
-        # a constructor stands for its type
+        # a constructor counts as its type
         self.inside = {}
         self.order = []
         lines = without_blocks(it for it in text.splitlines() if not it.startswith("use "))
@@ -160,8 +160,8 @@ class Library:
                         self.modules[crate, name] = Module(crate, name, path)
 
     def home(self, crate, module, name):
-        """The definition that a name stands for, and whether it is one of the code's own types or constants; None where it
-        is the toolchain's."""
+        """Returns the definition of a name, and whether it is one of the code's own types or constants; None if it is the
+        toolchain's."""
         if crate not in self.order:
             return None
         if module.startswith("declared"):
@@ -178,7 +178,7 @@ class Library:
         return None
 
     def cited(self, text, names, modules, own=None):
-        """The definitions that a text names."""
+        """Returns the definitions that a text names."""
         cited = set()
         for alias, name in re.findall(rf"\b({WORD})\.({WORD})", text):
             if alias in modules:
@@ -195,7 +195,7 @@ class Library:
         return cited - {None}
 
     def closure(self, first):
-        """All definitions that these lead to, and the types and constants of the code that they name."""
+        """Returns all definitions that these lead to, and the types and constants of the code that they name."""
         found, todo = set(), list(first)
         while todo:
             it = todo.pop()
@@ -210,7 +210,7 @@ class Library:
 
 
 def declared(module, name):
-    """What a definition cites of the code: a type, also where a variant is named, or a constant."""
+    """Returns what a definition cites of the code: a type, also if a variant of it is named, or a constant."""
     parts = module.split(".")
     if "TheVariants" in parts:
         return parts[parts.index("TheVariants") - 1]
@@ -223,7 +223,7 @@ def is_used(operator, words, symbols):
 
 
 def clauses(text, at):
-    """The clauses of the function whose `fn` stands there."""
+    """Returns the clauses of the function whose `fn` is at this place."""
     found, depth, i = [], 0, text.index("(", at)
     while i < len(text):
         if text.startswith("//", i):
@@ -246,7 +246,7 @@ def clauses(text, at):
 
 
 def owners(text):
-    """The place where each impl or trait block of a file begins and ends, and the name of its type."""
+    """Returns where each impl or trait block of a file begins and ends, and the name of its type."""
     found = []
     for block in re.finditer(rf"^(?:pub )?(?:impl(?:<[^\n]*?>)? (?:[\w:<>', +]+ for )?|trait )({WORD})[^\n{{]*", text, re.M):
         end = text.find("\n}", block.start())
@@ -255,7 +255,7 @@ def owners(text):
 
 
 def functions(text):
-    """The functions of a file, each by its name, with its type in front if it has one, and its clauses."""
+    """Yields the clauses of each function of a file, by its name, with its type in front if it has one."""
     blocks = owners(text)
     for it in re.finditer(rf"^\s*(?:pub )?(?:const )?fn ({WORD})", text, re.M):
         owner = next((name for start, end, name in blocks if start <= it.start() < end), None)
@@ -271,7 +271,7 @@ def sources(crate, file):
 
 
 def believed(library, calls):
-    """The definitions that the clauses of these calls lead to."""
+    """Returns the definitions that the clauses of these calls lead to."""
     first, met = set(), set()
     for crate, file, wanted in calls:
         for text in sources(crate, file):
@@ -312,19 +312,19 @@ class Tests:
         self.library = Library()
 
     def test_page_is_up_to_date(self):
-        """docs/believe.md lists what the clauses lead to"""
+        """docs/believe.md lists what the clauses lead to."""
         expect(read(PAGE).splitlines(), page(self.library).splitlines(), "docs/believe.md; python3 -m tests.gate.believe --write writes it")
 
     def test_names_are_there(self):
-        """each name in docs/definitions.md stands where the page says"""
+        """Each name in docs/definitions.md is in the file that the page gives."""
         missing, modules = [], []
         for line in read(NAMES).splitlines():
-            heads = re.fullmatch(r"(`\w+: \w+`(?:[,;] `(?:\w+: )?\w+`)*).*", line)
+            heads = re.fullmatch(r"(`\w+: [\w/]+`(?:[,;] `(?:\w+: )?[\w/]+`)*).*", line)
             if heads and not line.startswith("|"):
                 modules, crate = [], None
-                for named, module in re.findall(r"`(?:(\w+): )?(\w+)`", heads[1]):
+                for named, module in re.findall(r"`(?:(\w+): )?([\w/]+)`", heads[1]):
                     crate = named or crate
-                    modules.append((crate, module))
+                    modules.append((crate, module.replace("/", ".")))
             elif line.startswith("| `"):
                 for name in re.findall(r"`([^`]+)`", line.split("|")[1]):
                     if not any(self.library.home(*it, name) for it in modules):

@@ -1,6 +1,6 @@
 #!/usr/bin/env python3
-"""Checks that a line which a cutter hands out can't be kept over the next piece: it lies in the piece or in the cutter, so a
-crate that keeps one has to be refused, and one that is done with it has to pass.
+"""Checks that a line from a cutter cannot be kept beyond the next piece: it is borrowed from the piece or from the cutter, so
+a crate that keeps one has to be refused, and one that is done with it has to pass.
 
     python3 -m tests.gate.borrows
 
@@ -33,14 +33,14 @@ class Tests:
     def __init__(self, folder):
         self.folder = folder
         os.makedirs(os.path.join(folder, "crates", "keeps", "src"))
-        # a copy, since all crates have to lie below one folder; of what was proved it needs the library alone
+        # a copy, since all crates have to be in one folder; of what was proved it needs only the library
         words = os.path.join(folder, "crates", "nut_words")
         shutil.copytree(os.path.join(CRATES, "nut_words"), words, ignore=shutil.ignore_patterns("incremental"))
         with open(os.path.join(folder, "crates.txt"), "w") as file:
             file.write("nut_words: memchr arrayvec thiserror\nkeeps: nut_words\n")
 
     def compile(self, body):
-        """Compiles a crate with this body, without a proof: the status, and what is said."""
+        """Compiles a crate with this body, without a proof. Returns the status and the output."""
         crate = os.path.join(self.folder, "crates", "keeps")
         with open(os.path.join(crate, "src", "lib.rt"), "w") as file:
             file.write(CODE % body)

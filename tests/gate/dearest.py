@@ -1,10 +1,10 @@
 #!/usr/bin/env python3
-"""Which functions cost their crates' checks most, by what the last check of each crate has kept in its out/.
+"""Lists the functions that cost their crates' checks most, by what the last check of each crate has kept in its out/.
 
 usage: python3 -m tests.gate.dearest [--most N] [CRATE ..]
 
-For each function it prints the kilobytes of all that was checked of it, and those of the translation of its body. A check's
-time grows with these sizes, and they don't depend on what else the machine did meanwhile."""
+For each function it prints the kilobytes of all that was checked of it, and those of the translation of its body. The time
+of a check grows with these sizes, and they don't depend on what else the machine did meanwhile."""
 
 import glob
 import os
@@ -18,7 +18,7 @@ MODULE = re.compile(r"Rattle-(\w+)-proofs\.(.+?)\.((?:Lts|Code)(?:\.\w+)?|\w+)\.
 
 
 def sizes_of(crate):
-    """The size of what was checked of each function, and of the translation of its body."""
+    """Returns the size of what was checked of each function, and of the translation of its body."""
     found = {}
     kept = glob.glob(os.path.join(ROOT, "crates", crate, "out", "incremental", "*"))
     folder = max((it for it in kept if os.path.isdir(it) and not it.endswith("-offers")), key=os.path.getmtime, default=None)

@@ -1,4 +1,4 @@
-"""Where the functions of a crate stand, and what the prover calls them."""
+"""Finds the functions of a crate, and what the prover calls them."""
 
 import functools
 import importlib.machinery
@@ -11,7 +11,7 @@ import subprocess
 
 @functools.lru_cache(maxsize=None)
 def toolchain():
-    """The toolchain's own gate as a module: it knows how an edit is read and how a crate is checked."""
+    """Returns the toolchain's own gate as a module: it knows how an edit is read and how a crate is checked."""
     said = subprocess.run(["rt", "doc"], stdout=subprocess.PIPE, text=True, check=True).stdout
     path = os.path.join(os.path.dirname(said.strip()), "bin", "rt")
     loader = importlib.machinery.SourceFileLoader("rt", path)
@@ -22,7 +22,7 @@ def toolchain():
 
 
 class Function:
-    """Where a function of a crate stands, and what a check calls it."""
+    """A function: its place in a crate, and what a check calls it."""
 
     def __init__(self, file, parts, first, end):
         self.file, self.parts, self.first, self.end = file, parts, first, end
@@ -36,14 +36,14 @@ class Function:
 
 
 def impl_name(words):
-    """What a check calls an impl, by the words of its header: the type, and then the trait and its arguments."""
+    """Returns what a check calls an impl, by the words of its header: the type, and then the trait and its arguments."""
     depth, before, parameters = 0, "", []
     while words and (depth or words[0] == "<"):
         depth += {"<": 1, ">": -1}.get(words[0], 0)
         parameters += [words[0]] if depth == 1 and before in ("<", ",", "const") else []
         before, words = words[0], words[1:]
     words = words[: words.index("where")] if "where" in words else words
-    # a module's name counts in an argument alone: `From<io::Error>` is FromIoError, and `fmt::Display` is Display
+    # a module's name counts only in an argument: `From<io::Error>` is FromIoError, and `fmt::Display` is Display
     opened = [words[:at].count("<") - words[:at].count(">") for at in range(len(words))]
     named = [word for word, after, inside in zip(words, words[1:] + [""], opened) if word not in parameters and (after != ":" or inside)]
     names = [word for word in named if word != ":"]
@@ -55,7 +55,7 @@ def impl_name(words):
 
 
 def items_in(file, tokens):
-    """The functions with bodies among a file's tokens of code, and the modules of the types that it declares."""
+    """Returns the functions with bodies among a file's tokens of code, and the modules of the types that it declares."""
     module = [it for it in file[len("src/") : -len(".rt")].split("/") if it not in ("lib", "main", "mod")]
     functions, types, opened, item = [], {}, [], None
     for number, (start, end, word) in enumerate(tokens):
@@ -81,7 +81,7 @@ def items_in(file, tokens):
 
 
 def functions_of(folder):
-    """The functions of a crate, its tests left out, as the toolchain's formatter reads its files."""
+    """Returns the functions of a crate without its tests, as the toolchain's formatter reads its files."""
     walked = [os.path.join(at, name) for at, _, names in os.walk(f"{folder}/src") for name in names]
     files = sorted(os.path.relpath(it, folder) for it in walked if it.endswith(".rt"))
     words = [toolchain().rtlib.RATTLE, "fmt", "--tokens", *files]
@@ -92,7 +92,7 @@ def functions_of(folder):
         functions, more = items_in(file, [(int(start), int(end), json.loads(word)) for start, end, word in tokens])
         found += functions
         types.update(more)
-    # a method's path is that of its type, in whatever module its impl stands
+    # a method's path is that of its type, whatever module its impl is in
     for it in found:
         if len(it.parts) > 1 and it.parts[-2] in types:
             it.parts = types[it.parts[-2]] + it.parts[-2:]

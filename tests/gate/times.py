@@ -1,5 +1,5 @@
 #!/usr/bin/env python3
-"""What each crate takes of the processor while the gate runs: measured, shown beside the last landing's, and kept.
+"""Measures the processor time of each crate while the gate runs, shows it beside the last landing's, and keeps it.
 
 usage: python3 -m tests.gate.times [--keep]
 
@@ -15,12 +15,12 @@ from tests.support.harness import ROOT
 LAST = os.path.join(ROOT, "bin", "gate-times.txt")
 LANDED = os.path.join(ROOT, "tests", "gate-times.txt")
 PARTS = ("proof", "tests", "build", "edits")
-# What swings from run to run: a part of a crate grew where it takes a fifth more and these seconds more.
+# Times vary from run to run: a part of a crate counts as grown if it takes a fifth more and at least this many seconds more.
 FIFTH, SWING = 1.2, 5
 
 
 def processes():
-    """Each process's parent, and its start and processor time in ticks, with that of its children which have ended."""
+    """Returns each process's parent, and its start and processor time in ticks, with that of its children that have ended."""
     found = {}
     for pid in filter(str.isdigit, os.listdir("/proc")):
         try:
@@ -33,7 +33,7 @@ def processes():
 
 
 def check_of(pid):
-    """The crate that a process of the prover checks, and which part of the gate that is; or None."""
+    """Returns the crate that a process of the prover checks, and the part of the gate that the check belongs to; or None."""
     try:
         with open(f"/proc/{pid}/cmdline", encoding="utf-8", errors="replace") as file:
             words = file.read().split("\0")
@@ -54,7 +54,7 @@ def ticks_below(pid, running, children):
 
 
 class Stopwatch:
-    """Looks twice a second at the provers that run below this process, and sums what each crate takes."""
+    """Samples twice a second the provers that run below this process, and sums the processor time of each crate."""
 
     def __enter__(self):
         self.seen, self.ended = {}, threading.Event()
@@ -84,7 +84,7 @@ class Stopwatch:
                 self.seen[pid, running[pid][1]] = check, ticks_below(pid, running, children)
 
     def seconds(self):
-        """The processor seconds of each crate of the repository, by the part of the gate."""
+        """Returns the processor seconds of each crate of the repository, by the part of the gate."""
         found = {}
         for (crate, part), ticks in self.seen.values():
             if not os.path.isdir(os.path.join(ROOT, "crates", crate)):
@@ -95,7 +95,7 @@ class Stopwatch:
 
 
 def lines_of(crate):
-    """How many lines the code, the definitions and the proofs of a crate have."""
+    """Returns the number of lines of a crate's code, definitions and proofs."""
     count = 0
     for part in ("src", "specs", "proofs"):
         for at, _, names in os.walk(os.path.join(ROOT, "crates", crate, part)):
@@ -114,7 +114,7 @@ def write(seconds, path):
 
 
 def read(path):
-    """The lines and the seconds of each crate that a file holds; nothing where there is no such file."""
+    """Returns the lines and the seconds of each crate that a file holds; nothing if there is no such file."""
     found = {}
     if os.path.isfile(path):
         with open(path, encoding="utf-8") as file:
@@ -124,7 +124,7 @@ def read(path):
 
 
 def show(now, landed):
-    """Prints the table, and which parts grew."""
+    """Prints the table, and the parts that have grown."""
     columns, grown = ("lines", *PARTS), []
     both = lambda new, old: f"{new} ({'-' if old is None else old})"
     print(f"{'processor seconds (last landing)':<34}" + "".join(f"{it:>15}" for it in columns))

@@ -1,15 +1,16 @@
 #!/usr/bin/env python3
-"""Sees that the prover refuses wrong bodies: many of them in one check, each in the function that it edits.
+"""Tests that the prover refuses wrong bodies: many of them in one check, each in the function that it edits.
 
 usage: python3 -m tests.gate.wrong_bodies [--look | --one-by-one] [CRATE ..]
 
 The edits are crates/NAME/wrong-bodies/*.edit, and crates/NAME/must-fail/*.edit, which the toolchain's own gate tries too.
-docs/tests.md says how one is written. A round applies edits of different functions to a copy of their crate and checks these
-functions alone. All others have empty bodies and open proofs there. A control round shows that the unedited functions pass
-that check.
---look says only which edits cannot be applied. --one-by-one also tries each edit as the toolchain's gate does, in a check of
-the whole crate, and fails where the two disagree. Both need the libraries below a crate: those that the gate has just built
-serve, and what is missing is built. The last line is 'N passed, M failed'."""
+docs/tests.md says how to write one. A round applies edits of different functions to a copy of their crate and checks only these
+functions. All others have empty bodies and open proofs there. A control round shows that the unedited functions pass that
+check.
+
+--look only lists the edits that cannot be applied. --one-by-one also tries each edit as the toolchain's gate does, in a
+check of the whole crate, and fails if the two disagree. Both need the libraries that a crate depends on: those that the gate
+has just built are used, and missing ones are built. The last line is 'N passed, M failed'."""
 
 import glob
 import os
@@ -26,12 +27,12 @@ from tests.support.harness import ROOT
 FOLDERS = ("wrong-bodies", "must-fail")
 # A goal of a function that is open, on a line above the function's own.
 GOAL = re.compile(r"note: (src/\S+: .*\(`\S+`\).*)")
-# What antt says of a proof file that names what an edit took away.
+# The message of antt about a proof file that names what an edit removed.
 NAMES = re.compile(r"has no field|is not in scope|has no `|was not admitted")
 
 
 class Edit:
-    """An edit, the functions that its texts stand in, and those that have to refuse it."""
+    """An edit, the functions that its texts are in, and those that have to refuse it."""
 
     def __init__(self, crate, path, functions):
         self.crate, self.path, self.name = crate, path, f"{crate.name}/{os.path.basename(path)}"
@@ -45,7 +46,7 @@ class Edit:
             self.fault = "it edits no function, and has no line 'refused by: FUNCTION'"
 
     def functions_at(self, lines, functions):
-        """The functions that the texts stand in, and None for a text that stands in none."""
+        """Returns the functions that the texts are in, and None for a text that is in none."""
         found, file, texts, changes = set(), None, {}, {}
         for key, _, words in lines:
             if key == "file":
@@ -61,7 +62,8 @@ class Edit:
         return found
 
     def is_of_bodies(self):
-        """Whether all that it edits are bodies, which no other function's proof looks into, and one of these refuses it."""
+        """Whether it edits only bodies, which no other function's proof looks into, and one of these functions has to refuse
+        it."""
         return None not in self.edited and self.wanted <= self.edited
 
 
@@ -71,14 +73,15 @@ def open_text(path):
 
 
 def place_before(changes, at):
-    """Where a place in an edited text stood before these changes, each of which put a text of one length for another's."""
+    """Returns the place that a place in an edited text had before these changes, each of which replaced a text by one of
+    another length."""
     for start, old, new in reversed(changes):
         at = at - new + old if at >= start + new else min(at, start)
     return at
 
 
 class Report:
-    """What a check says of each function, by the function's path in its crate."""
+    """The results of a check for each function, by the function's path in its crate."""
 
     def __init__(self, crate, said, changed):
         self.lines = said.rstrip("\n").split("\n")
@@ -94,7 +97,7 @@ class Report:
                 goals = []
 
     def of(self, path):
-        """The symbols of a function and of its closures, as `m::fn::f::find` of a closure in `m::f`."""
+        """Returns the symbols of a function and of its closures; `m::fn::f::find` is that of a closure in `m::f`."""
         plain = {it: re.sub(r"\bfn::", "", it, count=1) for it in self.status}
         return [it for it in self.status if it == path or plain[it] != it and plain[it].startswith(f"{path}::")]
 
@@ -102,8 +105,8 @@ class Report:
         return self.status.get(path, "").startswith(("no holes", "depends on a hole", "proved"))
 
     def refusal(self, path, is_of_body):
-        """Why a function is refused in its own goals, or None; and what a proof file names that is gone. Where an edit isn't
-        of a body, the lemmas that the function stands on count too."""
+        """Returns why a function is refused in its own goals, or None; and which missing name a proof file uses. If an edit
+        isn't of a body, the lemmas that the function uses count, too."""
         gone = None
         for symbol in self.of(path):
             if not self.status[symbol].startswith(("no proof", "not proved")):
@@ -120,7 +123,7 @@ class Report:
 
 
 class Room:
-    """A copy of a crate in which all functions but some have empty bodies and open proofs."""
+    """A copy of a crate in which all but some functions have empty bodies and open proofs."""
 
     def __init__(self, crate, functions, shown, folder):
         self.crate, self.folder, self.changed, self.seconds = crate, folder, set(), 0.0
@@ -130,18 +133,20 @@ class Room:
         for function in [it for it in functions if it.path in shown]:
             self.begin_answers(function)
         opened = [it for it in functions if it.path not in shown and self.leave_open(it)]
-        # from the end of each file on, so that the places of those before stay right
+        # from the end of each file backwards, so that the places before stay right
         for function in sorted(opened, key=lambda it: it.first, reverse=True):
             if not any(it is not function and function.holds(it.file, it.first) for it in functions):
                 self.empty(function)
 
     def proof_of(self, function):
-        """The folder of a function's proof, or None where functions that call each other have one proof, +NAME."""
+        """Returns the folder of a function's proof; None if it shares a proof +NAME with functions that it calls and that
+        call it."""
         proof = f"{self.folder}/proofs/{function.path.replace('::', '/')}"
         return None if glob.glob(f"{os.path.dirname(proof)}/+*") else proof
 
     def begin_answers(self, function):
-        """Gives a function that has no proof file one with no answer. A check that has to offer a new file takes twice the time."""
+        """Gives a function without a proof file one without answers. A check that has to offer a new file takes twice the
+        time."""
         proof = self.proof_of(function)
         if proof and not os.path.isfile(f"{proof}/Answers.antt") and not os.path.isfile(f"{proof}/Proof.antt"):
             os.makedirs(proof, exist_ok=True)
@@ -149,7 +154,7 @@ class Room:
                 file.write("-- no answers\n")
 
     def leave_open(self, function):
-        """Leaves the proof of a function open, and says whether that was possible."""
+        """Leaves the proof of a function open. Returns whether that was possible."""
         proof = self.proof_of(function)
         if not proof:
             return False
@@ -162,14 +167,14 @@ class Room:
         return True
 
     def empty(self, function):
-        """Empties the body of a function: a check would translate it, and check all that it calls."""
+        """Empties the body of a function. Otherwise a check would translate it, and check all that it calls."""
         path = f"{self.folder}/{function.file}"
         text = open_text(path)
         with open(path, "wb") as file:
             file.write(text[: function.first] + b"{ unreachable!() }" + text[function.end :])
 
     def apply(self, edits):
-        """Applies these edits, and gives those that fit beside the others."""
+        """Applies these edits, and returns those that fit beside the others."""
         applied = []
         for edit in edits:
             texts, fault = toolchain().read_edit(edit.path, self.folder)
@@ -182,12 +187,12 @@ class Room:
         return applied
 
     def check(self, wanted, kept):
-        """Checks these functions, over what earlier checks of the crate have kept."""
+        """Checks these functions, on top of what earlier checks of the crate have kept."""
         only = [word for path in sorted(wanted) for word in ("--only", path)]
         flags = ["--jobs", "1", "--allow-holes", "--incremental", kept, *only]
         words = [*toolchain().rtlib.guarded(), toolchain().rtlib.RATTLE, "check", *self.crate.words(flags, keeps=False)]
         how = {"stdin": subprocess.DEVNULL, "stdout": subprocess.PIPE, "stderr": subprocess.STDOUT}
-        # a check that is killed, most likely for memory, is tried once more
+        # a check that is killed, most likely for lack of memory, is tried once more
         for _ in range(2):
             with subprocess.Popen(words, cwd=self.folder, **how) as run:
                 said = run.stdout.read().decode(errors="replace")
@@ -199,7 +204,7 @@ class Room:
 
 
 class Rounds:
-    """The rounds of one crate, and what they say of each of its edits."""
+    """The rounds of a crate, and their result for each of its edits."""
 
     def __init__(self, crate, edits, functions, folder):
         self.crate, self.edits, self.functions, self.folder = crate, edits, functions, folder
@@ -209,13 +214,13 @@ class Rounds:
         self.said[edit] = refused, f"{edit.name}: {why}"
 
     def room(self, edits):
-        """A room in which the functions of these edits have their bodies."""
+        """Makes a room in which the functions of these edits have their bodies."""
         shutil.rmtree(f"{self.folder}/room", ignore_errors=True)
         shown = {path for it in edits for path in it.wanted | it.edited}
         return Room(self.crate, self.functions, shown, f"{self.folder}/room")
 
     def check(self, room, edits):
-        """What a check of the functions that are to fail by these edits says of them."""
+        """Returns the result of a check for the functions that should fail by these edits."""
         report = room.check({path for edit in edits for path in edit.wanted}, f"{self.folder}/kept")
         self.seconds += room.seconds
         return report
@@ -228,7 +233,7 @@ class Rounds:
         return self.said
 
     def control(self):
-        """Whether the functions that are to fail pass in a copy that isn't edited."""
+        """Whether the functions that should fail pass in a copy without edits."""
         report = self.check(self.room(self.edits), self.edits)
         for edit in self.edits:
             fallen = [it for it in sorted(edit.wanted) if not report.ended or not report.passes(it)]
@@ -239,7 +244,8 @@ class Rounds:
         return bool(self.edits)
 
     def shared(self):
-        """The edits in rounds: no edit of a round edits a function that another wants, and what edits more than bodies stands alone."""
+        """Returns the edits in rounds. No edit of a round edits a function that another one checks, and an edit of more than
+        bodies is alone."""
         rounds = []
         for edit in [it for it in self.edits if it.is_of_bodies()]:
             fits = [it for it in rounds if not any(other.edited & edit.wanted or other.wanted & edit.edited for other in it)]
@@ -250,7 +256,8 @@ class Rounds:
         return rounds + [[it] for it in self.edits if not it.is_of_bodies()]
 
     def round(self, edits):
-        """Tries edits together, and gives those that have to be tried alone: another edit may be why they weren't refused."""
+        """Tries edits together, and returns those that have to be tried alone, since another edit may be why they weren't
+        refused."""
         self.count += 1
         room = self.room(edits)
         applied = room.apply(edits)
@@ -268,7 +275,7 @@ class Rounds:
         return f"refused, as it must be{by}: {next(filter(None, found))[:160]}" if any(found) else None
 
     def judged(self, edit, report):
-        """What a round of this edit alone shows."""
+        """Returns the result of a round of only this edit."""
         gone = [it for it in (report.refusal(path, edit.is_of_bodies())[1] for path in sorted(edit.wanted)) if it]
         if report.unread or not report.ended:
             told = report.unread or [it for it in report.lines if "error" in it] or report.lines
@@ -282,7 +289,7 @@ class Rounds:
 
 
 def edits_of(crate):
-    """The crate's edits, and what lies beside them that is none."""
+    """Returns the crate's edits, and other files beside them."""
     good, bad = [], []
     for name in FOLDERS:
         folder = f"{crate.folder}/{name}"
@@ -293,14 +300,14 @@ def edits_of(crate):
 
 
 def is_newer(crate):
-    """Whether the crate's library was built after the last change of what it is made of."""
+    """Whether the crate's library was built after the last change of its sources."""
     files = [it for made in [crate, *crate.below()] for it in toolchain().rtlib.files_of(made.folder)]
     built = f"{crate.rlib}/format"
     return os.path.isfile(built) and max(map(os.path.getmtime, files)) <= os.path.getmtime(built)
 
 
 def build_libraries(crates):
-    """Builds what the crates need of the libraries below them. Those of the gate have no stamp, and serve if all do."""
+    """Builds the libraries that the crates depend on. Those of the gate have no stamp, and are used if all are there."""
     below = list(dict.fromkeys(it for crate in crates for it in crate.below()))
     if all(not os.path.isfile(f"{it.folder}/out/rlib/stamp") and is_newer(it) for it in below):
         return
@@ -310,7 +317,7 @@ def build_libraries(crates):
 
 
 def look(crates):
-    """The edits of each crate, and those that cannot be applied."""
+    """Returns the edits of each crate, and those that cannot be applied."""
     found, faults = {}, []
     for crate in crates:
         paths, bad = edits_of(crate)
@@ -322,7 +329,7 @@ def look(crates):
 
 
 def in_rounds(crate, functions, edits, printing):
-    """Runs the rounds of a crate, and gives what they say of each edit's path."""
+    """Runs the rounds of a crate, and returns the result for each edit's path."""
     with tempfile.TemporaryDirectory(prefix="wrong-bodies-") as folder:
         rounds = Rounds(crate, edits, functions, folder)
         said = rounds.run()
@@ -333,7 +340,7 @@ def in_rounds(crate, functions, edits, printing):
 
 
 def one_by_one(crate, edits, printing):
-    """Tries each edit as the toolchain's gate does, and gives what it says of each edit's path."""
+    """Tries each edit as the toolchain's gate does, and returns the result for each edit's path."""
     tried = toolchain().must_fail_all(crate, [it.path for it in edits], ["--jobs", "1"])
     with printing:
         print(*[text for _, text in tried], sep="\n", flush=True)
@@ -341,7 +348,7 @@ def one_by_one(crate, edits, printing):
 
 
 def side_by_side(found, way):
-    """Runs a way of trying on each crate, as many as the machine has processors and memory for."""
+    """Runs a way of trying edits on each crate, as many at a time as the machine has processors and memory for."""
     printing, tasks = threading.Lock(), {}
     for crate, (functions, edits) in found.items():
         call = lambda given, jobs, it=crate, edits=edits, functions=functions: way(it, functions, edits, printing)

@@ -1,7 +1,7 @@
 #!/usr/bin/env python3
-"""Shows what the rounds of wrong_bodies.py find, on a crate of four functions that is written here: that a wrong body is
-refused, and that a right body is told, one that a contract lets through, an edit that only another function refuses, and
-one of which nothing follows. The last line is 'N passed, M failed'."""
+"""Tests the rounds of wrong_bodies.py on a crate of four functions that is written here: a wrong body is refused; and a
+right body is reported, a body that its contract allows, an edit that only another function refuses, and one that nothing
+follows from. The last line is 'N passed, M failed'."""
 
 import os
 import sys
@@ -56,10 +56,10 @@ pub returns : goal.returns
 returns c = c.second.ensures
 """
 
-# How it begins what is said of an edit that its own function lets through.
+# The beginning of the message about an edit that its own function lets through.
 LET_THROUGH = "not refused in its own function, of which the prover says: "
 
-# Each edit's text, and how what is said of it has to begin.
+# Each edit's text, and how the message about it has to begin.
 EDITS = {
     "wrong": ("    count + 1\nnew:     count + 2", "refused, as it must be: src/lib.rt"),
     "right": ("    next(next(count))\nnew:     1 + next(count)", f"{LET_THROUGH}second: "),
@@ -81,7 +81,7 @@ def write(path, text):
 
 
 def said_of_edits(root):
-    """What the rounds say of each edit of the crate that stands in this folder, by the edit's name."""
+    """Returns the messages of the rounds about each edit of the crate in this folder, by the edit's name."""
     write(f"{root}/crates.txt", "edited:\n")
     write(f"{root}/crates/edited/src/lib.rt", CODE)
     write(f"{root}/crates/edited/proofs/as_second/Answers.antt", ANSWER)

@@ -1,10 +1,9 @@
 #!/usr/bin/env python3
-"""Joins upsd with the clients that Network UPS Tools bring beside their tools: the monitor upsmon, and the Python module
-PyNUT.
+"""Runs upsd with clients that Network UPS Tools bring beside their tools: the monitor upsmon, and the Python module PyNUT.
 
     python3 -m tests.peers.clients UPSD DUMMY_UPS
 
-Where one isn't installed, what needs it is skipped with a line that says so. The last line is 'N passed, M failed'."""
+If one of them isn't installed, what needs it is skipped, with a line that says so. The last line is 'N passed, M failed'."""
 
 import ast
 import os
@@ -20,17 +19,17 @@ from tests.support.room import ONLINE, STATUS, until
 PYTHON = "/usr/bin/python3"
 
 DEVICE = b"ups.status: OL\nups.id: x\nups.model: 5 E\nbattery.charge: 100\n"
-# a battery that runs empty, once a monitor has had time to log in
+# a battery that runs empty, after a monitor has had time to log in
 FAILURE = b"ups.status: OL\nTIMER 4\nups.status: OB\nTIMER 2\nups.status: OB LB\nTIMER 600\n"
 USERS = b"\n[guest]\npassword = m2\nupsmon secondary\n"
 LOGINS = b"GET NUMLOGINS su700\n"
 
-# NUT's upsmon keeps its number in a folder of the machine, and refuses to be two. In a mount namespace it has a folder of
+# NUT's upsmon writes its process number into a fixed folder, and refuses to run twice. In a mount namespace it has a folder of
 # its own in that place.
 NUMBERS = "/run/nut"
 APART = ["unshare", "--map-root-user", "--mount", "sh", "-c", f'mount --bind "$0" {NUMBERS} && exec "$@"']
 
-# Makes a client of PyNUT, and prints what an expression gives.
+# Makes a client of PyNUT, and prints the value of an expression.
 SCRIPT = """
 import sys
 import PyNUT
@@ -56,7 +55,7 @@ NOTICES = ("ONLINE", "ONBATT", "LOWBATT", "FSD", "COMMOK", "COMMBAD", "SHUTDOWN"
 
 
 def values(text):
-    """What PyNUT gives, with its bytes read as text."""
+    """Returns PyNUT's values, with its bytes read as text."""
     if isinstance(text, dict):
         return {values(name): values(value) for name, value in text.items()}
     if isinstance(text, (tuple, list)):
@@ -65,7 +64,7 @@ def values(text):
 
 
 class ClientRoom(NutRoom):
-    """A room with this upsd and this dummy driver, and clients of NUT's."""
+    """A room with this upsd, this dummy driver, and clients of NUT."""
 
     def __init__(self, *words):
         super().__init__(*words)
@@ -78,7 +77,7 @@ class ClientRoom(NutRoom):
         self.until(STATUS, ONLINE)
 
     def pynut(self, expression, *user):
-        """What an expression about PyNUT's client of this room gives."""
+        """Returns the value of an expression about PyNUT's client of this room."""
         words = [PYTHON, "-W", "ignore", "-c", SCRIPT, str(self.port), expression, *user]
         done = subprocess.run(words, stdin=subprocess.DEVNULL, capture_output=True, timeout=60)
         if done.returncode != 0:
@@ -86,7 +85,7 @@ class ClientRoom(NutRoom):
         return values(ast.literal_eval(done.stdout.decode()))
 
     def monitor(self, role, user="mon m1"):
-        """Starts NUT's upsmon, by a folder of its own, which it gives with the process."""
+        """Starts NUT's upsmon with a folder of its own. Returns the folder and the process."""
         program = needed("upsmon", "nut-client")
         folder = self.path(role)
         os.mkdir(folder)
@@ -95,15 +94,15 @@ class ClientRoom(NutRoom):
         path = os.path.join(folder, "upsmon.conf")
         with open(path, "w") as file:
             file.write(MONITOR.format(port=self.port, user=user, role=role, folder=folder))
-            # nobody's terminal is to be written to
+            # it must not write to anybody's terminal
             file.writelines(f"NOTIFYFLAG {notice} SYSLOG\n" for notice in NOTICES)
         os.chmod(path, 0o600)
         env = {**os.environ, "NUT_CONFPATH": folder, "NUT_STATEPATH": folder, "NUT_ALTPIDPATH": folder}
-        # -p: it has no other user to be
+        # -p: it has no other user to run as
         return folder, self.start([*APART, folder, program, "-D", "-p"], env=env)
 
     def clients(self):
-        """The rows of LIST CLIENT."""
+        """Returns the rows of LIST CLIENT."""
         with self.client() as client:
             return client.list(b"LIST CLIENT su700\n")[1:-1]
 
@@ -121,7 +120,7 @@ class Tests:
             raise Missing("PyNUT isn't installed (Debian's package python3-nut)")
         return self.room()
 
-    # Each method from here on whose name begins with 'test_' is a test.
+    # From here on, each method whose name begins with 'test_' is a test.
 
     def test_pynut_asks(self):
         with self.python_room() as room:
@@ -155,7 +154,7 @@ class Tests:
                 expect(room.pynut(f"client.{call}", *user), ("refused", f"ERR {name}"), f"{call} of {user}")
 
     def test_pynut_and_what_it_cannot_do_here(self):
-        """It asks by a word that no server knows, and wants more in an answer than OK."""
+        """PyNUT sends a word that no server knows, and wants more than OK in an answer."""
         with self.python_room() as room:
             room.serve()
             expect(room.pynut("client.ListClients()"), ("refused", "ERR INVALID-ARGUMENT"), "ListClients")
@@ -211,7 +210,7 @@ class Tests:
             room.until(LOGINS, b"NUMLOGINS su700 0\n")
 
     def test_upsmon_of_nut_stops_its_room(self):
-        """A secondary stops at the mark of the primary, which waits for it."""
+        """A secondary stops when the primary sets FSD, and the primary waits for it."""
         with self.room() as room:
             room.serve(FAILURE, "seq")
             first, _ = room.monitor("primary")

@@ -1,9 +1,9 @@
 #!/usr/bin/env python3
-"""Runs upsmon against NUT's own upsd with NUT's own dummy-ups, on loopback, out of a folder of its own.
+"""Runs upsmon against NUT's own upsd with NUT's own dummy-ups, on loopback, from a folder of its own.
 
     python3 -m tests.peers.monitor UPSMON
 
-Where Debian's packages nut-server and nut-client aren't installed, what needs them is skipped with a line that says so. The
+If Debian's packages nut-server and nut-client aren't installed, what needs them is skipped, with a line that says so. The
 last line is 'N passed, M failed'."""
 
 import os
@@ -29,7 +29,7 @@ class Tests:
         return NutRoom((None, None), self.folder)
 
     def begin(self, room, text):
-        """Starts NUT's driver and its server, and waits until they tell a status."""
+        """Starts NUT's driver and its server, and waits until they report a status."""
         driver, server = needed("dummy-ups", "nut-server"), needed("upsd", "nut-server")
         needed("upsc", "nut-client")
         room.configure_nut(text)
@@ -48,10 +48,10 @@ class Tests:
 
     def set_status(self, room, status):
         words = ["-s", f"ups.status={status}", "-u", "admin", "-p", "pw", "ROOM"]
-        # soon after its start NUT's driver lets nothing be set
+        # soon after its start NUT's driver accepts no SET
         until(lambda: room.tool("upsrw", *words)[0] == 0, f"the status is set to {status}")
 
-    # Each method from here on whose name begins with 'test_' is a test.
+    # From here on, each method whose name begins with 'test_' is a test.
 
     def test_power_fails(self):
         with self.room() as room:
@@ -63,7 +63,7 @@ class Tests:
                 self.expect_known_flag(room, watch)
 
     def expect_known_flag(self, room, watch):
-        """Expects that NUT's own monitor knows this POWERDOWNFLAG for what it is."""
+        """Expects that NUT's own monitor recognizes this POWERDOWNFLAG."""
         upsmon = needed("upsmon", "nut-client")
         path = os.path.join(room.path("nut"), "upsmon.conf")
         for name, status in (("flag", 0), ("none", 1)):

@@ -1,9 +1,9 @@
 #!/usr/bin/env python3
-"""Puts this project's packages in place of NUT's on a Debian where NUT runs, and NUT's back, with the programs handed in.
+"""Replaces NUT's packages by this project's on a Debian that runs NUT, and back again, with the given programs.
 
     python3 -m tests.peers.packages [--root FOLDER] UPSD DUMMY-UPS UPSMON UPSC UPSRW UPSCMD
 
-The Debian is made by debootstrap, which wants root and a network, or is a copy of FOLDER, in which debootstrap made one with
+The Debian is made by debootstrap, which needs root and a network, or is a copy of FOLDER, in which debootstrap made one with
 systemd; NUT's packages come from Debian. It runs under systemd-nspawn. The last line is 'N passed, M failed'."""
 
 import os
@@ -15,13 +15,13 @@ from tests.support.debian_root import Booted, fresh_root
 from tests.support.harness import Missing, ensure, expect
 from tests.programs.packages import ROOT, main
 
-# NUT with a dummy UPS, as an operator of Debian has it: files of Debian's packages with a few lines more.
+# NUT with a dummy UPS, as an operator of Debian has it: the files of Debian's packages with a few more lines.
 UPS_CONF = '[su700]\n  driver = dummy-ups\n  port = su700.dev\n  desc = "Server room"\n'
 UPSD_USERS = "[admin]\n  password = pw\n  actions = set\n  instcmds = all\n[monuser]\n  password = m1\n  upsmon master\n"
 UPSMON_CONF = 'MONITOR su700@localhost 1 monuser m1 master\nSHUTDOWNCMD "touch /root/halted"\nRUN_AS_USER root\nFINALDELAY 0\nPOWERDOWNFLAG /run/killpower\n'
 DEVICE = "ups.mfr: Dummy\nups.model: Peer\nups.id: rack\nups.status: {}\n"
 
-# what mulgefa-check has to tell, in this order
+# what mulgefa-check has to report, in this order
 TOLD = [
     "ups.conf:%d: OutsideSection: maxretry = 3",
     "upsd.users:%d: UnknownWord: actions = set",
@@ -33,7 +33,8 @@ TOLD = [
 
 
 def shown_commands(block):
-    """The three commands of one of the blocks that docs/from-nut.md has under Examples: those there, and those back."""
+    """Returns the three commands of one of the blocks that docs/from-nut.md has under Examples: those to replace NUT, and
+    those to go back."""
     with open(os.path.join(ROOT, "docs", "from-nut.md")) as file:
         section = re.search(r"^## Examples\n(.*?)^## ", file.read(), re.MULTILINE | re.DOTALL)[1]
     commands = re.findall(r"^```\n(.*?)^```", section, re.MULTILINE | re.DOTALL)[block].splitlines()
@@ -47,7 +48,7 @@ class Tests:
         self.saved = saved
 
     def nut_installed(self, name):
-        """A Debian with NUT installed and configured, whose packages can be had again without a network."""
+        """Makes a Debian with NUT installed and configured, from packages that are available again without a network."""
         folder = os.path.join(self.packages.folder, name)
         root = fresh_root(folder, self.saved)
         root.write("/etc/apt/apt.conf.d/90test", 'APT::Get::Assume-Yes "true";\nAPT::Install-Recommends "false";\n', 0o644)
@@ -59,7 +60,7 @@ class Tests:
         kept = [it for it in root.read("/etc/nut/upsmon.conf").splitlines() if not it.startswith(("SHUTDOWNCMD", "FINALDELAY", "POWERDOWNFLAG"))]
         root.write("/etc/nut/upsmon.conf", "\n".join(kept) + "\n" + UPSMON_CONF)
         root.write("/etc/nut/nut.conf", "MODE=standalone\n")
-        # NUT's clients ask without end for a name that nobody knows
+        # NUT's clients ask again and again for a name that nobody knows
         root.write("/etc/hosts", "127.0.0.1 localhost\n", 0o644)
         root.write("/etc/nut/su700.dev", DEVICE.format("OL"))
         root.do("chgrp nut /etc/nut/su700.dev")
@@ -95,8 +96,8 @@ class Tests:
             machine.stop()
 
     def test_drivers_of_nut_stay(self):
-        """A driver of NUT's, which wants a directive that isn't known here, out of a package made of NUT's own. It needs no
-        device, since it copies what another driver tells."""
+        """A driver of NUT, with a directive that isn't known here, from a package made of NUT's own. It needs no device,
+        since it copies what another driver tells."""
         folder = self.nut_installed("drivers")
         with open(os.path.join(folder, "etc/nut/ups.conf"), "a") as file:
             file.write("[copy]\n  driver = clone\n  port = dummy-ups-su700\n  pollinterval = 1\n")
@@ -134,7 +135,7 @@ class Tests:
         ensure("2.8.0" in self.version(machine), "NUT's own server answers")
 
     def version(self, machine):
-        """What the server at the port says that it is."""
+        """Returns the version that the server at the port reports."""
         return machine.do("python3 -c 'import socket; s = socket.create_connection((\"127.0.0.1\", 3493)); s.sendall(b\"VER\\n\"); print(s.recv(200).decode())'")
 
     def exchange(self, machine):
@@ -169,7 +170,7 @@ class Tests:
         machine.wait_for("upsc su700 ups.status", "OB")
         machine.do("upscmd -u admin -p pw su700 test.failure.stop")
         machine.wait_for("upsc su700 ups.status", "OL")
-        # NUT's own module for Python is a client that stayed
+        # NUT's own module for Python is a client that was kept
         said = machine.do("""python3 -c 'import PyNUT; print(PyNUT.PyNUTClient().GetUPSVars("su700")[b"ups.model"])'""")
         expect(said, "b'Peer'\n", "NUT's module for Python")
 
@@ -189,7 +190,7 @@ class Tests:
         expect(machine.do("cat /run/killpower"), "upsmon-shutdown-file\n", "POWERDOWNFLAG")
         machine.do("upsmon -K")
         machine.write("/etc/nut/su700.dev", DEVICE.format("OL"))
-        # the mark of a forced shutdown is the server's, and ends with it
+        # FSD is kept by the server, and ends with it
         machine.do("systemctl stop mulgefa-upsmon && systemctl restart mulgefa-dummy-ups@su700 mulgefa-upsd")
         machine.do("rm /root/halted && systemctl start mulgefa-upsmon")
         machine.wait_for("upsc su700 ups.status 2> /dev/null", "OL")

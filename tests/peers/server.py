@@ -1,11 +1,10 @@
 #!/usr/bin/env python3
-"""Joins upsd and dummy-ups with the programs of Network UPS Tools that are installed here: its tools and its monitor's
-peers as clients of this upsd, its dummy driver as a driver of this upsd, and its upsd as the server of this dummy driver.
+"""Runs upsd and dummy-ups with the programs of Network UPS Tools that are installed here: its tools and its monitor's peers as
+clients of this upsd, its dummy driver as a driver of this upsd, and its upsd as the server of this dummy driver.
 
     python3 -m tests.peers.server UPSD DUMMY_UPS
 
-Where a program isn't installed, what needs it is skipped with a line that says so. The last line is
-'N passed, M failed'."""
+If a program isn't installed, what needs it is skipped, with a line that says so. The last line is 'N passed, M failed'."""
 
 import functools
 import getpass
@@ -21,16 +20,16 @@ from tests.support.room import DEVICE, ONLINE, STATUS, Room, until
 
 # where Debian keeps NUT's daemons and drivers
 NUT_FOLDER = "/lib/nut"
-# for how many seconds data are fresh, where that is waited for
+# for how many seconds data are fresh, in tests that wait for it
 MAXAGE = 4
 
 
-# The path of one of NUT's programs, whose drivers and servers aren't on the PATH of everybody.
+# The path of one of NUT's programs, whose drivers and servers aren't on everybody's PATH.
 needed = functools.partial(harness.needed, folders=(NUT_FOLDER,))
 
 
 class NutRoom(Room):
-    """A room in which NUT's own programs run too, by a configuration of theirs."""
+    """A room in which NUT's own programs run too, with configurations of their own."""
 
     def environment(self):
         return {**os.environ, "NUT_CONFPATH": self.path("nut"), "NUT_STATEPATH": self.folder, "NUT_ALTPIDPATH": self.folder}
@@ -53,7 +52,7 @@ class NutRoom(Room):
         return self.start([*words, "-F", "-u", getpass.getuser()], env=self.environment())
 
     def tool(self, name, *words):
-        """What one of NUT's tools prints about this room's server."""
+        """Returns what one of NUT's tools prints about this room's server."""
         words = [it.replace("ROOM", f"su700@127.0.0.1:{self.port}") for it in words]
         done = subprocess.run([needed(name, "nut-client"), *words], stdin=subprocess.DEVNULL, capture_output=True, timeout=60)
         return done.returncode, done.stdout.decode()
@@ -67,7 +66,7 @@ class Tests:
     def room(self):
         return NutRoom(self.programs, self.folder)
 
-    # Each method from here on whose name begins with 'test_' is a test.
+    # From here on, each method whose name begins with 'test_' is a test.
 
     def test_upsc_of_nut_and_this_upsd(self):
         with self.room() as room:
@@ -119,7 +118,7 @@ class Tests:
                     raise Failed(f"what may be set: {rows!r}")
                 expect(client.ask(b'SET VAR su700 battery.charge "50"\n'), b"OK\n", "a SET")
                 room.until(b"GET VAR su700 battery.charge\n", b'VAR su700 battery.charge "50"\n')
-            # it is heard for longer than its data would be fresh without a word
+            # the driver is heard for longer than its data would be fresh without a word
             begun = time.monotonic()
             while time.monotonic() < begun + 2 * MAXAGE:
                 expect(room.ask(STATUS), ONLINE, "still live")

@@ -1,9 +1,9 @@
 #!/usr/bin/env python3
-"""Checks docs/from-nut.md against NUT's manual pages, where those are installed, and that the page from-nut(7) says the same.
+"""Checks docs/from-nut.md against NUT's manual pages, if those are installed, and that the page from-nut(7) says the same.
 
     python3 -m tests.programs.from_nut [--write] [PROGRAM..]
 
-The text stands in docs/from-nut.md alone: with --write the page is made out of it. Programs that are handed in are asked
+The text is written only in docs/from-nut.md: with --write the page is made from it. Programs that are given are tested for
 whether they take what it says. The last line is 'N passed, M failed'."""
 
 import gzip
@@ -20,7 +20,7 @@ PAGE = os.path.join(ROOT, "man", "from-nut.7")
 NUTS = "/usr/share/man"
 HEADER = '.\\" made by tests/programs/from_nut.py --write out of docs/from-nut.md\n.TH FROM-NUT 7 2026-11-23 Mulgefa "Network UPS Tools"\n'
 
-# The sections of the document, and the pages of NUT whose directives and options they have to name.
+# The sections of the document, and NUT's pages whose directives and options they have to name.
 SECTIONS = {
     "ups.conf": "man5/ups.conf.5",
     "upsd.conf": "man5/upsd.conf.5",
@@ -42,7 +42,7 @@ def text_of(path):
 
 
 def blocks(text):
-    """The document as blocks: headings, tables, code, lists and paragraphs, each a kind with its lines."""
+    """Yields the document as blocks: headings, tables, code, lists and paragraphs, each a kind with its lines."""
     lines = text.splitlines()
     while lines:
         if not lines[0]:
@@ -65,7 +65,7 @@ def cells(row):
 
 
 def rows(lines):
-    """The rows of a table without its head."""
+    """Returns the rows of a table without its head."""
     return [cells(it) for it in lines[2:]]
 
 
@@ -77,13 +77,13 @@ def escaped(text):
 
 
 def plain(text):
-    """A line of text, with code and emphasis in bold."""
+    """Returns a line of text, with code and emphasis in bold."""
     text = re.sub(r"`([^`]*)`|\*\*([^*]*)\*\*", lambda it: f"\\fB{it[1] or it[2]}\\fR", escaped(text))
     return "\\&" + text if text[0] in ".'" else text
 
 
 def sentences(text):
-    """A line for each sentence, as in the other pages."""
+    """Returns a line for each sentence, as in the other pages."""
     return re.split(r"(?<=[.:]) (?=[A-Z])", plain(text))
 
 
@@ -112,7 +112,7 @@ def made_page(text):
     lines = [".SH NAME", "from-nut \\- what becomes of NUT's directives and options", ".SH DESCRIPTION"]
     for kind, block in found[1:]:
         lines += page_of(kind, block)
-    # a paragraph right below a heading begins by itself
+    # a paragraph right below a heading needs no mark of its own
     kept = [it for i, it in enumerate(lines) if it != ".PP" or not lines[i - 1].startswith(".SH")]
     return HEADER + "\n".join(kept) + "\n"
 
@@ -121,8 +121,8 @@ def made_page(text):
 
 
 def heads(page):
-    """The directives and options that a page of NUT tells about: the heads of its indented paragraphs, as
-    '\\fB\\-c\\fR \\fIcommand\\fR', '"MAXAGE \\fIseconds\\fR"' or 'SET'."""
+    """Yields the directives and options that a page of NUT describes: the heads of its indented paragraphs, such as
+    '\fB\-c\fR \fIcommand\fR', '"MAXAGE \fIseconds\fR"' or 'SET'."""
     with gzip.open(os.path.join(NUTS, page + ".gz"), "rt", errors="replace") as file:
         text = file.read()
     if page.startswith("man8"):
@@ -136,8 +136,8 @@ def heads(page):
         yield variable
 
 
-# A directive in a line that is right but for its first word, and in front of it a file that has a section where one is wanted.
-LINES = {"ups.conf": "[u]\n{} = 1\n", "upsd.users": "[u]\n{} = 1\n", "upsd.conf": "{} 1\n", "upsmon.conf": "MINSUPPLIES 0\n{} 1\n"}
+# A directive in a line that is right except for its first word, behind a section if the file needs one.
+LINES = {"ups.conf": "[u]\n{} = 1\n", "upsd.users": "[u]\n{} = 1\n", "upsd.conf": "{} 1\n", "cmdvartab": "{} a 1\n", "upsmon.conf": "MINSUPPLIES 0\n{} 1\n"}
 
 
 class Tests:
@@ -150,7 +150,7 @@ class Tests:
         return self.built[name]
 
     def said(self, *words):
-        """What a program says on standard error, which it does at once or not at all."""
+        """Returns what a program writes to standard error, which it does at once or not at all."""
         try:
             done = subprocess.run(words, stdin=subprocess.DEVNULL, capture_output=True, timeout=20, env={"PATH": os.environ["PATH"], "NUT_CONFPATH": "/nowhere"})
         except subprocess.TimeoutExpired:
@@ -185,7 +185,7 @@ class Tests:
                     expect(said.endswith(hint), text.startswith("not taken"), f"{section}: {name}: {said}")
 
     def sections(self):
-        """Each section's words that stand as code in its tables, and its rows."""
+        """Returns the words that each section has as code in its tables, and its rows."""
         section, found = None, {}
         for kind, lines in blocks(text_of(SOURCE)):
             if kind == "heading":
@@ -219,9 +219,9 @@ class Tests:
                 expect(len(row), 2, f"the cells of {row}")
 
     def test_taken_directives_are_those_of_the_readers(self):
-        """What is called taken here stands in docs/configuration.md, and what isn't doesn't."""
+        """What is called taken here is in docs/configuration.md, and what isn't is not."""
         for section, found in self.sections().items():
-            if section not in ("ups.conf", "upsd.conf", "upsd.users", "upsmon.conf"):
+            if section not in LINES:
                 continue
             table = re.search(rf"^## {section}\n(.*?)(?=^## )", text_of(os.path.join(ROOT, "docs/configuration.md")), re.MULTILINE | re.DOTALL)[1]
             ours = set(re.findall(r"^\| `([A-Za-z]+)", table, re.MULTILINE)) - {"ONLINE", "ONBATT", "LOWBATT", "FSD", "COMMOK", "COMMBAD", "SHUTDOWN", "REPLBATT", "NOCOMM"}

@@ -1,10 +1,10 @@
 #!/usr/bin/env python3
-"""Has clients of upsd do what holds others up or wears a server out, and lets upsd and its drivers be stopped and killed.
+"""Has clients of upsd do what holds others up or exhausts a server, and stops and kills upsd and its drivers.
 
     python3 -m tests.programs.hostile_clients UPSD DUMMY_UPS
 
-Where a minute or more has to pass, upsd runs by a clock that is hastened (tests/support/hasten.c), so a C compiler is needed. The
-last line is 'N passed, M failed'."""
+If a minute or more has to pass, upsd runs with a faster clock (tests/support/hasten.c), so a C compiler is needed. The last
+line is 'N passed, M failed'."""
 
 import contextlib
 import os
@@ -25,7 +25,7 @@ from tests.support.room import NOT_CONNECTED, ONLINE, SOON, STATUS, VERSION, Cli
 MOST = 256
 # the longest table that a dummy driver tells: every byte of a value takes two in an answer
 LONGEST = b"ups.status: OL\n" + b"".join(b"%s.%03d: %s\n" % (b"x" * 60, i, b'"' * 128) for i in range(508))
-# one whose list has 27 KB
+# a table whose list has 27 KB
 LONG = b"ups.status: OL\n" + b"".join(b"ambient.%d.status: %s\n" % (i, b"x" * 100) for i in range(200))
 STALE = b"ERR DATA-STALE\n"
 SILENT = "upsd: client 127.0.0.1 closed: silent for {} s"
@@ -33,18 +33,18 @@ LOG_IN = b"USERNAME mon\nPASSWORD m1\nLOGIN su700\n"
 
 
 def resident(pid):
-    """The resident memory of a process in KiB."""
+    """Returns the resident memory of a process in KiB."""
     with open(f"/proc/{pid}/status") as status:
         return next(int(line.split()[1]) for line in status if line.startswith("VmRSS:"))
 
 
 def descriptors(pid):
-    """How many descriptors a process has open."""
+    """Returns how many descriptors a process has open."""
     return len(os.listdir(f"/proc/{pid}/fd"))
 
 
 def probed(port):
-    """After how many seconds the system will probe the peers of the connections to a port of this machine."""
+    """Returns after how many seconds the system will probe the peers of the connections to a port of this machine."""
     found = []
     with open("/proc/net/tcp") as table:
         for _, local, _, state, _, timer, *_ in map(str.split, table.readlines()[1:]):
@@ -55,14 +55,14 @@ def probed(port):
 
 
 def is_quiet(pid):
-    """Whether a process has nothing to do for a while."""
+    """Whether a process does nothing for a while."""
     used = processor_time(pid)
     time.sleep(0.5)
     return processor_time(pid) - used < 0.1
 
 
 class Hostile:
-    """A client that reads nothing. Its buffers are small, and by its short segments those of the server are too."""
+    """A client that reads nothing. Its buffers are small, and because of its short segments so are those of the server."""
 
     def __init__(self, room, request):
         self.socket = socket.socket()
@@ -73,7 +73,7 @@ class Hostile:
         self.socket.sendall(request)
 
     def lists(self, count):
-        """Reads so many lists."""
+        """Reads this many lists."""
         self.file = self.socket.makefile("rb")
         while count > 0:
             line = self.file.readline()
@@ -96,7 +96,7 @@ def closing(clients):
 
 @contextlib.contextmanager
 def stopped(process):
-    """Stops a process, and lets it go on at the end."""
+    """Stops a process, and lets it continue at the end."""
     process.send_signal(signal.SIGSTOP)
     try:
         yield
@@ -105,7 +105,7 @@ def stopped(process):
 
 
 def said(process):
-    """What a process that is ended now has said on standard error."""
+    """Returns what a process that is ended now has written to standard error."""
     process.kill()
     return process.stderr.read().decode().splitlines()
 
@@ -120,17 +120,17 @@ class Tests:
         return Room(self.programs, self.folder, **texts)
 
     def hastened(self, room, haste, **settings):
-        """Starts upsd with a clock that runs so many times as fast."""
+        """Starts upsd with a clock that runs this many times as fast."""
         if not os.path.exists(self.library):
             raise Missing("a C compiler")
         env = {**os.environ, "LD_PRELOAD": self.library, "HASTE": str(haste), **settings}
         return room.upsd(env=env)
 
     def full(self, room, request):
-        """As many clients as there may be, each of which has sent this."""
+        """Connects as many clients as are allowed, each of which sends this."""
         return [Hostile(room, request) for _ in range(MOST)]
 
-    # Each method from here on whose name begins with 'test_' is a test.
+    # From here on, each method whose name begins with 'test_' is a test.
 
     def test_as_many_as_there_may_be_never_read(self):
         with self.room() as room:
@@ -164,7 +164,7 @@ class Tests:
                     expect(len(listed), 511, "the lines of the longest list")
 
     def test_lists_in_one_piece(self):
-        """What is held back of a piece comes in its order, however the piece is cut and whatever stands between."""
+        """What is held back of a piece is answered in order, however the piece is cut and whatever comes between."""
         asked = b"VER\nlist UPS\n\nGET UPSDESC su700\n \"LIST\" UPS\n#\nL\nVER\n"
         answer = [b"BEGIN LIST UPS\n", b'UPS su700 "Server room"\n', b"END LIST UPS\n"]
         desc = b'UPSDESC su700 "Server room"\n'
@@ -265,7 +265,7 @@ class Tests:
                     expect(client.ask(b"R\n"), VERSION, "urgent data again")
 
     def test_clients_that_are_gone_before_they_come_in(self):
-        """A second of the server's clock lasts a minute here: the client behind them doesn't wait for it."""
+        """A second of the server's clock lasts a minute here: the next client doesn't wait that long."""
         with self.room() as room:
             upsd = self.hastened(room, 1 / 60, ABORTED_ACCEPTS="3")
             with stopped(upsd):
@@ -277,7 +277,8 @@ class Tests:
                     ensure(client.is_closed(), "a client that couldn't come in")
 
     def test_stopped_server(self):
-        """The server stands still for many times MAXAGE: what lay in its driver's socket is fresh, if anything did."""
+        """The server is stopped for many times MAXAGE: what was waiting in its driver's socket is fresh, if there was
+        anything."""
         with self.room(conf=b"MAXAGE 6\n") as room, room.driver() as listener:
             upsd = self.hastened(room, 20)
             driver, _ = listener.accept()
@@ -317,7 +318,7 @@ class Tests:
                 expect(upsd.wait(SOON), -signal.SIGTERM, "how it ends")
                 for client in clients:
                     ensure(client.is_closed(), "a connection outlives the server")
-            # its address can be had again, and the driver serves the next one
+            # its address is available again, and the driver serves the next one
             room.upsd()
             room.until(STATUS, ONLINE)
 
@@ -378,14 +379,14 @@ class Tests:
 
     @staticmethod
     def sparse(path, length):
-        """A file of this length that takes no room."""
+        """Makes a file of this length that takes no space."""
         with open(path, "wb") as file:
             file.truncate(length)
 
 
 def main():
     upsd, dummy, *names = sys.argv[1:]
-    # as many clients as there may be, and what else is open
+    # as many clients as are allowed, and what else is open
     resource.setrlimit(resource.RLIMIT_NOFILE, (1024, resource.getrlimit(resource.RLIMIT_NOFILE)[1]))
     with tempfile.TemporaryDirectory() as folder:
         tests = Tests(os.path.abspath(upsd), os.path.abspath(dummy), folder)

@@ -1,9 +1,9 @@
 #!/usr/bin/env python3
-"""Installs the programs into folders of its own, looks at what is there, and takes it away again.
+"""Installs the programs into folders of its own, checks the files there, and uninstalls them.
 
     python3 -m tests.programs.install [PROGRAM..]
 
-A program that isn't handed in is stood for by a file. The last line is 'N passed, M failed'."""
+A file is used in place of a program that isn't given. The last line is 'N passed, M failed'."""
 
 import os
 import re
@@ -26,7 +26,7 @@ ROOM_FILES = ("m1.conf", "m2.conf", "m3.conf", "m4.conf", "m5.conf", "room", "up
 SCHEDULES = ("README.md", "primary.conf", "secondary.conf", *(f"{room}.sched" for room in ROOMS))
 UNITS = {"upsd": "mulgefa-upsd.service", "upsmon": "mulgefa-upsmon.service", "dummy-ups": "mulgefa-dummy-ups@.service"}
 
-# Tools that say what those of a server with two UPSes say; a host named rack has another.
+# Tools that print what those of a server with two UPSes print; a host named rack has another one.
 SCENE = {
     "upsc": """case $* in
 -l) printf 'su700\\nsu900\\n' ;;
@@ -94,7 +94,7 @@ COMPLETIONS = {
 
 
 def programs():
-    """The programs that the Makefile builds, as they are installed."""
+    """Returns the programs that the Makefile builds, as they are installed."""
     with open(os.path.join(ROOT, "Makefile")) as file:
         words = re.search(r"^PROGRAMS := (.*)$", file.read(), re.MULTILINE)[1].split()
     return [it.replace("_", "-") for it in words]
@@ -105,7 +105,7 @@ def folder_of(program):
 
 
 def wanted_files():
-    """What is installed, with its mode."""
+    """Returns the files that are installed, with their modes."""
     files = {"lib/sysusers.d/mulgefa.conf": 0o644, "sbin/mulgefa-check": 0o755, "bin/nutroom": 0o755, "share/bash-completion/completions/nutroom": 0o644}
     files.update({f"share/mulgefa/{page}": 0o644 for page in ("from-nut.md", "room.md", "room.svg")})
     files.update({f"share/mulgefa/rooms/five/{file}": 0o644 for file in ROOM_FILES})
@@ -123,14 +123,14 @@ def wanted_files():
 
 
 def files_below(folder):
-    """Each file below a folder, by its path from there."""
+    """Yields each file below a folder, by its path from there."""
     for at, _, names in os.walk(folder):
         for name in names:
             yield os.path.relpath(os.path.join(at, name), folder)
 
 
 def state_of(folder):
-    """What there is to see of each file below a folder."""
+    """Returns the visible state of each file below a folder."""
     state = {}
     for path in files_below(folder):
         with open(os.path.join(folder, path), "rb") as file:
@@ -140,7 +140,7 @@ def state_of(folder):
 
 
 def passwords_in(folder):
-    """The passwords of a configuration: those of the server's users, by their names, and the monitor's."""
+    """Returns the passwords of a configuration: those of the server's users, by their names, and the monitor's."""
     with open(os.path.join(folder, "upsd.users")) as file:
         users = dict(re.findall(r"^\[(\w+)\]\n *password = (.*)$", file.read(), re.MULTILINE))
     with open(os.path.join(folder, "upsmon.conf")) as file:
@@ -148,13 +148,13 @@ def passwords_in(folder):
 
 
 def state_of_file(path):
-    """What there is to see of a file or a link, but for when it was last read."""
+    """Returns the visible state of a file or a link, except for the time of its last reading."""
     at = os.lstat(path)
     return at.st_mode, at.st_mtime_ns, at.st_ino
 
 
 def put_programs(built, folder):
-    """Puts the programs that were built into a folder, and scripts in place of the others. It gives the names of the former."""
+    """Puts the programs that were built into a folder, and scripts in place of the others. Returns the names of the former."""
     os.mkdir(folder)
     built = {os.path.basename(path).replace("_", "-"): path for path in built}
     for program in programs():
@@ -169,7 +169,7 @@ def put_programs(built, folder):
 
 
 def outside_make():
-    """The environment without what a 'make' above a test says, which isn't for the 'make' that the test runs."""
+    """Returns the environment without what a 'make' above a test sets, which must not reach the 'make' that the test runs."""
     return {name: value for name, value in os.environ.items() if not name.startswith(("MAKE", "MFLAGS"))}
 
 
@@ -187,19 +187,19 @@ class Tests:
         expect(self.make("install-built", f"BIN={self.bin}", *words), (0, "", ""), "make install-built")
 
     def installed(self, name):
-        """The folder of a room into which all was installed for itself, so that units name files that are there."""
+        """Installs everything into the folder of a room, so that units name existing files. Returns the folder."""
         prefix = os.path.join(self.folder, name)
         self.install(f"PREFIX={prefix}")
         return prefix
 
     def configured(self, name, *words):
-        """A folder with a first configuration, and what was said of it."""
+        """Returns a folder with a first configuration, and what was printed about it."""
         destination = os.path.join(self.folder, name)
         status, said, wrong = self.make("configure", f"DESTDIR={destination}", *words)
         expect((status, wrong), (0, ""), "make configure")
         return os.path.join(destination, "etc/nut"), said.splitlines()
 
-    # Each method from here on whose name begins with 'test_' is a test.
+    # From here on, each method whose name begins with 'test_' is a test.
 
     def test_tree(self):
         destination = os.path.join(self.folder, "a package")
@@ -293,7 +293,7 @@ class Tests:
             expect(re.findall("^MONITOR.*$", file.read(), re.MULTILINE), ["MONITOR su700@localhost 1 monuser PASSWORD primary"], "a password")
 
     def test_room_to_try(self):
-        """What the README shows works as pasted, on a network of its own."""
+        """The commands that the README shows work as pasted, on a network of their own."""
         unshare = needed("unshare", "util-linux")
         needed("ip", "iproute2")
         if not {"upsd", "dummy-ups", "upsc", "upsrw", "upscmd"} <= set(self.built):
@@ -322,7 +322,7 @@ class Tests:
             expect(line in said.splitlines(), True, f"{line!r} is shown: {said}")
 
     def check(self, *words):
-        """What mulgefa-check says with the built programs beside it, and its status."""
+        """Returns what mulgefa-check prints with the built programs beside it, and its status."""
         if not {"upsd", "upsmon"} <= set(self.built):
             raise Missing("no built programs were handed in")
         prefix = self.installed("checked")
@@ -331,7 +331,7 @@ class Tests:
         return done.returncode, done.stdout.decode()
 
     def nuts_files(self, name, **files):
-        """A folder with files that are right, but for these."""
+        """Makes a folder with files that are right, except for these."""
         folder = os.path.join(self.folder, name)
         shutil.copytree(os.path.join(ROOT, "examples"), folder)
         for file, text in files.items():
@@ -424,7 +424,7 @@ class Tests:
         expect((status, said.splitlines(), os.path.exists(to)), (1, told, False), "what is told")
 
     def completed(self, line, breaks=" \t\n\"'><=;|&(:@"):
-        """What bash offers at the end of a line, where tools of a scene stand in place of the programs."""
+        """Returns what bash offers at the end of a line, with the tools of a scene in place of the programs."""
         scene = os.path.join(self.folder, "scene")
         if not os.path.isdir(scene):
             os.mkdir(scene)
@@ -448,14 +448,14 @@ class Tests:
     def test_completion(self):
         for line, offered in COMPLETIONS.items():
             expect(self.completed(line), offered, f"what is offered after {line!r}")
-        # where bash cuts a word at blanks alone, the whole of it is offered
+        # if bash splits a word only at blanks, the whole word is offered
         expect(self.completed("upsc su700@rack", " \t\n"), ["su700@rack"], "a whole name")
         # What a server says is text, whatever the shell would make of it.
         expect(self.completed("upsc evil "), ["\\$\\(touch\\ hit\\)", "\\`touch\\ hit\\`", "\\*"], "names that a shell would run")
         expect(os.path.exists(os.path.join(ROOT, "hit")), False, "something was run")
 
     def test_completion_asks_this_server(self):
-        """The built tools are asked: of a server that isn't there nothing is offered, and nothing is said."""
+        """The built tools are asked: of a server that doesn't run nothing is offered, and nothing is printed."""
         if not {"upsc", "upsrw", "upscmd"} <= set(self.built):
             raise Missing("no built programs were handed in")
         for tool in TOOLS:
@@ -471,7 +471,7 @@ class Tests:
         expect(os.path.exists(destination), False, "something was installed")
 
     def test_install_builds(self):
-        """What 'make install' would run: each program is built before anything is installed."""
+        """The commands of 'make install': each program is built before anything is installed."""
         status, planned, _ = self.make("--dry-run", "install", f"DESTDIR={self.folder}")
         expect(status, 0, "a dry run")
         lines = planned.splitlines()
@@ -532,7 +532,7 @@ class Tests:
                 expect(os.path.exists(os.path.join(ROOT, "man", other)), True, f"{page}: {other}")
 
     def test_pages_have_every_option(self):
-        """Each option of a program's help stands in its page, and the page has no other."""
+        """Each option of a program's help is in its page, and the page has no other."""
         if not self.built:
             raise Missing("no built program was handed in")
         for program in self.built:

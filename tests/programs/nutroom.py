@@ -1,11 +1,11 @@
 #!/usr/bin/env python3
-"""Runs `nutroom` with the built `nutsim`: descriptions that read and those that don't, what it prints and draws, and random
-rooms, of which none may pass a bound of the theorem.
+"""Runs `nutroom` with the built `nutsim`: descriptions that are right and wrong, what it prints and draws, and random rooms,
+none of which may pass a bound of the theorem.
 
     python3 -m tests.programs.nutroom [--rooms COUNT] NUTSIM
 
-Rooms are made from fixed seeds, so that each run of this test plays the same; COUNT is how many, 300 without it. The last line
-is 'N passed, M failed'."""
+Rooms are made from fixed seeds, so that each run of this test plays the same. COUNT is how many, by default 300. The last
+line is 'N passed, M failed'."""
 
 import collections
 import concurrent.futures
@@ -38,7 +38,7 @@ SVG = "{http://www.w3.org/2000/svg}"
 
 ROOMS = 300
 ROOMS_A_CALL = 25
-# of so many rooms one is also played by the plain model
+# one in this many rooms is also played by the plain model
 MODEL_EACH = 5
 
 CONFIG = Config([(b"su700", b""), (b"su800", b"")], {b"mon": User(b"m1", (), (), "primary"), b"sec": User(b"m2", (), (), "secondary"), b"idle": User(b"x")})
@@ -51,7 +51,7 @@ LOW = "at 10 su700 OB\nat 20 su700 OB LB\n"
 
 
 def loaded():
-    """The program as a module."""
+    """Returns the program as a module."""
     loader = importlib.machinery.SourceFileLoader("nutroom", PROGRAM)
     module = importlib.util.module_from_spec(importlib.util.spec_from_loader("nutroom", loader))
     sys.modules["nutroom"] = module
@@ -71,7 +71,7 @@ def write(folder, name, text):
 
 
 def write_room(folder, text, config=CONFIG, files=None):
-    """A description with its configuration files in a folder."""
+    """Writes a description and its configuration files into a folder."""
     for name, data in server_files(config).items():
         write(folder, name, data)
     for name, rules in (FILES if files is None else files).items():
@@ -79,7 +79,7 @@ def write_room(folder, text, config=CONFIG, files=None):
     return write(folder, "room", text)
 
 
-# What is wrong with a description, and what is told of it.
+# What is wrong with a description, and the message about it.
 WRONG_LINES = {
     "wait 5": "'wait' is no line of a room: there are conf, machine, battery and at",
     'at 10 su700 "OB': "a quote or a backslash is left open",
@@ -115,12 +115,12 @@ class Tests:
         self.made = 0
 
     def room(self, text, **more):
-        """The description of a new room in a folder of its own."""
+        """Writes the description of a new room into a folder of its own."""
         self.made += 1
         return write_room(os.path.join(self.folder, f"room-{self.made}"), text, **more)
 
     def run(self, *words, nutsim=None, cwd=None, **options):
-        """The status, what is printed, and what is told of a failure."""
+        """Returns the status, what is printed, and what is written about a failure."""
         words = [sys.executable, PROGRAM, "--nutsim", nutsim or self.nutsim, *words]
         done = subprocess.run(words, stdin=subprocess.DEVNULL, capture_output=True, timeout=300, cwd=cwd, **options)
         return done.returncode, done.stdout.decode(), done.stderr.decode()
@@ -134,13 +134,13 @@ class Tests:
         expect(self.run("-n", "1", path, **options), (1, "", f"nutroom: {text}\n"), text)
 
     def picture(self, path, *words):
-        """The elements of the picture of a room's run, once it was looked at as a whole."""
+        """Checks the picture of a room's run as a whole. Returns its elements."""
         to = os.path.join(os.path.dirname(path), "x.svg")
         self.printed("-n", "3", "-s", "1", "--svg", to, *words, path)
         with open(to) as file:
             return check_picture(file.read())
 
-    # Each method from here on whose name begins with 'test_' is a test.
+    # From here on, each method whose name begins with 'test_' is a test.
 
     def test_command_lines(self):
         path = self.room(PAIR + LOW)
@@ -251,7 +251,7 @@ class Tests:
         expect((status, err), (1, f"nutroom: {self.folder}/none/x.svg: cannot write: No such file or directory\n"), "the picture")
 
     def test_descriptions_that_read(self):
-        """However a room is written down, it is the same."""
+        """The same room can be written down in different ways."""
         plain = self.room(PAIR + "battery su700 40\n" + LOW)
         folder = os.path.dirname(plain)
         text = (
@@ -260,12 +260,12 @@ class Tests:
         )
         other = write(folder, "other", text)
         first, second = (self.printed("-n", "5", "-s", "9", it) for it in (plain, other))
-        # of the same machines and the same outage
+        # with the same machines and the same outage
         expect(first.replace(plain, ""), second.replace(other, ""), "what is printed")
 
     def test_a_worked_room(self):
-        """The sums of the worked examples of nut_in_time: the primary knows within 7 and is halted within 28, the secondary
-        within 23."""
+        """The sums of the worked examples of nut_in_time: the primary knows within 7 seconds and is halted within 28, the
+        secondary knows within 23."""
         lines = self.printed("-n", "3", self.room(PAIR + "battery su700 3\n" + LOW)).splitlines()
         ensure("  m1  halted by 20 + POLLFREQ 5 + delay 2 + HOSTSYNC 15 + 1 + FINALDELAY 5 = 48" in lines, lines)
         ensure("  m2  halted by 20 + delay 2 + HOSTSYNC 15 + 1 + FINALDELAY 5 = 43" in lines, lines)
@@ -275,7 +275,7 @@ class Tests:
         expect([(row[0], row[1], row[8], row[9]) for row in rows], [("m1", "primary", "48", "3"), ("m2", "secondary", "43", "3")], "the table")
 
     def test_what_is_said_of_machines(self):
-        """Which are promised an end, which that they go on, and of which nothing is said."""
+        """It says which machines have to stop in time, which keep running, and about which nothing is promised."""
         path = self.room("machine m1 both.conf delay 0 1\nmachine m2 m2.conf delay 0 1\nmachine m3 m2.conf delay 0 5\n" + LOW)
         lines = self.printed("-n", "2", path).splitlines()
         ensure("  m1  goes on: its UPSes are neither low nor forced, and DEADTIME is long enough" in lines, lines)
@@ -298,7 +298,7 @@ class Tests:
         ensure(any(it[-1] != "m1" for it in orders), f"m1 was always last: {orders}")
 
     def test_host_sync_that_is_enough(self):
-        """With what is said to be enough the primary never goes on first. With two seconds less it does, now and then."""
+        """With the HOSTSYNC that is called enough, the primary never stops first. With two seconds less it sometimes does."""
         for sync, is_enough in ((4, True), (2, False)):
             files = {name: Rules(it.lines, poll_freq=1, final_delay=0, host_sync=sync) for name, it in FILES.items()}
             path = self.room("machine m1 m1.conf delay 1 1\nmachine m2 m2.conf delay 1 1\nat 3 su700 OB LB\n", files=files)
@@ -320,7 +320,7 @@ class Tests:
         ensure(self.printed("-n", "1", path).startswith(f"{path}: 1 run, seed "), "one run")
 
     def test_steps_are_those_of_the_run(self):
-        """nutsim plays them again, and halts the machines at the times that the table shows."""
+        """nutsim plays the printed steps again, and halts the machines at the times that the table shows."""
         path = self.room(PAIR + LOW)
         folder = os.path.dirname(path)
         to = os.path.join(folder, "steps")
@@ -345,7 +345,7 @@ class Tests:
         texts = [it.text for it in cut.iter(f"{SVG}text")]
         ensure(any("cut" in it for it in texts) and any("COMMBAD" in it for it in texts), f"the cut isn't shown: {texts}")
         ensure(not any("by 43" in it for it in texts), "a bound is shown that doesn't hold")
-        # UPSes and machines without end, long outages and long names
+        # very many UPSes and machines, long outages and long names
         many = "".join(f"machine a-long-name-of-a-machine-{m:04} both.conf delay 0 1\n" for m in range(8))
         self.picture(self.room(f"{many}battery su700 5000\nat 1 su700 OB\nat 4000.5 su700 OB LB\nat 4010 su800 OB LB\n"))
         self.picture(self.room(f"{PAIR}at 86400 su700 OB\n"))
@@ -368,7 +368,7 @@ class Tests:
 
     def test_it_can_be_interrupted(self):
         words = [sys.executable, PROGRAM, "--nutsim", self.nutsim, "-n", "99999", self.room(PAIR + LOW)]
-        # a shell that starts the tests in the background has its children ignore interrupts
+        # a shell that starts the tests in the background makes its children ignore interrupts
         heed = functools.partial(signal.signal, signal.SIGINT, signal.SIG_DFL)
         process = subprocess.Popen(
             words, stdin=subprocess.DEVNULL, stdout=subprocess.PIPE, stderr=subprocess.PIPE, start_new_session=True, preexec_fn=heed
@@ -376,7 +376,7 @@ class Tests:
         self.wait_for_play(process.pid)
         os.killpg(process.pid, signal.SIGINT)
         out, err = process.communicate(timeout=30)
-        expect((process.returncode, out, err), (130, b"", b""), "an interrupt")
+        expect((process.returncode, out, err), (-signal.SIGINT, b"", b""), "an interrupt")
 
     @staticmethod
     def wait_for_play(pid):
@@ -410,7 +410,7 @@ class Tests:
         ensure("](room.svg)" in page, "the picture isn't shown")
 
     def test_the_script_that_measures(self):
-        """What docs/room.md shows prints the greatest delay."""
+        """The script that docs/room.md shows prints the greatest delay."""
         with open(PAGE) as file:
             script = re.search(r"```sh\n( *for .*?)```", file.read(), re.DOTALL)[1]
         few = re.sub(r"seq \d+", "seq 5", script)
@@ -425,7 +425,7 @@ class Tests:
         ensure(400 <= int(done.stdout) < 3000, f"it prints {done.stdout!r}")
 
     def test_random_rooms(self):
-        """No machine that keeps pace passes its bound, and some reach it; a HOSTSYNC that is enough is enough."""
+        """No machine that keeps pace passes its bound, and some reach it; a HOSTSYNC that is called enough is enough."""
         begun = time.monotonic()
         calls = [range(at, min(at + ROOMS_A_CALL, self.rooms)) for at in range(0, self.rooms, ROOMS_A_CALL)]
         counts = collections.Counter()
@@ -440,7 +440,8 @@ class Tests:
 
 
 def check_picture(text):
-    """A picture is XML, everything stands in it, no text is small, and no text covers another."""
+    """Checks that a picture is XML, that everything is inside it, that no text is too small, and that no text covers
+    another."""
     picture = xml.etree.ElementTree.fromstring(text)
     _, _, width, height = map(float, picture.get("viewBox").split())
     ensure(width <= 900 and float(picture.get("font-size")) >= 12, "the text is legible at the width of a page")
@@ -497,7 +498,8 @@ class RandomRoom:
         return f"{self.pick(0, 0, greatest, greatest / 2):g} {greatest:g}"
 
     def outage(self):
-        """Mostly on battery, then low; but also low at once, for a moment, forced by the UPS itself, or never."""
+        """Mostly the UPS is on battery, then low; but also low at once, only for a moment, forced by the UPS itself, or
+        never."""
         low = self.random.randint(0, 12) + self.pick(0, 0, 0.5, 0.123)
         kind = self.pick("low", "low", "low", "at once", "moment", "forced", "calibration", "never")
         first = [] if kind == "at once" else [(max(low - self.random.randint(1, 12), 0), "OB")]
@@ -518,14 +520,14 @@ class RandomRoom:
 
 
 class Trusted(nutroom.Nutsim):
-    """nutsim that isn't asked whether files read which the test has made."""
+    """A nutsim that isn't asked to check the files that the test has made."""
 
     def check(self, folder, machine):
         pass
 
 
 def play_rooms(program, folder, seeds):
-    """Plays random rooms, and counts what is seen of bounds."""
+    """Plays random rooms, and counts which bounds were reached."""
     counts, nutsim = collections.Counter(), Trusted(program)
     for seed in seeds:
         made = RandomRoom(seed, folder)
@@ -543,7 +545,7 @@ def play_rooms(program, folder, seeds):
 
 
 def seen_of(plan, machine, host, story, bound):
-    """What a machine shows of its bound."""
+    """Returns how a machine did by its bound."""
     if not story.keeps_pace:
         return []
     if bound is None:
@@ -551,7 +553,7 @@ def seen_of(plan, machine, host, story, bound):
     if bound.start not in plan.scenes:
         return []
     clock = plan.scenes[bound.start][host.number][0]
-    # by the room's clock it is no later either
+    # by the room's clock it isn't later either
     ensure(story.halted <= bound.end, f"{machine.name} is halted at {story.halted}, past {bound}")
     is_forced = all(nutroom.is_forced(plan.room.last_status(machine.rules.lines[i].ups, bound.start)) for i in bound.lines)
     law = "forced" if is_forced else "primary" if all(machine.rules.lines[i].is_primary for i in bound.lines) else "secondary"
@@ -559,8 +561,8 @@ def seen_of(plan, machine, host, story, bound):
 
 
 def syncs_of(seed, room, plan, stories):
-    """Where HOSTSYNC of a primary is enough for a machine, that is halted before the primary stops waiting. Both have to keep
-    pace, and the primary's shutdown to begin by what it was shown."""
+    """If HOSTSYNC of a primary is enough for a machine, that machine is halted before the primary stops waiting. Both have
+    to keep pace, and the primary's shutdown has to begin by what it was shown."""
     for p, primary in enumerate(room.machines):
         for m, machine in enumerate(room.machines):
             need = nutroom.needed_host_sync(primary, machine) if primary.rules.has_primary and p != m else None
@@ -573,8 +575,9 @@ def syncs_of(seed, room, plan, stories):
 
 
 def compare(made, room, plan, nutsim, seed):
-    """The plain model plays the same steps and tells the same. No step is skipped, and each that moves bytes finds some; each
-    query on a link that isn't cut is answered within the machine's delay; and clocks go on by one."""
+    """Checks that the plain model plays the same steps and tells the same; that no step is skipped, and each step that moves
+    bytes finds some; that each query on a link that isn't cut is answered within the machine's delay; and that clocks move
+    on by one."""
     model = Room(made.config, made.rules)
     due = []
     for number, (text, at) in enumerate(zip(plan.steps, plan.times), 1):

@@ -1,6 +1,6 @@
 #!/usr/bin/env python3
-"""Plays schedules of rooms, and compares what their steps tell with the plain model in room.py: with `nutsim`, which reads
-files and plays a step at a time, and with `rehearse`, which plays calls of any length.
+"""Plays schedules of rooms, and compares what their steps tell with the plain model in room_model.py: with `nutsim`, which
+reads files and plays a step at a time, and with `rehearse`, which plays calls of any length.
 
     python3 -m tests.programs.nutsim NUTSIM REHEARSE
 
@@ -29,13 +29,13 @@ from tests.support.stage import Stage
 EXAMPLES = os.path.join(ROOT, "examples")
 SCHEDULES = os.path.join(EXAMPLES, "schedules")
 
-# random schedules by calls, those by `nutsim`, how many of them go with one room, and how many rooms with one run
+# how many random schedules are played by calls and by `nutsim`, how many of them use one room, and how many rooms one run
 RANDOM_SCHEDULES = 10_000
 RANDOM_FILES = 400
 SCHEDULES_A_ROOM = 20
 ROOMS_A_RUN = 25
 LONG_STEPS = 300_000
-# how many bytes a configuration file has at most (docs/configuration.md)
+# the largest configuration file, in bytes (docs/configuration.md)
 FILE_MAX = 1_048_576
 
 ALONE = Config(UPSES[:1], {b"mon": User(b"m1", (), (), "primary")})
@@ -44,7 +44,7 @@ SECONDARY = Rules([Watched(b"su700", "secondary")])
 
 
 def rounds(monitor, count):
-    """Queries of a monitor go to the server, and their answers come back."""
+    """Returns the steps that move this many queries of a monitor to the server, and their answers back."""
     return [(word, monitor, 0, 512) for _ in range(count) for word in ("out", "reach", "back", "land")]
 
 
@@ -66,7 +66,7 @@ ALONE_DUE = b"""25: monitor 0 notice ONBATT su700@localhost
 35: skipped
 """
 
-# Monitor 1 hears nothing from the low battery on, and monitor 0 waits for it.
+# Monitor 1 hears nothing after the low battery, and monitor 0 waits for it.
 PAIR_ROW = [
     *live(b"OL"), ("link", 0, 0), *rounds(0, 5), ("link", 1, 0), *rounds(1, 4),
     says(b"OB LB"), ("monitor", 0, 10), *rounds(0, 3), ("monitor", 0, 25), ("monitor", 0, 26), ("monitor", 0, 31),
@@ -81,7 +81,8 @@ PAIR_DUE = b"""48: monitor 0 notice ONBATT su700@localhost
 
 
 def server_files(config):
-    """The configuration files of a server, by name. No user has an action or a command: nothing of a room asks for one."""
+    """Returns the configuration files of a server, by name. No user has an action or a command: nothing in a room asks for
+    one."""
     users = []
     for name, user in config.users.items():
         users.append(b"[%s]\npassword = %s\n" % (name, quoted(user.password)))
@@ -112,17 +113,17 @@ class RoomFiles:
 
 
 def room_steps(config, rules):
-    """Steps for `rehearse` that make a room."""
+    """Returns steps for `rehearse` that make a room."""
     return [*conf_steps(config)[:-1], *(("room monitor", it.text()) for it in rules), ("room new",)]
 
 
 def call_steps(steps):
-    """Those that play a call."""
+    """Returns steps for `rehearse` that play a call."""
     return [*(("room step", line_of(it)[:-1]) for it in steps), ("room play",)]
 
 
 def call_lines(told):
-    """What `rehearse` prints of a call whose steps tell this."""
+    """Returns what `rehearse` prints about a call whose steps tell this."""
     lines = [rehearsed(number, it).rstrip(b"\n") for number, news in enumerate(told, 1) for it in news]
     return [*([b"ok"] * len(told)), *lines, b"ok"]
 
@@ -144,13 +145,13 @@ class Script:
 
 
 def played(config, rules, steps):
-    """What each step tells, as the model has it."""
+    """Returns what each step tells, by the model."""
     room = Room(config, rules)
     return [room.play(it) for it in steps]
 
 
 def random_script(seeds):
-    """Random schedules of random rooms, each played in calls of some random length."""
+    """Makes random schedules of random rooms, each played in calls of random lengths."""
     script = Script()
     for seed in seeds:
         maker = RoomMaker(seed)
@@ -164,7 +165,7 @@ def random_script(seeds):
 
 
 def compare_by_calls(stage, seeds):
-    """Plays random schedules in calls, and gives how many steps they had."""
+    """Plays random schedules in calls. Returns how many steps they had."""
     script = random_script(seeds)
     lines = stage.play(script.steps)
     for at, (found, due) in enumerate(zip(lines, script.due)):
@@ -175,8 +176,8 @@ def compare_by_calls(stage, seeds):
 
 
 class Refusals:
-    """A room for `rehearse` whose every step is tried once more where memory was refused at it, and what runs with a refusal
-    have to print."""
+    """A room for `rehearse` in which each step is repeated if memory was refused at it, and what runs with a refusal have to
+    print."""
 
     def __init__(self, config, rules, calls):
         self.groups = [([it], [b"ok"], []) for it in conf_steps(config)[:-1]]
@@ -194,8 +195,8 @@ class Refusals:
         return [it for first, _, again in self.groups for it in [*first, *((f"? {verb}", *rest) for verb, *rest in again)]]
 
     def outcome(self, lines, at):
-        """Where a run met the refusal: `room` or `call` of a room, or None if its room met none. It fails if the run told
-        anything else than it has to."""
+        """Returns where a run met the refusal: `room` or `call` of a room, or None if its room met none. Fails if the run
+        printed anything else than it has to."""
         left, outcome = list(lines), None
         for first, due, again in self.groups:
             if not left:
@@ -216,7 +217,7 @@ class Refusals:
         return outcome
 
     def is_lack(self, verb, line):
-        """Whether a line says that memory was refused, and at a step that was played."""
+        """Whether a line reports refused memory, at a step that was played."""
         if verb == "room play":
             at = re.fullmatch(rb"Memory\(([0-9]+)\)", line)
             return at is not None and 0 < int(at[1]) <= self.longest
@@ -241,7 +242,8 @@ class Tests:
         return path
 
     def run(self, room, path, data=b"", env=None):
-        """The status, what is printed, and what is told of a failure. The schedule may be `/dev/stdin`, which has `data`."""
+        """Returns the status, what is printed, and what is written about a failure. The schedule may be `/dev/stdin`, which
+        has `data`."""
         words = [self.program, room.folder, path, *room.monitors]
         done = subprocess.run(words, input=data, env={**os.environ, **(env or {})}, capture_output=True, timeout=60)
         return done.returncode, done.stdout, done.stderr
@@ -264,7 +266,7 @@ class Tests:
             raise Failed(f"room {seed}, schedule {number}: status {status}, {err!r}; found {first[0]!r}, wanted {first[1]!r}")
         return SCHEDULES_A_ROOM
 
-    # Each method from here on whose name begins with 'test_' is a test.
+    # From here on, each method whose name begins with 'test_' is a test.
 
     def test_worked_rows(self):
         self.plays(self.room("alone", ALONE, [PRIMARY]), ALONE_ROW, ALONE_DUE, "a primary alone")
@@ -280,7 +282,7 @@ class Tests:
             expect((done.returncode, done.stdout.decode(), done.stderr), (0, due, b""), words)
 
     def test_rows_by_calls_of_any_length(self):
-        """The room goes on from one call to the next as it does within a call."""
+        """The room continues from one call to the next as it does within a call."""
         for config, rules, row in ((ALONE, [PRIMARY], ALONE_ROW), (ALONE, [PRIMARY, SECONDARY], PAIR_ROW)):
             told = played(config, rules, row)
             for size in range(1, len(row) + 1):
@@ -296,7 +298,7 @@ class Tests:
             expect(b"".join(shown(at, it) for at, news in enumerate(told, 1) for it in news), due, "the model")
 
     def test_steps_that_may_not_be_played(self):
-        """The steps before them stand, and the room goes on."""
+        """The steps before them took effect, and the room continues."""
         bad = [
             ("up", 1), ("down", 1), ("driver", 1, b"x"), ("monitor", 1, 5), ("link", 1, 0), ("link", 0, 1), ("out", 0, 1, 5), ("reach", 1, 0, 5),
             ("back", 0, 1, 5), ("land", 1, 0, 5), ("cut-server", 0, 1), ("cut-monitor", 1, 0),
@@ -305,7 +307,7 @@ class Tests:
         script.add_room(ALONE, [PRIMARY])
         room = Room(ALONE, [PRIMARY])
         for step in bad:
-            # the driver is gone behind these, so it can't go once more
+            # the driver has disconnected before, so it cannot do so again
             script.steps += call_steps([("up", 0), ("down", 0), step, ("server", 1)])
             script.due += [b"ok"] * 4 + [b"BadStep(3)"]
             expect([room.play(("up", 0)), room.play(("down", 0))], [[], []], "the model")
@@ -329,8 +331,8 @@ class Tests:
         print(f"   {count} schedules of {len(rooms)} rooms; {time.monotonic() - begun:.1f} s")
 
     def test_a_room_in_which_each_allocation_is_refused_in_turn(self):
-        """Where memory is refused when a room is made, there is none, and the next is made in its place. Where it is refused
-        in a call, the call says so, and so does the room at every later call: it has failed."""
+        """If memory is refused when a room is made, there is none, and the next one replaces it. If it is refused in a call,
+        the call reports it, and the room fails every later call."""
         calls = [PAIR_ROW[at : at + 7] for at in range(0, len(PAIR_ROW), 7)]
         refused = Refusals(ALONE, [PRIMARY, SECONDARY], calls)
         outcomes = collections.Counter()
@@ -425,7 +427,7 @@ class Tests:
         ensure(got_over <= 1, f"all was played without {got_over} allocations")
 
     def test_each_read_and_write_refused_in_turn(self):
-        """Also of a schedule that is read, and whose news are written, in more than one piece."""
+        """Also with a schedule that is read, and news that are written, in more than one piece."""
         room = self.room("streams", ALONE, [PRIMARY])
         many = [("cut-server", 0, 0)] * 2_000
         for steps, due in ((ALONE_ROW, ALONE_DUE), (many, b"".join(b"%d: skipped\n" % at for at in range(1, len(many) + 1)))):
@@ -441,7 +443,8 @@ class Tests:
                 status, out, err = self.run(room, path, env=env)
                 if not is_reached():
                     break
-                # What a failed write left is written once more at the end, so it may still be there: the status says that a write failed.
+                # What a failed write left is written again at the end, so it may still appear: the status says that a write
+                # failed.
                 expect((status, err, due.startswith(out)), (1, b"nutsim: I/O failed\n", True), f"write {at}: {out!r}")
 
     def test_a_long_schedule_takes_no_more_memory(self):
@@ -459,7 +462,7 @@ class Tests:
         ensure(peaks[1] <= peaks[0] + 256, f"{peaks[0]} KiB for a thirtieth of what takes {peaks[1]} KiB")
 
     def peak(self, room, path):
-        """The greatest memory of a run, in KiB, once it has read its schedule."""
+        """Returns the greatest memory of a run, in KiB, after it has read its schedule."""
         words = [self.program, room.folder, "/dev/stdin", *room.monitors]
         with open(path, "rb") as schedule:
             process = subprocess.Popen(words, stdin=subprocess.PIPE, stdout=subprocess.DEVNULL, stderr=subprocess.PIPE)
@@ -476,7 +479,7 @@ class Tests:
         expect(self.run_on_terminal(room, path), (0, b"", b"\rnutsim: 100000 steps\rnutsim: 200000 steps\r\x1b[K"), "a long schedule")
 
     def test_news_stand_above_the_progress(self):
-        """On one terminal, what was told so far stands above the line of the progress, and what is told later in its place."""
+        """On one terminal, the news so far are above the line of the progress, and later news replace it."""
         room = self.room("above", ALONE, [PRIMARY])
         skipped = b"cut-server 0 0\n"
         path = self.write("above.sched", skipped + b"server 1\n" * 149_998 + skipped + b"server 1\n" * 50_000 + skipped)
@@ -487,7 +490,7 @@ class Tests:
         expect((found, is_reached()), ((1, b"1: skipped\n", b"nutsim: I/O failed\r\n"), True), "news that can't be written above the progress")
 
     def run_on_terminal(self, room, path, is_for_both=False, env=None):
-        """The status, what goes to the output, and what to a terminal, which is the error output, or both of them."""
+        """Returns the status, what is written to the output, and what to a terminal, which is the error output, or both."""
         main, other = pty.openpty()
         try:
             words = [self.program, room.folder, path, *room.monitors]

@@ -1,9 +1,9 @@
 #!/usr/bin/env python3
-"""Makes Debian packages and the archive, looks at what is in them, and installs them in a fresh Debian.
+"""Makes Debian packages and the archive, checks their contents, and installs them in a fresh Debian.
 
     python3 -m tests.programs.packages [--root FOLDER] [PROGRAM..]
 
-A program that isn't handed in is stood for by a script. The fresh Debian is made by debootstrap, which wants root and a
+A script is used in place of a program that isn't given. The fresh Debian is made by debootstrap, which needs root and a
 network, or is a copy of FOLDER, in which debootstrap made one with systemd. The last line is 'N passed, M failed'."""
 
 import hashlib
@@ -21,16 +21,16 @@ from tests.support.debian_root import fresh_root, run
 from tests.support.harness import ensure, expect, needed, ROOT, run_tests
 
 PACKAGES = ("mulgefa-client", "mulgefa-server")
-# the files of each section of the manual, and examples, that are the server's
+# the files of each section of the manual, and the examples, that belong to the server
 SERVERS = ("upsd", "dummy-ups", "ups.conf", "upsd.conf", "upsd.users", "su700.dev")
 NAMES_OF_UNITS = {"nut-server.service": "mulgefa-upsd.service", "nut-monitor.service": "mulgefa-upsmon.service", "nut-client.service": "mulgefa-upsmon.service"}
 
-# what a fresh Debian changes by itself while packages come and go
+# what a fresh Debian changes by itself while packages are installed and removed
 UNSTEADY = re.compile(r"var/(lib/(dpkg|apt|systemd/deb-systemd-helper)|cache|log)/|etc/(passwd|group|shadow|gshadow)-?$|root/|tmp/|run/|proc/|sys/|dev/|etc/\.pwd\.lock")
 
 
 def package_of(path):
-    """The package that an installed file belongs to."""
+    """Returns the package that an installed file belongs to."""
     name = os.path.basename(path)
     if path.startswith("share/mulgefa/rooms/"):
         return "mulgefa-client"
@@ -41,14 +41,14 @@ def package_of(path):
 
 
 def in_package(path):
-    """Where a package has a file that is installed at this path below PREFIX."""
+    """Returns the place in a package of a file that is installed at this path below PREFIX."""
     if path.startswith("lib/systemd/"):
         return path
     return f"usr/{path}.gz" if path.startswith("share/man/") else f"usr/{path}"
 
 
 def wanted_files(package):
-    """What a package has, with its modes; links have none."""
+    """Returns the contents of a package, with modes; links have none."""
     files = {in_package(path): mode for path, mode in install.wanted_files().items() if package_of(path) == package}
     files.update({f"usr/share/doc/{package}/{name}": 0o644 for name in ("changelog.gz", "copyright")})
     if package == "mulgefa-server":
@@ -59,7 +59,7 @@ def wanted_files(package):
 
 
 def state_of(folder):
-    """What each file below a folder is, but for those that change by themselves."""
+    """Returns the state of each file below a folder, except for those that change by themselves."""
     state = {}
     for at, folders, names in os.walk(folder):
         for name in names + [it + "/" for it in folders]:
@@ -77,19 +77,19 @@ def state_of(folder):
 
 
 class Packages:
-    """Built programs or scripts in place of them, and the packages that are made of them."""
+    """Built programs or scripts in place of them, and the packages that are made from them."""
 
     def __init__(self, built, folder):
         self.folder = folder
         self.bin = os.path.join(folder, "bin")
         self.built = install.put_programs(built, self.bin)
         self.counted = 0
-        # a commit in the middle of the tests makes no other version
+        # a commit during the tests must not make another version
         status, said = run(["git", "log", "-1", "--format=%ct"], cwd=ROOT)
         self.epoch = said.strip() if status == 0 else "1"
 
     def make(self, *words, env=(), umask=0o022):
-        """What 'make' printed, which has to end with status 0."""
+        """Returns what 'make' printed, which has to end with status 0."""
         before = os.umask(umask)
         try:
             done = subprocess.run(
@@ -102,7 +102,8 @@ class Packages:
         return done.stdout
 
     def made(self, what, **options):
-        """The files that 'make deb' or 'make tar' makes in a folder of their own, by their names without the version."""
+        """Returns the files that 'make deb' or 'make tar' makes in a folder of their own, by their names without the
+        version."""
         self.counted += 1
         to = os.path.join(self.folder, f"dist{self.counted}")
         said = self.make(what, f"TO={to}", **options)
@@ -124,7 +125,7 @@ class Tests:
         return self.debs
 
     def fresh(self, name):
-        """A fresh Debian with the packages in /root."""
+        """Returns a fresh Debian with the packages in /root."""
         folder = os.path.join(self.packages.folder, name)
         if self.saved is None:
             self.saved = fresh_root(os.path.join(self.packages.folder, "saved")).folder
@@ -133,7 +134,7 @@ class Tests:
             shutil.copy(path, root.path("/root"))
         return root
 
-    # Each method from here on whose name begins with 'test_' is a test.
+    # From here on, each method whose name begins with 'test_' is a test.
 
     def test_same_bytes_twice(self):
         needed("dpkg-deb", "dpkg")
@@ -170,7 +171,7 @@ class Tests:
             fields = dict(re.findall(r"^(\S+): (.*)$", said, re.MULTILINE))
             for field in ("Conflicts", "Provides"):
                 ensure(nuts in fields[field].split(", "), f"{name}: {field}: {fields[field]}")
-            # dpkg would then remove NUT's package after unpacking this one, and the same files with it: its /sbin/upsd is
+            # otherwise dpkg would remove NUT's package after unpacking this one, and the same files with it: its /sbin/upsd is
             # our /usr/sbin/upsd
             ensure("Replaces" not in fields, f"{name} replaces files")
         _, depends = run(["dpkg-deb", "--field", self.all_debs()["mulgefa-server"], "Depends"])
@@ -178,7 +179,7 @@ class Tests:
         ensure(f"mulgefa-client (= {version.strip()})" in depends, f"the server wants this client: {depends}")
 
     def test_units_in_packages(self):
-        """NUT's names mustn't be both another name of a unit and what it excludes."""
+        """NUT's names must not be both another name of a unit and what it excludes."""
         for name, path in self.all_debs().items():
             tree = os.path.join(self.packages.folder, f"tree-{name}")
             run(["dpkg-deb", "-x", path, tree])
@@ -196,7 +197,7 @@ class Tests:
             expect((status, re.findall("^E: .*$", said, re.MULTILINE)), (0, []), f"{name}: what lintian says: {said}")
 
     def test_archive(self):
-        """What the archive installs is what 'make install-built' does, and it takes that away again."""
+        """The archive installs what 'make install-built' does, and uninstalls it again."""
         archive = self.packages.made("tar")["mulgefa"]
         folder = os.path.join(self.packages.folder, "archive")
         os.mkdir(folder)
@@ -222,7 +223,7 @@ class Tests:
         expect([it for it in install.files_below(found) if not it.startswith("etc/nut/")], [], "what is left")
 
     def test_fresh_system(self):
-        """Installed, changed by hand, upgraded, removed and purged; what is left is the user nut."""
+        """Installed, changed by hand, upgraded, removed and purged; only the user nut is left."""
         root = self.fresh("fresh")
         before = state_of(root.folder)
         root.do("dpkg -i /root/mulgefa-*.deb")
@@ -267,7 +268,7 @@ class Tests:
         expect({it: after.get(it) for it in after.keys() | before.keys() if after.get(it) != before.get(it)}, {}, "what a purge leaves")
 
     def test_files_of_others_stay(self):
-        """A configuration that is there, of NUT as a rule, is neither replaced nor taken away."""
+        """A configuration that exists before, usually of NUT, is neither replaced nor removed."""
         root = self.fresh("mine")
         os.mkdir(root.path("/etc/nut"))
         mine = {name: f"# my {name}\n" for name in ("ups.conf", "upsd.conf", "upsd.users", "upsmon.conf", "nut.conf")}
@@ -282,7 +283,7 @@ class Tests:
         expect({name: root.read(f"/etc/nut/{name}") for name in os.listdir(root.path("/etc/nut"))}, mine, "files after a purge")
 
     def test_services_follow_nut_conf(self):
-        """What NUT's nut.conf has run is enabled, and nothing else."""
+        """The services that NUT's nut.conf names are enabled, and nothing else."""
         wanted = {"none": [], "netclient": ["mulgefa-upsmon"], "standalone": ["mulgefa-upsd", "mulgefa-upsmon"], "netserver": ["mulgefa-upsd", "mulgefa-upsmon"]}
         root = self.fresh("modes")
         for mode, services in wanted.items():
@@ -295,7 +296,7 @@ class Tests:
 
 
 def main(tests, wants):
-    """Runs tests of packages by the command line, which may begin with the folder of a root that was saved."""
+    """Runs tests of packages by the command line, which may begin with the folder of a saved root."""
     words = sys.argv[1:]
     saved = None
     if words[:1] == ["--root"]:

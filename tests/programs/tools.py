@@ -67,7 +67,7 @@ OUTPUT_FAILED = b"Error: output failed\n"
 ADMIN = ["-u", "admin", "-p", "pw"]
 LOGIN = [b"USERNAME admin", b"PASSWORD pw"]
 
-# the tool, its arguments (AT stands for the server's host and port), its queries, and its output
+# the tool, its arguments (AT is replaced by the server's host and port), its queries, and its output
 GOOD = [
     ("upsc", ["su700@AT"], [b"LIST VAR su700"], VARIABLES),
     ("upsc", ["su700@AT", "ups.status"], [b"GET VAR su700 ups.status"], b"OL\n"),
@@ -101,7 +101,7 @@ GOOD = [
     ("upscmd", [*ADMIN, "su700@AT", "load.off"], [*LOGIN, b"INSTCMD su700 load.off"], b"OK\n"),
 ]
 
-# the tool, its arguments, its queries, what is said of it, and the status
+# the tool, its arguments, its queries, the message, and the status
 BAD = [
     ("upsc", ["stale@AT"], [b"LIST VAR stale"], b"DATA-STALE", 1),
     ("upsc", ["nobody@AT"], [b"LIST VAR nobody"], b"UNKNOWN-COMMAND", 1),
@@ -132,8 +132,8 @@ BAD = [
 
 
 class Server:
-    """A listener on loopback that answers one client after the other. `queries` are the lines of the last client; `ready`
-    is called with what is to be sent and gives the pieces, where None closes the connection."""
+    """A listener on loopback that answers one client after the other. `queries` are the lines of the last client; `ready` is
+    called with what is to be sent and returns the pieces, in which None closes the connection."""
 
     def __init__(self):
         self.listener = socket.create_server(("127.0.0.1", 0))
@@ -194,7 +194,7 @@ class Tests:
         self.server = Server()
 
     def run(self, tool, arguments, env=None, **streams):
-        """Runs a tool, and gives its status, its output, its error text, and the queries that the server heard."""
+        """Runs a tool. Returns its status, its output, its error text, and the queries that the server heard."""
         words = [word.replace("AT", self.server.at) if isinstance(word, str) else word for word in arguments]
         streams = {"stdout": subprocess.PIPE, "stderr": subprocess.PIPE, **streams}
         self.server.queries = []
@@ -203,7 +203,7 @@ class Tests:
         return done.returncode, done.stdout, done.stderr
 
     def heard(self):
-        """The queries of the client that has just left."""
+        """Returns the queries of the client that has just left."""
         self.server.left.wait(10)
         return self.server.queries
 
@@ -298,7 +298,7 @@ class Tests:
                 if not is_reached():
                     expect(found, (0, output, b""), f"{what}, allocation {at}, which isn't reached")
                     break
-                # the C library may do without some memory, as where it flushes a stream unbuffered
+                # the C library can do without some memory, for example when it flushes a stream without a buffer
                 allowed = [(1, b"", b"Error: out of memory\n"), (1, b"", b"Error: connection failed\n"), (0, output, b"")]
                 if found not in allowed:
                     raise Failed(f"{what}, allocation {at}: found {found!r}")

@@ -1,5 +1,5 @@
 #!/usr/bin/env python3
-"""Starts upsd and dummy-ups on sockets of this machine, and is their clients, a driver and a server.
+"""Starts upsd and dummy-ups on sockets of this machine, and plays their clients, a driver and a server.
 
     python3 -m tests.programs.upsd_sockets UPSD DUMMY_UPS
 
@@ -30,7 +30,7 @@ class Tests:
         done = subprocess.run(words, stdin=subprocess.DEVNULL, capture_output=True, timeout=60)
         return done.returncode, done.stdout, done.stderr
 
-    # Each method from here on whose name begins with 'test_' is a test.
+    # From here on, each method whose name begins with 'test_' is a test.
 
     def test_values(self):
         with self.room() as room:
@@ -103,7 +103,7 @@ class Tests:
                 used = processor_time(upsd.pid) - used
                 if used > 0.5:
                     raise Failed(f"{used:.2f} s of processor time were used beside a client that never reads")
-                # once it reads, it is answered
+                # once the client reads, it is answered
                 stuck.socket.settimeout(SOON)
                 lists = 0
                 while lists < 3:
@@ -143,7 +143,7 @@ class Tests:
                 second.sendall(b'b"\nDATAOK\nDUMPDONE\n')
                 room.until(STATUS, ONLINE)
                 expect(room.ask(b"GET VAR su700 ups.id\n"), b"ERR VAR-NOT-SUPPORTED\n", "half a line")
-                # a line that comes byte by byte
+                # a line that arrives byte by byte
                 for byte in b'SETINFO ups.id "c"\n':
                     second.sendall(bytes([byte]))
                     time.sleep(0.005)
@@ -156,7 +156,7 @@ class Tests:
             room.until(STATUS, ONLINE)
             driver.kill()
             room.until(STATUS, NOT_CONNECTED)
-            # its socket's file is left behind, and is no obstacle
+            # the file of its socket is left behind, and doesn't matter
             room.dummy()
             room.until(STATUS, ONLINE)
 
@@ -220,7 +220,7 @@ class Tests:
                     expect(client.ask(b"VER\n"), VERSION, host)
 
     def listening(self, room, *lines):
-        """Starts upsd with these LISTEN lines, and gives it with the addresses at which it says that it listens."""
+        """Starts upsd with these LISTEN lines. Returns it, with the addresses at which it says that it listens."""
         with open(room.path("upsd.conf"), "w") as file:
             file.writelines(f"LISTEN {line}\n" for line in lines)
         upsd = room.start([self.programs[0], "--conf", room.folder, "-s", room.folder])
@@ -247,7 +247,7 @@ class Tests:
                     expect(client.ask(b"VER\n"), VERSION, host)
 
     def test_host_by_its_name(self):
-        """A name stands for the first of its addresses."""
+        """A name means the first of its addresses."""
         with self.room() as room:
             found = self.listening(room, f"localhost {room.port}")
             first = socket.getaddrinfo("localhost", room.port, type=socket.SOCK_STREAM)[0][4][0]
@@ -256,7 +256,7 @@ class Tests:
                 expect(client.ask(b"VER\n"), VERSION, first)
 
     def test_every_address_twice(self):
-        """A listener at every address by IPv6 serves those by IPv4 too, so lines for these beside it change nothing."""
+        """A listener at every address by IPv6 also serves those of IPv4, so lines for these beside it change nothing."""
         if not has_ipv6():
             raise Missing("this machine has no IPv6")
         for hosts in (("0.0.0.0", "::"), ("::", "0.0.0.0"), ("127.0.0.1", "::")):
@@ -270,7 +270,7 @@ class Tests:
                         expect(client.ask(b"VER\n"), VERSION, f"{host}, by {hosts}")
 
     def test_every_address_once(self):
-        """The same line twice is a fault, with every address too."""
+        """The same line twice is a fault, also for every address."""
         if not has_ipv6():
             raise Missing("this machine has no IPv6")
         with self.room() as room:
@@ -431,6 +431,28 @@ class Tests:
             status, out, err = self.run(program, "--help")
             expect((status, word in out, err), (0, True, b""), "help")
 
+    def test_descriptions(self):
+        status, off = b"GET DESC su700 ups.status\n", b"GET CMDDESC su700 load.off\n"
+        model, maker = b"GET DESC su700 ups.model\n", b"GET DESC su700 ups.mfr\n"
+        own = {status: b'DESC su700 ups.status "Status of the UPS"\n', off: b'CMDDESC su700 load.off "Turn off the load"\n'}
+        none = {
+            model: b'DESC su700 ups.model "Description unavailable"\n',
+            maker: b'DESC su700 ups.mfr "Description unavailable"\n',
+        }
+        # a text for a name that has one of upsd's own, one for the model, and some for names that only look like the maker's
+        file = (
+            b'# texts\nVARDESC ups.status "UPS status"\nVARDESC ups.model "the \\"model\\""\n'
+            b"CMDDESC ups.mfr x\nVARDESC UPS.MFR x\nCMDDESC load.off x\n"
+        )
+        told = {model: b'DESC su700 ups.model "the \\"model\\""\n'}
+        for descriptions, texts in ((None, {**own, **none}), (b"", {**own, **none}), (file, {**own, **none, **told})):
+            with self.room(descriptions=descriptions) as room:
+                room.dummy(DEVICE + b"ups.model: S\nups.mfr: M\n")
+                room.upsd()
+                room.until(STATUS, ONLINE)
+                for asked, answer in texts.items():
+                    expect(room.ask(asked), answer, f"{asked} with {descriptions}")
+
     def test_faults_of_files(self):
         with self.room(ups=b"[a]\n[a]\n") as room:
             found = self.run(self.programs[0], "--conf", room.folder, "-s", room.folder)
@@ -475,7 +497,7 @@ class Tests:
                     pass
                 expect(first.ask(b"PING\n"), b"PONG\n", "a PING")
                 expect(first.ask(b"INSTCMD load.off\n"), b'SETINFO ups.status "OFF"\n', "a command")
-                # a second server waits until the first is gone
+                # a second server waits until the first has left
                 second.send(b"DUMPALL\n")
                 second.socket.settimeout(1.5)
                 try:
@@ -518,7 +540,7 @@ class Tests:
 
 def main():
     upsd, dummy, *names = sys.argv[1:]
-    # 256 clients and what else is open
+    # 256 clients, and what else is open
     resource.setrlimit(resource.RLIMIT_NOFILE, (1024, resource.getrlimit(resource.RLIMIT_NOFILE)[1]))
     signal.signal(signal.SIGPIPE, signal.SIG_IGN)
     with tempfile.TemporaryDirectory() as folder:

@@ -1,5 +1,5 @@
 #!/usr/bin/env python3
-"""Runs the programs as their users do, and with each allocation, read and write of a run failing in turn.
+"""Runs upsd over standard streams as its users do, and with each allocation, read and write of a run failing in turn.
 
     python3 -m tests.programs.upsd_stdio UPSD
 
@@ -13,13 +13,15 @@ import sys
 import tempfile
 import time
 
-from tests.support.harness import build_shim, expect, Failed, refusals, refusing, ROOT, run_tests
+from tests.support.harness import build_shim, expect, Failed, Missing, refusals, refusing, ROOT, run_tests
 
 ROOM = ["--stdio", "--ups", "su700=Server room"]
 EXAMPLES = ["--stdio", "--conf", os.path.join(ROOT, "examples")]
 
 VERSION = b"Network UPS Tools upsd profile 1.2\n"
 LIST = b'BEGIN LIST UPS\nUPS su700 "Server room"\nEND LIST UPS\n'
+# the descriptions that NUT has, where Debian's package puts them
+NUT_DESCRIPTIONS = "/usr/share/nut/cmdvartab"
 DESCRIPTION = b'UPSDESC su700 "Server room"\n'
 GOODBYE = b"OK Goodbye\n"
 
@@ -28,7 +30,7 @@ def error(name):
     return b"ERR " + name.encode() + b"\n"
 
 
-# requests and the answers due, in turn
+# requests and the replies due, in turn
 MIXED = [
     (b"ver\n", VERSION),
     (b"GET UPSDESC x\n", error("UNKNOWN-UPS")),
@@ -42,7 +44,7 @@ MIXED = [
 ]
 
 
-# how a configuration file doesn't read: its name, its text, and what is said of it
+# faults of configuration files: the file's name, its text, and the message
 CONF_FAULTS = [
     ("ups.conf", b"[a]\n[a]\n", "2: Repeated"),
     ("ups.conf", b'[a]\ndesc = "x\n', "2: Unreadable"),
@@ -67,13 +69,22 @@ CONF_FAULTS = [
     ("upsd.conf", b"MAXCONN 257\n", "1: BadNumber"),
     ("upsd.conf", b"LISTEN a_b 0\n", "1: BadName"),
     ("upsd.conf", b"CERTFILE x\n", "1: UnknownDirective"),
+    ("cmdvartab", b"# names\n\nVARDESC a x\nCMDDESC a x\nVARDESC b x\nVARDESC a\n", "6: BadForm"),
+    ("cmdvartab", b"VARDESC a UPS model\n", "1: BadForm"),
+    ("cmdvartab", b"VARDESC a x\nCMDDESC a x\nVARDESC a y\n", "3: Repeated"),
+    ("cmdvartab", b"VARDESC a/b x\n", "1: BadName"),
+    ("cmdvartab", b"CMDDESC " + b"a" * 65 + b" x\n", "1: PastLimit"),
+    ("cmdvartab", b"CMDDESC a " + b"x" * 129 + b"\n", "1: PastLimit"),
+    ("cmdvartab", b"".join(b"VARDESC v%d x\n" % i for i in range(1025)), "1025: PastLimit"),
+    ("cmdvartab", b'VARDESC a "x\n', "1: Unreadable"),
+    ("cmdvartab", b"\nvardesc a x\n", "2: UnknownDirective"),
     # bytes past ASCII, also in a comment
     ("ups.conf", "[a]\ndesc = caf\u00e9\n".encode(), "2: Unreadable"),
     ("upsd.conf", b"# \xff\n", "1: Unreadable"),
     # carriage returns are blanks, and a last line needs no line feed
     ("ups.conf", b"[a]\r\ndesc = x\r\n\r\n[a]\r\n", "4: Repeated"),
     ("upsd.conf", b"MAXAGE 15\nMAXAGE 16", "2: Repeated"),
-    # the first faulty line is named
+    # the first faulty line is reported
     ("ups.conf", b"[a]\nfoo = x\n[a]\n", "2: UnknownDirective"),
 ]
 
@@ -92,8 +103,8 @@ class Tests:
         return done.returncode, done.stdout, done.stderr
 
     def refused_in_turn(self, kind, args, asked, due):
-        """Runs with the first call of a kind failing, then with the second, and so on, and gives the number of each call
-        that failed with what that run gave. It ends at a call that isn't reached, where the answers due must come."""
+        """Runs with the first call of a kind failing, then with the second, and so on. Yields the number of each call that
+        failed with the result of that run. It ends at a call that isn't reached; that run has to print the answers due."""
         for at, env, is_reached in refusals(self.shim, kind):
             found = self.run(args, asked, env)
             if not is_reached():
@@ -104,20 +115,20 @@ class Tests:
             raise Failed(f"no {kind} was seen")
 
     def conf(self, **texts):
-        """Writes a folder's files, each under its name with '_' for '.', where the text isn't None. It gives the
-        arguments of a run by them."""
+        """Writes a folder's files, each under its name with '_' for '.', where the text isn't None; without a text three are
+        empty, and cmdvartab isn't there. It gives the arguments of a run by them."""
         folder = os.path.join(self.folder, "conf")
         shutil.rmtree(folder, ignore_errors=True)
         os.mkdir(folder)
-        for name in ("ups.conf", "upsd.users", "upsd.conf"):
-            text = texts.get(name.replace(".", "_"), b"")
+        for name, usual in (("ups.conf", b""), ("upsd.users", b""), ("upsd.conf", b""), ("cmdvartab", None)):
+            text = texts.get(name.replace(".", "_"), usual)
             if text is not None:
                 with open(os.path.join(folder, name), "wb") as file:
                     file.write(text)
         return ["--stdio", "--conf", folder]
 
     def cut(self, data, at):
-        """Gives what a run prints whose input comes in two writes."""
+        """Returns what a run prints if its input comes in two writes."""
         process = subprocess.Popen([self.upsd, *ROOM], stdin=subprocess.PIPE, stdout=subprocess.PIPE, bufsize=0)
         try:
             process.stdin.write(data[:at])
@@ -127,7 +138,7 @@ class Tests:
             pass
         return process.communicate(timeout=60)[0]
 
-    # Each method from here on whose name begins with 'test_' is a test.
+    # From here on, each method whose name begins with 'test_' is a test.
 
     def test_first_run(self):
         found = self.run(ROOM, b"LIST UPS\nLOGOUT\n")
@@ -197,7 +208,7 @@ class Tests:
             (["--ups", "a=\t"], "Unreadable"),
             (["--ups", "a=\u00e9"], "Unreadable"),
             (["--ups", "a=\x7f"], "Unreadable"),
-            # two faults: the first in the order of tests is named
+            # two faults: the first in the order of tests is reported
             (["--ups", " " * 40], "BadForm"),
             (["--ups", "\u00e9" * 40 + "=\t"], "BadName"),
             (["--ups", "a" * 33 + "=\t"], "PastLimit"),
@@ -238,10 +249,12 @@ class Tests:
             expect(self.run(["--check", *args[1:]]), wanted, f"--check, {name}: {text[:40]!r}")
 
     def test_conf_that_cannot_be_read(self):
-        for name in ("ups.conf", "upsd.users", "upsd.conf"):
+        for name in ("ups.conf", "upsd.users", "upsd.conf", "cmdvartab"):
             cannot = (1, b"", f"upsd: {name}: cannot read\n".encode())
             args = self.conf(**{name.replace(".", "_"): None})
-            expect(self.run(args, b"VER\n"), cannot, f"no {name}")
+            # only cmdvartab may be left out
+            without = (0, VERSION, b"") if name == "cmdvartab" else cannot
+            expect(self.run(args, b"VER\n"), without, f"no {name}")
             path = os.path.join(args[-1], name)
             os.mkdir(path)
             expect(self.run(args, b"VER\n"), cannot, f"{name} is a folder")
@@ -257,26 +270,33 @@ class Tests:
         for folder in (os.path.join(self.folder, "no-such-folder"), self.shim, ""):
             expect(self.run(["--stdio", "--conf", folder], b"VER\n"), cannot, f"the folder {folder!r}")
 
+    def test_descriptions_of_nut(self):
+        if not os.path.exists(NUT_DESCRIPTIONS):
+            raise Missing(f"{NUT_DESCRIPTIONS} isn't installed (Debian's package nut-server)")
+        with open(NUT_DESCRIPTIONS, "rb") as file:
+            args = self.conf(cmdvartab=file.read())
+        expect(self.run(args, b"VER\n"), (0, VERSION, b""), "NUT's descriptions")
+
     def test_conf_in_order(self):
         bad = b"[a]\n[a]\n"
         for texts, fault in (
             ({"ups_conf": bad, "upsd_users": None, "upsd_conf": None}, b"upsd: ups.conf:2: Repeated\n"),
             ({"upsd_users": bad, "upsd_conf": None}, b"upsd: upsd.users:2: Repeated\n"),
             ({"upsd_users": None, "upsd_conf": bad}, b"upsd: upsd.users: cannot read\n"),
-            ({"upsd_conf": bad}, b"upsd: upsd.conf:1: UnknownDirective\nupsd: [a] isn't taken here: see from-nut(7)\n"),
+            ({"upsd_conf": bad, "cmdvartab": b"VARDESC a"}, b"upsd: upsd.conf:1: UnknownDirective\nupsd: [a] isn't taken here: see from-nut(7)\n"),
         ):
             expect(self.run(self.conf(**texts), b"VER\n"), (1, b"", fault), f"{texts}")
             expect(self.run(["--check", *self.conf(**texts)[1:]]), (1, b"", fault), f"--check {texts}")
 
     def test_words_that_are_not_taken(self):
         for name, text, line, word in (
-            # before the first section, where it would be unknown in one too
+            # before the first section, with a word that would be unknown in a section, too
             ("ups.conf", b"maxretry = 3\n[a]\n", "1: OutsideSection", "maxretry"),
             ("ups.conf", b"# ours\n\n  pollinterval=2", "3: OutsideSection", "pollinterval"),
             ("ups.conf", b"driver = x\n", "1: OutsideSection", None),
             ("upsd.users", b"upsmon primary\n", "1: OutsideSection", None),
             ("upsd.users", b"allowfrom = x\n", "1: OutsideSection", "allowfrom"),
-            # as the reader has it: out of quotes, without backslashes
+            # as the reader reads it: without quotes and backslashes
             ("ups.conf", b'[a]\n"a b" = 1\n', "2: UnknownDirective", "a b"),
             ("ups.conf", b"[a]\nv\\en\\dor = 1\n", "2: UnknownDirective", "vendor"),
             ("ups.conf", b'[a]\n"" = 1\n', "2: UnknownDirective", None),
@@ -288,7 +308,7 @@ class Tests:
             expect(found, (1, b"", said.encode()), f"{text}")
 
     def test_word_that_memory_is_refused_for(self):
-        """The fault is told, or that memory is refused for its file; and its word where there is memory for it."""
+        """The fault is reported, or that memory for its file is refused; and its word if there is memory for it."""
         args = self.conf(ups_conf=b"maxretry = 3\n")
         fault = b"upsd: ups.conf:1: OutsideSection\n"
         word = b"upsd: maxretry isn't taken here: see from-nut(7)\n"
@@ -299,7 +319,7 @@ class Tests:
                 expect(found, (1, b"", fault + word), f"allocation {at}, which isn't reached")
                 break
             seen.add(found)
-        # some memory is taken that the program can do without
+        # some memory that is taken isn't needed by the program
         seen.discard((1, b"", fault + word))
         expect(seen, {(1, b"", b"upsd: out of memory\n"), (1, b"", fault)}, "what is told where memory is refused")
 
@@ -390,8 +410,12 @@ class Tests:
     def test_each_allocation_refused_with_files(self):
         self.refuse_allocations(EXAMPLES)
 
+    def test_each_allocation_refused_with_descriptions(self):
+        many = b"".join(b"VARDESC v%d x\n" % i for i in range(40))
+        self.refuse_allocations(self.conf(ups_conf=b'[su700]\ndesc = "Server room"\n', cmdvartab=b'VARDESC a "\\"x\\""\nCMDDESC b y\n' + many))
+
     def refuse_allocations(self, args):
-        """Refuses each allocation of a run in turn: it ends before it serves, or after a line."""
+        """Refuses each allocation of a run in turn: the run ends before it serves, or after a line."""
         asked = b"".join(it for it, _ in MIXED)
         fronts = list(itertools.accumulate((it for _, it in MIXED), initial=b""))
         refused = served = 0

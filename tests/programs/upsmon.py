@@ -1,5 +1,5 @@
 #!/usr/bin/env python3
-"""Starts upsmon beside upsd and dummy-ups, and beside servers that the tests play.
+"""Starts upsmon with upsd and dummy-ups, and with servers that the tests play.
 
     python3 -m tests.programs.upsmon UPSD DUMMY_UPS UPSC UPSMON
 
@@ -39,7 +39,7 @@ from tests.support.room import SOON, Room, until
 
 
 class Driver:
-    """A driver of su700 that the test plays."""
+    """A driver of su700, played by the test."""
 
     def __init__(self, room):
         self.listener = room.driver()
@@ -79,7 +79,7 @@ def put_upsc(folder, script):
 
 
 def squeezed(lines):
-    """The lines, each but once where it comes again and again."""
+    """Returns the lines, with repeated ones only once."""
     return [line for line, _ in itertools.groupby(lines)]
 
 
@@ -101,7 +101,7 @@ class Tests:
         expect(watch.status(within), status, "status")
         expect(watch.lines(), lines, "what upsmon prints")
 
-    # Each method from here on whose name begins with 'test_' is a test.
+    # From here on, each method whose name begins with 'test_' is a test.
 
     def test_power_fails(self):
         with self.room() as room:
@@ -125,7 +125,7 @@ class Tests:
             driver.connect()
             target = f"su700@127.0.0.1:{room.port}"
             halts = 'POWERDOWNFLAG FOLDER/flag\nSHUTDOWNCMD "touch FOLDER/halted"\nPOLLFREQ 1\nHOSTSYNC 60\n'
-            # the delay leaves the secondary time to run its command, which comes after its logout
+            # the delay leaves the secondary time to run its command, after its logout
             with self.watch(f"MONITOR {target} 1 guest g1 secondary\nFINALDELAY 0\n" + halts) as guest, self.watch(
                 f"MONITOR {target} 1 mon m1 primary\nFINALDELAY 2\n" + halts
             ) as primary:
@@ -133,14 +133,14 @@ class Tests:
                 driver.tell(b"OB LB")
                 self.expect_told_before_shutdown(guest, target, {ON_BATTERY % target, BATTERY_LOW % target, FORCED % target})
                 expect((guest.read("flag"), guest.read("halted")), (None, b""), "a secondary writes no POWERDOWNFLAG")
-                # the primary waits for the secondary, and for no longer
+                # the primary waits for the secondary, and no longer than it has to
                 self.expect_halt(primary, [ON_BATTERY % target, BATTERY_LOW % target, SHUTDOWN])
                 expect((primary.read("flag"), primary.read("halted")), (FLAG, b""), "the primary writes it")
                 halted = [os.stat(it.path("halted")).st_mtime_ns for it in (guest, primary)]
                 expect(halted == sorted(halted), True, "the secondary halts first")
 
     def expect_told_before_shutdown(self, watch, target, wanted):
-        """Expects it to halt after these notices, whose order depends on when it asked."""
+        """Expects it to halt after these notices. Their order depends on when it asked."""
         expect(watch.status(), 0, "status")
         lines = watch.lines()
         expect((set(lines[:-1]), len(lines), lines[-1]), (wanted, len(wanted) + 1, SHUTDOWN), "what upsmon prints")
@@ -154,7 +154,7 @@ class Tests:
                 watch.until_printed(BATTERY_LOW % server.target)
                 begun = time.monotonic()
                 self.expect_halt(watch, [ON_BATTERY % server.target, BATTERY_LOW % server.target, SHUTDOWN])
-                # more than HOSTSYNC, by whole seconds
+                # more than HOSTSYNC, in whole seconds
                 expect(time.monotonic() - begun > 0.9, True, "HOSTSYNC passes")
                 expect(watch.read("flag"), FLAG, "POWERDOWNFLAG")
                 asked = b"".join(server.asked).splitlines()
@@ -188,7 +188,7 @@ class Tests:
             watch.until_printed(UNAVAILABLE % target)
             for round in (1, 2):
                 with Upstream(port) as server:
-                    # the first time it was never lost, so that nothing was established again
+                    # the first time communication was never lost, so it isn't established again
                     until(lambda: b"GET VAR su700 ups.status\n" in server.asked, "it is dialled and asked")
                     if round == 2:
                         watch.until_printed(ESTABLISHED % target)
@@ -239,7 +239,7 @@ class Tests:
                 self.expect_halt(watch, [ON_BATTERY % server.target, BATTERY_LOW % server.target, SHUTDOWN])
 
     def test_silent_server_is_unavailable(self):
-        """Before it is given up, which takes longer (tests/programs/upsmon_links.py)."""
+        """A silent server is unavailable before it is given up, which takes longer (tests/programs/upsmon_links.py)."""
         with Silent() as server:
             with self.watch(f"MONITOR {server.target} 1 mon m1 primary\nNOCOMMWARNTIME 1\n") as watch:
                 watch.until_printed(UNAVAILABLE % server.target)
@@ -320,7 +320,7 @@ class Tests:
             conf = "MINSUPPLIES 0\nSHUTDOWNCMD true\nPOLLFREQ 1\nNOCOMMWARNTIME 1\nNOTIFYFLAG NOCOMM EXEC\nNOTIFYCMD \"echo . >> FOLDER/run; sleep 60 #\"\n"
             dead = Silent()
             with dead:
-                # 32 lines, each of which has something to say every other second
+                # 32 lines, each of which has a notice every other second
                 lines = "".join(f"MONITOR u{i}@127.0.0.1:{dead.port} 0 mon m1 secondary\n" for i in range(32))
                 with self.watch(conf + lines, "-q") as watch:
                     said = "upsmon: NOTIFYCMD is not run: 64 of it are running"
@@ -328,7 +328,7 @@ class Tests:
                     expect(set(watch.lines("err")), {said}, "what is said")
                     until(lambda: len(watch.lines("run")) == 64, "all of them started", 30)
                     self.end_children(watch)
-                    # once they have ended others are run
+                    # once they have ended, others are run
                     until(lambda: len(watch.lines("run")) > 64, "room for more", 30)
                     self.end_children(watch)
 
@@ -377,7 +377,7 @@ class Tests:
                         {"stdout": writer},
                         {"stdout": writer, "stderr": writer},
                         {"stdout": full, "stderr": full},
-                        # closed from the start: no socket may get their numbers, and be sent what is printed
+                        # closed from the start: no socket may get their descriptors, and be sent what is printed
                         {"preexec_fn": lambda: (os.close(1), os.close(2))},
                         {"preexec_fn": lambda: os.closerange(0, 3)},
                     ):
@@ -471,13 +471,13 @@ class Tests:
             (secondary, 28),
             (secondary + "HOSTSYNC 30\n", 43),
             (primary + "HOSTSYNC 30\nFINALDELAY 9\n", 47),
-            # the status is asked for no sooner than it is answered
+            # the status isn't asked for before it is answered
             (primary + "POLLFREQ 1\n", 25),
             (primary + "POLLFREQ 2\n", 25),
             (primary + "POLLFREQ 3\nHOSTSYNC 3\nFINALDELAY 0\n", 9),
-            # a machine that waits for its primary, and is waited for
+            # a machine that waits for its primary, and that another one waits for
             (primary + "MONITOR b@h 1 mon m1 secondary\n", 44),
-            # a UPS that feeds another machine alone
+            # a UPS that feeds only another machine
             (primary + "MONITOR b@h 0 mon m1 secondary\n", 28),
             ("MONITOR a@h 0 mon m1 primary\nMONITOR b@h 1 mon m1 secondary\nSHUTDOWNCMD true\n", 44),
             (primary + "POLLFREQ 1000000\nDEADTIME 1000000\nHOSTSYNC 1000000\nFINALDELAY 1000000\n", 3000003),
@@ -512,6 +512,12 @@ class Tests:
             expect((status, sorted(err.splitlines())), (0, sorted(told.splitlines())), upsc)
             ensure(time.monotonic() - begun < 15, f"{upsc}: it took too long")
         expect(self.checked(conf + "MINSUPPLIES 0\n", upsc="echo 1")[2], "", "a machine that needs no UPS")
+        names = [f"u{i:02}@h" for i in range(20)]
+        conf = "".join(f"MONITOR {name} 1 mon m1 primary\n" for name in names) + "MINSUPPLIES 1\nSHUTDOWNCMD true\n"
+        begun = time.monotonic()
+        err = self.checked(conf, upsc="exec sleep 60")[2]
+        expect(sorted(err.splitlines(True)), [unknown % name for name in names], "more UPSes than are asked in time")
+        ensure(time.monotonic() - begun < 15, "twenty silent UPSes: it took too long")
 
     def test_start_asks_how_early_lb_is_said(self):
         """A server that can be asked only after some time: its answer is told once, and it isn't asked again."""
@@ -529,6 +535,21 @@ class Tests:
                 with open(asked) as file:
                     expect(len(file.readlines()), 2, "how often it was asked")
 
+    def test_shutdown_ends_the_questions(self):
+        """A UPS that is asked for how early it says LB when the shutdown begins isn't asked for again."""
+        library = build_library("hasten", self.folder)
+        with tempfile.TemporaryDirectory(dir=self.folder) as folder, Upstream() as server:
+            asked = os.path.join(folder, "asked")
+            path = put_upsc(folder, f"echo >> {asked}; exec sleep 60")
+            conf = f"MONITOR {server.target} 1 mon m1 primary\nPOLLFREQ 1\nHOSTSYNC 1\nFINALDELAY 60\nSHUTDOWNCMD true\n"
+            env = {**os.environ, "PATH": path, "LD_PRELOAD": library, "HASTE": "8"}
+            with self.watch(conf, "-q", env=env) as watch:
+                until(lambda: os.path.exists(asked), "a question", 15)
+                server.statuses[b"su700"] = b"FSD"
+                expect(watch.status(30), 0, "the halt")
+                with open(asked) as file:
+                    expect(len(file.readlines()), 1, "how often it was asked")
+
     def test_folder_of_the_environment(self):
         conf = "MONITOR a@h 1 mon m1 primary\nSHUTDOWNCMD true\n"
         said = "upsmon: stops within 28 s of OB LB if each answer comes within 2 s\n"
@@ -537,7 +558,7 @@ class Tests:
         expect(self.checked(conf, "--conf", "FOLDER/none", env={"NUT_CONFPATH": "FOLDER"}), cannot, "--conf comes first")
         expect(self.checked(conf, "--conf", "FOLDER", env={"NUT_CONFPATH": "/nowhere"}), (0, said, ""), "--conf alone counts")
         expect(self.checked(conf, "-q", env={"NUT_CONFPATH": "/nowhere"}), cannot, "a folder that isn't there")
-        # an empty variable names no folder: what is found is the machine's own
+        # an empty variable names no folder: the machine's own is used
         own = self.checked(conf, "-q", env={"NUT_CONFPATH": ""})
         expect(own, self.checked(conf, "--conf", "/etc/nut"), "an empty NUT_CONFPATH")
         with tempfile.TemporaryDirectory(dir=self.folder) as folder:
@@ -545,8 +566,8 @@ class Tests:
             expect((done.returncode, done.stdout, done.stderr.decode()), cannot[:1] + (b"",) + cannot[2:], "a start without --conf")
 
     def test_memory_refused(self):
-        """Each allocation of a whole run is refused in turn: it ends for want of memory before anything is watched, or
-        goes on and halts."""
+        """Each allocation of a whole run is refused in turn: upsmon ends before it watches anything and reports the lack of
+        memory, or it continues and halts."""
         shim = build_shim(self.folder)
         with Upstream(status=b"FSD") as server:
             conf = f"MONITOR {server.target} 1 mon m1 primary\n{QUICK}POWERDOWNFLAG FOLDER/flag\nSHUTDOWNCMD true\n"

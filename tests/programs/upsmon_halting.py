@@ -1,6 +1,6 @@
 #!/usr/bin/env python3
-"""Starts upsmon, upsd and dummy-ups where what they need is wanting: readers of what they print, memory, a shell. The halt
-comes all the same.
+"""Starts upsmon, upsd and dummy-ups without what they need: readers of what they print, memory, a shell. The machine is halted
+all the same.
 
     python3 -m tests.programs.upsmon_halting UPSD DUMMY_UPS UPSC UPSMON
 
@@ -28,18 +28,18 @@ NOT_STARTED = "upsmon: SHUTDOWNCMD cannot be started: "
 
 
 def fronts(lines, wanted):
-    """The lines, each as the beginning of it that is wanted where it has that."""
+    """Returns the lines, each cut to the wanted beginning if it has that."""
     return [front if line.startswith(front) else line for line, front in itertools.zip_longest(lines, wanted, fillvalue="")]
 
 
 def is_running(pid):
-    """Whether a process is there and hasn't ended."""
+    """Whether a process exists and hasn't ended."""
     return state_of(pid) not in ("", "Z", "X")
 
 
 @contextlib.contextmanager
 def masked(bits):
-    """Files that are made meanwhile haven't these bits of a mode."""
+    """Files that are made meanwhile don't get these bits of a mode."""
     before = os.umask(bits)
     try:
         yield
@@ -56,7 +56,7 @@ class FullPipe:
         with contextlib.suppress(BlockingIOError):
             while True:
                 os.write(self.writer, b"x" * 4096)
-        # the mode belongs to the pipe's end, which the program is to find as any other
+        # the mode belongs to the pipe's end, which the program must find like any other
         os.set_blocking(self.writer, True)
 
     def __enter__(self):
@@ -67,7 +67,7 @@ class FullPipe:
         os.close(self.writer)
 
     def read(self):
-        """What the pipe holds."""
+        """Returns what the pipe holds."""
         os.set_blocking(self.reader, False)
         found = b""
         with contextlib.suppress(BlockingIOError):
@@ -90,14 +90,14 @@ class Tests:
 
     @contextlib.contextmanager
     def halting(self, conf, *words, delay=0, **options):
-        """An upsmon that halts soon, as the primary of a UPS with a forced shutdown."""
+        """Starts an upsmon that halts soon, as the primary of a UPS with a forced shutdown."""
         with Upstream(status=b"FSD") as server:
             times = f"POLLFREQ 1\nHOSTSYNC 1\nFINALDELAY {delay}\n"
             with self.watch(f"MONITOR {server.target} 1 mon m1 primary\n{times}{conf}", *words, **options) as watch:
                 yield server, watch
 
     def key(self, folder, conf=None, **options):
-        """What 'upsmon -K' gives, and what it says."""
+        """Returns the status of 'upsmon -K', and what it writes."""
         if conf is not None:
             with open(os.path.join(folder, "upsmon.conf"), "w") as file:
                 file.write(f"MONITOR su700@localhost 1 mon m1 primary\n{conf}")
@@ -105,7 +105,7 @@ class Tests:
         done = subprocess.run(words, stdin=subprocess.DEVNULL, capture_output=True, timeout=60, **options)
         return done.returncode, done.stdout, done.stderr
 
-    # Each method from here on whose name begins with 'test_' is a test.
+    # From here on, each method whose name begins with 'test_' is a test.
 
     def test_full_output_holds_up_no_halt(self):
         notices = "".join(f"NOTIFYFLAG {it} SYSLOG+EXEC\n" for it in ("ONBATT", "LOWBATT", "SHUTDOWN"))
@@ -131,7 +131,7 @@ class Tests:
                 for status in (b"OB", b"OL", b"OB"):
                     server.statuses[b"su700"] = status
                     seen = server.asked.count(STATUS)
-                    # the next answer has it, and was heard once another question comes
+                    # the next answer has it, and has been heard once another query comes
                     until(lambda: server.asked.count(STATUS) >= seen + 2, "the status is asked for")
                 expect(pipe.read(), b"", "nothing is printed where there is no room")
                 server.statuses[b"su700"] = b"OL"
@@ -190,12 +190,12 @@ class Tests:
         return lay
 
     def link(self, path):
-        """A link to a flag: what it leads to isn't upsmon's to remove."""
+        """A link to a flag: the file that it leads to isn't upsmon's to remove."""
         self.file_of(FLAG)(path + ".other")
         os.symlink(path + ".other", path)
 
     def look(self, folder):
-        """What there is to see of each file of a folder."""
+        """Returns the visible state of each file of a folder."""
         seen = {}
         for name in os.listdir(folder):
             at = os.lstat(os.path.join(folder, name))
@@ -204,7 +204,7 @@ class Tests:
 
     def test_flag_is_its_owners(self):
         with self.halting(f"POWERDOWNFLAG FOLDER/flag\n{HALTED}", preexec_fn=lambda: os.umask(0)) as (_, watch):
-            # left behind by one that was killed while it wrote
+            # left behind by an upsmon that was killed while it wrote
             self.file_of(b"upsm")(watch.path("flag.new"))
             expect(watch.status(), 0, "status")
             expect(watch.read("flag"), FLAG, "what the flag holds")
@@ -281,8 +281,8 @@ class Tests:
 
     @contextlib.contextmanager
     def halting_without_memory(self, before=lambda watch: None):
-        """An upsmon whose shutdown has begun, and for which no allocation succeeds any more, not even the C library's. It
-        gives the file that stands for that."""
+        """Starts an upsmon whose shutdown has begun, and for which no allocation succeeds any more, not even the C
+        library's. Returns the file that causes that."""
         gone = os.path.join(self.folder, "gone")
         env = {**os.environ, "LD_PRELOAD": self.shim, "REFUSE": "memory", "REFUSE_ONCE": gone}
         with self.halting(f"POWERDOWNFLAG FOLDER/flag\n{HALTED}", "-q", delay=3, env=env) as (_, watch):
@@ -301,7 +301,7 @@ class Tests:
             expect((watch.read("flag"), watch.read("halted"), watch.lines("err")), (FLAG, b"", []), "the halt")
 
     def test_halt_without_memory_and_shell(self):
-        """Where the shell that waits was ended, the machine is halted as soon as there is memory again."""
+        """If the waiting shell was killed, the machine is halted as soon as memory is available again."""
         with self.halting_without_memory(self.end_shell) as (watch, gone):
             until(lambda: any(it.startswith(NOT_YET) for it in watch.lines("err")), "the start is tried again", 20)
             expect((watch.read("flag"), watch.read("halted")), (FLAG, None), "what is done without memory")
@@ -317,13 +317,13 @@ class Tests:
             expect((watch.read("halted"), watch.lines("err")), (b"", []), "another one runs SHUTDOWNCMD")
 
     def end_shell(self, watch):
-        """Ends the shell that waits for the halt."""
+        """Kills the shell that waits for the halt."""
         (shell,) = children_of(watch.process.pid)
         os.kill(shell, signal.SIGKILL)
         until(lambda: not is_running(shell), "the shell ends")
 
     def test_shell_that_waits_ends_with_its_monitor(self):
-        """However upsmon ends, its shell does too and runs nothing, whether it is sent the signal itself or not."""
+        """However upsmon ends, its shell ends too and runs nothing, whether it gets the signal itself or not."""
         for number, at_all in ((signal.SIGTERM, False), (signal.SIGTERM, True), (signal.SIGKILL, False)):
             with Upstream() as server, self.watch(f"MONITOR {server.target} 1 mon m1 primary\n{HALTED}") as watch:
                 until(lambda: STATUS in server.asked, "the status is asked for")
@@ -337,7 +337,7 @@ class Tests:
                 expect(watch.read("halted"), None, "the machine goes on")
 
     def test_shutdown_command_is_alone(self):
-        """It has no input, no argument and no descriptor of upsmon's."""
+        """The command has no input, no argument and no descriptor of upsmon's."""
         conf = 'SHUTDOWNCMD "cat > FOLDER/input; echo $# > FOLDER/count; ls /proc/self/fd > FOLDER/open"\n'
         with self.halting(conf, "-q") as (_, watch):
             expect(watch.status(), 0, "status")

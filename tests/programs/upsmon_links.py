@@ -1,6 +1,6 @@
 #!/usr/bin/env python3
-"""Starts upsmon beside servers that are silent, refuse, close or stand still, beside a name server that never answers, and
-stops it for a while.
+"""Starts upsmon with servers that are silent, refuse, close or hang, and with a name server that never answers; and stops it
+for a while.
 
     python3 -m tests.programs.upsmon_links UPSD DUMMY_UPS UPSC UPSMON
 
@@ -38,15 +38,15 @@ from tests.support.monitored import (
 from tests.support.room import Room, until
 
 STATUS = b"GET VAR su700 ups.status\n"
-# how long a server may take for an answer, where a UPS is on battery and where none is, in seconds
+# how long a server may take for an answer while a UPS is on battery and while none is, in seconds
 SHORT, LONG = 5, 10
-# how many hosts the dead name server is asked for, and one that is found without it
+# how many hosts the dead name server is asked for, and a host that is found without it
 HOSTS = 30
 KNOWN = "ups.example"
 
 
 class Moody(Upstream):
-    """A server that falls silent, and refuses, when the test says so."""
+    """A server that becomes silent, or refuses, when the test says so."""
 
     def __init__(self, **options):
         self.is_silent = False
@@ -59,7 +59,7 @@ class Moody(Upstream):
         return self.refused.get(line.split()[0]) or super().answer(line)
 
     def drop(self):
-        """Ends its connections, and goes on listening."""
+        """Ends its connections, and continues to listen."""
         for end in self.ends:
             with contextlib.suppress(OSError):
                 end.shutdown(socket.SHUT_RDWR)
@@ -67,7 +67,7 @@ class Moody(Upstream):
 
 
 def reports_of(watch, target):
-    """What upsmon told of a UPS on standard error, but for what it told at its start."""
+    """Returns what upsmon reported about a UPS on standard error, without what it reported at its start."""
     front = f"upsmon: UPS {target}: "
     found = [line[len(front) :] for line in watch.lines("err") if line.startswith(front)]
     return [line for line in found if not line.startswith("watched as ")]
@@ -88,10 +88,10 @@ class Tests:
             file.write(USERS)
         return room
 
-    # Each method from here on whose name begins with 'test_' is a test.
+    # From here on, each method whose name begins with 'test_' is a test.
 
     def test_silent_server_is_given_up(self):
-        """Two servers fall silent, one of them with its UPS on battery, before two monitors."""
+        """Two servers become silent, one of them with its UPS on battery, before two monitors."""
         with Moody() as calm, Moody(status=b"OB") as failing:
             with self.watch(f"MONITOR {calm.target} 1 mon m1 primary\nPOLLFREQ 1\n") as first, self.watch(
                 f"MONITOR {failing.target} 1 mon m1 primary\nPOLLFREQ 1\nDEADTIME 60\n"
@@ -101,7 +101,7 @@ class Tests:
                     until(lambda: server.asked.count(STATUS) >= 2, "the status is asked for")
                     server.is_silent = True
                     begun[server] = time.monotonic()
-                # the one on battery is given up sooner
+                # the server whose UPS is on battery is given up sooner
                 for server, watch, limit in ((failing, second, SHORT), (calm, first, LONG)):
                     self.expect_given_up(server, watch, limit, begun[server])
 
@@ -138,7 +138,7 @@ class Tests:
                 until(lambda: reports_of(watch, target)[-1] == "server connected", "that it is back is reported")
 
     def test_refusals(self):
-        """A wrong password: upsd refuses what needs a user, and each refusal is told once a link."""
+        """A wrong password: upsd refuses what needs a user, and each refusal is reported once a link."""
         with self.room() as room:
             target = f"su700@127.0.0.1:{room.port}"
             room.dummy(b"ups.status: OL\n", "dev")
@@ -172,7 +172,8 @@ class Tests:
                 expect(reports_of(watch, server.target), [*wanted, "FSD refused: ACCESS-DENIED"], "what is told at the end")
 
     def test_servers_that_never_serve(self):
-        """One that closes each call, one that says what it isn't asked, and one that answers with what is no answer."""
+        """A server that closes each connection, one that says what wasn't asked, and one that answers with a line that is no
+        answer."""
         unread = "what it says is not understood"
         for kind, why in ((Closing, "it closes the connection"), (Rubbish, unread), (Nonsense, unread)):
             with kind() as server, Upstream() as other:
@@ -198,8 +199,8 @@ class Tests:
             expect(reports_of(watch, server.target)[:2], ["server connected", lost], "reports")
 
     def test_urgent_data(self):
-        """A second of the monitor's clock lasts a minute here: what stands behind urgent data is read without waiting for the
-        next one, which is when each link is looked at again."""
+        """A second of the monitor's clock lasts a minute here: bytes behind urgent data are read without waiting for the
+        next second, when each link is looked at again."""
         library = build_library("hasten", self.folder)
         if not os.path.exists(library):
             raise Missing("a C compiler")
@@ -214,8 +215,8 @@ class Tests:
             expect(reports_of(watch, server.target), ["server connected"], "reports")
 
     def test_monitor_that_stands_still(self):
-        """A UPS on battery that answers again halts nobody, though DEADTIME passed while the monitor stood still: neither
-        where its server kept the link, nor where it closed it meanwhile, nor where it is late to come back."""
+        """A UPS on battery that answers again halts no machine, though DEADTIME passed while the monitor was stopped:
+        neither if its server kept the link, nor if it closed it meanwhile, nor if it is late to come back."""
         with Moody(status=b"OB") as kept, Moody(status=b"OB") as closed, Moody(status=b"OB") as late:
             conf = "MONITOR {} 1 mon m1 primary\nPOLLFREQ 1\nDEADTIME 5\nFINALDELAY 0\n"
             with contextlib.ExitStack() as stack:
@@ -240,7 +241,7 @@ class Tests:
                 for watch, server in zip(watches, (kept, closed, late)):
                     expect((watch.process.poll(), SHUTDOWN in watch.lines()), (None, False), "it goes on")
                     ensure(server.asked.count(STATUS) >= 2, "the status is asked for again")
-                # it still halts where there is a reason
+                # it still halts if there is a reason
                 kept.statuses[b"su700"] = b"OB LB"
                 closed.is_silent = late.is_silent = True
                 for watch, server in zip(watches, (kept, closed, late)):
@@ -266,7 +267,7 @@ class Tests:
                 ensure(time.monotonic() - begun > 3, "HOSTSYNC and FINALDELAY pass")
 
     def test_dead_name_server(self):
-        """The same program plays this in a network of its own, whose name server never answers."""
+        """This program plays the test again in a network of its own, whose name server never answers."""
         owner = ["--map-root-user"] if os.geteuid() else []
         command = ["unshare", *owner, "--mount", "--net"]
         try:
@@ -282,7 +283,7 @@ class Tests:
 
 
 class NameServer:
-    """A name server of this namespace that hears queries and answers none."""
+    """A name server of this namespace that receives queries and answers none."""
 
     def __init__(self, folder):
         raise_loopback()
@@ -304,13 +305,13 @@ class NameServer:
             self.heard += 1
 
     def forget_hosts(self):
-        """From now on no name is known by itself."""
+        """From now on no name is known without the name server."""
         with open(self.hosts, "w"):
             pass
 
 
 def raise_loopback():
-    """Brings the loopback of this namespace up."""
+    """Brings up the loopback interface of this namespace."""
     get_flags, set_flags, up = 0x8913, 0x8914, 1
     with socket.socket(socket.AF_INET, socket.SOCK_DGRAM) as any_socket:
         request = struct.pack("16sh14x", b"lo", 0)
@@ -319,7 +320,7 @@ def raise_loopback():
 
 
 class Inside(Tests):
-    """What is played in a namespace with a name server that never answers."""
+    """The tests that are played in a namespace with a name server that never answers."""
 
     def play(self):
         names = NameServer(self.folder)
@@ -334,7 +335,7 @@ class Inside(Tests):
                 watch.until_printed(ESTABLISHED % target)
                 until(lambda: "not looked up in time" in watch.read("err").decode(), "a look-up is given up", 20)
                 ensure(names.heard > 0, "the name server is asked")
-                # one is the shell that waits for the halt
+                # one of them is the shell that waits for the halt
                 most = len(children_of(watch.process.pid)) - 1
                 ensure(0 < most <= 8, f"look-ups are few: {most}")
                 server.statuses[b"su700"] = b"OB LB"
@@ -352,7 +353,7 @@ def main():
         folder, *programs = sys.argv[2:]
         Inside(programs, folder).play()
         return 0
-    # they wait most of the time, so they are run side by side
+    # they wait most of the time, so they are run in parallel
     return play(Tests, "they need Linux's namespaces and a C compiler", at_once=8)
 
 

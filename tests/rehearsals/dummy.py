@@ -3,7 +3,7 @@
 
     python3 -m tests.rehearsals.dummy REHEARSE
 
-Where an allocation is refused, the script asks what stands and makes the refused call once more, and all other lines have to
+If an allocation is refused, the script prints the driver's state and repeats the refused call, and all other lines have to
 be those of a run in which nothing is refused. The last line is 'N passed, M failed'."""
 
 import os
@@ -22,18 +22,18 @@ LACK = re.compile(rb"Memory\(([0-9]+)\) waits=0")
 NO_SCRIPT = re.compile(rb"[1-9][0-9]*: Memory")
 NO_DRIVER = b"Memory(0)"
 
-# what the first line changes of the one piece that has two
+# what the first line changes, of the one piece that has two
 FIRST_OF_TWO = ("ups.delay.shutdown", "5")
 
 
 def shown(table):
-    """A table as it is printed."""
+    """Returns a table as it is printed."""
     return b"=" + b"".join(b' %b "%b"' % (name.encode(), value.encode()) for name, value in sorted(table.items()))
 
 
 class Line:
-    """A step of a script, what is to be printed of it, and, where it is played only after a refusal, what that is to print
-    then, unless it is None."""
+    """A step of a script and what it has to print; and, if it is played only after a refusal, what it has to print then,
+    unless that is None."""
 
     def __init__(self, step, wanted, after=None):
         self.step = step
@@ -59,11 +59,11 @@ class Play:
             asked = step.verb != "link" and (asked or step.word == DUMP_ALL)
 
     def again(self, call, wanted):
-        """A call, and once more where memory was refused."""
+        """Plays a call, and repeats it if memory was refused."""
         self.lines += [Line(call, wanted), Line(("? " + call[0], *call[1:]), b"", wanted)]
 
     def call(self, step, call, asked):
-        """A call; where it was refused, what stands then, a new link after a piece, and the call once more."""
+        """Plays a call; if it was refused, prints the state, makes a new link after a piece, and repeats the call."""
         wanted = b"ok waits=%d" % len(step.tells)
         self.lines += [Line(call, wanted), Line(("? dummy table",), b"")]
         if step.verb == "bytes":
@@ -82,7 +82,7 @@ class Play:
         return next(line.wanted for line in reversed(self.lines[:at]) if line.step == ("dummy table",))
 
     def compare(self, found, at):
-        """Compares the lines of a run in which a call was refused at most once. It gives a word for what was refused."""
+        """Compares the lines of a run in which a call was refused at most once. Returns a word for what was refused."""
         kind = "nothing"
         for place, (line, it) in enumerate(zip(self.lines, found)):
             if it == line.wanted or (kind != "nothing" and it == line.after):
@@ -95,8 +95,8 @@ class Play:
         return kind
 
     def refused(self, place, line, it, found):
-        """Whether what stands after a refused call is what has to: a moment changes nothing, and a piece leaves the lines
-        done and cuts the link."""
+        """Whether the state after a refused call is right: a moment changes nothing, and a piece leaves the lines done and
+        cuts the link."""
         if line.step[0] in ("dummy dev", "dummy seq"):
             ensure(NO_SCRIPT.fullmatch(it) or it == NO_DRIVER, f"what is {it!r}?")
             return "driver" if it == NO_DRIVER else "script"
@@ -116,7 +116,7 @@ class Play:
 
 
 def room(size):
-    """A driver beside a server and a client, and what is to be printed, where pieces of so many bytes go between them."""
+    """Returns a driver beside a server and a client, and what has to be printed if pieces of this size move between them."""
     carry = (("carry", size), b"ok")
     due = [(("ups", ROOM_UPS), b"ok"), (("users", ROOM_USERS), b"ok"), (("server",), b"ok"), (("dummy seq", ROOM_SCRIPT), b"ok")]
     due += [(("? dummy seq", ROOM_SCRIPT), None)]
@@ -169,7 +169,7 @@ class Tests:
         expect(b"|".join(lines), wanted + b"|TooMuchTaken waits=5|ok waits=0|ok waits=0", "refusals")
 
     def test_scenes_cut_at_each_place(self):
-        """A driver tells the same wherever a piece of the server's is cut, as long as what it tells is taken."""
+        """A driver tells the same wherever a piece of the server's is cut, if what it tells is taken."""
         for scene in SCENES:
             steps, wanted = [], []
             pieces = [it for it in scene.steps if it.verb == "bytes"]
@@ -184,7 +184,7 @@ class Tests:
                 expect(lines[at + 2] + lines[at + 4], escaped(step.tells.encode()), f"{scene.title}, {step.word!r}")
 
     def cut(self, scene, cut, place):
-        """The steps of a scene up to one piece, which is cut there."""
+        """Returns the steps of a scene up to one piece, which is cut at this place."""
         steps = [(f"dummy {scene.kind}", scene.script)]
         for step in scene.steps:
             if step is cut:
@@ -211,7 +211,7 @@ class Tests:
         ensure(refused > 0, "no engine answered a refusal")
 
     def test_10000_pieces_without_sense(self):
-        """Lines that are no requests change nothing, and nothing is told of them."""
+        """Lines that are no requests change nothing, and nothing is told about them."""
         chance = random.Random(12)
         pieces = [bytes(chance.choices(range(256), k=chance.randrange(513))) for _ in range(10_000)]
         head = [("dummy dev", b"ups.status: OL\nups.id: x\n"), ("dummy link",)]

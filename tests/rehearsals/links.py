@@ -16,24 +16,24 @@ from tests.support.model import LINE_MAX, words_of
 from tests.support.player import escaped
 from tests.support.stage import Stage
 
-# the queries whose first two words are commands
+# the queries that begin with two command words
 LONG_FORMS = (b"GET", b"LIST", b"SET")
 
 
 def written(query):
-    """A query as a link writes it: its commands in capitals."""
+    """Returns a query as a link writes it: with its commands in capitals."""
     words = query.split(b" ")
     commands = 2 if words[0].upper() in LONG_FORMS else 1
     return b" ".join([word.upper() for word in words[:commands]] + words[commands:]) + b"\n"
 
 
 def asking(query):
-    """A new link asks a query, whose bytes are taken. It takes three steps."""
+    """Returns the three steps in which a new link asks a query and its bytes are taken."""
     return [("link new",), ("link ask", query), ("link take",)]
 
 
 def heard(lines, fault):
-    """Whether pieces were answered by `ok`, and from some piece on by this fault, if there is one."""
+    """Expects that pieces were answered by `ok`, and from some piece on by this fault, if there is one."""
     answers = [line.decode().split(" ")[0] for line in lines]
     first = answers.index(fault) if fault in answers else len(answers)
     ensure(fault is None or first < len(answers), f"{fault} never came: {answers}")
@@ -45,7 +45,7 @@ def pieces_of(data, size):
 
 
 class Row:
-    """The steps of a row whose lines come in these pieces, and what is to be printed of them."""
+    """The steps of a row whose lines come in these pieces, and what they have to print."""
 
     def __init__(self, row, pieces):
         self.query, _, self.outcome, self.fault = row
@@ -85,7 +85,7 @@ class Tests:
                 if not is_whole:
                     expect(lines, whole[: len(lines)], f"allocation {at} of {it.query}")
                     continue
-                # the link fails at the line for which memory is refused, and what was complete before it can be taken out
+                # the link fails at the line for which memory is refused; an answer that was complete before can be taken out
                 expect(lines[:3], whole[:3], f"allocation {at} of {it.query}")
                 expect(lines[3], b"Memory waits=0", f"allocation {at} of {it.query}")
                 ensure(lines[4] in (b"none", whole[4]), f"allocation {at} of {it.query}: {lines[4]!r}")
@@ -121,7 +121,7 @@ class Tests:
         expect((lines[2], lines[3].split(b" ")[0], lines[4]), (b"ok waits=1", b"OutOfOrder", b"none"), "an early answer")
 
     def test_10000_pieces_without_sense(self):
-        """What is no answer fails the link at the end of its line; a new link asks anew."""
+        """A line that is no answer fails the link when it ends; a new link asks again."""
         chance = random.Random(11)
         steps, wanted, kept = asking(b"GET VAR su700 ups.status"), [None] * 3, b""
         for _ in range(10_000):

@@ -3,9 +3,9 @@
 
     python3 -m tests.rehearsals.monitor REHEARSE
 
-Where memory is refused for a piece of bytes, its link has to be lost at that line, and all else has to go on as it does where
-that link is lost in place of the rest of the piece. Where memory is refused elsewhere in the loop, what was done stands, and
-what was to be done still waits. The last line is 'N passed, M failed'."""
+If memory is refused for a piece of bytes, its link has to be lost at that line, and all else has to continue as if that link
+had been lost instead of the rest of the piece. If memory is refused elsewhere in the loop, what was done before has to
+remain, and what was to be done has to wait. The last line is 'N passed, M failed'."""
 
 import os
 import random
@@ -27,11 +27,11 @@ ASKED = re.compile(r"link ([0-9]+) is asked (.*)")
 
 
 class Broken(Failed):
-    """A run doesn't come out."""
+    """A run printed something else than it has to."""
 
 
 def check_run(run, lines, begin=0):
-    """Whether these lines are what a run has to print, from a step on."""
+    """Checks that these lines are what a run has to print, from a step on."""
     for at, (check, line) in enumerate(zip(run.checks, lines)):
         if at >= begin and not check.holds(line):
             raise Broken(f"{run.name}, step {at}, {check.step}: {line!r}")
@@ -47,12 +47,12 @@ def is_piece(step):
 
 
 def places(piece):
-    """Where a piece can be cut within its lines."""
+    """Returns the places at which a piece can be cut within its lines."""
     return [at for at in range(1, len(piece)) if piece[at - 1 : at] != b"\n"]
 
 
 class Loop:
-    """A scene of the loop: what is to come, and what has to be printed."""
+    """A scene of the loop: the events, and what has to be printed."""
 
     def __init__(self, scene):
         self.scene = scene
@@ -62,7 +62,7 @@ class Loop:
         self.wanted = [line for line in self.wanted if not line.startswith("- ")]
 
     def steps(self, lost=None):
-        """The steps, and with `lost` those in which the link of the piece of this number is lost in its place."""
+        """Returns the steps; with `lost` those in which the link is lost instead of the piece of this number."""
         steps = []
         for at, event in enumerate(self.events):
             verb, *words = event.split(" ", 2)
@@ -73,13 +73,13 @@ class Loop:
         return [*pushed, ("watch run", self.scene.file)]
 
     def printed(self, lines):
-        """What a run of the loop printed, behind the lines of what is to come."""
+        """Returns what a run of the loop printed, behind the lines of its events."""
         return [line.decode() for line in lines[2 * len(self.events) :]]
 
 
 def standing(wanted, found):
-    """Whether what stands after a refusal outside of a piece is all that was done before, and what was to be done still
-    waits. It gives a word for what was refused."""
+    """Whether the state after a refusal outside of a piece is right: all that was done before remains, and what was to be
+    done waits. Returns a word for what was refused."""
     fault = FAULT.fullmatch(found[-1])
     ensure(fault is not None, f"what is {found[-1]!r}?")
     done = found[:-1]
@@ -109,12 +109,12 @@ class Tests:
             check_run(run, self.stage.play(steps_of(run)))
 
     def test_runs_cut_at_each_place(self):
-        """A piece that comes in two is heard as it is in one."""
+        """A piece that comes in two parts is heard as in one."""
         cuts = 0
         for run in RUNS:
             steps, due = [], []
             for at, check in enumerate(run.checks):
-                # of a piece that is refused, each part would be
+                # each part of a piece that is refused would be refused
                 if not is_piece(check.step) or check.front != b"ok ":
                     continue
                 verb, link, piece = check.step
@@ -152,7 +152,7 @@ class Tests:
                 verb, link, piece = steps[place]
                 expect((verb, lack[1]), ("monitor bytes", b"%d" % link), f"{run.name}: what memory was refused for")
                 done = b"".join(piece.splitlines(keepends=True)[: int(lack[2])])
-                # what comes where the link is lost behind those lines
+                # what comes if the link is lost behind those lines
                 loss = [*steps[:place], (verb, link, done), ("monitor lost", link), *steps[place + 1 :]]
                 other = self.stage.play(loss)
                 shown = lines[place].split(b"} ", 1)[1]
@@ -162,7 +162,7 @@ class Tests:
         print(f"   {refused} refusals were answered")
 
     def test_what_takes_no_memory(self):
-        """The runs whose steps say where memory is refused, and where it isn't asked for."""
+        """The runs that say at which steps memory is refused, and at which it isn't asked for."""
         for run in MEMORY_RUNS:
             starved = {at: check.lines for at, check in enumerate(run.checks) if isinstance(check, Starved)}
             seen = set()
@@ -181,7 +181,7 @@ class Tests:
         expect(answers, {NO_FILE, NO_MONITOR}, "what is said of a monitor that isn't made")
 
     def test_10000_pieces_without_sense(self):
-        """A line that is no answer is the loss of its link, and is told once."""
+        """A line that is no answer loses the link, and gives one notice."""
         chance = random.Random(13)
         steps, wanted = [("monitor new", PRIMARY), ("monitor linked", 0)], [b"ok", b"ok Watching true:13"]
         is_told = False
@@ -226,8 +226,8 @@ class Tests:
         ensure(not missing, f"never refused: {', '.join(sorted(missing))}")
 
     def losses(self, loop):
-        """What a scene has to print where memory is refused for one of its pieces: what it prints where the link is lost in
-        its place, but that the piece came and the loop closes the link."""
+        """Returns what a scene has to print if memory is refused for one of its pieces: what it prints if the link is lost
+        instead, except that the piece came and that the loop closes the link."""
         found = []
         for at, event in enumerate(loop.events):
             piece = BYTES.fullmatch("> " + event)

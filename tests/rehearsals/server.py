@@ -29,11 +29,11 @@ from tests.support.schedules import UPSES, USERS, ScheduleMaker, shifted
 from tests.support.stage import Stage
 from tests.support.table_rows import TABLES
 
-# how much more memory a schedule may take that is played ten times over: far less than a record of it
+# how much more memory a schedule may take if it is played ten times over: far less than a record of it
 GROWTH_MAX_KIB = 256
 # how many steps make a server
 HEAD = 4
-# a row of more steps repeats one request until a queue is full
+# a row with more steps than this repeats a request until a queue is full
 LONG_ROW = 200
 ERRORS = """ACCESS-DENIED UNKNOWN-UPS VAR-NOT-SUPPORTED CMD-NOT-SUPPORTED INVALID-ARGUMENT INSTCMD-FAILED SET-FAILED READONLY
     TOO-LONG INVALID-VALUE FEATURE-NOT-CONFIGURED DRIVER-NOT-CONNECTED DATA-STALE ALREADY-LOGGED-IN ALREADY-SET-PASSWORD
@@ -42,19 +42,19 @@ REFUSALS = "NoSuchConnection NotConnected PieceTooLong Busy TooMuchTaken BadAddr
 
 
 def places(piece):
-    """Where a piece can be cut within its lines."""
+    """Returns the places at which a piece can be cut within its lines."""
     return [at for at in range(1, len(piece)) if piece[at - 1 : at] != b"\n"]
 
 
 def halves(step, place):
-    """A piece in two parts; what a client is answered to the first is taken."""
+    """Returns a piece in two parts; the replies to the first part are taken before the second."""
     verb, peer, piece = step
     took = [("take", peer)] if verb == "bytes" else []
     return [(verb, peer, piece[:place]), *took, (verb, peer, piece[place:])]
 
 
 class Schedule:
-    """A schedule in its file, behind the steps that make the server, and what the program is to print of it."""
+    """A schedule in its file, behind the steps that make the server, and what the program has to print for it."""
 
     def __init__(self, path, config, steps):
         self.path = path
@@ -83,8 +83,8 @@ class Schedule:
 
 
 def answered(name, config, steps, out):
-    """Compares a run in which the server answered one refusal of memory with a model to which it is told: so nothing
-    differs but what it says of one connection or driver. It gives the answer, if there is one."""
+    """Compares a run in which the server reported one refusal of memory with a model that is told of it: only what it says
+    of one connection or driver may differ. Returns the answer that reported it, if there is one."""
     player = Player(config)
     told = None
     found = out.splitlines(keepends=True)
@@ -102,8 +102,8 @@ def answered(name, config, steps, out):
 
 
 def greatest_memory(process):
-    """The greatest memory, in KiB, of a process that has read all of its input, which is still open. (What the system
-    says of it once it has ended would count the memory of this test too, from which it was forked.)"""
+    """Returns the greatest memory, in KiB, of a process that has read all of its input, which is still open. (After its end
+    the system would count the memory of this test, too, from which it was forked.)"""
     while process.poll() is None:
         unread = array.array("i", [0])
         fcntl.ioctl(process.stdin, termios.FIONREAD, unread)
@@ -123,7 +123,8 @@ class Tests:
         self.shim = self.stage.shim
 
     def run(self, path, env=None):
-        """Plays a schedule: the status, what is printed, what is said of a failure, and the greatest memory in KiB."""
+        """Plays a schedule. Returns the status, what is printed, what is written about a failure, and the greatest memory in
+        KiB."""
         out_path, err_path = (os.path.join(self.folder, it) for it in ("out", "err"))
         with open(path, "rb") as schedule, open(out_path, "wb") as out, open(err_path, "wb") as err:
             streams = {"stdin": subprocess.PIPE, "stdout": out, "stderr": err}
@@ -141,8 +142,8 @@ class Tests:
             return status, out.read(), err.read(), memory
 
     def refuse_in_turn(self, name, config, steps):
-        """Plays a schedule with the first allocation refused, then with the second, and so on. It gives the refusals
-        that were answered, and counts the runs that ended before their schedule."""
+        """Plays a schedule with the first allocation refused, then with the second, and so on. Returns the refusals that
+        were reported, and counts the runs that ended before their schedule."""
         path = os.path.join(self.folder, "schedule")
         steps = [*conf_steps(config), *steps]
         with open(path, "wb") as file:
@@ -163,7 +164,7 @@ class Tests:
             expect(out, due[: len(out)], f"{name}, allocation {at}, up to the refusal")
 
     def rehearse(self, config, steps):
-        """Plays a schedule, and compares it with the model. It gives the schedule, and the memory taken."""
+        """Plays a schedule, and compares it with the model. Returns the schedule and the memory taken."""
         schedule = Schedule(os.path.join(self.folder, "schedule"), config, steps)
         status, out, err, memory = self.run(schedule.path)
         if (status, err) != (0, b""):
@@ -172,13 +173,13 @@ class Tests:
         return schedule, memory
 
     def play_row(self, row):
-        """Plays a worked row, and compares what is printed with the model, and both with the row's answers."""
+        """Plays a worked row. Compares what is printed with the model, and both with the row's answers."""
         schedule, _ = self.rehearse(row.config, row.steps)
         for step, printed, due in zip(row.steps, schedule.due[HEAD:], row.due):
             if due is not None:
                 expect(printed, escaped(due) + b"\n", f"{row.name}: {step}")
 
-    # Each method from here on whose name begins with 'test_' is a test.
+    # From here on, each method whose name begins with 'test_' is a test.
 
     def test_256_connections_and_100000_arrivals(self):
         begun = time.monotonic()
@@ -264,7 +265,7 @@ class Tests:
             self.play_row(row)
 
     def test_worked_rows_cut_at_each_place(self):
-        """Wherever a line is cut, what comes of it and of all that follows is the same. What the first part is answered is
+        """Wherever a line is cut, the answers to it and to all that follows are the same. The answers to the first part are
         taken before the second comes. Rows that fill a queue have no lines of their own."""
         cuts = 0
         for row in ROWS:
@@ -287,7 +288,7 @@ class Tests:
         print(f"   {cuts} cuts")
 
     def compare_cut(self, row, due, at, found, is_client):
-        """Compares a row whose step at this place came in two parts with the row as it is."""
+        """Compares a row whose step at this place came in two parts with the whole row."""
         what = f"{row.name}: {row.steps[at]}, cut"
         expect(found[0 : at], [line.rstrip(b"\n") for line in due[:at]], what)
         ensure(found[at].startswith(b"ok "), f"{what}: {found[at]!r}")

@@ -36,7 +36,7 @@ LINES = [
     (THIRTY_TWO, [b"a"] * 32),
 ]
 
-# lines that spell none, and the fault
+# lines that spell no words, and the fault
 FAULTS = [
     (b"a\x01", "BadByte"),
     (b"a\x80", "BadByte"),
@@ -58,7 +58,7 @@ FAULTS = [
     (b'\x80 a"b', "BadByte"),
 ]
 
-# lines of 512 and of 513 bytes, empty lines, a line, and one that is unfinished; and what comes of them
+# lines of 512 and of 513 bytes, empty lines, a line, and an unfinished line; and how they are read
 STREAM = b"a" * 512 + b"\n" + b"b" * 513 + b"\n\nVER\n\nGE"
 STREAM_LINES = [b"a" * 512, None, b"", b"VER", b""]
 
@@ -68,7 +68,7 @@ def shown_words(words):
 
 
 def shown_lines(lines):
-    """Lines as they are printed, of which None is one that is too long."""
+    """Returns lines as they are printed; None is a line that is too long."""
     return b"".join(b"[%b]" % (b"!" if line is None else escaped(line)) for line in lines)
 
 
@@ -95,7 +95,7 @@ class Tests:
             expect(it.decode(), fault, f"the fault of {line!r}")
 
     def fed(self, pieces):
-        """The lines that pieces of a new stream complete, and how much is kept then."""
+        """Returns the lines that pieces of a new stream complete, and how much is kept then."""
         found = self.stage.play([("words new",), *map(feed, pieces)])[1:]
         return b"".join(it.partition(b" kept=")[0] for it in found), found[-1].partition(b" kept=")[2]
 
@@ -111,8 +111,8 @@ class Tests:
         expect(self.stage.play([("words new",), *map(feed, pieces)])[1:], wanted, "what is kept")
 
     def test_what_takes_no_memory(self):
-        """Where a line has no backslash, all its words are lent from it; a stream takes no memory at all. So these steps
-        take none beyond what the script itself takes, of which the longest line comes first."""
+        """If a line has no backslash, all its words are lent from it; a stream allocates nothing at all. So these steps
+        allocate only what the script itself does, of which the longest line comes first."""
         head = [feed(STREAM[:600]), ("words new",)]
         plain = [split(line) for line, _ in LINES + FAULTS if b"\\" not in line]
         pieces = [feed(STREAM[at : at + 500]) for at in range(0, len(STREAM), 500)]

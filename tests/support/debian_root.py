@@ -1,4 +1,5 @@
-"""A fresh Debian 12 in a folder, for tests of packages: made by debootstrap, entered by chroot, or started by systemd-nspawn."""
+"""A fresh Debian 12 in a folder, for tests of packages: made by debootstrap, entered by chroot, or started by
+systemd-nspawn."""
 
 import os
 import shutil
@@ -12,7 +13,8 @@ SUITE = "bookworm"
 
 
 def run(words, **options):
-    """A command's status and all that it printed. It is run at the root, so that no folder of the outside is in its way."""
+    """Runs a command. Returns its status and all that it printed. It runs in the folder `/`, so that no folder outside
+    matters."""
     options.setdefault("cwd", "/")
     options.setdefault("timeout", 600)
     done = subprocess.run(words, stdin=subprocess.DEVNULL, stdout=subprocess.PIPE, stderr=subprocess.STDOUT, text=True, errors="replace", **options)
@@ -20,7 +22,7 @@ def run(words, **options):
 
 
 def fresh_root(folder, saved=None):
-    """A root with systemd in this folder, or a copy of one that was saved."""
+    """Makes a root with systemd in this folder, or copies a saved one."""
     if os.geteuid() != 0:
         raise Missing("a root of its own can be made by root alone")
     if saved is not None:
@@ -37,11 +39,11 @@ def fresh_root(folder, saved=None):
 
 
 class Root:
-    """A Debian in a folder, whose services don't run."""
+    """A Debian in a folder whose services don't run."""
 
     def __init__(self, folder):
         self.folder = folder
-        # a shell of the outside may name folders that aren't here
+        # a shell outside may name folders that don't exist here
         self.env = {"PATH": "/usr/sbin:/usr/bin:/sbin:/bin", "DEBIAN_FRONTEND": "noninteractive", "LC_ALL": "C.UTF-8"}
 
     def path(self, name):
@@ -60,17 +62,17 @@ class Root:
         return ["chroot", self.folder, "sh", "-c", f"cd /root\n{command}"]
 
     def run(self, command):
-        """A shell command's status and all that it printed."""
+        """Runs a shell command. Returns its status and all that it printed."""
         return run(self.words(command), env=self.env)
 
     def do(self, command):
-        """The same for one that has to end with status 0: what it printed."""
+        """Runs a shell command that has to end with status 0. Returns what it printed."""
         status, said = self.run(command)
         ensure(status == 0, f"'{command}' ends with status {status}: {said[-3000:]}")
         return said
 
     def journal(self):
-        """What the services said last."""
+        """Returns the last messages of the services."""
         return ""
 
     def wait_for(self, command, said, seconds=30):
@@ -103,7 +105,7 @@ class Booted(Root):
             raise
 
     def find_init(self):
-        """The process that is the first one there."""
+        """Returns the process that is its first."""
         end = time.monotonic() + 30
         while time.monotonic() < end:
             if self.process.poll() is not None:
@@ -142,7 +144,7 @@ class Booted(Root):
             try:
                 self.process.wait(30)
             except subprocess.TimeoutExpired:
-                # the end of its first process is the end of all of them
+                # the end of its first process ends all of them
                 os.kill(int(self.init), signal.SIGKILL)
         if self.process.poll() is None:
             self.process.kill()

@@ -1,4 +1,4 @@
-"""Worked scenes of a dummy driver: a script, what the driver is told, what it tells then, and which values change."""
+"""Worked scenes of a dummy driver: a script, the calls of the driver, what it tells after each, and which values change."""
 
 # what is told of a writable variable behind its value
 LIMITS = {
@@ -13,12 +13,12 @@ COMMANDS = """beeper.disable beeper.enable load.off load.on test.battery.start t
 
 
 def told(**values):
-    """The lines that tell these values, names ascending; '_' stands for '.'."""
+    """Returns the lines that tell these values, ascending by name; '_' means '.'."""
     return "".join(f'SETINFO {name.replace("_", ".")} "{value}"\n' for name, value in sorted(values.items()))
 
 
 def told_whole(table):
-    """The lines of variables with all that there is to tell of them."""
+    """Returns the lines of variables with all that is to be told of them."""
     lines = []
     for name, value in sorted(table.items()):
         lines += [f'SETINFO {name} "{value}"', *LIMITS.get(name, [])]
@@ -52,8 +52,8 @@ def says(piece, tells="", **changes):
 
 
 class Scene:
-    """A script, by its kind, the table that it begins with, and the steps. Where a line comes in two pieces, a piece that
-    was refused can't be said once more."""
+    """A script with its kind, the table that it begins with, and the steps. If a line comes in two pieces, a piece that was
+    refused can't be repeated."""
 
     def __init__(self, title, kind, script, table, steps, has_whole_lines=True):
         self.title = title
@@ -173,7 +173,7 @@ SCENES = [
     ),
 ]
 
-# scripts, and what is said of each
+# scripts, and the result of reading each
 SCRIPTS = [
     ("dev", b"", "ok"),
     ("dev", b" \t\r\n# \xff\nups.status: OL\n", "ok"),
@@ -196,7 +196,7 @@ SCRIPTS = [
     ("seq", b"TIMER 5 5", "1: BadLine"),
 ]
 
-# a driver beside a server: what a client asks and is answered, and the moments that come
+# a driver beside a server: what a client asks and the replies, and the moments that come
 ROOM_UPS = b'[su700]\ndriver = dummy-ups\nport = su700.seq\ndesc = "Server room"\n'
 ROOM_USERS = b"[admin]\npassword = pw\nactions = SET\ninstcmds = ALL\n"
 ROOM_SCRIPT = (

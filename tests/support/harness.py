@@ -1,5 +1,5 @@
-"""What the tests of built programs share: how a check fails, how calls of a program are made to fail, how tests are run
-and counted, and what a program takes of the processor, which the benches ask too."""
+"""What the tests of built programs share: how a check fails, how calls of a program are made to fail, how tests are run and
+counted, and how much processor time a program takes, which the benches use, too."""
 
 import collections
 import functools
@@ -15,22 +15,22 @@ ROOT = os.path.dirname(os.path.dirname(HERE))
 
 
 def processor_time(pid):
-    """How many seconds of processor time a process has used."""
+    """Returns how many seconds of processor time a process has used."""
     with open(f"/proc/{pid}/stat") as file:
         fields = file.read().rsplit(")", 1)[1].split()
     return (int(fields[11]) + int(fields[12])) / os.sysconf("SC_CLK_TCK")
 
 
 class Failed(Exception):
-    """A program does something else than it has to."""
+    """A program doesn't do what it has to."""
 
 
 class Missing(Exception):
-    """What a test needs isn't installed here."""
+    """Something that a test needs isn't installed here."""
 
 
 def needed(name, package, folders=()):
-    """The path of a program of one of Debian's packages, which is looked for in these folders first."""
+    """Returns the path of a program of one of Debian's packages, which is looked for in these folders first."""
     path = shutil.which(name, path=os.pathsep.join([*folders, os.environ.get("PATH", os.defpath)]))
     if path is None:
         raise Missing(f"{name} isn't installed (Debian's package {package})")
@@ -48,7 +48,7 @@ def ensure(holds, what):
 
 
 def build_library(name, folder):
-    """Builds a library that is preloaded into programs, out of its file in C here, and gives its path."""
+    """Builds a library that is preloaded into programs from its C file here. Returns its path."""
     library = os.path.join(folder, f"{name}.so")
     compiler = shutil.which("cc") or shutil.which("clang")
     if compiler is None:
@@ -59,12 +59,12 @@ def build_library(name, folder):
 
 
 def build_shim(folder):
-    """Builds the library that makes a program's calls fail, and gives its path."""
+    """Builds the library that makes a program's calls fail. Returns its path."""
     return build_library("refuse", folder)
 
 
 def was_reached(count, at):
-    """Whether a run, which left the number of its calls in this file, came to the call with this number."""
+    """Whether a run, which wrote the number of its calls into this file, reached the call with this number."""
     if not os.path.exists(count):
         return False
     with open(count) as file:
@@ -72,8 +72,8 @@ def was_reached(count, at):
 
 
 def refusing(shim, kind, at):
-    """The environment of a run in which a call fails, by its kind and its number from 1 on, and a function that says after
-    that run whether the run came to it."""
+    """Returns the environment of a run in which a call fails, given by its kind and its number from 1 on, and a function
+    that says after that run whether the run reached it."""
     count = shim + ".count"
     if os.path.exists(count):
         os.remove(count)
@@ -82,13 +82,13 @@ def refusing(shim, kind, at):
 
 
 def refusals(shim, kind="allocation"):
-    """The number of each call of a kind in turn, with what `refusing` gives of it."""
+    """Yields the number of each call of a kind in turn, with what `refusing` returns for it."""
     for at in itertools.count(1):
         yield at, *refusing(shim, kind, at)
 
 
 def run_test(tests, name):
-    """Runs one test, and gives what became of it, with a line that says so."""
+    """Runs one test. Returns its result, with a line that reports it."""
     shown = name[5:].replace("_", " ")
     try:
         getattr(tests, name)()
@@ -100,9 +100,9 @@ def run_test(tests, name):
 
 
 def run_tests(tests, names=(), install="", at_once=1):
-    """Runs each test_.. method, or those with one of these names in theirs, so many at once, and prints a line for each, and
-    last 'N passed, M failed'. It gives the exit status."""
-    # the files that tests make hold passwords, and a program warns where everybody can read such a file
+    """Runs each test_.. method, or those with one of these names in theirs, `at_once` of them in parallel. Prints a line for
+    each, and at the end 'N passed, M failed'. Returns the exit status."""
+    # the files that tests make hold passwords, and a program warns if everybody can read such a file
     os.umask(0o077)
     chosen = [it for it in dir(tests) if it.startswith("test_") and (not names or any(name in it for name in names))]
     counts = collections.Counter()

@@ -1,5 +1,5 @@
-"""Worked rows of a link: a query as it is typed, the lines that its server sends, the answer that is taken out then, and
-the fault, if a line fails the link. Words of an answer have a `|` behind them, and rows of a list a `;`."""
+"""Worked rows of a link: a query as it is typed, the lines that its server sends, the answer that is taken out then, and the
+fault, if a line fails the link. Words of an answer are followed by `|`, and rows of a list by `;`."""
 
 ROWS = [
     (b"GET VAR su700 ups.status", b'VAR su700 ups.status "OL"\n', "said OL|", None),

@@ -59,7 +59,7 @@ def fits(pattern, text):
 
 
 def words_of(line):
-    """The words that a line spells, or None where it spells none (an empty list is a line without words)."""
+    """Returns the words that a line spells, or None if it spells none (an empty list is a line without words)."""
     words = []
     at, before = 0, "blank"
     while at < len(line):
@@ -115,7 +115,7 @@ class User:
 
 
 class Config:
-    """What the configuration files say: (name, description) of each UPS, users by name, and two numbers."""
+    """The contents of the configuration files: (name, description) of each UPS, users by name, and two numbers."""
 
     def __init__(self, upses, users, max_age=15, max_conn=256):
         self.upses = upses
@@ -140,7 +140,7 @@ class Variable:
         return "STRING" if "STRING" in self.flags else "NUMBER"
 
     def refuse(self, value):
-        """Raises what a SET to this value is refused with, if it is."""
+        """Raises the refusal of a SET to this value, if it is refused."""
         if "RW" not in self.flags:
             raise error("READONLY")
         if len(value) > VALUE_MAX:
@@ -165,7 +165,7 @@ class Ups:
         self.forget()
 
     def forget(self):
-        """What a driver told is gone, and what waits for it."""
+        """Forgets what a driver told, and what waits for it."""
         self.variables = {}
         self.commands = set()
         self.is_dumped = False
@@ -176,7 +176,7 @@ class Ups:
         self.asks = b""
 
     def hear(self, line):
-        """Applies a line of the driver, and says whether it counts as a word of it."""
+        """Applies a line of the driver. Returns whether it counts as a word of it."""
         words = words_of(line) if len(line) <= LINE_MAX else None
         if not words:
             return False
@@ -188,7 +188,7 @@ class Ups:
         return True
 
     def size(self):
-        """How many entries its table has."""
+        """Returns how many entries its table has."""
         lists = sum(len(it.enums) + len(it.ranges) for it in self.variables.values())
         return len(self.variables) + len(self.commands) + lists
 
@@ -260,14 +260,14 @@ class Ups:
         pass
 
     def ask(self, line):
-        """Puts a request in the driver's queue, and says whether it fitted."""
+        """Puts a request in the driver's queue. Returns whether it fitted."""
         if len(self.asks) + len(line) > ASKS_MAX:
             return False
         self.asks += line
         return True
 
 
-# how many words behind the first a line of a driver has, and what it does
+# how many words follow the first in a line of a driver, and what the line does
 DRIVER_LINES = {
     b"SETINFO": (lambda n: n == 2, Ups.set_info),
     b"DELINFO": (lambda n: n == 1, Ups.del_info),
@@ -298,8 +298,8 @@ class Connection:
 
 
 def cut(rest, piece):
-    """The lines that a piece completes, and the unfinished line. An endless line is kept just long enough to be seen
-    as too long."""
+    """Returns the lines that a piece completes, and the unfinished line. An endless line is kept just long enough to show
+    that it is too long."""
     *lines, rest = (rest + piece).split(b"\n")
     return lines, rest[: LINE_MAX + 1]
 
@@ -312,7 +312,7 @@ class Server:
         self.connections = {}
         self.upses = [Ups(name, description) for name, description in config.upses]
 
-    # What a server is told. Each call gives the name of the refusal, or None.
+    # The server's arrivals. Each call returns the name of the refusal, or None.
 
     def moment(self, at):
         self.now = max(self.now, at)
@@ -334,7 +334,7 @@ class Server:
         self.connections[self.opened] = Connection(address)
 
     def bytes(self, number, piece, lost=None):
-        """With `lost`, a growth is refused behind so many lines of the piece."""
+        """With `lost`, an allocation is refused behind this many lines of the piece."""
         connection = self.connections.get(number)
         if connection is None:
             return "NoSuchConnection"
@@ -349,7 +349,7 @@ class Server:
             del self.connections[number]
 
     def may_lack(self, number, piece):
-        """The lines of an accepted piece, as their numbers from 0, at which memory may be lacking."""
+        """Returns the lines of an accepted piece, as their numbers from 0, at which memory may be lacking."""
         connection = self.connections[number]
         gone = connection.is_logged_out
         found = set()
@@ -361,7 +361,7 @@ class Server:
         return found
 
     def driver_may_lack(self, number, piece):
-        """The same of an accepted piece of a driver."""
+        """Returns the lines of an accepted piece of a driver, as their numbers from 0, at which memory may be lacking."""
         ups = copy.deepcopy(self.upses[number])
         found = set()
         for at, line in enumerate(cut(ups.rest, piece)[0]):
@@ -424,7 +424,7 @@ class Server:
         ups.forget()
         ups.is_connected = False
 
-    # What it says of itself.
+    # The server's state, as it reports it.
 
     def waits(self, number):
         return self.connections[number].waits if number in self.connections else b""
@@ -444,7 +444,7 @@ class Server:
         kept = len(self.connections[number].rest) if number in self.connections else 0
         return kept if kept <= LINE_MAX else 0
 
-    # How a line is answered.
+    # The answers to lines.
 
     def answer(self, connection, line):
         if connection.is_logged_out:
@@ -496,7 +496,7 @@ class Server:
         return ups.variables[name]
 
     def permitted(self, connection, name, right, command=None):
-        """The UPS of this name, once the client may do this to it."""
+        """Returns the UPS of this name, if the client may do this to it."""
         if connection.user is None:
             raise error("USERNAME-REQUIRED")
         if connection.password is None:
@@ -514,7 +514,7 @@ class Server:
     def logins(self, ups):
         return [it for _, it in sorted(self.connections.items()) if it.login is ups]
 
-    # One method a form.
+    # A method for each form.
 
     def get_numlogins(self, _, u):
         return b"NUMLOGINS %s %d\n" % (u, len(self.logins(self.live(u))))
@@ -642,7 +642,7 @@ class Server:
         raise error("FEATURE-NOT-CONFIGURED")
 
 
-# how many words follow the words of a form, and what answers it
+# how many words follow the words of a form, and the method that answers it
 FORMS = {
     b"GET NUMLOGINS": (1, Server.get_numlogins),
     b"GET UPSDESC": (1, Server.get_upsdesc),

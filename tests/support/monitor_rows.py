@@ -1,4 +1,4 @@
-"""Worked runs of a monitor: what it is told, and what it has to ask, tell and decide, after upsmon(8)."""
+"""Worked runs of a monitor: its events, and what it has to ask, tell and decide, after upsmon(8)."""
 
 import re
 
@@ -6,7 +6,7 @@ from tests.support.player import escaped
 
 
 class Check:
-    """A step, and what is to be printed of it: a line, or the words with which a line begins."""
+    """A step, and what it has to print: a line, or the words with which a line begins."""
 
     def __init__(self, step, line=None, front=None):
         self.step = step
@@ -18,7 +18,7 @@ class Check:
 
 
 class Starved(Check):
-    """A step at which memory is refused behind so many lines of its piece, or None where it takes none."""
+    """A step at which memory is refused behind this many lines of its piece, or None if it allocates nothing."""
 
     def __init__(self, lines, step):
         super().__init__(step, front=b"ok ")
@@ -26,7 +26,7 @@ class Starved(Check):
 
 
 class Linked(Check):
-    """Whether a link is there; one that no MONITOR line has isn't."""
+    """Whether a link is up; one that no MONITOR line has isn't."""
 
     def __init__(self, i, is_there):
         super().__init__(("monitor show",))
@@ -38,16 +38,16 @@ class Linked(Check):
         return (self.link < len(links) and links[self.link] == b"true") == self.is_there
 
 
-# Each of these gives the checks of a run's step, for the run's file.
+# Each of these returns the checks of a run's step, for the run's file.
 
 
 def tell(verb, *words):
-    """This is accepted."""
+    """The event is accepted."""
     return lambda file: [Check((f"monitor {verb}", *words), front=b"ok ")]
 
 
 def refuse(fault, verb, *words):
-    """This is refused, and changes nothing."""
+    """The event is refused, and changes nothing."""
     show = Check(("monitor show",), front=b"ok ")
     return lambda file: [Check((f"monitor {verb}", *words), front=fault.encode() + b" "), show]
 
@@ -57,22 +57,22 @@ def starved(lines, verb, *words):
 
 
 def waits(i, bytes):
-    """This waits on a link."""
+    """These bytes wait on a link."""
     return lambda file: [Check(("monitor waits", i), escaped(bytes))]
 
 
 def links(i, is_there):
-    """Whether a link is there."""
+    """Whether a link is up."""
     return lambda file: [Linked(i, is_there)]
 
 
 def phase(wanted):
-    """The shutdown is so far."""
+    """The shutdown has come this far."""
     return lambda file: [Check(("monitor show",), front=b"ok " + wanted.encode() + b" ")]
 
 
 def tells(*notices):
-    """These notices are given, and no more."""
+    """Exactly these notices are given."""
 
     def line(kind, i, text):
         return f"{kind} {'-' if i is None else i} ".encode() + text
@@ -81,7 +81,7 @@ def tells(*notices):
 
 
 def ask(i, query, answer):
-    """On this link this query waits; its server takes it, and answers so."""
+    """This query waits on this link; its server takes it, and answers with this line."""
     took = Check(("monitor took", i, len(query)), front=b"ok ")
     return lambda file: [*waits(i, query)(file), took, Check(("monitor bytes", i, answer), front=b"ok ")]
 
@@ -104,18 +104,18 @@ def opens(i):
 
 
 def status(i, value):
-    """On this link the status is asked, and answered by this value."""
+    """The status is asked for on this link, and answered with this value."""
     query = b"GET VAR %b ups.status\n" % name_of(i)
     return ask(i, query, b'VAR %b ups.status "%b"\n' % (name_of(i), value))
 
 
 class Run:
-    """A monitor that is made with this file does these steps."""
+    """A monitor with this file takes these steps."""
 
     def __init__(self, name, file, steps):
         self.name = name
         self.file = file
-        # where memory is refused for it, the monitor is made once more
+        # if memory is refused for it, the monitor is made once more
         self.checks = [Check(("monitor new", file), b"ok"), Check(("? monitor new", file), b"")]
         self.checks += [check for step in steps for check in step(file)]
 
@@ -558,9 +558,9 @@ RUNS = [*REFUSAL_RUNS, *COMMUNICATION_RUNS, *STATUS_RUNS, *LINE_RUNS, *PRIMARY_R
 
 
 class Scene:
-    """What comes to a monitor that is made with this file, a line each that begins with '>', and what has to happen then; last how
-    far it leads, and what would come then but isn't asked for any more, by lines that begin with '-'. Behind the bytes of a link
-    and of its server stands a line feed."""
+    """The events of a monitor with this file, each a line that begins with '>', and what has to happen at them; then the
+    phase that it ends in, and the events that aren't asked for any more, by lines that begin with '-'. The bytes of a link
+    and of its server are followed by a line feed."""
 
     def __init__(self, title, file, text):
         self.title = title

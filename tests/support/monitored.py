@@ -22,28 +22,27 @@ LOST = "Communications with UPS %s lost"
 ESTABLISHED = "Communications with UPS %s established"
 UNAVAILABLE = "UPS %s is unavailable"
 SHUTDOWN = "Auto logout and shutdown proceeding"
-# so that each run is short: the status is asked for each second, and nothing is waited for
+# so that each run is short: the status is asked for each second, and no delay is waited for
 QUICK = "POLLFREQ 1\nHOSTSYNC 1\nFINALDELAY 0\n"
 USERS = b"[mon]\npassword = m1\nupsmon primary\n[guest]\npassword = g1\nupsmon secondary\n"
 
 
 def play(tests, install="", at_once=1):
-    """Runs tests of this class by the words of the command line, UPSD DUMMY_UPS UPSC UPSMON and then parts of the names of
-    those that are wanted, as `run_tests` does."""
+    """Runs tests of this class by the words of the command line: UPSD DUMMY_UPS UPSC UPSMON, and then parts of the names of
+    the wanted tests, as for `run_tests`."""
     programs, names = sys.argv[1:5], sys.argv[5:]
     with tempfile.TemporaryDirectory() as folder:
         return run_tests(tests([os.path.abspath(it) for it in programs], folder), names, install, at_once)
 
 
 def children_of(pid):
-    """The numbers of the processes that a process started and that weren't waited for."""
+    """Returns the numbers of the processes that a process started and that weren't waited for."""
     with open(f"/proc/{pid}/task/{pid}/children") as file:
         return [int(it) for it in file.read().split()]
 
 
 def state_of(pid):
-    """The letter that the system has for what a process does: T where it stands still, Z where it has ended. It is empty
-    where there is none."""
+    """Returns the system's letter for the state of a process: T if it is stopped, Z if it has ended; empty if there is none."""
     try:
         with open(f"/proc/{pid}/stat") as file:
             return file.read().rsplit(")", 1)[1].split()[0]
@@ -81,7 +80,7 @@ class Watch:
 
     @contextlib.contextmanager
     def stopped(self):
-        """It and all that it has started stand still."""
+        """Stops it and all that it has started, for a while."""
         self.signal(signal.SIGSTOP)
         until(lambda: state_of(self.process.pid) == "T", "upsmon stands still")
         try:
@@ -96,7 +95,7 @@ class Watch:
         return open(self.path(name), "wb")
 
     def read(self, name):
-        """What a file of the folder holds, or None where it isn't there."""
+        """Returns the contents of a file of the folder, or None if there is none."""
         try:
             with open(self.path(name), "rb") as file:
                 return file.read()
@@ -111,7 +110,7 @@ class Watch:
         expect(line in self.lines(), True, f"upsmon prints {line!r} before it ends")
 
     def status(self, within=SOON):
-        """Its exit status, once it ended."""
+        """Returns its exit status, once it has ended."""
         try:
             return self.process.wait(within)
         except subprocess.TimeoutExpired:
@@ -124,7 +123,8 @@ class Watch:
 
 
 class Upstream:
-    """A server that the test plays, on a thread for each connection. It answers each line by `answer`, and keeps the lines."""
+    """A server that the test plays, with a thread for each connection. It answers each line with `answer`, and keeps the
+    lines."""
 
     def __init__(self, port=0, status=b"OL"):
         self.listener = socket.create_server(("127.0.0.1", port))
@@ -171,7 +171,7 @@ class Upstream:
             pass
 
     def greet(self, end):
-        """What it says before it is asked."""
+        """Does what comes before any query: nothing here, but a subclass may send or close."""
 
     def send(self, end, data):
         end.sendall(data)
@@ -207,14 +207,14 @@ class Rubbish(Upstream):
 
 
 class Nonsense(Upstream):
-    """It answers the query for a status with what is no answer."""
+    """It answers the query for a status with a line that is no answer."""
 
     def answer(self, line):
         return b"HTTP/1.0 400 Bad Request\n" if line.startswith(b"GET VAR") else super().answer(line)
 
 
 class Urgent(Upstream):
-    """It parts each line by urgent data. Its monitor stands still meanwhile, so that all of the line is there at once."""
+    """It splits each line by urgent data. Its monitor is stopped meanwhile, so that all of the line arrives at once."""
 
     watch = None
 

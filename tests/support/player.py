@@ -1,5 +1,5 @@
-"""Schedules of arrivals: their lines, as the program `rehearse` reads them, and what it is to print of each, as the plain
-model of model.py says."""
+"""Schedules of arrivals: their lines, as the program `rehearse` reads them, and what it has to print for each, by the plain
+model in model.py."""
 
 import re
 
@@ -11,24 +11,24 @@ def escaped(data):
 
 
 def line_of(step):
-    """A step as the program reads it."""
+    """Returns a step as the program reads it."""
     parts = (escaped(it) if isinstance(it, bytes) else str(it).encode() for it in step[1:])
     return b" ".join([step[0].encode(), *parts]) + b"\n"
 
 
 class Player:
-    """The model, and what the program is to print of each step."""
+    """The model, and what the program has to print for each step."""
 
     def __init__(self, config):
         self.model = model.Server(config)
 
     def play(self, step, lost=None):
-        """With `lost`, a growth is refused behind so many lines of the step's piece."""
+        """With `lost`, an allocation is refused behind this many lines of the step's piece."""
         verb, *words = step
         return (getattr(self, verb.replace("-", "_"))(*words, *([] if lost is None else [lost])) + "\n").encode("latin-1")
 
     def may_lack(self, step):
-        """The lines of a step's piece, as their numbers from 0, at which memory may be lacking."""
+        """Returns the lines of a step's piece, as their numbers from 0, at which memory may be lacking."""
         if step[0] == "bytes":
             return self.model.may_lack(*step[1:])
         if step[0] == "driver":
@@ -36,7 +36,7 @@ class Player:
         return set()
 
     def ups(self, text):
-        """The configuration that these steps set is the one with which the model was made."""
+        """Answers a step that sets a configuration. The model was made with the one that these steps set."""
         return "ok"
 
     def server(self):
@@ -108,7 +108,7 @@ class Player:
 
 
 def conf_steps(config):
-    """The steps that make a server by this configuration."""
+    """Returns the steps that make a server with this configuration."""
     ups, users = [], []
     for name, description in config.upses:
         ups.append(b"[%s]\ndesc = %s\n" % (name, model.quoted(description)))

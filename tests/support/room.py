@@ -15,12 +15,12 @@ VERSION = b"Network UPS Tools upsd profile 1.2\n"
 STATUS = b"GET VAR su700 ups.status\n"
 ONLINE = b'VAR su700 ups.status "OL"\n'
 NOT_CONNECTED = b"ERR DRIVER-NOT-CONNECTED\n"
-# how long a thing may take that is to come soon, in seconds: a driver is dialled once a second
+# how long a thing may take that should come soon, in seconds: upsd connects to a driver once a second
 SOON = 10.0
 
 
 def until(test, what, within=SOON):
-    """Asks again until the answer is true, and gives it."""
+    """Repeats a test until its result is true, and returns that."""
     end = time.monotonic() + within
     while True:
         found = test()
@@ -42,7 +42,7 @@ def has_ipv6():
 
 
 def connected(address):
-    """A socket that is connected there, or None where nobody listens, be its file there already or not."""
+    """Returns a socket that is connected to this address, or None if nobody listens, whether or not its file exists already."""
     family = socket.AF_UNIX if isinstance(address, str) else socket.AF_INET6 if ":" in address[0] else socket.AF_INET
     found = socket.socket(family, socket.SOCK_STREAM)
     found.settimeout(SOON)
@@ -78,19 +78,19 @@ class Client:
         return self.file.readline()
 
     def ask(self, data):
-        """The line that answers one request."""
+        """Returns the line that answers one request."""
         self.send(data)
         return self.line()
 
     def list(self, data):
-        """The lines of a list, or the one line of a refusal."""
+        """Returns the lines of a list, or the one line of a refusal."""
         lines = [self.ask(data)]
         while lines[0].startswith(b"BEGIN") and not lines[-1].startswith(b"END"):
             lines.append(self.line())
         return lines
 
     def is_closed(self):
-        """Whether the other end closes without a word."""
+        """Whether the other end closes without sending anything."""
         try:
             return self.socket.recv(1) == b""
         except ConnectionResetError:
@@ -102,9 +102,9 @@ class Client:
 
 
 class Room:
-    """A folder with a configuration, and the programs that run by it."""
+    """A folder with a configuration, and the programs that run with it."""
 
-    def __init__(self, programs, folder, conf=b"", ups=b'[su700]\ndesc = "Server room"\n'):
+    def __init__(self, programs, folder, conf=b"", ups=b'[su700]\ndesc = "Server room"\n', descriptions=None):
         self.upsd_program, self.dummy_program = programs
         self.folder = tempfile.mkdtemp(dir=folder)
         with socket.socket() as free:
@@ -113,9 +113,10 @@ class Room:
         self.host = "127.0.0.1"
         self.running = []
         listen = b"" if b"LISTEN" in conf else b"LISTEN 127.0.0.1 %d\n" % self.port
-        for name, text in (("ups.conf", ups), ("upsd.users", USERS), ("upsd.conf", listen + conf)):
-            with open(self.path(name), "wb") as file:
-                file.write(text)
+        for name, text in (("ups.conf", ups), ("upsd.users", USERS), ("upsd.conf", listen + conf), ("cmdvartab", descriptions)):
+            if text is not None:
+                with open(self.path(name), "wb") as file:
+                    file.write(text)
 
     def __enter__(self):
         return self
@@ -163,24 +164,24 @@ class Room:
         return Client((self.host, self.port))
 
     def ask(self, request):
-        """What a new client's one request is answered."""
+        """Returns the reply to a new client's only request."""
         with self.client() as client:
             return client.ask(request)
 
     def serves(self):
-        """Whether a new client is let in and answered."""
+        """Whether a new client is accepted and answered."""
         try:
             return self.ask(b"VER\n") == VERSION
         except ConnectionError:
             return False
 
     def until(self, request, wanted, within=SOON):
-        """Asks on one connection until this is the answer."""
+        """Repeats a request on one connection until this is the reply."""
         with self.client() as client:
             until(lambda: client.ask(request) == wanted, f"{request!r} gives {wanted!r}", within)
 
     def driver(self):
-        """A listener where upsd looks for the driver of su700."""
+        """Returns a listener at the place where upsd looks for the driver of su700."""
         listener = socket.socket(socket.AF_UNIX, socket.SOCK_STREAM)
         listener.settimeout(SOON)
         listener.bind(self.path("dummy-ups-su700"))

@@ -27,7 +27,7 @@ class Watched:
 
 
 class Rules:
-    """What an upsmon.conf sets, with the defaults."""
+    """The contents of an upsmon.conf, with the defaults."""
 
     def __init__(self, lines, min_supplies=1, poll_freq=5, dead_time=15, host_sync=15, final_delay=5, rb_warn_time=43200, no_comm_warn_time=300):
         self.lines = lines
@@ -40,7 +40,7 @@ class Rules:
         self.no_comm_warn_time = no_comm_warn_time
 
     def text(self):
-        """The file upsmon.conf that sets this."""
+        """Returns the upsmon.conf that sets this."""
         lines = [
             b"MONITOR %s %d %s %s %s" % (it.target, it.power, it.user, quoted(it.password), b"primary" if it.is_primary else b"secondary")
             for it in self.lines
@@ -51,7 +51,7 @@ class Rules:
 
 
 class Call:
-    """A link while it is there: what was asked on it, and what of that the server hasn't taken."""
+    """A link that is up: what was asked on it, and which of that the server hasn't taken."""
 
     def __init__(self):
         self.waits = b""
@@ -95,7 +95,7 @@ class Monitor:
         self.watches = [Watch(*it) for it in enumerate(rules.lines)]
         self.notices = []
 
-    # Events. Each says whether it was accepted.
+    # Events. Each method returns whether the event was accepted.
 
     def moment(self, at):
         self.now = max(self.now, at)
@@ -134,7 +134,7 @@ class Monitor:
                 break
         self.settle()
 
-    # What they do.
+    # What the events do.
 
     def tell(self, kind, watch=None):
         self.notices.append((kind, watch))
@@ -156,7 +156,7 @@ class Monitor:
         watch.communication = "bad"
 
     def hear(self, watch, line):
-        """Takes a line as the answer to the query that is outstanding, where it is one."""
+        """Takes a line as the answer to the outstanding query, if it is one."""
         call = watch.call
         words = words_of(line) if len(line) <= model.LINE_MAX else None
         if not words or call.is_idle or call.waits:
@@ -216,7 +216,7 @@ class Monitor:
         return watch.has(b"OB") and self.now - watch.polled > self.rules.dead_time
 
     def settle(self):
-        """The end of an event: the shutdown is judged, the phase moves, and queries are put."""
+        """Ends an event: the shutdown is judged, the phase moves, and queries are put."""
         if self.phase == WATCHING:
             supply = sum(it.line.power for it in self.watches if not self.is_critical(it))
             if supply < self.rules.min_supplies:
@@ -271,7 +271,7 @@ class Monitor:
 
 
 class Pipes:
-    """The two directions of a link, and the connection that it was given last."""
+    """The two directions of a link, and the number of its last connection."""
 
     def __init__(self):
         self.connection = 0
@@ -286,7 +286,7 @@ class Room:
         self.pipes = [[Pipes() for _ in it.lines] for it in rules]
 
     def play(self, step):
-        """Plays a step, and gives what it tells."""
+        """Plays a step. Returns what it tells."""
         before = [it.phase for it in self.monitors]
         verb, *rest = step
         told = [] if STEPS[verb](self, *rest) else [("skipped",)]
@@ -303,7 +303,7 @@ class Room:
     def is_linked(self, m, i):
         return self.monitors[m].watches[i].call is not None
 
-    # One method a step. Each says whether the step was played, and else skipped.
+    # A method for each step. It returns whether the step was played; if not, it is skipped.
 
     def server_clock(self, at):
         self.server.moment(at)
@@ -399,7 +399,7 @@ STEPS = {
 
 
 def shown(number, told):
-    """What `nutsim` prints of a step with this number."""
+    """Returns what `nutsim` prints for a step with this number."""
     verb, *rest = told
     if verb == "notice":
         m, kind, watch = rest
@@ -410,7 +410,7 @@ def shown(number, told):
 
 
 def rehearsed(number, told):
-    """What `rehearse` prints of it."""
+    """Returns what `rehearse` prints for a step with this number."""
     verb, *rest = told
     if verb == "notice":
         m, kind, watch = rest
@@ -429,5 +429,5 @@ def line_shown(number, verb, rest):
 
 
 def line_of(step):
-    """A step as `nutsim` reads it."""
+    """Returns a step as `nutsim` reads it."""
     return b" ".join([step[0].encode(), *(quoted(it) if isinstance(it, bytes) else b"%d" % it for it in step[1:])]) + b"\n"

@@ -19,8 +19,8 @@ OTHER_LINES = [b"PONG", b"DATASTALE", b"DATAOK", b"DUMPDONE", b"DELINFO ups.stat
 
 
 class RoomMaker:
-    """Makes a room and schedules for it. It plays each step on the model, to know what makes sense, and now and then does
-    what makes none."""
+    """Makes a room and schedules for it. It plays each step on the model, to know what makes sense, and sometimes makes a
+    step that makes none."""
 
     def __init__(self, seed):
         self.random = random.Random(seed)
@@ -50,7 +50,7 @@ class RoomMaker:
         return Watched(ups, self.pick("primary", "primary", "secondary"), self.pick(0, 1, 1, 2), user, password, b"host%d" % host)
 
     def schedule(self, least):
-        """A schedule of at least so many steps, and of each what it tells."""
+        """Returns a schedule of at least this many steps, and what each tells."""
         room = Room(self.config, self.rules)
         steps, due = [], []
         while len(steps) < least:
@@ -60,7 +60,7 @@ class RoomMaker:
         return steps, due
 
     def opening(self, room):
-        """Most drivers are connected at the start, and most links are made."""
+        """Returns the first steps: most drivers connect, and most links are made."""
         steps = [("server", 0)]
         for u in range(len(self.config.upses)):
             steps += self.connects(room, 0, 0, u) if self.random.random() < 0.9 else []
@@ -71,7 +71,7 @@ class RoomMaker:
         return steps
 
     def scene(self, room):
-        """The next steps: those that belong together, or a single one."""
+        """Returns the next steps: some that belong together, or a single one."""
         m = self.random.randrange(len(self.rules))
         i = self.random.randrange(len(self.rules[m].lines))
         u = self.random.randrange(len(self.config.upses))
@@ -92,12 +92,12 @@ class RoomMaker:
         return self.random.choices(makers, weights)[0](room, m, i, u)
 
     def rounds(self, room, m, i, u):
-        """Queries go to the server, and their answers come back."""
+        """Returns steps that move queries to the server, and their answers back."""
         count = self.pick(1, 1, 2, 3)
         return [(word, m, i, 512) for _ in range(count) for word in ("out", "reach", "back", "land")]
 
     def moves(self, room, m, i, u):
-        """Some bytes move one way, or each way."""
+        """Returns steps that move some bytes in one direction or in both."""
         words = self.pick(("out",), ("reach",), ("back",), ("land",), ("out", "reach", "back", "land"))
         return [(word, m, i, self.pick(0, 1, 7, 30, 512, 513, 999_999_999)) for word in words]
 

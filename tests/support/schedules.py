@@ -32,7 +32,7 @@ BAD_ADDRESSES = [b"", b"a" * 65, b"a b", b"a\x7f", b'a"', b"a\\b", b"a#", b"a=b"
 
 
 class ScheduleMaker:
-    """Makes a schedule. It looks at the model to know what makes sense, and now and then does what makes none."""
+    """Makes a schedule. It looks at the model to know what makes sense, and sometimes makes a step that makes none."""
 
     def __init__(self, seed, config, forced=0.0005):
         self.random = random.Random(seed)
@@ -40,7 +40,7 @@ class ScheduleMaker:
         self.player = Player(config)
         self.server = self.player.model
         self.forced = forced
-        # what connections and drivers are still to send
+        # what connections and drivers have still to send
         self.said = {}
         self.told = {}
         self.may_set = False
@@ -59,7 +59,7 @@ class ScheduleMaker:
         return bytes(it ^ 0x20 if chr(it).isalpha() and self.chance(0.5) else it for it in word)
 
     def spelled(self, word):
-        """A word, spelled in one of the ways that stand for it, or nearly so."""
+        """Returns a word in one of the spellings that mean it, or nearly so."""
         if any(not 0x20 <= it <= 0x7E for it in word):
             return model.quoted(word)
         plain = word and all(it not in b' "\\#=' for it in word)
@@ -70,7 +70,7 @@ class ScheduleMaker:
         return model.quoted(word) if self.chance(0.9) else b'"' + re.sub(rb'(["\\])', rb"\\\1", word) + b'"'
 
     def joined(self, words):
-        """A line of these words, now and then with more blanks, a comment, or a fault."""
+        """Returns a line of these words, sometimes with more blanks, a comment, or a fault."""
         line = b" ".join(words)
         if self.chance(0.85):
             return line
@@ -135,7 +135,7 @@ class ScheduleMaker:
         return self.joined([self.cased(it) if at < keywords else self.spelled(it) for at, it in enumerate(words)])
 
     def order(self):
-        """A SET or an INSTCMD that a driver would be asked, if the queue has room."""
+        """Returns a SET or an INSTCMD that a driver would be asked if the queue has room."""
         u, _ = self.pick(self.config.upses)
         ups = next(it for it in self.server.upses if it.name == u)
         named = [v for v, it in ups.variables.items() if "RW" in it.flags]
@@ -157,14 +157,14 @@ class ScheduleMaker:
         return self.pick(VARIABLES)
 
     def greeting(self):
-        """How most clients begin."""
+        """Returns the lines with which most clients begin."""
         name = self.pick(list(USERS))
         password = USERS[name].password or b"pw"
         lines = [b"USERNAME " + self.spelled(name), b"PASSWORD " + self.spelled(password if self.chance(0.9) else b"wrong")]
         return lines + ([b"LOGIN " + self.ups()] if self.chance(0.6) else [])
 
     def report(self):
-        """A line of a driver."""
+        """Returns a line of a driver."""
         forms = [
             lambda: (b"SETINFO", self.variable(), self.pick(VALUES)),
             lambda: (b"SETINFO", self.variable(), self.pick(VALUES)),
@@ -185,7 +185,7 @@ class ScheduleMaker:
         return self.joined([self.cased(words[0]), *(self.spelled(it) for it in words[1:])])
 
     def dump(self):
-        """What a driver tells first."""
+        """Returns what a driver tells first."""
         lines = [b'SETINFO ups.status "OL"', b"SETINFO ups.id x", b"SETFLAGS ups.id RW STRING", b"SETAUX ups.id 16"]
         lines += [b"SETINFO %s 50" % it for it in VARIABLES] + [b"SETFLAGS %s RW" % it for it in VARIABLES if self.chance(0.6)]
         lines += [b"ADDCMD " + it for it in COMMANDS]
@@ -196,7 +196,7 @@ class ScheduleMaker:
     # Steps
 
     def piece(self, waiting, line):
-        """The next bytes of a stream: cut anywhere, now and then many lines, now and then all that is there."""
+        """Returns the next bytes of a stream: cut anywhere, sometimes with many lines, sometimes all that is there."""
         while len(waiting) < 20:
             waiting += line() + b"\n"
         most = self.pick([3, 40, 40, 200, 512])
@@ -208,7 +208,7 @@ class ScheduleMaker:
         return piece
 
     def connection(self):
-        """A connection that is open, or now and then any number."""
+        """Returns a connection that is open, or sometimes any number."""
         if not self.server.connections or self.chance(0.003):
             return self.pick([0, 1, self.server.opened + 1, 2**64 - 1, self.random.randrange(self.server.opened + 2)])
         return self.pick(list(self.server.connections))
@@ -292,13 +292,13 @@ class ScheduleMaker:
             yield ("next-driver", self.random.randrange(len(self.config.upses) + 2))
         else:
             c = self.connection()
-            # a full house is emptied slowly
+            # while many connections are open, they are closed slowly
             if self.chance(0.5) or len(self.server.connections) == self.config.max_conn:
                 yield (self.pick(["close", "close", "fail"]), c)
                 self.said.pop(c, None)
 
     def steps(self, count):
-        """So many arrivals and takings. Each step is played on the model before the next is made."""
+        """Makes this many arrivals and takings. Each step is played on the model before the next is made."""
         for step in self.steps_unplayed(count):
             yield step
             self.player.play(step)
@@ -309,7 +309,7 @@ class ScheduleMaker:
             opened = len(self.server.connections)
             found = self.random.random()
             if opened < self.config.max_conn and made < 4 * self.config.max_conn:
-                # the house fills at the beginning
+                # many connections are opened at the beginning
                 found *= 2
             if found < 0.62:
                 made_now = self.client_steps()
@@ -325,7 +325,7 @@ class ScheduleMaker:
 
 
 def shifted(step, opened, now):
-    """A step as it is once more to be played behind so many opened connections and seconds."""
+    """Returns a step as it is played again after this many opened connections and seconds."""
     verb, *words = step
     if verb == "moment":
         return verb, words[0] + now

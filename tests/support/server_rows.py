@@ -1,4 +1,4 @@
-"""Worked rows: what a server is told, and what a client or a driver then takes. The answers are written by hand."""
+"""Worked rows: what a server is told, and what a client or a driver takes afterwards. The answers are written by hand."""
 
 from tests.support.model import Config, User
 
@@ -13,12 +13,12 @@ def told(*lines):
 
 
 def live(*lines):
-    """The driver is connected, tells its state, and these lines."""
+    """Returns the steps in which the driver connects and tells its state and these lines."""
     return [("up", 0), ("driver", 0, LIVE), *told(*lines)]
 
 
 def ask(c, *lines_and_replies):
-    """A client asks, line by line, and takes each reply."""
+    """Returns the steps in which a client asks, line by line, and takes each reply."""
     steps = []
     for line, reply in zip(lines_and_replies[::2], lines_and_replies[1::2]):
         steps += [("bytes", c, line + b"\n"), (("take", c), reply + b"\n")]
@@ -34,8 +34,8 @@ def listed(query, *rows):
 
 
 class Row:
-    """A row's steps, those that take with the bytes that are due, and the refusals of memory that there must be among
-    those of its allocations."""
+    """A row's steps, with the bytes that are due to those that take, and the refusals of memory that must occur among those
+    of its allocations."""
 
     def __init__(self, name, steps, wanted=(), config=ROOM):
         self.name = name
@@ -310,7 +310,7 @@ ROWS = [
         + [(("up", 1), b"NotConnected waits=0 connected=false"), (("open", b"c"), b"ok opened=3")],
         config=Config(UPS, USERS, max_conn=2),
     ),
-    # 8 bytes of DUMPALL, 239 times 17, and 10: to a setting of 16 bytes one is lacking, and one of 15 fits
+    # 8 bytes of DUMPALL, 239 times 17, and 10: for a setting of 16 bytes one is missing, and one of 15 fits
     Row(
         "4,096 bytes to the byte",
         live(*ID, b"ADDCMD k")
@@ -332,7 +332,7 @@ ROWS = [
     ),
 ]
 
-# what is asked behind each row, so that every client and driver is looked at, before and after the driver comes again
+# what is asked behind each row, so that every client and driver is looked at, before and after the driver connects again
 LOOK = []
 for number in range(1, 5):
     LOOK += [("took", number, 0), ("bytes", number, STATUS + b"\nLIST VAR su700\n" + CLIENTS + b"\n" + NUMLOGINS + b"\n")]

@@ -1,4 +1,4 @@
-"""The program `rehearse`, which plays scripts on the engines of this repository, and what it prints of them."""
+"""The program `rehearse`, which plays scripts on the engines of this repository, and what it prints."""
 
 import os
 import subprocess
@@ -6,7 +6,7 @@ import subprocess
 from tests.support.harness import build_shim, expect, refusals
 from tests.support.player import line_of
 
-# what ends a run in which memory was refused where no engine answers for it
+# how a run ends in which memory was refused while no engine reports it
 OUT_OF_MEMORY = b"rehearse: out of memory\n"
 
 
@@ -18,21 +18,22 @@ class Stage:
         self.shim = build_shim(folder)
 
     def run(self, steps, env=None):
-        """Plays steps, each a tuple of a verb and its words: the status, the output, and what is said of a failure."""
+        """Plays steps, each a tuple of a verb and its words. Returns the status, the output, and what is written about a
+        failure."""
         script = b"".join(map(line_of, steps))
         env = {**os.environ, **(env or {})}
         done = subprocess.run([self.program], input=script, env=env, capture_output=True, timeout=60)
         return done.returncode, done.stdout, done.stderr
 
     def play(self, steps):
-        """Plays steps with nothing refused, and gives the lines that are printed."""
+        """Plays steps with nothing refused. Returns the printed lines."""
         status, out, err = self.run(steps)
         expect((status, err), (0, b""), "a script's end")
         return out.splitlines()
 
     def refused_in_turn(self, steps):
-        """Plays steps with the first allocation refused, then with the second, and so on, up to one that isn't reached. It
-        gives the number of each with the lines of its run, and whether the run came to its end."""
+        """Plays steps with the first allocation refused, then with the second, and so on, up to one that isn't reached.
+        Yields the number of each with the lines of its run, and whether the run came to its end."""
         whole = self.run(steps)
         expect((whole[0], whole[2]), (0, b""), "a script's end")
         for at, env, is_reached in refusals(self.shim):
@@ -44,5 +45,5 @@ class Stage:
             yield at, out.splitlines(), status == 0
 
     def allocations(self, steps):
-        """How many allocations these steps take."""
+        """Returns how many allocations these steps make."""
         return sum(1 for _ in self.refused_in_turn(steps))

@@ -1,10 +1,10 @@
-"""Worked tables: what a driver tells, and what its server then lists of it. Both are written by hand."""
+"""Worked tables: what a driver tells, and what its server then lists. Both are written by hand."""
 
 LONG_NAME, LONG_TEXT = "a" * 64, "a" * 128
 
 
 def variable(name, value, kind="NUMBER", *, rw=False, enums=(), ranges=()):
-    """All that is listed of a variable: its value, its type, and what it takes."""
+    """Returns all that is listed of a variable: its value, its type, and which values it may have."""
     rows = [f'VAR {name} "{value}"', f"TYPE {name} {'RW ' if rw else ''}{kind}"]
     rows += [f'RW {name} "{value}"'] if rw else []
     rows += [f'ENUM {name} "{it}"' for it in enums]
@@ -20,7 +20,7 @@ def each(front, numbers, back=""):
 
 
 def numbered(numbers, **values):
-    """Variables v0, v1 and so on with the value x, or another that is named here."""
+    """Returns variables v0, v1 and so on with the value x, or another that is named here."""
     return [row for number in numbers for row in variable(f"v{number}", values.get(f"v{number}", "x"))]
 
 

@@ -1,26 +1,26 @@
 //! A driver without a device.
 #![tactic(auto)]
 
-use nut::LossyLines;
+use nut_poll::LossyLines;
 use std::io::Stderr;
 use std::process::ExitCode;
 use std::{env, io};
 
 fn main(rt: HostRuntime) -> ExitCode {
     let status = match start(&rt) {
-        Ok((words, mut err)) => nut::run_dummy_ups(
+        Ok((words, mut err)) => nut_dummy_ups::run_dummy_ups(
             &rt,
             rt.alloc(),
             words.as_slice(),
             &mut io::writer(&rt),
             &mut err,
         ),
-        Err(error) => nut::refuse_start("dummy-ups", &error, &mut rt.stderr()),
+        Err(error) => nut_program::refuse_start("dummy-ups", &error, &mut rt.stderr()),
     };
     ExitCode::from(status)
 }
 
-/// The words of the command line, the program's name first, and standard error.
+/// Returns the words of the command line, the program's name first, and standard error.
 fn start(rt: &HostRuntime) -> io::Result<(Vec<String>, LossyLines<Stderr>)> {
     let words = env::args(rt)?.collect(rt.alloc())?;
     let err = LossyLines::new(rt, rt.alloc(), "dummy-ups", rt.stderr())?;

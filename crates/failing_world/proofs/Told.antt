@@ -1,25 +1,25 @@
--- What a world notes, and what its rows give.
+-- What the world notes, and what its rows give.
 use Rattle.std.proofs.Common.{◌≡◌, ℕ, true, List, [], ◌∷◌, ◌++◌, map, reverse, get_or, Some, unwrap_or, refl, sym, ◌∙◌, ap, subst}
 use Rattle.std.proofs.lemmas.List.{reverse-append, map-append}
 use Rattle.std.proofs.lemmas.List.Quantifiers.{position-Some}
-use Rattle.nut_history.specs.Event.{Event}
-use Rattle.nut_history.specs.Event as event
-use Rattle.nut_history.specs.Content.{Content}
-use Rattle.nut_serve.specs.Memory.{may_come}
-use Rattle.nut_serve.specs.Record.{Entry, MayCome, arrival_of, tells_write, tells_request}
-use Rattle.nut_serve.specs.declared.types.Next.{Next}
-use Rattle.nut_serve.specs.declared.types.Next.TheVariants as next
-use Rattle.nut_serve.specs.declared.types.Written.{Written}
-use Rattle.nut_serve.specs.declared.types.Written.TheVariants.{Took, Later, Failed}
+use Rattle.nut_server_spec.specs.Event.{Event}
+use Rattle.nut_server_spec.specs.Event as event
+use Rattle.nut_server_spec.specs.Content.{Content}
+use Rattle.nut_server_loop.specs.Memory.{may_come}
+use Rattle.nut_server_loop.specs.Record.{Entry, MayCome, arrival_of, tells_write, tells_request}
+use Rattle.nut_server_loop.specs.declared.types.Next.{Next}
+use Rattle.nut_server_loop.specs.declared.types.Next.TheVariants as next
+use Rattle.nut_io.specs.declared.types.Written.{Written}
+use Rattle.nut_io.specs.declared.types.Written.TheVariants.{Took, Later, Failed}
 use Rattle.failing_world.specs.declared.deeds.Deed.{Deed}
 use Rattle.failing_world.specs.declared.rows.Row.{Row}
 use Rattle.failing_world.specs.Failing.{event_of, entry_of, entry_of_write, entry_of_request, log_of, first_coming}
 
--- one more deed is the newest entry
+-- One more deed is the newest entry.
 pub log_more : (deeds : List Deed) (one : Deed) → log_of (deeds ++ one ∷ []) ≡ entry_of one ∷ log_of deeds
 log_more deeds one = ap reverse (map-append entry_of deeds (one ∷ [])) ∙ reverse-append (map entry_of deeds) (entry_of one ∷ [])
 
--- what became of a write is told as the world has to tell it
+-- The outcome of a write is recorded as a world has to record it.
 pub write_told : (w : Written) (c : ℕ) (bytes : List ℕ) (r : List Entry) → Some (entry_of_write w c bytes ∷ r) ≡ tells_write w c bytes (Some r)
 write_told (Took n) c bytes r = refl
 write_told Later c bytes r = refl
@@ -42,7 +42,7 @@ may_come_next s (next.DriverDown u) items e may is = tt
 may_come_next s next.Again items e may is = tt
 may_come_next s next.End items e may is = tt
 
--- what comes first may come
+-- If a row is the first that may come, what `next` gives for it may come.
 pub came : (s : Content) (rows : List Row) (i : ℕ) (row : Row) (n : Next) (items : List ℕ) → first_coming s rows ≡ Some i → row ≡ get_or rows i row → arrival_of n items ≡ Some (event_of row) → MayCome n s
 came s rows i row n items place here shown =
     let first = position-Some (λ r. may_come s (event_of r)) rows i row place in

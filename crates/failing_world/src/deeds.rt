@@ -1,19 +1,19 @@
-//! What a world notes down.
+//! What the world for tests notes.
 
 ghost use Rattle.std.specs.Prelude.{◌≡◌, ◌∷◌, OnOk, OnErr};
 ghost use Rattle.failing_world.specs.Failing.{entry_of, log_of};
 
 use crate::Row;
-use nut_serve::{Fault, Written};
+use nut_io::{Fault, Written};
 
-/// One thing that the world did, or that became of a write to it.
+/// One thing that the world did, or the outcome of a write to it.
 #[derive(Drop)]
 pub enum Deed {
     /// It gave this row.
     Gave(Row),
-    /// So much was taken of these bytes for a connection.
+    /// A write of these bytes to a connection had this outcome.
     Wrote(u64, Written, Vec<u8>),
-    /// So much was taken of these bytes for the driver of a UPS.
+    /// A write of these bytes to the driver of a UPS had this outcome.
     WroteDriver(usize, Written, Vec<u8>),
     /// It closed a connection.
     Closed(u64),
@@ -21,7 +21,7 @@ pub enum Deed {
     ClosedDriver(usize),
 }
 
-/// Notes one deed, or nothing where memory is refused.
+/// Notes one deed. If memory cannot be allocated, nothing changes.
 #[tactic(auto, using(crate::proofs::Told::log_more))]
 pub fn note(deeds: &mut Vec<Deed>, deed: Deed) -> Result<(), Fault>
     ensures ok { OnOk result (log_of deeds.new.items ≡ entry_of deed ∷ log_of deeds.old.items) }

@@ -1,6 +1,7 @@
-//! A world for tests of the loop that serves: its devices are slow, late or broken, and it tells what it did.
+//! A world for tests of the loop that serves. Its devices are slow, late or broken, and it keeps a record of what it
+//! did.
 //!
-//! It stands in a crate of its own, since a crate that has tests is proved twice, with them and without.
+//! It has a crate of its own because a crate with tests is proved twice, with them and without.
 #![tactic(auto)]
 
 mod deeds;

@@ -1,33 +1,34 @@
-//! Arrivals, as a table of a test has them.
+//! Arrivals, as the table of a test lists them.
 
 ghost use Rattle.std.specs.Prelude.{◌≡◌, ◌<◌, Some, IfSome, IfOk, length};
-ghost use Rattle.nut_serve.specs.Record.{arrival_of};
-ghost use Rattle.nut_serve.specs.Memory.{may_come};
+ghost use Rattle.nut_server_loop.specs.Record.{arrival_of};
+ghost use Rattle.nut_server_loop.specs.Memory.{may_come};
 ghost use Rattle.failing_world.specs.Failing.{event_of, first_coming};
 
-use nut_serve::{Address, Fault, Next, Piece};
+use nut_io::{Fault, Piece};
 use nut_server::Server;
+use nut_server_loop::{Address, Next};
 
 /// One thing that comes from outside.
 #[derive(Clone, Copy)]
 pub enum Row {
-    /// It is so many seconds since the start.
+    /// This many seconds have passed since the start.
     Moment(u64),
     /// A client connects from this address.
     Open(&'static [u8]),
     /// The connection with this number sends these bytes.
     Bytes(u64, &'static [u8]),
-    /// The connection with this number goes away.
+    /// The connection with this number is closed.
     Close(u64),
     /// The driver of the UPS with this number is connected.
     Up(usize),
     /// The driver of the UPS with this number sends these bytes.
     Report(usize, &'static [u8]),
-    /// The driver of the UPS with this number goes away.
+    /// The driver of the UPS with this number disconnects.
     Down(usize),
 }
 
-/// Where the first row stands that may come: bytes of a connection that may not be read wait.
+/// Returns the place of the first row that may come now. Bytes of a connection that may not be read have to wait.
 pub fn find_coming(server: &Server, rows: &[Row]) -> Option<usize>
     ensures place { result ≡ first_coming server.now rows.now }
     ensures within { IfSome result (λ i. i < length rows.now) }
@@ -49,10 +50,11 @@ fn comes(server: &Server, row: Row) -> bool
     }
 }
 
-/// The row as `next` gives it.
+/// Returns the row as `next` gives it, and puts its bytes into the piece.
 ///
 /// # Errors
-/// A fault where its text is longer than a piece or an address may be.
+///
+/// A fault if its text is longer than a piece or an address may be.
 pub fn show(row: Row, piece: &mut Piece) -> Result<Next, Fault>
     ensures { IfOk result (λ n. arrival_of n piece.new.items ≡ Some (event_of row)) }
 {

@@ -1,20 +1,22 @@
-//! The loop over a world whose devices fail.
+//! The loop over the world for tests.
 
 ghost use Rattle.std.specs.Prelude.{◌≡◌, ◌<◌, ◌-◌, ◌^◌, List, [], Some, None, OnOk, OnErr};
-ghost use Rattle.nut_history.specs.Content.{content};
-ghost use Rattle.nut_serve.specs.Record.{NobodyLeaves};
-ghost use Rattle.nut_serve.specs.Served.{Ended, Served};
+ghost use Rattle.nut_server_spec.specs.Content.{content};
+ghost use Rattle.nut_server_loop.specs.Record.{NobodyLeaves};
+ghost use Rattle.nut_server_loop.specs.Served.{Ended, Served};
 ghost use Rattle.failing_world.specs.Failing.{log_of, first_coming};
 
 use crate::FailingWorld;
-use nut_serve::{ServeFault, serve};
+use nut_io::ServeFault;
 use nut_server::Server;
+use nut_server_loop::serve;
 use std::sync::Wait;
 
-/// Serves until the world ends or a device is a fault: what `serve` promises, at this world.
+/// Serves until the world ends or one of its calls returns a fault. Promises what `serve` promises, for this world.
 ///
 /// # Errors
-/// `ServeFault::World` where a call of the world answered a fault.
+///
+/// `ServeFault::World` if a call of the world returns a fault.
 pub fn serve_failing(
     rt: &impl Wait,
     server: &mut Server,

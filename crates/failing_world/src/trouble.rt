@@ -1,24 +1,24 @@
-//! What is wrong with a world's devices.
+//! The troubles of the devices of the world for tests.
 
 ghost use Rattle.std.specs.Prelude.{◌≡◌, ◌<◌, length};
-ghost use Rattle.nut_serve.specs.Record.{IsWithin};
+ghost use Rattle.nut_io.specs.Writes.{IsWithin};
 
-use nut_serve::Written;
+use nut_io::Written;
 
-/// What is wrong with a device: with the connection 1, or with the driver of the UPS 0.
+/// What is wrong with a device: with connection 1, or with the driver of UPS 0.
 #[derive(Clone, Copy, Debug, PartialEq, Eq)]
 pub enum Trouble {
-    /// Nothing: it takes all that it is offered.
+    /// Nothing is wrong: it takes all that it is offered.
     Nothing,
     /// It takes one byte at a time.
     OneByte,
-    /// It takes nothing: each write is to come later.
+    /// It takes nothing, and each write is to come later.
     Late,
-    /// It takes so many bytes in all, and then each write fails.
+    /// It takes this many bytes in all, and after that each write fails.
     BreaksBehind(usize),
 }
 
-/// What becomes of a write to a device that took so many bytes before.
+/// Returns the outcome of a write to a device that has taken this many bytes before.
 pub fn answer(trouble: Trouble, taken: usize, bytes: &[u8]) -> Written
     requires some { 0 < length bytes.now }
     ensures within { IsWithin result (length bytes.now) }

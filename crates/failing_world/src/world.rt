@@ -1,18 +1,20 @@
-//! The world itself.
+//! The world for tests.
 
 ghost use Rattle.std.specs.Prelude.{◌≡◌, ◌<◌, ◌&&◌, nat_eq, [], length, None, Some, Ok, IfOk, OnOk, OnErr};
-ghost use Rattle.nut_serve.specs.Record.{tells_next, tells_write, tells_request, IsWithin, MayCome};
+ghost use Rattle.nut_io.specs.Writes.{IsWithin};
+ghost use Rattle.nut_server_loop.specs.Record.{tells_next, tells_write, tells_request, MayCome};
 ghost use Rattle.failing_world.specs.Failing.{log_of, first_coming};
 
 use crate::deeds::{Deed, note};
 use crate::rows::{Row, find_coming, show};
 use crate::trouble::{Trouble, answer};
-use nut_serve::{Fault, Next, Piece, World, Written};
+use nut_io::{Fault, Piece, Written};
 use nut_server::Server;
+use nut_server_loop::{Next, World};
 use std::alloc::Global;
 
-/// A world that gives rows, notes what it does, and has trouble with connection 1, with the driver of UPS 0, and with one
-/// of its calls.
+/// A world that gives rows and notes what it does. Connection 1, the driver of UPS 0 and one of its calls may be in
+/// trouble.
 #[derive(Drop)]
 pub struct FailingWorld {
     alloc: Global,
@@ -30,8 +32,8 @@ pub struct FailingWorld {
 }
 
 impl FailingWorld {
-    /// A world that gives these rows, with these troubles. Its call with the number `fault_at`, counted from 1, answers a
-    /// fault; where that is 0 none does.
+    /// Returns a world that will give these rows, with these troubles. Its call with the number `fault_at`, counted
+    /// from 1, returns a fault; if that is 0, none does.
     pub fn new(
         alloc: Global,
         rows: Vec<Row>,
@@ -59,14 +61,14 @@ impl FailingWorld {
         }
     }
 
-    /// What the world did, the oldest first.
+    /// Returns what the world did, the oldest first.
     pub fn deeds(&self) -> &[Deed]
         ensures { result.now ≡ self.now.deeds.items }
     {
         &self.deeds
     }
 
-    /// How many rows are left to give.
+    /// Returns how many rows are left to give.
     pub fn rows_left(&self) -> usize
         ensures { result ≡ length self.now.left.items }
     {
@@ -172,13 +174,13 @@ impl World for FailingWorld {
     }
 }
 
-/// Counts one more call, and says whether it is the one that answers a fault.
+/// Counts one call, and returns whether it is the one that is to return a fault.
 fn is_struck(calls: &mut u64, fault_at: u64) -> bool {
     *calls = calls.wrapping_add(1);
     *calls == fault_at
 }
 
-/// Gives the first row that may come and notes it; the end where none may.
+/// Gives the first row that may come and notes it. Gives the end if none may.
 fn give(
     left: &mut Vec<Row>,
     deeds: &mut Vec<Deed>,
@@ -234,7 +236,7 @@ fn note_request(
     }
 }
 
-/// How many bytes were taken.
+/// Returns how many bytes a write took.
 fn count(written: Written) -> usize {
     match written {
         Written::Took(n) => n,

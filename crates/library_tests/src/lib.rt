@@ -1,6 +1,6 @@
 //! Tests of the libraries of texts: words, tables, messages and configuration files.
 //!
-//! They stand in a crate of their own, since a crate that has tests is proved twice, with them and without.
+//! They are in a crate of their own, since a crate that has tests is proved twice, with them and without.
 #![tactic(auto)]
 
 #[cfg(test)]

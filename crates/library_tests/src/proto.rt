@@ -1,4 +1,4 @@
-//! What no contract says: the texts of the protocol, from its own documents. Those of replies are in
+//! What no contract says: the texts of the protocol, from its own documents. The texts of replies are in
 //! `tests/support/server_rows.py`.
 mod answers;
 mod asks;

@@ -1,4 +1,5 @@
-//! What one look-up shows of a variable, lines that change nothing, and numbers. Tables are in `tests/support/table_rows.py`.
+//! What a look-up shows of a variable, lines that change nothing, and numbers. Tables are in
+//! `tests/support/table_rows.py`.
 use nut_state::{Heard, UpsState, Variable, natural, whole_number};
 use std::alloc::Global;
 
@@ -49,7 +50,7 @@ fn is_charge(variable: &Variable) -> bool {
         && variable.ranges().len() == 1
 }
 
-/// Whether what is asked by name is what the variable shows.
+/// Whether each look-up by name gives what the variable has.
 fn is_charge_by_name(state: &UpsState, name: &[u8]) -> bool {
     state.value(name) == Some(b"20".as_slice())
         && state.flags(name).writable
@@ -76,7 +77,7 @@ fn one_look_up_shows_all_of_a_variable(rt: HostRuntime) {
     assert!(rt; shows_charge(rt.alloc()));
 }
 
-/// Lines that change nothing, with what becomes of each.
+/// Lines that change nothing, and the answer to each.
 const OTHERS: [(&str, Heard); 22] = [
     ("PONG", Heard::Heard),
     (" \tpong\r# still here", Heard::Heard),
@@ -108,7 +109,7 @@ const OTHERS: [(&str, Heard); 22] = [
     ),
 ];
 
-/// The first row whose line is answered otherwise or changes the empty table.
+/// Returns the first row whose line is answered otherwise or changes the empty table.
 fn first_other(alloc: Global, rows: &[(&str, Heard)]) -> Option<usize> {
     let mut state = UpsState::new(alloc);
     for (index, (line, wanted)) in rows.iter().enumerate() {

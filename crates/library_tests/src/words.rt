@@ -50,11 +50,11 @@ fn parts_at_the_first_separator(rt: HostRuntime) {
 #[test]
 fn written_within_room(rt: HostRuntime) {
     let mut out: ArrayVec<u8, 8> = ArrayVec::new();
-    assert!(rt; put_word_in(&mut out, b"OL"));
-    assert!(rt; !put_word_in(&mut out, b"a bcd"));
-    assert!(rt; !put_quoted_in(&mut out, b"a\\bc"));
+    assert!(rt; put_word(&mut out, b"OL").is_ok());
+    assert!(rt; put_word(&mut out, b"a bcd").is_err());
+    assert!(rt; put_quoted(&mut out, b"a\\bc").is_err());
     assert_eq!(rt; out.as_slice(), b"OL".as_slice());
-    assert!(rt; put_word_in(&mut out, b"a bc"));
+    assert!(rt; put_word(&mut out, b"a bc").is_ok());
     assert_eq!(rt; out.as_slice(), b"OL\"a bc\"".as_slice());
-    assert!(rt; !put_word_in(&mut out, b"a"));
+    assert!(rt; put_word(&mut out, b"a").is_err());
 }

@@ -1,8 +1,8 @@
-//! What a monitor says of itself: what its clauses say can't tell whether it says anything at all.
+//! What a monitor's getters return. Clauses cannot tell whether a getter ever returns anything.
 
 use nut_conf::read_upsmon;
-use nut_decision::Communication;
 use nut_monitor::{Event, Known, LastQuery, Monitor, MonitorFault, Query, StatusFlags};
+use nut_monitor_spec::Communication;
 use std::alloc::Global;
 use std::test::Fail;
 
@@ -11,27 +11,27 @@ const FILE: &[u8] = b"MONITOR a@localhost 1 mon m1 secondary\n";
 /// The answers to the first three queries of a link, and then the status.
 static ANSWERS: [&[u8]; 4] = [b"OK\n", b"OK\n", b"OK\n", b"VAR a ups.status \"OL CHRG\"\n"];
 
-/// A monitor to which nothing was said.
+/// Makes a monitor that was told nothing.
 fn quiet_monitor(alloc: Global) -> Result<Monitor, Fail> {
     let config = read_upsmon(alloc, FILE)?;
     let monitor = Monitor::new(alloc, config)?;
     Ok(monitor)
 }
 
-/// Its link is made at the moment 7.
+/// Makes the monitor's link at moment 7.
 fn link(monitor: &mut Monitor) -> Result<(), MonitorFault> {
     monitor.arrive(Event::Moment(7))?;
     monitor.arrive(Event::Linked(0))
 }
 
-/// The query that waits is taken, and answered by this line.
+/// Takes the query that waits, and answers it with this line.
 fn answer(monitor: &mut Monitor, line: &[u8]) -> Result<(), MonitorFault> {
     let waits = monitor.waiting(0).len();
     monitor.arrive(Event::LinkTook(0, waits))?;
     monitor.arrive(Event::LinkBytes(0, line))
 }
 
-/// The link is made, and each of its first queries is answered.
+/// Makes the link, and answers each of its first queries.
 fn link_and_answer(monitor: &mut Monitor) -> Result<(), MonitorFault> {
     link(monitor)?;
     for line in ANSWERS {
@@ -40,7 +40,7 @@ fn link_and_answer(monitor: &mut Monitor) -> Result<(), MonitorFault> {
     Ok(())
 }
 
-/// What a monitor says of a MONITOR line.
+/// What a monitor's getters return for a MONITOR line.
 #[derive(Clone, Copy, PartialEq, Eq)]
 struct Said {
     known: Option<Known>,
@@ -54,10 +54,10 @@ fn what_is_said(monitor: &Monitor, line: usize) -> Said {
     }
 }
 
-/// A monitor is let go in a function of its own, which costs the check much less than where much else is done.
+/// Drops a monitor, in a function of its own, which makes the check much faster.
 fn let_go(_monitor: Monitor) {}
 
-/// What is known of a UPS of which nothing came.
+/// What is known of a UPS before anything came.
 const NOTHING: Known = Known {
     flags: None,
     polled: 0,

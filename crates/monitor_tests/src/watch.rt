@@ -1,7 +1,7 @@
-//! What no clause says: runs from outside.
+//! Runs whose expected results come from outside the definitions.
 
 ghost use Rattle.std.specs.Prelude.{◌≡◌, IfOk, []};
-ghost use Rattle.nut_decision.specs.Content.{content};
+ghost use Rattle.nut_monitor_spec.specs.Content.{content};
 
 mod worlds;
 
@@ -10,7 +10,7 @@ use nut_monitor::Monitor;
 use std::alloc::Global;
 use std::test::Fail;
 
-/// A monitor that was made with this file and told nothing.
+/// Makes a monitor with this file that was told nothing.
 fn fresh_monitor(alloc: Global, file: &[u8]) -> Result<Monitor, Fail>
     ensures { IfOk result (λ m. m.content ≡ content m.content.configuration []) }
 {

@@ -1,4 +1,4 @@
--- The commands that clap reads, and what it reads.
+-- The commands that clap reads, and its matches.
 use Rattle.std.proofs.Common.{◌≡◌, ℕ, true, false, List, [], ◌∷◌, Some, Result, Ok, Err, refl, sym, ap, ap₂, subst, ◌∙◌, inl}
 use Rattle.std.specs.Borrow.{Bor}
 use Rattle.clap.specs.Simple.{app_of_fields, on_top}
@@ -9,7 +9,7 @@ use Rattle.clap.specs.declared.builder.Arg.{Arg}
 use Rattle.clap.specs.declared.error.ErrorKind.{ErrorKind}
 use Rattle.clap.specs.declared.ArgMatches.{ArgMatches}
 use Rattle.nut_client.specs.CommandLine.{CommandLine, Options, line_by, read_by, upsc_tool, upsrw_tool, upscmd_tool}
-use Rattle.nut_client.specs.Reading.{IsRead, IsReadBy}
+use Rattle.nut_client.specs.inside.Reading.{IsRead, IsReadBy}
 use Rattle.nut_client.specs.declared.command_line.Options.{Options as Read}
 use Rattle.nut_client.specs.declared.command_line.Refusal.{Refusal}
 use Rattle.nut_client.specs.declared.command_line.Refusal.TheVariants.{Usage, Failed}
@@ -21,7 +21,7 @@ pub begun : (name : List ℕ) (fresh versioned about : Command) (t u : Bor (List
     → app_of about ≡ on_top (λ s. record s { has_version = true }) (new_app name)
 begun name fresh versioned about t u is v a = ap app_of_fields a ∙ ap app_of_fields v ∙ ap (on_top (λ s. record s { has_version = true })) is
 
--- and one argument more
+-- the command with one more argument
 pub added : (app : App) (rule : Rule) (old new : Command) (a : Arg) → AddsArg old a new → a.global ≡ false → app_of old ≡ app → rule_of a ≡ rule → app_of new ≡ with_rule app rule
 added app rule old new a adds local old_is rule_is = adds.shape local ∙ ap₂ with_rule old_is rule_is
 
@@ -46,7 +46,7 @@ by_fault : (options : List Row → Result Options Failure) (rows : List Row) (fa
 by_fault options rows [] kind none = absurd none
 by_fault options rows (k ∷ ks) kind some = refl
 
--- Words in which it finds one.
+-- Words in which clap finds a fault.
 pub faulty : (app : App) (options : List Row → Result Options Failure) (words : List (List ℕ)) (kind : ErrorKind) → IsAmong kind (fault_of app words)
     → (faults : Kinds) × (read_by app options words ≡ Err faults) × IsAmong kind faults
 faulty app options words kind among = (fault_of app words, by_fault options (matches_of app words) (fault_of app words) kind among, among)

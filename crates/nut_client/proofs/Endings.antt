@@ -4,7 +4,7 @@ use Rattle.std.proofs.lemmas.List.{append_assoc, append-nil}
 use Rattle.std.specs.Io.KnownBytes.{prepend_known}
 use Rattle.nut_words.specs.Lines.{LineText, lines, lines_after, rest}
 use Rattle.nut_words.proofs.StreamGrowth.{lines-append}
-use Rattle.nut_client.specs.Laws.{AllBytesDecide, MoreBytesAreIgnored}
+use Rattle.nut_client.specs.laws.Laws.{AllBytesDecide, MoreBytesAreIgnored}
 use Rattle.nut_client.specs.Script.{Script}
 use Rattle.nut_client.specs.Tool.{Failed, Printed, Standing, Waits, after, begin, ending, is_over, run_of}
 use Rattle.nut_client.specs.declared.failure.Failure.{Failure}
@@ -29,7 +29,7 @@ Decides script result bytes heard left written =
     ⊎ ((result ≡ Err failures.ConnectionLost) × (Some left ≡ Some [] → length written < length (run_of script heard).queries)
     ⊎ (result ≡ ending (run_of script bytes).standing))
 
--- All that was read was heard, where the connection was lost, or a query was broken off.
+-- If the connection was lost, all that was read was heard, or a query was sent only in part.
 HasReason : Script → Result (List ℕ) Failure → List ℕ → List ℕ → List ℕ → Type 0
 HasReason script result heard unheard written = IfErr result (λ failure. failure ≡ failures.ConnectionLost → (unheard ≡ []) ⊎ (length written < length (run_of script heard).queries))
 

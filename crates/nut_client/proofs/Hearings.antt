@@ -4,23 +4,24 @@ use Rattle.std.proofs.Math.Seq.{drop-append_seam}
 use Rattle.std.proofs.lemmas.List.{append_assoc, append-nil, length-append}
 use Rattle.std.specs.Io.KnownBytes.{append_known, prepend_known}
 use Rattle.nut_words.specs.Lines.{Text, lines}
+use Rattle.nut_words.specs.declared.limits.TheConstants.{PIECE_MAX}
 use Rattle.nut_proto.specs.declared.request.Request.{Request}
 use Rattle.nut_proto.specs.Requests.{request_line}
-use Rattle.nut_client.specs.declared.exchange.Stage.{Stage}
-use Rattle.nut_client.specs.declared.exchange.Stage.TheVariants as stages
+use Rattle.nut_link.specs.declared.exchange.Stage.{Stage}
+use Rattle.nut_link.specs.declared.exchange.Stage.TheVariants as stages
 use Rattle.nut_client.specs.declared.failure.Failure.{Failure}
 use Rattle.nut_client.specs.declared.failure.Failure.TheVariants as failures
-use Rattle.nut_client.specs.declared.fault.LinkFault.{LinkFault}
-use Rattle.nut_client.specs.declared.fault.LinkFault.TheVariants.{Memory}
-use Rattle.nut_client.specs.declared.outcome.Outcome.{Outcome}
-use Rattle.nut_client.specs.Asking.{is_writable}
-use Rattle.nut_client.specs.Conversation.{Answered, Hears, HearsPart, IsListening, IsReadFor, IsWaiting, Listens, Sends, link_sent}
-use Rattle.nut_client.specs.Hearing.{Feeds}
-use Rattle.nut_client.specs.Link.{LinkValue, answer_by, fed, outcome_in, outcome_of, stage_without, taken_out, with_exchange}
-use Rattle.nut_client.specs.Rests.{IsRest}
+use Rattle.nut_link.specs.declared.fault.LinkFault.{LinkFault}
+use Rattle.nut_link.specs.declared.fault.LinkFault.TheVariants.{Memory}
+use Rattle.nut_link.specs.declared.outcome.Outcome.{Outcome}
+use Rattle.nut_link.specs.Asking.{is_writable}
+use Rattle.nut_client.specs.inside.Conversation.{Answered, Hears, HearsPart, IsListening, IsReadFor, IsWaiting, Listens, Sends, link_sent}
+use Rattle.nut_link.specs.Hearing.{Feeds}
+use Rattle.nut_link.specs.Link.{LinkValue, answer_by, fed, outcome_in, outcome_of, stage_without, taken_out, with_exchange}
+use Rattle.nut_link.specs.inside.Rests.{IsRest}
 use Rattle.nut_client.specs.Script.{Script, Asks}
 use Rattle.nut_client.specs.Tool.{Failed, Waits, after, begin, breaks_off, ending, is_over, sent}
-use Rattle.nut_client.specs.Unread.{IsLinePart, IsUnbroken, IsWhole}
+use Rattle.nut_client.specs.inside.Unread.{IsLinePart, IsUnbroken, IsWhole}
 use Rattle.nut_client.proofs.Runs.{append_none, begun, comes, fails, grows, prepend_none, prepend_twice, rest_waits, still_waits, waiting_run}
 
 none_at : (o : Option LinkFault) → Ok tt ≡ answer_by o → o ≡ None
@@ -46,7 +47,7 @@ answered_stage stages.Idle outcome some = absurd (cc)
 answered_stage (stages.Asked query) outcome some = absurd (cc)
 answered_stage (stages.Answered other) outcome some = refl
 
--- what the link is once an answer was taken out, if there is one
+-- the link after its answer, if there is one, was taken out
 pub hears_ok : (v v1 v2 : LinkValue) (p : List ℕ) (done : ℕ) (result : Result (Unit {0}) LinkFault) (outcome : Option Outcome) (lost : Type 0) → IsRest v.rest → IsWaiting v.exchange → IsUnbroken p ⊎ IsWhole p
     → Feeds v p done result v1 → result ≡ Ok tt → outcome ≡ outcome_of v1.exchange → v2 ≡ with_exchange (taken_out v1.exchange) v1 → HearsPart v p (Ok outcome) v2 lost
 hears_ok v v1 v2 p done result None lost r waits broken feeds ok is after_is =
@@ -65,7 +66,7 @@ hears_ok v v1 v2 p done result (Some outcome) lost r waits broken feeds ok is af
           ∙ ap (λ f. record { rest = Text []; exchange = record { stage = stages.Idle; fault = f } }) w.1,
     )
 
--- what was read and not used before a part is the part, and then what is left
+-- bytes that were unread, or just read, are the part followed by what is left
 pub part_read : (unread unread' part : List ℕ) (input mid : Option (List ℕ)) (filled : List ℕ) → prepend_known unread input ≡ prepend_known filled mid → IsLinePart filled part → unread' ≡ drop (length part) filled
     → prepend_known unread input ≡ prepend_known part (prepend_known unread' mid)
 part_read unread unread' part input mid filled same is left =
@@ -73,19 +74,19 @@ part_read unread unread' part input mid filled same is left =
     ∙ ap (λ b. prepend_known b mid) (is.0.1 ∙ ap (λ b. part ++ b) (sym (left ∙ ap (drop (length part)) is.0.1 ∙ drop-append_seam part is.0.0)))
     ∙ sym (prepend_twice part unread' mid)
 
--- a part is the front of what was there, and the rest is left
+-- a part is the front of the unread bytes, and the rest is left
 pub part_all : (filled part unread' : List ℕ) → IsLinePart filled part → unread' ≡ drop (length part) filled → part ++ unread' ≡ filled
 part_all filled part unread' is left = ap (λ b. part ++ b) (left ∙ ap (drop (length part)) is.0.1 ∙ drop-append_seam part is.0.0) ∙ sym is.0.1
 
 -- what was read for a part
-pub part_reads : (unread filled part unread' : List ℕ) → IsLinePart filled part → unread' ≡ drop (length part) filled → (filled ≡ unread) ⊎ ((unread ≡ []) × (length filled ≤ 512))
-    → (part ++ unread' ≡ unread) ⊎ ((unread ≡ []) × (length (part ++ unread') ≤ 512))
+pub part_reads : (unread filled part unread' : List ℕ) → IsLinePart filled part → unread' ≡ drop (length part) filled → (filled ≡ unread) ⊎ ((unread ≡ []) × (length filled ≤ PIECE_MAX))
+    → (part ++ unread' ≡ unread) ⊎ ((unread ≡ []) × (length (part ++ unread') ≤ PIECE_MAX))
 part_reads unread filled part unread' is left (inl same) = inl (part_all filled part unread' is left ∙ same)
-part_reads unread filled part unread' is left (inr new) = inr (new.0, subst (λ b. length b ≤ 512) (sym (part_all filled part unread' is left)) new.1)
+part_reads unread filled part unread' is left (inr new) = inr (new.0, subst (λ b. length b ≤ PIECE_MAX) (sym (part_all filled part unread' is left)) new.1)
 
 -- A part was heard while the query waited.
 read_more : (request : Request) (link : LinkValue) (heard part start unread unread' : List ℕ) → Listens request heard link → IsReadFor request start (heard ++ unread)
-    → (part ++ unread' ≡ unread) ⊎ ((unread ≡ []) × (length (part ++ unread') ≤ 512)) → IsReadFor request start ((heard ++ part) ++ unread')
+    → (part ++ unread' ≡ unread) ⊎ ((unread ≡ []) × (length (part ++ unread') ≤ PIECE_MAX)) → IsReadFor request start ((heard ++ part) ++ unread')
 read_more request link heard part start unread unread' listens before (inl same) =
     subst (IsReadFor request start) (sym (append_assoc heard part unread' ∙ ap (λ b. heard ++ b) same)) before
 read_more request link heard part start unread unread' listens before (inr new) = inr (λ queries next. record {
@@ -150,7 +151,7 @@ answers request link link' outcome start unread unread' input mid left before at
       lost = tt;
     }
 
--- of a query only a beginning was written
+-- only a beginning of the query was written
 broken_off : (queries front back all : List ℕ) → all ≡ queries ++ (front ++ back) → 0 < length back → length (queries ++ front) < length all
 broken_off queries front back all is some = omega (arith, ap length is, length-append queries (front ++ back), length-append front back, length-append queries front, some)
 
@@ -225,7 +226,7 @@ ends_unanswered request failure link link' start unread unread' input mid left b
       lost = λ is. inl (h.emptied is);
     }
 
--- the same, where it is known otherwise what came
+-- `listens_more`, for a result that is known otherwise
 pub listens_on : (request : Request) (link link' : LinkValue) (came : Option Outcome) (start unread unread' : List ℕ) (input mid left before at after' : Option (List ℕ)) (lost : Type 0) → came ≡ None → IsListening request link start unread input mid before at → Hears link unread (Ok came) link' unread' mid left lost → after' ≡ at
     → IsListening request link' start unread' input left before after'
 listens_on request link link' came start unread unread' input mid left before at after' lost none l h same =

@@ -1,9 +1,3 @@
-pub mod Headings
-pub mod Writable
-pub mod Advancing
-pub mod Feeding
-pub mod Matches
-pub mod Bounded
 pub mod Runs
 pub mod Turns
 pub mod Tasks

@@ -4,6 +4,7 @@ use Rattle.std.proofs.lemmas.Bool.{cases_Bool, cases_lt, leb-true, lt-ltb}
 use Rattle.std.specs.Prelude.{is_err, nat_le}
 use Rattle.std.proofs.lemmas.List.{length-take, length-drop}
 use Rattle.std.specs.Option.{option_map_or}
+use Rattle.nut_words.specs.declared.limits.TheConstants.{UPS_NAME_MAX}
 use Rattle.clap.proofs.WalkLemmas.{both}
 use Rattle.nut_conf.specs.Faults.{◌>>=◌}
 use Rattle.nut_conf.specs.Hosts.{is_host}
@@ -13,18 +14,19 @@ use Rattle.nut_conf.specs.declared.fault.FaultKind.{FaultKind}
 use Rattle.nut_conf.specs.declared.fault.FaultKind.TheVariants.{BadNumber}
 use Rattle.nut_conf.specs.declared.target.NameFault.{NameFault}
 use Rattle.nut_conf.specs.declared.target.NameFault.TheVariants.{BadPort, BadUps}
+use Rattle.nut_conf.specs.declared.limits.TheConstants.{HOST_MAX}
 
 bind_fails : {X Y E : Type 0} (r : Result X E) (f : X → Result Y E) → IsErr r → IsErr (r >>= f)
 bind_fails (Ok x) f bad = absurd (cc)
 bind_fails (Err e) f bad = refl
 
-host_is_short : (h : List ℕ) → is_host h ≡ true → length h ≤ 64
+host_is_short : (h : List ℕ) → is_host h ≡ true → length h ≤ HOST_MAX
 host_is_short h is = leb-true _ _ (both _ _ (both _ _ is).0).1
 
 numeral_is_short : (h : List ℕ) → is_numeral h ≡ true → length h ≤ 9
 numeral_is_short h is = leb-true _ _ (both _ _ (both _ _ is).0).1
 
-long_host : (h : List ℕ) → 64 < length h → IsErr (host h)
+long_host : (h : List ℕ) → HOST_MAX < length h → IsErr (host h)
 long_host h long = elim (cases_Bool (is_host h)) [
   | inl is ↦ absurd (omega (arith, host_is_short h is, long))
   | inr isnt ↦ rw isnt refl
@@ -64,17 +66,17 @@ located_fails : (h : List ℕ) (o : Option ℕ) → 126 < length h → IsErr (op
 located_fails h None long = bind_fails (host h) (λ x. Ok (x, 3493)) (long_host h (omega (arith, long)))
 located_fails h (Some i) long = parted_fails h i long
 
--- a name that is parted here
+-- a name that is split here
 by_parts : Option (List ℕ × List ℕ) → List ℕ → Result (List ℕ × List ℕ × ℕ) NameFault
 by_parts o bytes =
-    option_map_or (λ (p : List ℕ × List ℕ). or_fault BadUps (name 32 p.0) >>= (λ u. located p.1 >>= (λ l. Ok (u, l.0, l.1))))
-    o (or_fault BadUps (name 32 bytes) >>= (λ u. Ok (u, codes "localhost", 3493)))
+    option_map_or (λ (p : List ℕ × List ℕ). or_fault BadUps (name UPS_NAME_MAX p.0) >>= (λ u. located p.1 >>= (λ l. Ok (u, l.0, l.1))))
+    o (or_fault BadUps (name UPS_NAME_MAX bytes) >>= (λ u. Ok (u, codes "localhost", 3493)))
 
 parted_at_u : (h : List ℕ) → parted 64 (codes "u@" ++ h) ≡ Some (codes "u", h)
 parted_at_u h =
     ap (λ b. option_map (λ i. (take i (codes "u@" ++ h), drop (i + 1) (codes "u@" ++ h))) (if b then Some 1 else None)) (lt-ltb 1 (length (codes "u@" ++ h)) (omega arith))
 
-u_is_named : or_fault BadUps (name 32 (codes "u")) ≡ Ok (codes "u")
+u_is_named : or_fault BadUps (name UPS_NAME_MAX (codes "u")) ≡ Ok (codes "u")
 u_is_named = refl
 
 with_name : (r : Result (List ℕ) NameFault) (h : List ℕ) → r ≡ Ok (codes "u") → IsErr (located h) → IsErr {T = List ℕ × List ℕ × ℕ} (r >>= (λ u. located h >>= (λ l. Ok (u, l.0, l.1))))
@@ -85,4 +87,4 @@ pub long_server : (h : List ℕ) → 126 < length h → IsErr (target (codes "u@
 unfolding place by_parts
 long_server h long =
     let bad : IsErr (located h) = located_fails h (position (λ b. b == 58) h) long in
-    subst (λ (o : Option (List ℕ × List ℕ)). IsErr (by_parts o (codes "u@" ++ h))) (sym (parted_at_u h)) (with_name (or_fault BadUps (name 32 (codes "u"))) h u_is_named bad)
+    subst (λ (o : Option (List ℕ × List ℕ)). IsErr (by_parts o (codes "u@" ++ h))) (sym (parted_at_u h)) (with_name (or_fault BadUps (name UPS_NAME_MAX (codes "u"))) h u_is_named bad)

@@ -1,9 +1,9 @@
--- What is told of a command line that makes no options.
+-- What is told of a command line that gives no options.
 use Rattle.std.proofs.Common.{ℕ, List, Result, Err, inl, inr, refl}
 use Rattle.clap.specs.Words.{kind_of}
 use Rattle.nut_client.specs.CommandLine.{CommandLine}
 use Rattle.nut_client.specs.Output.{Written}
-use Rattle.nut_client.specs.Reading.{IsRead, TellsRefusal}
+use Rattle.nut_client.specs.inside.Reading.{IsRead, TellsRefusal}
 use Rattle.nut_client.specs.Script.{Script}
 use Rattle.nut_client.specs.Tool.{RunsAs, refuses, explains}
 use Rattle.nut_client.specs.declared.command_line.Refusal.{Refusal}

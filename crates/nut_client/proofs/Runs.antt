@@ -1,4 +1,4 @@
--- How a run goes on by the parts of lines that are heard.
+-- How a run continues by the parts of lines that are heard.
 use Rattle.std.proofs.Common.{◌≡◌, ℕ, Bool, ◌++◌, List, [], ◌∷◌, Option, Some, None, is_some, if◌then◌else◌, Result, Ok, Err, refl, sym, ap, ap₂, ◌∙◌, ◌⊎◌, inl, inr}
 use Rattle.std.proofs.lemmas.Bool.{cases_Bool}
 use Rattle.std.proofs.lemmas.List.{append_assoc, append_cancel_left, append-nil}
@@ -8,18 +8,18 @@ use Rattle.nut_words.proofs.LineLemmas.{lines_of_line, lines_of_unbroken, rest_o
 use Rattle.nut_words.proofs.StreamGrowth.{lines-append, rest-append}
 use Rattle.nut_proto.specs.declared.request.Request.{Request}
 use Rattle.nut_proto.specs.Requests.{request_line}
-use Rattle.nut_client.specs.declared.exchange.Exchange.{Exchange}
-use Rattle.nut_client.specs.declared.exchange.Stage.{Stage}
-use Rattle.nut_client.specs.declared.exchange.Stage.TheVariants as stages
+use Rattle.nut_link.specs.declared.exchange.Exchange.{Exchange}
+use Rattle.nut_link.specs.declared.exchange.Stage.{Stage}
+use Rattle.nut_link.specs.declared.exchange.Stage.TheVariants as stages
 use Rattle.nut_client.specs.declared.failure.Failure.TheVariants as failures
-use Rattle.nut_client.specs.declared.fault.LinkFault.{LinkFault}
-use Rattle.nut_client.specs.declared.outcome.Outcome.{Outcome}
-use Rattle.nut_client.specs.Conversation.{IsWaiting}
-use Rattle.nut_client.specs.Link.{LinkValue, fed, heard, left_of, lines_heard, moved, on_line, outcome_in, outcome_of}
-use Rattle.nut_client.specs.Asking.{is_writable}
+use Rattle.nut_link.specs.declared.fault.LinkFault.{LinkFault}
+use Rattle.nut_link.specs.declared.outcome.Outcome.{Outcome}
+use Rattle.nut_client.specs.inside.Conversation.{IsWaiting}
+use Rattle.nut_link.specs.Link.{LinkValue, fed, heard, left_of, lines_heard, moved, on_line, outcome_in, outcome_of}
+use Rattle.nut_link.specs.Asking.{is_writable}
 use Rattle.nut_client.specs.Script.{Script, Prints, Fails, Asks}
 use Rattle.nut_client.specs.Tool.{Run, Waits, Failed, after, begin, sent, failure_of, goes_on, hears}
-use Rattle.nut_client.specs.Unread.{IsUnbroken, IsWhole}
+use Rattle.nut_client.specs.inside.Unread.{IsUnbroken, IsWhole}
 
 pub after-append : (xs ys : List LineText) (run : Run) → after (xs ++ ys) run ≡ after ys (after xs run)
 after-append [] ys run = refl
@@ -64,11 +64,11 @@ part_heard v b p here (inr whole) =
       ended = ap (λ p. rest (b ++ p)) whole.2 ∙ rest_of_line b whole.0 whole.1;
     })
 
--- an exchange that waits, with what goes on by its answer
+-- a run that waits with this exchange, and continues by its answer
 abbrev pub waiting_run : List ℕ → Exchange → (Outcome → Script) → Run
 waiting_run queries e next = record { queries = queries; standing = Waits e next }
 
--- what a line makes of a run that waits
+-- what a line does to a run that waits
 line_run : (v : LinkValue) (b p : List ℕ) (run : Run) (q : List ℕ) (next : Outcome → Script) → after (lines b) run ≡ waiting_run q v.exchange next → (h : HeardPart v b p)
     → after (lines (b ++ p)) run ≡ goes_on q next (fed p v).exchange (outcome_of (fed p v).exchange) (fed p v).exchange.fault
 line_run v b p run q next is h =
@@ -134,7 +134,7 @@ rest_waits v b p here going = ap (λ o. if is_some o then Text [] else rest_afte
 abbrev pub begun : Bool → List ℕ → Request → (Outcome → Script) → Run
 begun b q request next = if b then record { queries = q ++ request_line request; standing = Waits (sent request) next } else record { queries = q; standing = Failed failures.BadQuery }
 
--- A script that is begun asks at most one query more.
+-- A script that begins asks at most one query more.
 pub begin_more : (q : List ℕ) (script : Script) → (back : List ℕ) × ((begin q script).queries ≡ q ++ back)
 begin_more q (Prints text) = ([], sym (append-nil q))
 begin_more q (Fails failure) = ([], sym (append-nil q))

@@ -1,13 +1,13 @@
--- How a query goes out.
+-- How a query is sent.
 use Rattle.std.proofs.Common.{◌≡◌, ℕ, ◌++◌, nat_le, true, List, length, take, drop, Option, refl, sym, ap, subst, ◌∙◌}
 use Rattle.std.proofs.lemmas.List.{append_assoc, take-append-drop}
 use Rattle.std.specs.Io.KnownBytes.{append_known}
 use Rattle.nut_proto.specs.declared.request.Request.{Request}
-use Rattle.nut_client.specs.Link.{LinkValue, taken, waits, with_exchange}
-use Rattle.nut_client.specs.Sending.{IsSending, link_sending}
+use Rattle.nut_link.specs.Link.{LinkValue, taken, waits, with_exchange}
+use Rattle.nut_client.specs.inside.Sending.{IsSending, link_sending}
 use Rattle.nut_client.proofs.Runs.{append_twice}
 
--- what the link is once more of the query was taken
+-- the link after more of the query was taken
 taken_more : (request : Request) (n : ℕ) (back : List ℕ) → nat_le n (length back) ≡ true
     → with_exchange (taken n (link_sending request back).exchange) (link_sending request back) ≡ link_sending request (drop n back)
 taken_more request n back fits = rw fits refl

@@ -1,8 +1,8 @@
--- What is left of a tool's work, step by step.
+-- What a tool has left to do, step by step.
 use Rattle.std.proofs.Common.{◌≡◌, ℕ, true, ltb, ◌+◌, ◌<◌, suc, add-one, List, [], ◌∷◌, drop, length, Result, subst, codes, refl, sym, ap, ◌∙◌, get_or}
 use Rattle.std.proofs.Math.Seq.{drop-cons}
 use Rattle.std.proofs.lemmas.Bool.{ltb-true}
-use Rattle.nut_client.specs.declared.outcome.Outcome.{Outcome}
+use Rattle.nut_link.specs.declared.outcome.Outcome.{Outcome}
 use Rattle.nut_client.specs.declared.task.Next.TheVariants as nexts
 use Rattle.nut_client.specs.declared.failure.Failure.{Failure}
 use Rattle.nut_client.specs.declared.task.Shown.{Shown}
@@ -15,7 +15,7 @@ use Rattle.nut_client.specs.declared.wanted.Wanted.TheVariants as wanteds
 use Rattle.nut_proto.specs.declared.request.Request.{Request}
 use Rattle.nut_proto.specs.declared.request.Request.TheVariants as requests
 use Rattle.nut_client.specs.Script.{Script, Asks, Prints, deed_query, does, gives_password, line, on_done, script, word}
-use Rattle.nut_client.specs.Task.{Leads, Says, answered, first_query, first_question, left_at, row_query, showing, showing_of}
+use Rattle.nut_client.specs.inside.Task.{Leads, Says, answered, first_query, first_question, left_at, row_query, showing, showing_of}
 
 -- what is left of rows from one of them on
 pub drop_at : {A : Type 0} (xs ys : List A) (n : ℕ) (x : A) → ys ≡ xs → n < length ys → x ≡ get_or ys n x → drop n xs ≡ x ∷ drop (n + 1) xs
@@ -63,7 +63,7 @@ first_leads ups wanted wanted' outcome r is leads = subst (λ w. Leads ups (answ
 pub step_leads : (ups : List ℕ) (step step' : Step) (outcome : Outcome) (r : Result Step Failure) → step ≡ step' → Leads ups (answered outcome (left_at ups step')) r → Leads ups (answered outcome (left_at ups step)) r
 step_leads ups step step' outcome r is leads = subst (λ s. Leads ups (answered outcome (left_at ups s)) r) (sym is) leads
 
--- a row goes on, or the next one comes
+-- a further question about a row, or the next row
 pub row_on : (ups : List ℕ) (question other : Question) (text text' : List ℕ) (rows : List (List (List ℕ))) (n : ℕ) (row : List (List ℕ)) (outcome : Outcome) → drop n rows ≡ row ∷ drop (n + 1) rows
     → answered outcome (showing ups question text (row ∷ drop (n + 1) rows)) ≡ showing ups other text' (row ∷ drop (n + 1) rows) → showing ups other text' (drop n rows) ≡ answered outcome (showing ups question text (drop n rows))
 row_on ups question other text text' rows n row outcome at says = ap (showing ups other text') at ∙ sym says ∙ ap (λ l. answered outcome (showing ups question text l)) (sym at)
@@ -78,7 +78,7 @@ prints_same e = cc
 never_prints : {text : List ℕ} {request : Request} {next : Outcome → Script} → Prints text ≡ Asks request next → ⊥
 never_prints e = cc
 
--- Where nothing is left to ask about the rows, the text is complete.
+-- If nothing is left to ask about the rows, the text is complete.
 prints_shown : (ups : List ℕ) (question : Question) (shown text : List ℕ) (rows : List (List (List ℕ))) → showing ups question shown rows ≡ Prints text → shown ≡ text
 prints_shown ups questions.Kind shown text [] is = prints_same is
 prints_shown ups questions.Values shown text [] is = prints_same is

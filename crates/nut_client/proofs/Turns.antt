@@ -8,12 +8,12 @@ use Rattle.nut_proto.specs.declared.request.Request.{Request}
 use Rattle.nut_proto.specs.Requests.{request_line}
 use Rattle.nut_client.specs.declared.failure.Failure.{Failure}
 use Rattle.nut_client.specs.declared.failure.Failure.TheVariants as failures
-use Rattle.nut_client.specs.declared.outcome.Outcome.{Outcome}
-use Rattle.nut_client.specs.Between.{IsBetween}
-use Rattle.nut_client.specs.Conversation.{Answered, IsReadFor}
-use Rattle.nut_client.specs.Link.{LinkValue, fresh}
+use Rattle.nut_link.specs.declared.outcome.Outcome.{Outcome}
+use Rattle.nut_client.specs.inside.Between.{IsBetween}
+use Rattle.nut_client.specs.inside.Conversation.{Answered, IsReadFor}
+use Rattle.nut_link.specs.Link.{LinkValue, fresh}
 use Rattle.nut_client.specs.Script.{Script, Prints, Asks}
-use Rattle.nut_client.specs.Task.{FailsBy, answered}
+use Rattle.nut_client.specs.inside.Task.{FailsBy, answered}
 use Rattle.nut_client.specs.Tool.{Ends, IsReadInTime, WasWrittenBy, after, begin, breaks_off, ending, is_over, run_of}
 use Rattle.nut_client.proofs.Runs.{after-append, append_twice, begin_more, append_none, prepend_none, prepend_twice}
 
@@ -30,7 +30,7 @@ at_start script link unread input before here none = record {
   link_is = here;
 }
 
--- what is heard behind whole lines makes lines of its own
+-- bytes behind whole lines complete lines of their own
 lines_behind : (b x : List ℕ) → rest b ≡ Text [] → lines (b ++ x) ≡ lines b ++ lines x
 lines_behind b x ended = lines-append b x ∙ ap (λ r. lines b ++ lines_after r x) ended ∙ ap (λ ls. lines b ++ ls) (sym (lines-append [] x))
 
@@ -102,7 +102,7 @@ ends_asking script left request next failure link unread unread' input mid last'
       ];
     }
 
--- What came of a query ends the tool.
+-- The outcome of a query ends the tool.
 pub ends_hearing : (script left : Script) (failure : Failure) (link : LinkValue) (unread : List ℕ) (input last before taken : Option (List ℕ))
     → IsBetween script left link unread input (prepend_known unread last) before taken → FailsBy left failure → Ends script (Err failure) input last before taken
 ends_hearing script left failure link unread input last before taken at fails = record {
@@ -143,18 +143,18 @@ ends_well script left text result link unread input last before taken at prints 
   lost = tt;
 }
 
--- what is left once a query was answered
+-- what is left after a query was answered
 answered_left : (left : Script) (request : Request) (next : Outcome → Script) (outcome : Outcome) → left ≡ Asks request next → answered outcome left ≡ next outcome
 answered_left left request next outcome is = ap (answered outcome) is
 
--- The query was answered, and the task went on.
+-- The query was answered, and the task continued.
 pub goes_by : (script left left' : Script) (request : Request) (next : Outcome → Script) (outcome : Outcome) (link link' : LinkValue) (unread unread' : List ℕ) (input mid last before taken taken' : Option (List ℕ))
     → IsBetween script left link unread input mid before taken → left ≡ Asks request next → Answered request (Ok outcome) unread unread' mid last taken taken' → link' ≡ fresh → left' ≡ answered outcome left
     → IsBetween script left' link' unread' input last before taken'
 goes_by script left left' request next outcome link link' unread unread' input mid last before taken taken' at asks came there goes =
     goes_to script left left' request next outcome link link' unread unread' input mid last before taken taken' at asks came there (goes ∙ answered_left left request next outcome asks)
 
--- The query was answered, and what came of it ends the tool.
+-- The query was answered, and its outcome ends the tool.
 pub ends_by : (script left : Script) (request : Request) (next : Outcome → Script) (outcome : Outcome) (failure : Failure) (link link' : LinkValue) (unread unread' : List ℕ) (input mid last before taken taken' : Option (List ℕ))
     → IsBetween script left link unread input mid before taken → left ≡ Asks request next → Answered request (Ok outcome) unread unread' mid (prepend_known unread' last) taken taken' → link' ≡ fresh → FailsBy (answered outcome left) failure
     → Ends script (Err failure) input last before taken'

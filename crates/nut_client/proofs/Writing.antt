@@ -1,4 +1,4 @@
--- How a writer grows.
+-- How the bytes in a writer grow.
 use Rattle.std.proofs.Common.{◌≡◌, ℕ, Bool, true, false, inl, inr, ◌++◌, List, [], take, drop, ◌+◌, subst, Option, Some, None, sym, ap, ◌∙◌}
 use Rattle.std.proofs.Math.Seq.{take-add}
 use Rattle.std.proofs.lemmas.List.{append_assoc, append-nil, take-append-drop}
@@ -29,7 +29,7 @@ taken a b failed = record { before = a; after = b; has_failed = failed }
 pub cut_at : (a b : Option (List ℕ)) (failed : Type 0) (at : ℕ) (bytes : List ℕ) → Appends a b (take at bytes) → failed → IsCutShort bytes (taken a b failed)
 cut_at a b failed at bytes first lost = (lost, (take at bytes, drop at bytes, sym (take-append-drop at bytes), first))
 
--- by whether all was taken
+-- what follows if all was taken
 pub put_all : (done : Bool) (bytes : List ℕ) (w : Written) → done ≡ true → Puts done bytes w → HasAll bytes w
 put_all true bytes w is all = all
 put_all false bytes w is cut = absurd (cc)
@@ -38,11 +38,11 @@ pub put_part : (done : Bool) (bytes : List ℕ) (w : Written) → done ≡ false
 put_part true bytes w is all = absurd (cc)
 put_part false bytes w is cut = cut
 
--- a text that was cut short, with more behind
+-- a text that was cut short is cut short with more behind it
 pub cut_before : (w : Written) (x y : List ℕ) → IsCutShort x w → IsCutShort (x ++ y) w
 cut_before w x y c = (c.0, (c.1.0, c.1.1 ++ y, ap (λ l. l ++ y) c.1.2 ∙ append_assoc c.1.0 c.1.1 y, c.1.3))
 
--- and with more before
+-- and with more before it
 pub cut_behind : (a b c : Option (List ℕ)) (failed : Type 0) (x y : List ℕ) → Appends a b x → IsCutShort y (taken b c failed) → IsCutShort (x ++ y) (taken a c failed)
 cut_behind a b c failed x y first cut =
     (cut.0, (x ++ cut.1.0, cut.1.1, ap (λ l. x ++ l) cut.1.2 ∙ sym (append_assoc x cut.1.0 cut.1.1), appends_on a b c x cut.1.0 first cut.1.3))

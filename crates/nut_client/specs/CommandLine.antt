@@ -1,7 +1,7 @@
 -- What the command lines of the tools ask for (docs/tools.md).
 --
--- How words are parted into options and arguments is clap's to say. A command line reads where clap finds no fault in its
--- words, and its options are then those of clap's matches.
+-- clap says how words are split into options and arguments. A command line can be read if clap finds no fault in its
+-- words; its options are then those of clap's matches.
 use Rattle.std.specs.Prelude.{ℕ, Bool, true, false, List, [], ◌∷◌, ◌++◌, codes, fold, Option, Some, None, option_map, Result, Ok, Err, if◌then◌else◌}
 use Rattle.std.specs.Option.{option_map_or}
 use Rattle.std.specs.Str.{bytes_eq}
@@ -27,7 +27,7 @@ flag id letter = record (new_rule id) { short = Some letter; action = Some SetTr
 abbrev pub argument : List ℕ → Rule
 argument id = record (new_rule id) { value_names = 1 }
 
--- a tool of this name, which has a version, with these options and arguments
+-- a tool of this name with these options and arguments, and a version
 abbrev pub tool : List ℕ → List Rule → App
 tool name rules = fold with_rule (on_top (λ s. record s { has_version = true }) (new_app name)) rules
 
@@ -47,27 +47,28 @@ pub record Options : Type 0 where
   pub port : ℕ
   pub wanted : Wanted
 
--- A command line asks for something, or makes no command line of the tool; or clap finds a fault of one of these kinds.
+-- A command line asks for something; or it is no combination that the tool knows, or has an invalid name; or clap finds
+-- faults of these kinds.
 abbrev pub CommandLine : Type 0
 CommandLine = Result (Result Options Failure) Kinds
 
--- what is wanted at a place, if that reads
+-- what is wanted at a place, if that is valid
 abbrev pub options_at : Wanted → Result (List ℕ × List ℕ × ℕ) NameFault → Result Options Failure
 options_at wanted (Ok place) = Ok (record { ups = place.0; host = place.1; port = place.2; wanted = wanted })
 options_at wanted (Err fault) = Err BadName
 
--- whether a server is named, and no UPS
+-- whether these options name a server and no UPS
 abbrev pub names_server : Wanted → Bool
 names_server wanteds.Names = true
 names_server wanteds.Descriptions = true
 names_server other = false
 
--- any UPS of the server that is named, or else of the one at localhost
+-- the name of a UPS `u` at the server that is named, or else at localhost
 abbrev pub at_server : Option (List ℕ) → List ℕ
 at_server None = codes "u"
 at_server (Some server) = codes "u@" ++ server
 
--- A name has to be there, but for that of a server.
+-- A name is needed, unless only a server is asked.
 abbrev pub options_of : Option Wanted → Option (List ℕ) → Result Options Failure
 options_of None name = Err BadArguments
 options_of (Some wanted) name =
@@ -78,7 +79,7 @@ options_of (Some wanted) name =
 abbrev pub is_given : List ℕ → List Row → Bool
 is_given id rows = option_map_or (λ v. bytes_eq v (codes "true")) (first_of id rows) false
 
--- The flags for names, descriptions, clients and an object exclude each other and a variable.
+-- The flags for names, descriptions, clients and an object exclude each other, and a variable.
 abbrev pub upsc_wanted : Bool → Bool → Bool → Bool → Option (List ℕ) → Option Wanted
 upsc_wanted false false false false None = Some wanteds.Variables
 upsc_wanted false false false false (Some variable) = Some (wanteds.Value variable)
@@ -88,13 +89,13 @@ upsc_wanted false false true false None = Some wanteds.Clients
 upsc_wanted false false false true None = Some wanteds.Object
 upsc_wanted names descriptions clients json variable = None
 
--- A setting, parted at its first `=`, has a user and a password, and these come with nothing else.
+-- A setting, split at its first `=`, needs a user and a password; these are allowed only with a setting.
 abbrev pub upsrw_wanted : Option (List ℕ) → Option (List ℕ) → Option (List ℕ) → Option Wanted
 upsrw_wanted None None None = Some wanteds.Settings
 upsrw_wanted (Some setting) (Some user) (Some password) = option_map (λ p. wanteds.Does user password (deeds.Set p.0 p.1)) (parted 61 setting)
 upsrw_wanted setting user password = None
 
--- A list has neither a command nor a user, and a command has a user and a password.
+-- A list takes neither a command nor a user, and a command needs a user and a password.
 abbrev pub upscmd_wanted : Bool → Option (List ℕ) → Option (List ℕ) → Option (List ℕ) → Option Wanted
 upscmd_wanted true None None None = Some wanteds.Commands
 upscmd_wanted false (Some command) (Some user) (Some password) = Some (wanteds.Does user password (deeds.Command command))
@@ -116,12 +117,12 @@ upscmd_options rows =
     options_of (upscmd_wanted (is_given (codes "list") rows) (first_of (codes "command") rows) (first_of (codes "user") rows) (first_of (codes "password") rows))
     (first_of (codes "name") rows)
 
--- what clap's matches ask for, where it finds no fault
+-- what clap's matches ask for, if clap finds no fault
 abbrev pub line_by : (List Row → Result Options Failure) → List Row → Kinds → CommandLine
 line_by options rows [] = Ok (options rows)
 line_by options rows (kind ∷ kinds) = Err (kind ∷ kinds)
 
--- what words ask of a tool, the program's name first
+-- what these words ask of a tool, the program's name first
 abbrev pub read_by : App → (List Row → Result Options Failure) → List (List ℕ) → CommandLine
 read_by app options words = line_by options (matches_of app words) (fault_of app words)
 
@@ -134,12 +135,12 @@ upsrw_line = read_by upsrw_tool upsrw_options
 unfoldable pub upscmd_line : List (List ℕ) → CommandLine
 upscmd_line = read_by upscmd_tool upscmd_options
 
--- the host and the port to dial
+-- the host and the port to connect to
 abbrev pub target_of : CommandLine → Option (List ℕ × ℕ)
 target_of (Ok (Ok options)) = Some (options.host, options.port)
 target_of (Ok (Err failure)) = None
 target_of (Err faults) = None
 
--- those of a destination
+-- the host and the port of a destination
 abbrev pub dialed : Destination → List ℕ × ℕ
 dialed d = (d.host.bytes.items, d.port.number)

@@ -6,8 +6,8 @@ use Rattle.std.specs.List.{flat_map}
 abbrev pub hex_digit : ℕ → ℕ
 hex_digit n = if nat_lt n 10 then 48 + n else 87 + n
 
--- A byte in a string (section 7): `"` and `\` behind a backslash; another printing byte as it is; any other by the four digits of
--- its number, so that the text is ASCII.
+-- A byte in a string (section 7): `"` and `\` behind a backslash; another byte of 0x20 to 0x7E as it is; any other as
+-- `\u` and four hexadecimal digits, so that the text is ASCII.
 abbrev pub escaped : ℕ → List ℕ
 escaped b =
     if (b == 34) || (b == 92) then 92 ∷ b ∷ []

@@ -1,4 +1,4 @@
--- What an output took of the bytes that were written to it, where that is known.
+-- What an output took of the bytes that were written to it, if that is known.
 use Rattle.std.specs.Prelude.{◌≡◌, ℕ, ◌≤◌, ◌⊎◌, Bool, true, false, List, length, take, ◌++◌, Option}
 use Rattle.std.specs.Io.KnownBytes.{Appends, Keeps}
 use Rattle.nut_client.specs.declared.stream.Moved.{Moved}
@@ -10,8 +10,8 @@ Wrote (Bytes n) bytes before after = (n ≤ length bytes) × Appends before afte
 Wrote Again bytes before after = Keeps before after
 Wrote Lost bytes before after = Keeps before after
 
--- What became of an output in a call: the bytes that it took up to the call, and up to the return, where they are known;
--- and whether it has failed.
+-- What happened to an output in a call: the bytes that it had taken before the call, and at the return, if they are
+-- known; and whether it has failed.
 pub record Written : Type 1 where
   pub before : Option (List ℕ)
   pub after : Option (List ℕ)
@@ -20,23 +20,23 @@ pub record Written : Type 1 where
 abbrev pub written : {O : Type 0} → (O → Option (List ℕ)) → (O → Type 0) → O → O → Written
 written contents has_failed old new = record { before = contents old; after = contents new; has_failed = has_failed new }
 
--- It took nothing.
+-- The output took nothing in the call.
 abbrev pub IsUntouched : Written → Type 0
 IsUntouched w = Keeps w.before w.after
 
--- It hasn't failed, and took all of these bytes.
+-- The output hasn't failed, and took all of these bytes.
 abbrev pub HasAll : List ℕ → Written → Type 0
 HasAll bytes w = ¬ w.has_failed × Appends w.before w.after bytes
 
--- It has failed, and took a beginning of these bytes.
+-- The output has failed, and took a beginning of these bytes.
 abbrev pub IsCutShort : List ℕ → Written → Type 0
 IsCutShort bytes w = w.has_failed × ((front : List ℕ) × (back : List ℕ) × (bytes ≡ front ++ back) × Appends w.before w.after front)
 
--- It took all of these bytes, or a beginning of them where it has failed.
+-- The output took all of these bytes and hasn't failed, or a beginning of them and has.
 abbrev pub HasText : List ℕ → Written → Type 0
 HasText bytes w = HasAll bytes w ⊎ IsCutShort bytes w
 
--- The same, by whether it took all.
+-- `HasText`, by whether the output took all bytes.
 abbrev pub Puts : Bool → List ℕ → Written → Type 0
 Puts true bytes w = HasAll bytes w
 Puts false bytes w = IsCutShort bytes w

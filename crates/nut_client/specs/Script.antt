@@ -1,5 +1,5 @@
--- What each tool asks and prints: one query after the other, the next one chosen by the answers so far, and the text that
--- is printed once the last answer came (upsc(8), upsrw(8), upscmd(8), in the forms of docs/tools.md).
+-- What each tool asks and prints: one query after the other, each chosen by the answers so far, and the text that is
+-- printed once the last answer came (upsc(8), upsrw(8), upscmd(8), in the forms of docs/tools.md).
 use Rattle.std.specs.Prelude.{ℕ, Bool, List, [], ◌∷◌, ◌++◌, codes, slice_index_or, if◌then◌else◌}
 use Rattle.std.specs.List.{flat_map, list_any}
 use Rattle.std.specs.Str.{bytes_eq}
@@ -8,8 +8,8 @@ use Rattle.nut_proto.specs.declared.request.Request.{Request}
 use Rattle.nut_proto.specs.declared.request.Request.TheVariants as requests
 use Rattle.nut_client.specs.declared.failure.Failure.{Failure}
 use Rattle.nut_client.specs.declared.failure.Failure.TheVariants as failures
-use Rattle.nut_client.specs.declared.outcome.Outcome.{Outcome}
-use Rattle.nut_client.specs.declared.outcome.Outcome.TheVariants as outcomes
+use Rattle.nut_link.specs.declared.outcome.Outcome.{Outcome}
+use Rattle.nut_link.specs.declared.outcome.Outcome.TheVariants as outcomes
 use Rattle.nut_client.specs.declared.printing.Form.{Form}
 use Rattle.nut_client.specs.declared.printing.Form.TheVariants.{Pairs, Firsts, Options, Ranges}
 use Rattle.nut_client.specs.declared.printing.Values.{Values}
@@ -20,34 +20,34 @@ use Rattle.nut_client.specs.declared.wanted.Wanted.{Wanted}
 use Rattle.nut_client.specs.declared.wanted.Wanted.TheVariants as wanteds
 use Rattle.nut_client.specs.Json.{json_object}
 
--- What is left to do: to print a text, to fail, or to ask a query and go on by what came of it.
+-- What is left to do: to print a text, to fail, or to ask a query and continue by its outcome.
 pub data Script : Type 0 where
   Prints : List ℕ → Script
   Fails : Failure → Script
   Asks : Request → (Outcome → Script) → Script
 
--- Goes on with the rows of a list. A refusal ends the tool; another kind of answer never answers a LIST.
+-- Continues with the rows of a list. A refusal ends the tool. No other outcome belongs to a LIST.
 abbrev pub on_rows : (List (List (List ℕ)) → Script) → Outcome → Script
 on_rows next (outcomes.List rows) = next rows
 on_rows next (outcomes.Refused name) = Fails (failures.Refused name)
 on_rows next outcomes.Done = Fails failures.BadAnswer
 on_rows next (outcomes.Said words) = Fails failures.BadAnswer
 
--- Goes on with the words that answer a GET, in the same way.
+-- Continues with the words that answer a GET. A refusal ends the tool. No other outcome belongs to a GET.
 abbrev pub on_words : (List (List ℕ) → Script) → Outcome → Script
 on_words next (outcomes.Said words) = next words
 on_words next (outcomes.Refused name) = Fails (failures.Refused name)
 on_words next outcomes.Done = Fails failures.BadAnswer
 on_words next (outcomes.List rows) = Fails failures.BadAnswer
 
--- Goes on once the server has said OK, in the same way.
+-- Continues once the server answered OK. A refusal ends the tool. No other outcome belongs to such a request.
 abbrev pub on_done : Script → Outcome → Script
 on_done next outcomes.Done = next
 on_done next (outcomes.Refused name) = Fails (failures.Refused name)
 on_done next (outcomes.Said words) = Fails failures.BadAnswer
 on_done next (outcomes.List rows) = Fails failures.BadAnswer
 
--- the word with this number, counted from 0
+-- the word with this number, counted from 0; empty if there is none
 abbrev pub word : ℕ → List (List ℕ) → List ℕ
 word number words = slice_index_or words number []
 
@@ -55,7 +55,7 @@ word number words = slice_index_or words number []
 abbrev pub line : List (List ℕ) → List ℕ
 line parts = flat_map (λ part. part) parts ++ 10 ∷ []
 
--- the line that is printed of a row
+-- the line that shows a row
 abbrev pub row_line : Form → List (List ℕ) → List ℕ
 row_line Pairs row = line (word 0 row ∷ codes ": " ∷ word 1 row ∷ [])
 row_line Firsts row = line (word 0 row ∷ [])
@@ -65,7 +65,7 @@ row_line Ranges row = line (codes "Range: " ∷ word 0 row ∷ codes ".." ∷ wo
 abbrev pub row_lines : Form → List (List (List ℕ)) → List ℕ
 row_lines form rows = flat_map (row_line form) rows
 
--- a list whose rows are printed
+-- lists that print a line for each row
 abbrev pub lists : Request → Form → Script
 lists query form = Asks query (on_rows (λ rows. Prints (row_lines form rows)))
 
@@ -76,35 +76,35 @@ type_line kind = codes "Type:" ++ flat_map (λ w. 32 ∷ w) kind ++ 10 ∷ []
 abbrev pub has_word : List ℕ → List (List ℕ) → Bool
 has_word wanted words = list_any (λ w. bytes_eq w wanted) words
 
--- whether a variable of this type takes listed values or ranges
+-- whether a variable of this type has listed values, ranges or neither
 abbrev pub values_of : List (List ℕ) → Values
 values_of kind = if has_word (codes "ENUM") kind then values.Enum else (if has_word (codes "RANGE") kind then values.Range else values.Free)
 
--- Asks for what a variable takes, and goes on with that behind the text.
+-- Asks which values a variable may have, and continues with the text and these.
 abbrev pub with_values : List ℕ → List ℕ → Values → List ℕ → (List ℕ → Script) → Script
 with_values ups variable values.Enum text next = Asks (requests.List (queries.Enum ups variable)) (on_rows (λ rows. next (text ++ row_lines Options rows)))
 with_values ups variable values.Range text next = Asks (requests.List (queries.Range ups variable)) (on_rows (λ rows. next (text ++ row_lines Ranges rows)))
 with_values ups variable values.Free text next = next text
 
--- what stands above the values that a variable takes: its name, its type, its value
+-- what is shown above the values that a variable may have: its name, its type, its value
 abbrev pub with_heading : List (List ℕ) → List (List ℕ) → List ℕ → List ℕ
 with_heading row kind text = text ++ line (codes "[" ∷ word 0 row ∷ codes "]" ∷ []) ++ type_line kind ++ line (codes "Value: " ∷ word 1 row ∷ [])
 
--- Shows each variable that may be set, behind the text so far.
+-- Appends each writable variable to the text.
 abbrev pub settings : List ℕ → List ℕ → List (List (List ℕ)) → Script
 settings ups text [] = Prints text
 settings ups text (row ∷ rows) =
     Asks (requests.GetType ups (word 0 row)) (on_words (λ kind.
     with_values ups (word 0 row) (values_of kind) (with_heading row kind text) (λ shown. settings ups (shown ++ line []) rows)))
 
--- Shows each command with its description, behind the text so far.
+-- Appends each command with its description to the text.
 abbrev pub commands : List ℕ → List ℕ → List (List (List ℕ)) → Script
 commands ups text [] = Prints text
 commands ups text (row ∷ rows) =
     Asks (requests.GetCmdDesc ups (word 0 row)) (on_words (λ words.
     commands ups (text ++ line (word 0 row ∷ codes " - " ∷ word 0 words ∷ [])) rows))
 
--- the query that has the UPS do something
+-- the query that makes the UPS do something
 abbrev pub deed_query : List ℕ → Deed → Request
 deed_query ups (deeds.Set variable value) = requests.SetVar ups variable value
 deed_query ups (deeds.Command command) = requests.InstCmd ups command

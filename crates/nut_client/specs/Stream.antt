@@ -1,4 +1,4 @@
--- What a read and a write do to the bytes of a connection, where they are known.
+-- What reads and writes do to the bytes of a connection, if they are known.
 use Rattle.std.specs.Prelude.{◌≡◌, ◌==◌, ℕ, ◌<◌, ◌≤◌, min, List, length, take, ⊤, Option, Result, Ok, Err, if◌then◌else◌}
 use Rattle.std.specs.IoError.{error_kind}
 use Rattle.std.specs.declared.io.Error.{Error as IoError}
@@ -8,29 +8,29 @@ use Rattle.std.specs.Io.KnownBytes.{append_known, prepend_known}
 use Rattle.nut_client.specs.declared.stream.Moved.{Moved}
 use Rattle.nut_client.specs.declared.stream.Moved.TheVariants.{Bytes, Again, Lost}
 
--- A read put the next bytes of the server into a place, at least one.
+-- A read put the next bytes of the server into a place, at least one; or it moved none.
 abbrev pub Gave : Moved → List ℕ → Option (List ℕ) → Option (List ℕ) → Type 0
 Gave (Bytes n) place before after = (n ≤ length place) × (before ≡ prepend_known (take n place) after) × (0 < n)
 Gave Again place before after = after ≡ before
 Gave Lost place before after = after ≡ before
 
--- A write sent the first of these bytes, at least one where there is one.
+-- A write sent the first of these bytes, at least one if there are any; or it moved none.
 abbrev pub Took : Moved → List ℕ → Option (List ℕ) → Option (List ℕ) → Type 0
 Took (Bytes n) bytes before after = (n ≤ length bytes) × (after ≡ append_known before (take n bytes)) × (0 < length bytes → 0 < n)
 Took Again bytes before after = after ≡ before
 Took Lost bytes before after = after ≡ before
 
--- what an error of this kind makes of a read or a write
+-- the result of a read or a write that failed with an error of this kind
 abbrev pub moved_by : IoErrorKind → Moved
 moved_by io_kinds.Interrupted = Again
 moved_by kind = Lost
 
--- What became of a read or a write that ended so, of at most so many bytes.
+-- The result of a read or a write of at most `most` bytes.
 abbrev pub moved_of : Result ℕ IoError → ℕ → Moved
 moved_of (Ok count) most = if count == 0 then Lost else Bytes (min count most)
 moved_of (Err error) most = moved_by (error_kind error)
 
--- At most so many bytes went over, and at least one where they may be one.
+-- At most `most` bytes were moved, and at least one if `most` isn't 0.
 abbrev pub IsWithin : Moved → ℕ → Type 0
 IsWithin (Bytes n) most = (n ≤ most) × (0 < most → 0 < n)
 IsWithin Again most = ⊤

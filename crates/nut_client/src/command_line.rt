@@ -1,9 +1,9 @@
-//! What the command lines of the tools have in common.
+//! What the command lines of the three tools share.
 ghost use Rattle.std.specs.Prelude.{◌≡◌, ◌==◌, ◌<◌, IfOk, IfSome, Ok, Result, codes, false, length, map, option_map, position, true};
 ghost use Rattle.clap.specs.Words.{App, app_of, first_of, found_of, is_simple_and_free, rows_of, rule_of};
 ghost use Rattle.nut_conf.specs.Target.{parted as parted_at};
 ghost use Rattle.nut_client.specs.CommandLine.{CommandLine, Options as OptionsMeant, argument as argument_rule, dialed, flag as flag_rule, is_given as given, names_server as server_named, options_of as options_meant, target_of, valued as valued_rule};
-ghost use Rattle.nut_client.specs.Reading.{AreOptions, IsRead, IsReadBy, IsRefusalOf};
+ghost use Rattle.nut_client.specs.inside.Reading.{AreOptions, IsRead, IsReadBy, IsRefusalOf};
 ghost use Rattle.nut_client.specs.declared.command_line.Refusal.TheVariants.{Failed};
 ghost use Rattle.nut_client.specs.declared.failure.Failure.{Failure as FailureValue};
 ghost use Rattle.nut_client.specs.declared.failure.Failure.TheVariants.{Memory};
@@ -18,19 +18,19 @@ use nut_proto::Word;
 use std::alloc::{AllocError, Global};
 use std::convert::AsStr;
 
-/// A command line that reads.
+/// The options of a command line that was read.
 #[derive(Drop)]
 pub(crate) struct Options<'a> {
     pub target: Target,
     pub wanted: Wanted<'a>,
 }
 
-/// Why a command line makes no options.
+/// Why a command line gives no options.
 #[derive(Drop)]
 pub(crate) enum Refusal {
-    /// It doesn't read, or asks for the help or the version: the text is clap's.
+    /// It cannot be read, or asks for the help or the version. clap has the text to print.
     Usage(clap::Error),
-    /// It reads, and this is wrong with it.
+    /// It was read, and this is wrong with it.
     Failed(Failure),
 }
 
@@ -62,7 +62,8 @@ impl From<Failure> for Refusal {
     }
 }
 
-/// The host and the port that a command line gives, if it reads. An `Err` is for want of memory.
+/// Returns the host and the port that a command line names, if it names any. `AllocError` if memory cannot be
+/// allocated.
 pub(crate) fn destination_of(
     options: Result<Options<'_>, Refusal>,
 ) -> Result<Option<Destination>, AllocError>
@@ -77,7 +78,7 @@ pub(crate) fn destination_of(
     }
 }
 
-/// What clap reads of the words, if there is memory for the command.
+/// Returns clap's matches for the words.
 pub(crate) fn read_words<'a, W: AsStr>(
     command: Result<Command<'a>, AllocError>,
     words: &'a [W],
@@ -99,7 +100,7 @@ fn parse<'a, W: AsStr>(command: Command<'a>, words: &'a [W]) -> Result<ArgMatche
     Ok(matches)
 }
 
-/// The options, or the failure as a refusal.
+/// Wraps a failure as a refusal.
 pub(crate) fn refused(options: Result<Options<'_>, Failure>) -> Result<Options<'_>, Refusal>
     ensures { (meant : Result OptionsMeant FailureValue) → AreOptions meant options.entry → IsRead (Ok meant) result }
 {
@@ -109,7 +110,7 @@ pub(crate) fn refused(options: Result<Options<'_>, Failure>) -> Result<Options<'
     }
 }
 
-/// The value of an option or of an argument.
+/// Returns the value of an option or of an argument.
 pub(crate) fn value<'a>(matches: &ArgMatches<'a>, id: &str) -> Option<&'a str>
     ensures { option_map (λ s. s.now) result ≡ first_of id.now (rows_of (found_of matches.now)) }
 {
@@ -126,14 +127,14 @@ pub(crate) fn is_given(matches: &ArgMatches<'_>, id: &str) -> bool
     }
 }
 
-/// Whether a server is named, and no UPS.
+/// Whether these options name a server and no UPS.
 fn names_server(wanted: &Wanted<'_>) -> bool
     ensures { result ≡ server_named wanted.now }
 {
     matches!(wanted, Wanted::Names | Wanted::Descriptions)
 }
 
-/// The options of a command line that asks this, of a UPS or a server with this name.
+/// Returns the options for what is wanted of the UPS or the server of this name.
 pub(crate) fn options_of<'a>(
     wanted: Option<Wanted<'a>>,
     name: Option<&str>,
@@ -153,7 +154,7 @@ pub(crate) fn options_of<'a>(
     Ok(Options { target, wanted })
 }
 
-/// Where the first `=` stands.
+/// Returns the place of the first `=`.
 fn place_of_equals(bytes: &[u8]) -> Option<usize>
     ensures place { result ≡ position (λ b. b == 61) bytes.now }
     ensures within { IfSome result (λ at. at < length bytes.now) }
@@ -161,7 +162,7 @@ fn place_of_equals(bytes: &[u8]) -> Option<usize>
     bytes.iter().position(|b| *b == b'=')
 }
 
-/// What stands before and after the first `=`.
+/// Returns the bytes before and after the first `=`.
 pub(crate) fn parted_at_equals(bytes: &[u8]) -> Option<(&[u8], &[u8])>
     ensures { option_map (λ p. (p.0.now, p.1.now)) result ≡ parted_at 61 bytes.now }
 {
@@ -171,7 +172,7 @@ pub(crate) fn parted_at_equals(bytes: &[u8]) -> Option<(&[u8], &[u8])>
     }
 }
 
-/// A deed of the user of this name and password.
+/// Returns a deed for the user of this name and password.
 pub(crate) fn deed_by<'a>(user: &'a str, password: &'a str, deed: Deed<'a>) -> Wanted<'a>
     ensures { result ≡ Does user.entry.now password.entry.now deed.entry }
 {
@@ -182,7 +183,7 @@ pub(crate) fn deed_by<'a>(user: &'a str, password: &'a str, deed: Deed<'a>) -> W
     )
 }
 
-/// A flag.
+/// Makes a flag.
 pub(crate) fn flag<'a>(alloc: Global, id: &'a str, letter: char, help: &'a str) -> Arg<'a>
     ensures rule { rule_of result ≡ flag_rule id.entry.now letter }
     ensures local { result.global ≡ false }
@@ -193,7 +194,7 @@ pub(crate) fn flag<'a>(alloc: Global, id: &'a str, letter: char, help: &'a str) 
         .help(help)
 }
 
-/// An option with a value of this kind.
+/// Makes an option with a value of this kind.
 pub(crate) fn valued<'a>(
     alloc: Global,
     id: &'a str,
@@ -210,7 +211,7 @@ pub(crate) fn valued<'a>(
         .help(help)
 }
 
-/// An argument of this kind.
+/// Makes an argument of this kind.
 pub(crate) fn argument<'a>(alloc: Global, id: &'a str, kind: &'a str, help: &'a str) -> Arg<'a>
     ensures rule { rule_of result ≡ argument_rule id.entry.now }
     ensures local { result.global ≡ false }
@@ -218,7 +219,7 @@ pub(crate) fn argument<'a>(alloc: Global, id: &'a str, kind: &'a str, help: &'a 
     Arg::new(alloc, id).value_name(kind).help(help)
 }
 
-/// The option for the user's name.
+/// Makes the option for the user's name.
 pub(crate) fn user_argument<'a>(alloc: Global) -> Arg<'a>
     ensures rule { rule_of result ≡ valued_rule (codes "user") 117 }
     ensures local { result.global ≡ false }
@@ -227,7 +228,7 @@ pub(crate) fn user_argument<'a>(alloc: Global) -> Arg<'a>
     valued(alloc, "user", 'u', "USER", help)
 }
 
-/// The option for the user's password.
+/// Makes the option for the user's password.
 pub(crate) fn password_argument<'a>(alloc: Global) -> Arg<'a>
     ensures rule { rule_of result ≡ valued_rule (codes "password") 112 }
     ensures local { result.global ≡ false }
@@ -236,7 +237,7 @@ pub(crate) fn password_argument<'a>(alloc: Global) -> Arg<'a>
     valued(alloc, "password", 'p', "PASS", help)
 }
 
-/// The argument for the name of the UPS.
+/// Makes the argument for the name of the UPS.
 pub(crate) fn name_argument<'a>(alloc: Global) -> Arg<'a>
     ensures rule { rule_of result ≡ argument_rule (codes "name") }
     ensures local { result.global ≡ false }

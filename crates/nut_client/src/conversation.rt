@@ -1,21 +1,20 @@
-//! Asking queries over a connection, one after the other.
+//! Queries over a connection, one after the other.
 ghost use Rattle.std.specs.Prelude.{◌≡◌, [], IfErr, OnOk};
 ghost use Rattle.std.specs.Io.KnownBytes.{prepend_known};
-ghost use Rattle.nut_client.specs.Conversation.{Answered, Hears, IsWaiting, Sends};
-ghost use Rattle.nut_client.specs.Link.{fresh};
-ghost use Rattle.nut_client.specs.Rests.{IsRest};
+ghost use Rattle.nut_client.specs.inside.Conversation.{Answered, Hears, IsWaiting, Sends};
+ghost use Rattle.nut_link.specs.Link.{fresh};
+ghost use Rattle.nut_link.specs.inside.Rests.{IsRest};
 ghost use Rattle.nut_client.specs.declared.failure.Failure.TheVariants.{ConnectionLost};
 
 use crate::failure::Failure;
-use crate::link::Link;
-use crate::outcome::Outcome;
 use crate::stream::{Moved, Stream};
 use crate::unread::Unread;
+use nut_link::{Link, Outcome};
 use nut_proto::Request;
 use std::alloc::Global;
 use std::sync::Wait;
 
-/// A link over a connection. What was read behind an answer waits until the next query was sent.
+/// A link over a connection. Bytes that were read behind an answer are kept until the next query was sent.
 #[derive(Drop)]
 pub(crate) struct Conversation {
     link: Link,
@@ -23,7 +22,7 @@ pub(crate) struct Conversation {
 }
 
 impl Conversation {
-    /// One in which nothing was said.
+    /// Makes a conversation in which nothing was said.
     pub(crate) fn new(alloc: Global) -> Self
         ensures link { result.link ≡ fresh }
         ensures unread { result.unread ≡ [] }
@@ -34,7 +33,7 @@ impl Conversation {
         }
     }
 
-    /// Sends a query and waits for its answer. The link is given one line at a time.
+    /// Sends a query and waits for its answer. The link is fed one line at a time.
     pub(crate) fn ask<S: Stream>(
         &mut self,
         rt: &impl Wait,
@@ -87,7 +86,7 @@ impl Conversation {
         Ok(())
     }
 
-    /// Gives the link the next part of a line, and takes out the answer where it is complete.
+    /// Feeds the link the next part of a line, and takes out the answer if it is complete.
     fn hear<S: Stream>(
         &mut self,
         rt: &impl Wait,

@@ -1,14 +1,14 @@
-//! Where a tool finds its server.
+//! The server that a tool connects to.
 ghost use Rattle.std.specs.Prelude.{◌≡◌, option_map};
 ghost use Rattle.nut_client.specs.CommandLine.{at_server};
-ghost use Rattle.nut_client.specs.Reading.{IsTarget};
+ghost use Rattle.nut_client.specs.inside.Reading.{IsTarget};
 ghost use Rattle.nut_conf.specs.Target.{target};
 
 use crate::failure::Failure;
 use arrayvec::ArrayVec;
 use nut_conf::{Host, Port, Target};
 
-/// The host and the port to dial.
+/// The host and the port to connect to.
 #[derive(Debug, PartialEq, Eq, Drop)]
 pub struct Destination {
     /// The host of the server.
@@ -18,7 +18,7 @@ pub struct Destination {
 }
 
 impl Destination {
-    /// That of a target.
+    /// Returns the host and the port of a target.
     pub(crate) fn of(target: Target) -> Destination
         ensures host { result.host ≡ target.host }
         ensures port { result.port ≡ target.port }
@@ -44,8 +44,7 @@ fn read_bytes(name: &[u8]) -> Result<Target, Failure>
     }
 }
 
-/// Reads `host[:port]`, which is `localhost` where it isn't there: what follows `@` in the name of a UPS, whose name is
-/// then `u`.
+/// Reads `host[:port]` as the part behind `@` in the name of a UPS called `u`. Without it, the host is `localhost`.
 pub(crate) fn read_server(server: Option<&str>) -> Result<Target, Failure>
     ensures { IsTarget (target (at_server (option_map (λ s. s.now) server.entry))) result }
 {

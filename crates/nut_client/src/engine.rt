@@ -4,26 +4,32 @@ ghost use Rattle.std.specs.IoError.{error_kind};
 ghost use Rattle.clap.specs.Words.{kind_of};
 ghost use Rattle.nut_client.specs.CommandLine.{CommandLine};
 ghost use Rattle.nut_client.specs.Output.{HasText, Puts, written};
-ghost use Rattle.nut_client.specs.Reading.{IsRead, TellsRefusal, words_failure};
+ghost use Rattle.nut_client.specs.inside.Reading.{IsRead, TellsRefusal, words_failure};
 ghost use Rattle.nut_client.specs.Script.{script};
 ghost use Rattle.nut_client.specs.Tool.{Ends, EndsOver, Explains, Reports, RunsAs, Tells, error_text, is_asked_for as asked_for};
 ghost use Rattle.nut_client.specs.declared.failure.Failure.TheVariants.{ConnectionLost, Memory, NoConnection};
 
 use crate::command_line::{Options, Refusal};
 use crate::conversation::Conversation;
-use crate::copied::Text;
 use crate::failure::Failure;
 use crate::output::Output;
 use crate::stream::{Moved, Stream};
 use crate::task::{Next, Task};
 use crate::wanted::Wanted;
 use clap::error::ErrorKind;
+use nut_link::Text;
 use nut_proto::Word;
 use std::alloc::Global;
 use std::io;
 use std::sync::Wait;
 
-/// Asks a server what is wanted of the UPS of this name, and gives the text to print once the last answer came.
+/// Asks a server what is wanted of the UPS of this name. Returns the text to print once the last answer came.
+///
+/// # Errors
+///
+/// `Refused` with the name of the error if the server refuses a query; `BadAnswer` if a line doesn't answer the query;
+/// `BadQuery` if a query isn't writable; `ConnectionLost` if the connection ends or fails before the last answer;
+/// `Memory` if memory cannot be allocated.
 pub fn ask_server<S: Stream>(
     rt: &impl Wait,
     alloc: Global,
@@ -54,7 +60,7 @@ pub fn ask_server<S: Stream>(
     Ok(task.into_text())
 }
 
-/// What stands from this place on.
+/// Returns the bytes from this place on.
 fn rest_from(bytes: &[u8], at: usize) -> &[u8]
     requires { at ≤ length bytes.now }
     ensures { result.now ≡ drop at bytes.now }
@@ -62,7 +68,7 @@ fn rest_from(bytes: &[u8], at: usize) -> &[u8]
     &bytes[at..]
 }
 
-/// Writes these bytes, and says whether all were written. Else a beginning of them was, and the output has failed.
+/// Writes these bytes. Returns whether all were written; if not, a beginning of them was, and the output has failed.
 fn put_all<O: Output>(rt: &impl Wait, output: &mut O, bytes: &[u8]) -> bool
     ensures { Puts result bytes.now (written O.contents O.has_failed output.old output.new) }
 {
@@ -80,7 +86,7 @@ fn put_all<O: Output>(rt: &impl Wait, output: &mut O, bytes: &[u8]) -> bool
     unreachable!()
 }
 
-/// Says why there is no output, or no more of it.
+/// Writes to the error output why there is no output, or only a part of it.
 fn put_failure<E: Output>(rt: &impl Wait, err: &mut E, failure: &Failure)
     ensures { HasText (error_text failure.now) (written E.contents E.has_failed err.old err.new) }
 {
@@ -93,7 +99,7 @@ fn put_failure<E: Output>(rt: &impl Wait, err: &mut E, failure: &Failure)
     put_all(rt, err, b"\n");
 }
 
-/// Says why there is no output, or no more of it, and gives the exit status.
+/// Writes to the error output why there is no output, or only a part of it. Returns the exit status.
 fn fail<E: Output>(rt: &impl Wait, failure: Failure, err: &mut E) -> u8
     ensures { Reports failure result (written E.contents E.has_failed err.old err.new) }
 {
@@ -101,7 +107,7 @@ fn fail<E: Output>(rt: &impl Wait, failure: Failure, err: &mut E) -> u8
     failure.status()
 }
 
-/// Prints what a tool came to, and gives the exit status.
+/// Prints the text of a tool, or writes why there is none. Returns the exit status.
 pub(crate) fn tell<O: Output, E: Output>(
     rt: &impl Wait,
     printed: Result<Text, Failure>,
@@ -121,7 +127,7 @@ pub(crate) fn tell<O: Output, E: Output>(
     }
 }
 
-/// Says why a command line makes no options, and gives the exit status.
+/// Writes why a command line gives no options. Returns the exit status.
 fn tell_refusal<O: Output, E: Output>(
     rt: &impl Wait,
     alloc: Global,
@@ -137,7 +143,7 @@ fn tell_refusal<O: Output, E: Output>(
     }
 }
 
-/// Runs a tool with what was read of its command line, over a connection, and gives the exit status.
+/// Runs a tool, with the options or the refusal of its command line, over a connection. Returns the exit status.
 pub(crate) fn run<S: Stream, O: Output, E: Output>(
     rt: &impl Wait,
     alloc: Global,
@@ -160,7 +166,8 @@ pub(crate) fn run<S: Stream, O: Output, E: Output>(
     }
 }
 
-/// Runs a tool with what was read of its command line, where no connection was made, and gives the exit status.
+/// Runs a tool, with the options or the refusal of its command line, if no connection was made. Returns the exit
+/// status.
 pub(crate) fn run_alone<O: Output, E: Output>(
     rt: &impl Wait,
     alloc: Global,
@@ -178,7 +185,7 @@ pub(crate) fn run_alone<O: Output, E: Output>(
     }
 }
 
-/// Whether clap's text was asked for: it is the help or the version.
+/// Whether clap's text was asked for: the help or the version.
 fn is_asked_for(error: &clap::Error) -> bool
     ensures { result ≡ asked_for (kind_of error.now) }
 {
@@ -188,7 +195,7 @@ fn is_asked_for(error: &clap::Error) -> bool
     )
 }
 
-/// Writes clap's text for a command line that it refuses to `err`, and gives status 2.
+/// Writes clap's text for a command line that it refuses to `err`. Returns status 2.
 fn tell_fault<E: Output>(rt: &impl Wait, text: &Text, err: &mut E) -> u8
     ensures status { result ≡ 2 }
     ensures text { HasText text.now (written E.contents E.has_failed err.old err.new) }
@@ -197,8 +204,8 @@ fn tell_fault<E: Output>(rt: &impl Wait, text: &Text, err: &mut E) -> u8
     2
 }
 
-/// Writes clap's text: the help and the version to `out`, as a tool's output is, and a fault to `err`, with status 2. Want
-/// of memory for the text is said in its place, with status 1.
+/// Writes clap's text: the help and the version to `out`, as a tool's output is written, and a fault to `err`, with
+/// status 2. If memory for the text cannot be allocated, writes that to `err`, with status 1.
 fn tell_usage<O: Output, E: Output>(
     rt: &impl Wait,
     alloc: Global,
@@ -220,7 +227,7 @@ fn tell_usage<O: Output, E: Output>(
     }
 }
 
-/// Why the words of the command line can't be had.
+/// Returns why the words of the command line are not available.
 fn words_failure(error: &io::Error) -> Failure
     ensures { result ≡ words_failure (error_kind error.now) }
 {
@@ -230,8 +237,8 @@ fn words_failure(error: &io::Error) -> Failure
     }
 }
 
-/// Says why the words of the command line can't be had, and gives the exit status: 1 for want of memory, and 2 where a word
-/// isn't UTF-8.
+/// Writes why the words of the command line are not available. Returns the exit status: 1 if memory cannot be
+/// allocated, and 2 for any other error, such as a word that isn't UTF-8.
 pub fn refuse_words<E: Output>(rt: &impl Wait, error: &io::Error, err: &mut E) -> u8
     ensures { Reports (words_failure (error_kind error.now)) result (written E.contents E.has_failed err.old err.new) }
 {

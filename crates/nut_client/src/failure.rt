@@ -1,32 +1,31 @@
-//! Why a tool ends without its output, or with a part of it.
+//! Why a tool ends without its output, or with only a part of it.
 ghost use Rattle.std.specs.Prelude.{◌≡◌};
 ghost use Rattle.nut_client.specs.Tool.{failure_of, reason, status_of};
 ghost use Rattle.nut_client.specs.declared.failure.Failure.TheVariants.{Memory};
 
-use crate::copied::Text;
-use crate::fault::LinkFault;
+use nut_link::{LinkFault, Text};
 use std::alloc::{AllocError, AllocFailed};
 
-/// Why a tool ends without its output, or with a part of it.
+/// Why a tool ends without its output, or with only a part of it.
 #[derive(Debug, Drop)]
 pub enum Failure {
-    /// The words of the command line read, but make no combination that the tool knows.
+    /// The command line can be read, but is no combination that the tool knows.
     BadArguments,
-    /// The name of the UPS, its host or its port doesn't read.
+    /// The name of the UPS, its host or its port isn't valid.
     BadName,
     /// No connection was made.
     NoConnection,
     /// The connection ended before the last answer, or a read or a write failed.
     ConnectionLost,
-    /// The server refused a query, by this name.
+    /// The server refused a query, with an error of this name.
     Refused(Text),
-    /// The server sent a line that answers no query.
+    /// The server sent a line that doesn't answer the query.
     BadAnswer,
-    /// A query can't be written.
+    /// A query isn't writable: it has a byte outside 0x20 to 0x7E or is too long.
     BadQuery,
-    /// Memory was refused.
+    /// Memory could not be allocated.
     Memory,
-    /// The output failed, and a beginning of the text was written.
+    /// The output failed after a beginning of the text was written.
     OutputFailed,
 }
 
@@ -62,7 +61,7 @@ impl From<LinkFault> for Failure {
 }
 
 impl Failure {
-    /// What is said of it on standard error, behind `Error: `.
+    /// Returns what is written of it to standard error, behind `Error: `.
     pub(crate) fn reason(&self) -> &[u8]
         ensures { result.now ≡ reason self.now }
     {
@@ -79,7 +78,7 @@ impl Failure {
         }
     }
 
-    /// The exit status.
+    /// Returns the exit status: 2 for `BadArguments`, else 1.
     pub(crate) fn status(&self) -> u8
         ensures { result ≡ status_of self.now }
     {

@@ -3,10 +3,10 @@ ghost use Rattle.std.specs.Prelude.{◌≡◌, ◌<◌, ◌++◌, OnOk, codes};
 ghost use Rattle.std.specs.List.{flat_map};
 ghost use Rattle.nut_client.specs.Json.{escaped, hex_digit as hex_digit_of, json_object, json_string, member, members};
 
-use crate::copied::Fields;
+use nut_link::Fields;
 use std::alloc::AllocError;
 
-/// The digit of a number below 16.
+/// Returns the digit of a number below 16.
 fn hex_digit(number: u8) -> u8
     requires { number < 16 }
     ensures { result ≡ hex_digit_of number }
@@ -18,7 +18,7 @@ fn hex_digit(number: u8) -> u8
     }
 }
 
-/// Appends a byte as it stands in a string.
+/// Appends a byte of a string, escaped if it has to be.
 fn put_byte(out: &mut Vec<u8>, byte: u8) -> Result<(), AllocError>
     ensures { OnOk result (out.new.items ≡ out.old.items ++ escaped byte) }
 {
@@ -33,7 +33,7 @@ fn put_byte(out: &mut Vec<u8>, byte: u8) -> Result<(), AllocError>
     Ok(())
 }
 
-/// Appends the bytes of a string.
+/// Appends the bytes of a string, each escaped if it has to be.
 fn put_bytes(out: &mut Vec<u8>, text: &[u8]) -> Result<(), AllocError>
     ensures { OnOk result (out.new.items ≡ out.old.items ++ flat_map escaped text.now) }
 {
@@ -43,7 +43,7 @@ fn put_bytes(out: &mut Vec<u8>, text: &[u8]) -> Result<(), AllocError>
     Ok(())
 }
 
-/// Appends a string.
+/// Appends a string with its quotes.
 fn put_string(out: &mut Vec<u8>, text: &[u8]) -> Result<(), AllocError>
     ensures { OnOk result (out.new.items ≡ out.old.items ++ json_string text.now) }
 {
@@ -63,7 +63,7 @@ fn put_member(out: &mut Vec<u8>, row: &Fields) -> Result<(), AllocError>
     Ok(())
 }
 
-/// Appends further members.
+/// Appends further members, each behind a comma.
 fn put_more(out: &mut Vec<u8>, rows: &[Fields]) -> Result<(), AllocError>
     ensures { OnOk result (out.new.items ≡ out.old.items ++ flat_map (λ r. codes ", " ++ member r) rows.now) }
 {
@@ -85,7 +85,7 @@ fn put_members(out: &mut Vec<u8>, rows: &[Fields]) -> Result<(), AllocError>
     Ok(())
 }
 
-/// Appends the rows as one object, a line of its own.
+/// Appends the rows as one object and a line feed.
 pub(crate) fn put_object(out: &mut Vec<u8>, rows: &[Fields]) -> Result<(), AllocError>
     ensures { OnOk result (out.new.items ≡ out.old.items ++ json_object rows.now) }
 {

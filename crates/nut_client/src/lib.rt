@@ -1,30 +1,22 @@
-//! The client's end of a connection to upsd (RFC 9271): a link, which asks one query after the other and takes a line as
-//! an answer only where it matches the query.
+//! The tools upsc, upsrw and upscmd: what a command line asks for, what a tool asks a server, and what it prints and how it
+//! ends by what the server answers.
 //!
-//! What answer a request expects and when a line matches it is in `specs/Matching.antt`, what a link is and how each call
-//! and each line moves it in `specs/Link.antt`.
+//! The command lines are in `specs/CommandLine.antt`, what each of them asks and prints in `specs/Script.antt`, how a tool
+//! runs and ends in `specs/Tool.antt`. A tool asks over a link of `nut_link`, whose public items stand here too.
 #![tactic(auto)]
 
 mod command_line;
 mod conversation;
-mod copied;
 mod destination;
 mod dialing;
 mod engine;
 mod examples;
-mod exchange;
-mod expected;
 mod failure;
-mod fault;
-mod heading;
 mod json;
 mod laws;
-mod link;
-mod outcome;
 mod output;
 mod printing;
 mod program;
-mod query;
 mod stream;
 mod task;
 mod unread;
@@ -33,27 +25,21 @@ mod upscmd;
 mod upsrw;
 mod wanted;
 
-pub use copied::{Fields, Rows, Text};
 pub use destination::Destination;
 pub use dialing::dial;
 pub use engine::{ask_server, refuse_words};
 pub use examples::worked_examples;
-pub use exchange::{Exchange, Stage};
-pub use expected::{Expected, More};
 pub use failure::Failure;
-pub use fault::LinkFault;
-pub use heading::{Heading, Name};
-pub use laws::{
-    all_bytes_decide, bounds_stay, cuts_do_not_matter, more_bytes_are_ignored, ok_takes_no_memory,
+pub use laws::{all_bytes_decide, more_bytes_are_ignored};
+pub use nut_conf::{NameFault, Target, split_name};
+pub use nut_link::{
+    Exchange, Expected, Fields, Heading, Link, LinkFault, More, Name, Outcome, QUERY_MAX, Query,
+    Rows, Stage, Text, bounds_stay, cuts_do_not_matter, ok_takes_no_memory, query_limits,
     replies_match, rests_stay,
 };
-pub use link::Link;
-pub use nut_conf::{NameFault, Target, split_name};
-pub use outcome::Outcome;
 pub use output::{Output, WriterOutput};
 pub use printing::{Form, Values};
 pub use program::{Tool, run_tool};
-pub use query::Query;
 pub use stream::{ByteStream, MemoryStream, Moved, Stream};
 pub use upsc::{run_upsc, upsc_target};
 pub use upscmd::{run_upscmd, upscmd_target};

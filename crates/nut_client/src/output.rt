@@ -1,4 +1,4 @@
-//! Where a tool prints.
+//! What a tool prints to.
 ghost use Rattle.std.specs.Prelude.{◌≡◌, ℕ, List, Option, false, true};
 ghost use Rattle.std.specs.Io.KnownBytes.{Keeps};
 ghost use Rattle.nut_client.specs.Output.{Wrote};
@@ -7,28 +7,28 @@ ghost use Rattle.nut_client.specs.declared.stream.Moved.TheVariants.{Lost};
 use crate::stream::Moved;
 use std::io::{ErrorKind, Write};
 
-/// Where a tool prints: its output, or its error output.
+/// What a tool prints to: its output or its error output.
 pub trait Output {
-    /// The bytes that it took so far, where they are known.
+    /// The bytes that it took so far, if they are known.
     ghost contents: { Self → Option (List ℕ) };
 
-    /// It has failed: not all that was written to it so far went where it should.
+    /// It has failed: not all that was written to it so far arrived.
     ghost has_failed: { Self → Type 0 };
 
-    /// Writes some of these bytes.
+    /// Writes some of these bytes. Returns how many, or why it wrote none.
     fn write(&mut self, bytes: &[u8]) -> Moved
         ensures wrote { Wrote result bytes.now (contents self.old) (contents self.new) }
         ensures lost { result ≡ Lost → has_failed self.new };
 
-    /// Hands on what was written, and says whether all went well up to here.
+    /// Passes on what was written. Returns whether all of it arrived.
     fn flush(&mut self) -> bool
         ensures kept { Keeps (contents self.old) (contents self.new) }
         ensures well { result ≡ true → ¬ has_failed self.new }
         ensures lost { result ≡ false → has_failed self.new };
 }
 
-/// An output over a writer, such as a standard stream, or a `Vec` in a test. It has failed once a write or a flush of the
-/// writer did.
+/// An output over a writer, such as a standard stream, or a `Vec` in a test. It has failed once a write or a flush of
+/// the writer failed.
 #[derive(Drop)]
 pub struct WriterOutput<W> {
     writer: W,
@@ -36,7 +36,7 @@ pub struct WriterOutput<W> {
 }
 
 impl<W: Write> WriterOutput<W> {
-    /// An output over this writer.
+    /// Makes an output over this writer.
     pub fn new(writer: W) -> Self
         ensures writer { result.writer ≡ writer }
         ensures whole { result.has_failed ≡ false }
@@ -47,14 +47,14 @@ impl<W: Write> WriterOutput<W> {
         }
     }
 
-    /// The writer.
+    /// Returns the writer.
     pub fn into_writer(self) -> W
         ensures { result ≡ self.writer }
     {
         self.writer
     }
 
-    /// A write failed.
+    /// Notes that a write failed.
     fn fail(&mut self) -> Moved
         ensures lost { result ≡ Lost }
         ensures failed { self.new ≡ record self.old { has_failed = true } }

@@ -3,23 +3,23 @@ ghost use Rattle.std.specs.Prelude.{◌≡◌, ◌++◌, ◌∷◌, [], OnOk};
 ghost use Rattle.std.specs.List.{flat_map};
 ghost use Rattle.nut_client.specs.Script.{has_word, row_line, row_lines, type_line, values_of, with_heading};
 
-use crate::copied::{Fields, Text};
+use nut_link::{Fields, Text};
 use std::alloc::AllocError;
 
 /// How a row is printed.
 #[derive(Clone, Copy, Debug)]
 pub enum Form {
-    /// Its two words, `: ` between them.
+    /// Its first two words with `: ` between them.
     Pairs,
     /// Its first word.
     Firsts,
-    /// A value that a variable takes.
+    /// A value that a variable may have.
     Options,
-    /// A range of numbers that a variable takes.
+    /// A range of numbers that a variable may be in.
     Ranges,
 }
 
-/// What a variable takes.
+/// The values that a variable may have.
 #[derive(Clone, Copy, Debug)]
 pub enum Values {
     /// The values that the server lists.
@@ -30,7 +30,7 @@ pub enum Values {
     Free,
 }
 
-/// Appends a line of these parts.
+/// Appends these parts as a line.
 pub(crate) fn put_line(out: &mut Vec<u8>, parts: &[&[u8]]) -> Result<(), AllocError>
     ensures { OnOk result (out.new.items ≡ out.old.items ++ (flat_map (λ part. part.now) parts.now ++ 10 ∷ [])) }
 {
@@ -41,7 +41,7 @@ pub(crate) fn put_line(out: &mut Vec<u8>, parts: &[&[u8]]) -> Result<(), AllocEr
     Ok(())
 }
 
-/// Appends the line that is printed of a row.
+/// Appends the line that shows a row.
 fn put_row(out: &mut Vec<u8>, form: Form, row: &Fields) -> Result<(), AllocError>
     ensures { OnOk result (out.new.items ≡ out.old.items ++ row_line form row.now) }
 {
@@ -54,7 +54,7 @@ fn put_row(out: &mut Vec<u8>, form: Form, row: &Fields) -> Result<(), AllocError
     Ok(())
 }
 
-/// Appends the lines of all rows.
+/// Appends the lines that show all rows.
 pub(crate) fn put_rows(out: &mut Vec<u8>, form: Form, rows: &[Fields]) -> Result<(), AllocError>
     ensures { OnOk result (out.new.items ≡ out.old.items ++ row_lines form rows.now) }
 {
@@ -85,7 +85,7 @@ fn put_type(out: &mut Vec<u8>, kind: &Fields) -> Result<(), AllocError>
     Ok(())
 }
 
-/// Appends what stands above the values that a variable takes: its name, its type and its value.
+/// Appends what is shown above the values that a variable may have: its name, its type and its value.
 pub(crate) fn put_heading(out: &mut Vec<u8>, row: &Fields, kind: &Fields) -> Result<(), AllocError>
     ensures { OnOk result (out.new.items ≡ with_heading row.now kind.now out.old.items) }
 {
@@ -102,7 +102,7 @@ fn has_word(words: &Fields, wanted: &[u8]) -> bool
     words.as_slice().iter().any(|w| w.as_bytes() == wanted)
 }
 
-/// What a variable of this type takes.
+/// Returns the values that a variable of this type may have.
 pub(crate) fn values_of(kind: &Fields) -> Values
     ensures { result ≡ values_of kind.now }
 {

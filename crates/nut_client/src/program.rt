@@ -18,16 +18,16 @@ use std::{env, io};
 /// A tool.
 #[derive(Clone, Copy, Debug, PartialEq, Eq)]
 pub enum Tool {
-    /// `upsc`, which shows the variables of a UPS, or the UPSes of a server.
+    /// `upsc` shows the variables of a UPS, the UPSes of a server, or the clients of a UPS.
     Upsc,
-    /// `upsrw`, which shows the variables of a UPS that may be set, or sets one.
+    /// `upsrw` shows the writable variables of a UPS, or sets one.
     Upsrw,
-    /// `upscmd`, which lists the commands of a UPS, or has it do one.
+    /// `upscmd` lists the commands of a UPS, or sends it one.
     Upscmd,
 }
 
-/// Runs a tool as this program: with the words of its command line, over TCP, and with its output and this error output. It
-/// gives the exit status.
+/// Runs a tool as this program: with the words of its command line, over TCP, with standard output and this error
+/// output. Returns the exit status.
 pub fn run_tool<R: Env + Net + Print + Wait + AllocGlobal, E: Print>(
     rt: &R,
     stderr: &E,
@@ -41,7 +41,7 @@ pub fn run_tool<R: Env + Net + Print + Wait + AllocGlobal, E: Print>(
     ExitCode::from(status)
 }
 
-/// The words of the command line, the program's name first.
+/// Returns the words of the command line, the program's name first.
 fn command_words<R: Env + AllocGlobal>(rt: &R) -> io::Result<Vec<String>> {
     let words = env::args(rt)?.collect(rt.alloc())?;
     Ok(words)
@@ -68,7 +68,7 @@ fn run_words<R: Net + Print + Wait + AllocGlobal, E: Output>(
     }
 }
 
-/// The host and the port that a tool has to dial with these words, if they read.
+/// Returns the host and the port that these words tell a tool to connect to, if they name any.
 fn target_of(
     tool: Tool,
     alloc: Global,

@@ -7,26 +7,26 @@ use std::alloc::Global;
 use std::io;
 use std::io::{ErrorKind, Read, Write};
 
-/// What became of a read or a write.
+/// The result of a read or a write.
 #[derive(Clone, Copy, Debug, PartialEq, Eq)]
 pub enum Moved {
-    /// The first so many bytes went over, at least one.
+    /// The first bytes were moved, this many, at least one.
     Bytes(usize),
-    /// None went over, and it can be tried again.
+    /// No byte was moved, and it can be tried again.
     Again,
-    /// None went over, and none will: the connection has ended, or it failed.
+    /// No byte was moved, and none will be: the connection has ended or failed.
     Lost,
 }
 
 /// The connection to a server.
 pub trait Stream {
-    /// The bytes that the server will have sent, where they are known.
+    /// The bytes that the server will still send, if they are known.
     ghost remaining: { Self → Option (List ℕ) };
 
-    /// The bytes that it took so far, where they are known.
+    /// The bytes that the server took so far, if they are known.
     ghost taken: { Self → Option (List ℕ) };
 
-    /// It has ended, or it failed.
+    /// It has ended or failed.
     ghost has_ended: { Self → Type 0 };
 
     /// Reads some of the bytes that the server sent into a place that isn't empty. It may wait for them.
@@ -36,28 +36,28 @@ pub trait Stream {
         ensures kept { taken self.new ≡ taken self.old }
         ensures lost { result ≡ Lost → has_ended self.new };
 
-    /// Sends some of these bytes, of which there is at least one.
+    /// Sends some of these bytes. It may wait.
     fn write(&mut self, bytes: &[u8]) -> Moved
         ensures took { Took result bytes.now (taken self.old) (taken self.new) }
         ensures kept { remaining self.new ≡ remaining self.old }
         ensures lost { result ≡ Lost → has_ended self.new };
 }
 
-/// A connection over a socket, a pipe or the like. It tells nothing of its bytes.
+/// A connection over a socket, a pipe or the like. Which bytes it carries isn't known to the definitions.
 #[derive(Drop)]
 pub struct ByteStream<T> {
     inner: T,
 }
 
 impl<T: Read + Write> ByteStream<T> {
-    /// A connection over this.
+    /// Makes a connection over this.
     pub fn new(inner: T) -> Self
         ensures { result.inner ≡ inner }
     {
         ByteStream { inner }
     }
 
-    /// What it is over.
+    /// Returns what it is over.
     pub fn into_inner(self) -> T
         ensures { result ≡ self.inner }
     {
@@ -65,7 +65,7 @@ impl<T: Read + Write> ByteStream<T> {
     }
 }
 
-/// What a read or a write that ended so has moved, of at most so many bytes.
+/// Returns what a read or a write with this result has moved, of at most `most` bytes.
 fn what_moved(count: io::Result<usize>, most: usize) -> Moved
     ensures exact { result ≡ moved_of count most }
     ensures within { IsWithin result most }
@@ -101,8 +101,8 @@ impl<T: Read + Write> Stream for ByteStream<T> {
     }
 }
 
-/// A connection in memory, to a server that sends these bytes, in pieces of at most so many, and then ends. It takes what
-/// is sent to it in pieces of the same length.
+/// A connection in memory to a server that sends these bytes, in pieces of at most the given length, and then ends. It
+/// takes what is sent to it in pieces of the same length.
 #[derive(Drop)]
 pub struct MemoryStream<'a> {
     rest: &'a [u8],
@@ -112,7 +112,7 @@ pub struct MemoryStream<'a> {
 }
 
 impl<'a> MemoryStream<'a> {
-    /// A connection to a server that sends these bytes, in pieces of at most `most`, or of one where that is 0.
+    /// Makes a connection to a server that sends these bytes, in pieces of at most `most`, or of 1 if that is 0.
     pub fn new(alloc: Global, bytes: &'a [u8], most: usize) -> Self
         ensures remaining { result.rest.now ≡ bytes.now }
         ensures pieces { result.most ≡ most }
@@ -127,7 +127,7 @@ impl<'a> MemoryStream<'a> {
         }
     }
 
-    /// What was sent to the server.
+    /// Returns what was sent to the server.
     pub fn asked(&self) -> &[u8]
         ensures { result.now ≡ self.now.asked.items }
     {
@@ -140,7 +140,7 @@ impl<'a> Stream for MemoryStream<'a> {
 
     ghost taken = { λ s. Some s.asked.items };
 
-    // Its end, or a growth that was refused.
+    // It ends after the last byte, or when memory cannot be allocated.
     ghost has_ended = { λ s. (s.rest.now ≡ []) ⊎ (s.is_lost ≡ true) };
 
     fn read(&mut self, place: &mut [u8]) -> Moved

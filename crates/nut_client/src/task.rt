@@ -1,32 +1,31 @@
-//! What is left of a tool's work, step by step: a query to ask, or a text to print.
+//! What a tool has left to do, step by step: to ask a query, or to print a text.
 ghost use Rattle.std.specs.Prelude.{◌≡◌, ◌∷◌, List, ℕ, [], codes};
 ghost use Rattle.nut_client.specs.Json.{json_object};
 ghost use Rattle.nut_client.specs.Script.{Prints, deed_query, line, on_done, on_rows, on_words, row_lines, script, word};
-ghost use Rattle.nut_client.specs.Task.{GivesRows, GivesWords, GoesOn, IsDone, Leads, Says, ShowsRow, answered, first_query, first_question, left_at, left_of, row_query, showing, showing_of};
+ghost use Rattle.nut_client.specs.inside.Task.{GivesRows, GivesWords, GoesOn, IsDone, Leads, Says, ShowsRow, answered, first_query, first_question, left_at, left_of, row_query, showing, showing_of};
 
-use crate::copied::{Fields, Rows, Text};
 use crate::failure::Failure;
 use crate::json::put_object;
-use crate::outcome::Outcome;
 use crate::printing::{Form, Values, put_heading, put_line, put_rows, values_of};
 use crate::wanted::{Deed, Wanted};
+use nut_link::{Fields, Outcome, Rows, Text};
 use nut_proto::{ListQuery, Request, Word};
 use std::alloc::Global;
 
-/// What is asked about a row next.
+/// What is asked next about a row.
 #[derive(Clone, Copy)]
 pub(crate) enum Question {
     /// The type of this variable.
     Kind,
-    /// The values that it takes. Its name, type and value are shown.
+    /// The values that it may have. Its name, type and value were shown.
     Values,
-    /// The ranges that it takes. Its name, type and value are shown.
+    /// The ranges that it may be in. Its name, type and value were shown.
     Ranges,
     /// The description of this command.
     Description,
 }
 
-/// Rows of which so many were shown, and the text so far.
+/// Rows, how many of them were shown, and the text so far.
 #[derive(Drop)]
 pub(crate) struct Shown {
     rows: Rows,
@@ -35,7 +34,7 @@ pub(crate) struct Shown {
 }
 
 impl Shown {
-    /// The text so far.
+    /// Returns the text so far.
     fn into_text(self) -> Vec<u8>
         ensures { result ≡ self.text }
     {
@@ -48,14 +47,14 @@ impl Shown {
     }
 }
 
-/// How far the work is.
+/// How far a tool has come.
 #[derive(Drop)]
 pub(crate) enum Step<'a> {
     /// Nothing was answered yet.
     Begun(Wanted<'a>),
-    /// The user's name was taken. The password and the deed are left.
+    /// The user's name was accepted. The password and the deed are left.
     Password(Word<'a>, Deed<'a>),
-    /// The user was taken. The deed is left.
+    /// The password was accepted. The deed is left.
     Deed(Deed<'a>),
     /// This is asked about the first row that wasn't shown yet.
     Shows(Question, Shown),
@@ -72,7 +71,7 @@ pub(crate) enum Next<'t> {
     Prints,
 }
 
-/// What is left of a tool's work for the UPS of this name.
+/// What a tool has left to do for the UPS of this name.
 #[derive(Drop)]
 pub(crate) struct Task<'a> {
     ups: Word<'a>,
@@ -80,14 +79,14 @@ pub(crate) struct Task<'a> {
     alloc: Global,
 }
 
-/// The same word once more.
+/// Returns the same word.
 fn again<'t>(word: &'t Word<'_>) -> Word<'t>
     ensures { result ≡ word.now }
 {
     Word::new(word.as_bytes())
 }
 
-/// The query that has the UPS do something.
+/// Returns the query that makes the UPS do something.
 fn deed_query<'t>(ups: &'t Word<'_>, deed: &'t Deed<'_>) -> Request<'t>
     ensures { result ≡ deed_query ups.now deed.now }
 {
@@ -104,7 +103,7 @@ fn deed_query<'t>(ups: &'t Word<'_>, deed: &'t Deed<'_>) -> Request<'t>
     }
 }
 
-/// The first query.
+/// Returns the first query.
 fn first_query<'t>(ups: &'t Word<'_>, wanted: &'t Wanted<'_>) -> Request<'t>
     ensures { result ≡ first_query ups.now wanted.now }
 {
@@ -122,7 +121,7 @@ fn first_query<'t>(ups: &'t Word<'_>, wanted: &'t Wanted<'_>) -> Request<'t>
     }
 }
 
-/// The query about the variable or the command that a row names.
+/// Returns the query about the variable or the command that a row names.
 fn row_query<'t>(ups: &'t Word<'_>, question: Question, name: &'t [u8]) -> Request<'t>
     ensures { result ≡ row_query ups.now question name.now }
 {
@@ -147,7 +146,7 @@ fn row_query<'t>(ups: &'t Word<'_>, question: Question, name: &'t [u8]) -> Reque
     }
 }
 
-/// The rows of an answer to a LIST.
+/// Returns the rows of an answer to a LIST, or the failure of a query that has no such answer.
 fn rows_of(outcome: Outcome) -> Result<Rows, Failure>
     ensures { GivesRows outcome result }
 {
@@ -158,7 +157,7 @@ fn rows_of(outcome: Outcome) -> Result<Rows, Failure>
     }
 }
 
-/// The words of an answer to a GET.
+/// Returns the words of an answer to a GET, or the failure of a query that has no such answer.
 fn words_of(outcome: Outcome) -> Result<Fields, Failure>
     ensures { GivesWords outcome result }
 {
@@ -169,7 +168,7 @@ fn words_of(outcome: Outcome) -> Result<Fields, Failure>
     }
 }
 
-/// Whether it was done.
+/// Succeeds if the server answered `OK`, else returns the failure.
 fn done_of(outcome: Outcome) -> Result<(), Failure>
     ensures { IsDone outcome result }
 {
@@ -180,7 +179,7 @@ fn done_of(outcome: Outcome) -> Result<(), Failure>
     }
 }
 
-/// Prints the rows that answer a list.
+/// Prints the rows that answer a LIST.
 fn print_rows<'a>(alloc: Global, form: Form, outcome: Outcome) -> Result<Step<'a>, Failure>
     ensures { (ups : List ℕ) → Leads ups (on_rows (λ rows. Prints (row_lines form rows)) outcome) result }
 {
@@ -190,7 +189,7 @@ fn print_rows<'a>(alloc: Global, form: Form, outcome: Outcome) -> Result<Step<'a
     Ok(Step::Done(text))
 }
 
-/// Prints the rows that answer a list as a JSON object.
+/// Prints the rows that answer a LIST as a JSON object.
 fn print_object<'a>(alloc: Global, outcome: Outcome) -> Result<Step<'a>, Failure>
     ensures { (ups : List ℕ) → Leads ups (on_rows (λ rows. Prints (json_object rows)) outcome) result }
 {
@@ -210,7 +209,7 @@ fn print_word<'a>(alloc: Global, outcome: Outcome) -> Result<Step<'a>, Failure>
     Ok(Step::Done(text))
 }
 
-/// Shows the rows that answer a list, each by further queries.
+/// Begins to show the rows that answer a LIST, each by further queries.
 fn show_rows<'a>(alloc: Global, question: Question, outcome: Outcome) -> Result<Step<'a>, Failure>
     ensures { (ups : List ℕ) → Leads ups (on_rows (showing ups question []) outcome) result }
 {
@@ -223,7 +222,7 @@ fn show_rows<'a>(alloc: Global, question: Question, outcome: Outcome) -> Result<
     Ok(Step::Shows(question, shown))
 }
 
-/// Hears the answer to the first query.
+/// Takes in the outcome of the first query.
 fn hear_first<'a>(alloc: Global, wanted: Wanted<'a>, outcome: Outcome) -> Result<Step<'a>, Failure>
     ensures { (ups : List ℕ) → Leads ups (answered outcome (script ups wanted.entry)) result }
 {
@@ -243,7 +242,7 @@ fn hear_first<'a>(alloc: Global, wanted: Wanted<'a>, outcome: Outcome) -> Result
     }
 }
 
-/// Hears the answer to the deed.
+/// Takes in the outcome of the deed.
 fn hear_deed<'a>(alloc: Global, outcome: Outcome) -> Result<Step<'a>, Failure>
     ensures { (ups : List ℕ) → Leads ups (on_done (Prints (line (codes "OK" ∷ []))) outcome) result }
 {
@@ -253,7 +252,7 @@ fn hear_deed<'a>(alloc: Global, outcome: Outcome) -> Result<Step<'a>, Failure>
     Ok(Step::Done(text))
 }
 
-/// What is asked about the next row, where this was asked about the last one at its end.
+/// Returns what is asked first about the next row, if this was the last question about a row.
 fn first_question(question: Question) -> Question
     ensures { result ≡ first_question question }
 {
@@ -263,7 +262,8 @@ fn first_question(question: Question) -> Question
     }
 }
 
-/// Shows what answers a question about a row. It gives what is asked about the row next, or none where all is shown.
+/// Appends what answers a question about a row. Returns what is asked next about the row, or `None` if all of it is
+/// shown.
 fn put_answer(
     text: &mut Vec<u8>,
     question: Question,
@@ -300,7 +300,7 @@ fn put_answer(
     Ok(None)
 }
 
-/// Hears the answer to a question about the first row that wasn't shown yet.
+/// Takes in the answer to a question about the first row that wasn't shown yet.
 fn hear_row<'a>(question: Question, shown: Shown, outcome: Outcome) -> Result<Step<'a>, Failure>
     ensures { (ups : List ℕ) → Leads ups (answered outcome (showing_of ups question shown)) result }
 {
@@ -326,7 +326,7 @@ fn hear_row<'a>(question: Question, shown: Shown, outcome: Outcome) -> Result<St
     }
 }
 
-/// Hears what came of the query of a step.
+/// Takes in the outcome of the query of a step.
 fn hear_step<'a>(alloc: Global, step: Step<'a>, outcome: Outcome) -> Result<Step<'a>, Failure>
     ensures { (ups : List ℕ) → Leads ups (answered outcome (left_at ups step.entry)) result }
 {
@@ -343,7 +343,7 @@ fn hear_step<'a>(alloc: Global, step: Step<'a>, outcome: Outcome) -> Result<Step
 }
 
 impl<'a> Task<'a> {
-    /// All that is to be done for what is wanted.
+    /// Makes the task of doing all that is wanted.
     pub(crate) fn new(alloc: Global, ups: Word<'a>, wanted: Wanted<'a>) -> Task<'a>
         ensures { left_of result ≡ script ups.entry wanted.entry }
     {
@@ -354,7 +354,7 @@ impl<'a> Task<'a> {
         }
     }
 
-    /// What is done next.
+    /// Returns what is to be done next.
     pub(crate) fn next(&self) -> Next<'_>
         ensures { Says (left_of self.now) result }
     {
@@ -373,7 +373,7 @@ impl<'a> Task<'a> {
         }
     }
 
-    /// Hears what came of the query.
+    /// Takes in the outcome of the query.
     pub(crate) fn hear(self, outcome: Outcome) -> Result<Task<'a>, Failure>
         ensures { GoesOn (answered outcome (left_of self.entry)) result }
     {
@@ -384,7 +384,7 @@ impl<'a> Task<'a> {
         }
     }
 
-    /// The text, where it is complete.
+    /// Returns the text. It is complete if the task has nothing left but to print it.
     pub(crate) fn into_text(self) -> Text
         ensures { (text : List ℕ) → left_of self.entry ≡ Prints text → result ≡ text }
     {

@@ -1,23 +1,21 @@
-//! What was read from a connection and not used yet.
+//! Bytes that were read from a connection and not used yet.
 ghost use Rattle.std.specs.Prelude.{◌≡◌, ◌⊎◌, ◌<◌, ◌≤◌, [], IfErr, IfOk, OnErr, OnOk, drop, length};
 ghost use Rattle.std.specs.Io.KnownBytes.{prepend_known};
-ghost use Rattle.nut_client.specs.Unread.{IsLinePart};
+ghost use Rattle.nut_client.specs.inside.Unread.{IsLinePart};
 ghost use Rattle.nut_client.specs.declared.failure.Failure.TheVariants.{ConnectionLost};
 
 use crate::failure::Failure;
 use crate::stream::{Moved, Stream};
 use arrayvec::ArrayVec;
 use memchr::memchr;
+use nut_words::PIECE_MAX;
 use std::marker::Model;
 use std::sync::Wait;
 
-/// How many bytes are read at once.
-const PIECE: usize = 512;
-
-/// What was read from a connection and not used yet.
+/// Bytes that were read from a connection and not used yet.
 #[derive(Drop)]
 pub(crate) struct Unread {
-    bytes: ArrayVec<u8, 512>,
+    bytes: ArrayVec<u8, PIECE_MAX>,
     used: usize,
 }
 
@@ -48,7 +46,7 @@ impl Unread {
         &self.bytes.as_slice()[self.used..]
     }
 
-    /// The bytes through the first line feed, or all of them where there is none.
+    /// Returns the bytes through the first line feed, or all of them if there is none.
     pub(crate) fn line_part(&self) -> &[u8]
         ensures part { IsLinePart self.now result.now }
         ensures some { 0 < length self.now → 0 < length result.now }
@@ -60,19 +58,19 @@ impl Unread {
         }
     }
 
-    /// Lets the first `n` bytes go, or all where there are fewer.
+    /// Drops the first `n` bytes, or all if there are fewer.
     pub(crate) fn take(&mut self, n: usize)
         ensures { self.new ≡ drop n self.old }
     {
         self.used = self.used.saturating_add(n).min(self.bytes.len());
     }
 
-    /// Reads from the connection, where nothing is unread. It waits for at least one byte.
+    /// Reads from the connection if nothing is unread. It waits for at least one byte.
     pub(crate) fn fill<S: Stream>(&mut self, rt: &impl Wait, stream: &mut S) -> Result<(), Failure>
         ensures same { prepend_known self.old (S.remaining stream.old) ≡ prepend_known self.new (S.remaining stream.new) }
         ensures some { OnOk result (0 < length self.new) }
         ensures none { OnErr result (self.new ≡ []) }
-        ensures reads { (self.new ≡ self.old) ⊎ ((self.old ≡ []) × (length self.new ≤ 512)) }
+        ensures reads { (self.new ≡ self.old) ⊎ ((self.old ≡ []) × (length self.new ≤ PIECE_MAX)) }
         ensures taken { S.taken stream.new ≡ S.taken stream.old }
         ensures lost { IfErr result (λ failure. (failure ≡ ConnectionLost) × S.has_ended stream.new) }
     {
@@ -86,7 +84,7 @@ impl Unread {
 }
 
 /// Reads from the connection. It waits for at least one byte.
-fn read_some<S: Stream>(rt: &impl Wait, stream: &mut S) -> Result<ArrayVec<u8, 512>, Failure>
+fn read_some<S: Stream>(rt: &impl Wait, stream: &mut S) -> Result<ArrayVec<u8, PIECE_MAX>, Failure>
     ensures some { IfOk result (λ bytes. S.remaining stream.old ≡ prepend_known bytes.items (S.remaining stream.new)) }
     ensures full { IfOk result (λ bytes. 0 < length bytes.items) }
     ensures none { OnErr result (S.remaining stream.new ≡ S.remaining stream.old) }
@@ -94,7 +92,7 @@ fn read_some<S: Stream>(rt: &impl Wait, stream: &mut S) -> Result<ArrayVec<u8, 5
     ensures lost { IfErr result (λ failure. (failure ≡ ConnectionLost) × S.has_ended stream.new) }
 {
     for _ in rt.forever() {
-        let mut bytes = ArrayVec::from([0; PIECE]);
+        let mut bytes = ArrayVec::from([0; PIECE_MAX]);
         match stream.read(bytes.as_mut_slice()) {
             Moved::Bytes(n) => {
                 bytes.truncate(n);

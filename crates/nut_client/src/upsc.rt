@@ -3,7 +3,7 @@ ghost use Rattle.std.specs.Prelude.{◌≡◌, IfOk, map, option_map};
 ghost use Rattle.clap.specs.Words.{app_of, found_of, rows_of};
 ghost use Rattle.nut_client.specs.CommandLine.{dialed, target_of, upsc_line, upsc_options, upsc_tool, upsc_wanted};
 ghost use Rattle.nut_client.specs.Output.{written};
-ghost use Rattle.nut_client.specs.Reading.{AreOptions, IsRead};
+ghost use Rattle.nut_client.specs.inside.Reading.{AreOptions, IsRead};
 ghost use Rattle.nut_client.specs.Tool.{EndsBy, IsUnused, RunsAs};
 
 use crate::command_line::{
@@ -23,10 +23,11 @@ use std::convert::AsStr;
 use std::sync::Wait;
 
 /// Runs `upsc` with these words of a command line, the program's name first, over a connection to the server, which is
-/// `None` where none was made. It gives the exit status.
+/// `None` if none was made. Returns the exit status.
 ///
-/// The output goes to `out` once the last answer came, with status 0. Where there is no output, or `out` fails, a line on
-/// `err` says why, with status 1; where the command line doesn't read, with status 2. The help and the version go to `out`.
+/// The output is written to `out` once the last answer came, with status 0. If there is no output, or `out` fails, a
+/// line on `err` says why. The status is then 2 if the command line cannot be read or is no combination that the tool
+/// knows, else 1. The help and the version are written to `out`.
 pub fn run_upsc<W: AsStr, S: Stream, O: Output, E: Output>(
     rt: &impl Wait,
     alloc: Global,
@@ -46,15 +47,15 @@ pub fn run_upsc<W: AsStr, S: Stream, O: Output, E: Output>(
     }
 }
 
-/// The host and the port that `upsc` has to dial with this command line. `None` says that the command line names none: it
-/// doesn't read, or makes no combination that the tool knows, or its name doesn't read. An `Err` is for want of memory.
+/// Returns the host and the port that this command line tells `upsc` to connect to. `None` if it names none: it cannot
+/// be read, is no combination that the tool knows, or has an invalid name. `AllocError` if memory cannot be allocated.
 pub fn upsc_target<W: AsStr>(alloc: Global, words: &[W]) -> Result<Option<Destination>, AllocError>
     ensures { IfOk result (λ found. option_map dialed found ≡ target_of (upsc_line (map W.text words.now))) }
 {
     destination_of(read_options(alloc, words))
 }
 
-/// What the words of the command line ask for.
+/// Returns what the words of the command line ask for.
 fn read_options<'a, W: AsStr>(alloc: Global, words: &'a [W]) -> Result<Options<'a>, Refusal>
     ensures { IsRead (upsc_line (map W.text words.entry.now)) result }
 {
@@ -64,7 +65,7 @@ fn read_options<'a, W: AsStr>(alloc: Global, words: &'a [W]) -> Result<Options<'
     }
 }
 
-/// What the options and arguments ask for.
+/// Returns what the options and arguments ask for.
 fn options_in<'a>(matches: &ArgMatches<'a>) -> Result<Options<'a>, Failure>
     ensures { AreOptions (upsc_options (rows_of (found_of matches.now))) result }
 {
@@ -78,7 +79,7 @@ fn options_in<'a>(matches: &ArgMatches<'a>) -> Result<Options<'a>, Failure>
     options_of(wanted, value(matches, "name"))
 }
 
-/// What the flags for names, descriptions, clients and an object ask for, with or without a variable.
+/// Returns what the flags `-l`, `-L`, `-c` and `-j` ask for, with or without a variable.
 fn wanted_by<'a>(
     names: bool,
     descriptions: bool,
@@ -101,7 +102,7 @@ fn wanted_by<'a>(
     }
 }
 
-/// The command line.
+/// Returns the command line that clap reads.
 fn command<'a>(alloc: Global) -> Result<Command<'a>, AllocError>
     ensures { IfOk result (λ c. app_of c ≡ upsc_tool) }
 {

@@ -1,9 +1,9 @@
-//! `upscmd`: the commands of a UPS, and doing one.
+//! `upscmd`: the commands of a UPS, and sending it one.
 ghost use Rattle.std.specs.Prelude.{◌≡◌, IfOk, map, option_map};
 ghost use Rattle.clap.specs.Words.{app_of, found_of, rows_of};
 ghost use Rattle.nut_client.specs.CommandLine.{dialed, target_of, upscmd_line, upscmd_options, upscmd_tool, upscmd_wanted};
 ghost use Rattle.nut_client.specs.Output.{written};
-ghost use Rattle.nut_client.specs.Reading.{AreOptions, IsRead};
+ghost use Rattle.nut_client.specs.inside.Reading.{AreOptions, IsRead};
 ghost use Rattle.nut_client.specs.Tool.{EndsBy, IsUnused, RunsAs};
 
 use crate::command_line::{
@@ -22,8 +22,8 @@ use std::alloc::{AllocError, Global};
 use std::convert::AsStr;
 use std::sync::Wait;
 
-/// Runs `upscmd` with these words of a command line, the program's name first, over a connection to the server, which is
-/// `None` where none was made. It gives the exit status, as [`run_upsc`](crate::run_upsc) does.
+/// Runs `upscmd` with these words of a command line, the program's name first, over a connection to the server, which
+/// is `None` if none was made. Returns the exit status, as [`run_upsc`](crate::run_upsc) does.
 pub fn run_upscmd<W: AsStr, S: Stream, O: Output, E: Output>(
     rt: &impl Wait,
     alloc: Global,
@@ -43,8 +43,9 @@ pub fn run_upscmd<W: AsStr, S: Stream, O: Output, E: Output>(
     }
 }
 
-/// The host and the port that `upscmd` has to dial with this command line. `None` says that the command line names none: it
-/// doesn't read, or makes no combination that the tool knows, or its name doesn't read. An `Err` is for want of memory.
+/// Returns the host and the port that this command line tells `upscmd` to connect to. `None` if it names none: it
+/// cannot be read, is no combination that the tool knows, or has an invalid name. `AllocError` if memory cannot be
+/// allocated.
 pub fn upscmd_target<W: AsStr>(
     alloc: Global,
     words: &[W],
@@ -54,7 +55,7 @@ pub fn upscmd_target<W: AsStr>(
     destination_of(read_options(alloc, words))
 }
 
-/// What the words of the command line ask for.
+/// Returns what the words of the command line ask for.
 fn read_options<'a, W: AsStr>(alloc: Global, words: &'a [W]) -> Result<Options<'a>, Refusal>
     ensures { IsRead (upscmd_line (map W.text words.entry.now)) result }
 {
@@ -64,7 +65,7 @@ fn read_options<'a, W: AsStr>(alloc: Global, words: &'a [W]) -> Result<Options<'
     }
 }
 
-/// What the options and arguments ask for.
+/// Returns what the options and arguments ask for.
 fn options_in<'a>(matches: &ArgMatches<'a>) -> Result<Options<'a>, Failure>
     ensures { AreOptions (upscmd_options (rows_of (found_of matches.now))) result }
 {
@@ -77,7 +78,8 @@ fn options_in<'a>(matches: &ArgMatches<'a>) -> Result<Options<'a>, Failure>
     options_of(wanted, value(matches, "name"))
 }
 
-/// A list has neither a user nor a command, and a command has a user and a password.
+/// Returns what the options ask for. A list takes neither a user nor a command, and a command needs a user and a
+/// password.
 fn wanted_by<'a>(
     list: bool,
     command: Option<&'a str>,
@@ -96,7 +98,7 @@ fn wanted_by<'a>(
     }
 }
 
-/// The command line.
+/// Returns the command line that clap reads.
 fn command<'a>(alloc: Global) -> Result<Command<'a>, AllocError>
     ensures { IfOk result (λ c. app_of c ≡ upscmd_tool) }
 {

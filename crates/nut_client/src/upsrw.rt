@@ -1,9 +1,9 @@
-//! `upsrw`: the variables of a UPS that may be set, and setting one.
+//! `upsrw`: the writable variables of a UPS, and setting one.
 ghost use Rattle.std.specs.Prelude.{◌≡◌, IfOk, map, option_map};
 ghost use Rattle.clap.specs.Words.{app_of, found_of, rows_of};
 ghost use Rattle.nut_client.specs.CommandLine.{dialed, target_of, upsrw_line, upsrw_options, upsrw_tool, upsrw_wanted};
 ghost use Rattle.nut_client.specs.Output.{written};
-ghost use Rattle.nut_client.specs.Reading.{AreOptions, IsRead};
+ghost use Rattle.nut_client.specs.inside.Reading.{AreOptions, IsRead};
 ghost use Rattle.nut_client.specs.Tool.{EndsBy, IsUnused, RunsAs};
 
 use crate::command_line::{
@@ -23,7 +23,7 @@ use std::convert::AsStr;
 use std::sync::Wait;
 
 /// Runs `upsrw` with these words of a command line, the program's name first, over a connection to the server, which is
-/// `None` where none was made. It gives the exit status, as [`run_upsc`](crate::run_upsc) does.
+/// `None` if none was made. Returns the exit status, as [`run_upsc`](crate::run_upsc) does.
 pub fn run_upsrw<W: AsStr, S: Stream, O: Output, E: Output>(
     rt: &impl Wait,
     alloc: Global,
@@ -43,15 +43,15 @@ pub fn run_upsrw<W: AsStr, S: Stream, O: Output, E: Output>(
     }
 }
 
-/// The host and the port that `upsrw` has to dial with this command line. `None` says that the command line names none: it
-/// doesn't read, or makes no combination that the tool knows, or its name doesn't read. An `Err` is for want of memory.
+/// Returns the host and the port that this command line tells `upsrw` to connect to. `None` if it names none: it cannot
+/// be read, is no combination that the tool knows, or has an invalid name. `AllocError` if memory cannot be allocated.
 pub fn upsrw_target<W: AsStr>(alloc: Global, words: &[W]) -> Result<Option<Destination>, AllocError>
     ensures { IfOk result (λ found. option_map dialed found ≡ target_of (upsrw_line (map W.text words.now))) }
 {
     destination_of(read_options(alloc, words))
 }
 
-/// What the words of the command line ask for.
+/// Returns what the words of the command line ask for.
 fn read_options<'a, W: AsStr>(alloc: Global, words: &'a [W]) -> Result<Options<'a>, Refusal>
     ensures { IsRead (upsrw_line (map W.text words.entry.now)) result }
 {
@@ -61,7 +61,7 @@ fn read_options<'a, W: AsStr>(alloc: Global, words: &'a [W]) -> Result<Options<'
     }
 }
 
-/// What the options and arguments ask for.
+/// Returns what the options and arguments ask for.
 fn options_in<'a>(matches: &ArgMatches<'a>) -> Result<Options<'a>, Failure>
     ensures { AreOptions (upsrw_options (rows_of (found_of matches.now))) result }
 {
@@ -73,7 +73,7 @@ fn options_in<'a>(matches: &ArgMatches<'a>) -> Result<Options<'a>, Failure>
     options_of(wanted, value(matches, "name"))
 }
 
-/// A setting comes with a user and a password, and these with nothing else.
+/// Returns what the options ask for. A setting needs a user and a password, and these are allowed only with a setting.
 fn wanted_by<'a>(
     setting: Option<&'a str>,
     user: Option<&'a str>,
@@ -92,7 +92,7 @@ fn wanted_by<'a>(
     }
 }
 
-/// The command line.
+/// Returns the command line that clap reads.
 fn command<'a>(alloc: Global) -> Result<Command<'a>, AllocError>
     ensures { IfOk result (λ c. app_of c ≡ upsrw_tool) }
 {

@@ -1,4 +1,4 @@
--- A UPS that is put behind others.
+-- A UPS that is added after others.
 use Rattle.std.proofs.Common.{◌≡◌, ℕ, ◌<◌, ◌≤◌, true, false, not, ◌||◌, List, [], ◌∷◌, ◌++◌, length, map, codes, Result, Ok, Err, nat_le, if◌then◌else◌, refl, ap, ◌∙◌, arith}
 use Rattle.std.specs.List.{list_any, list_all}
 use Rattle.std.specs.Map.{keys_of}
@@ -11,6 +11,7 @@ use Rattle.std.proofs.lemmas.Map.Made.{is_some-lookup}
 use Rattle.indexmap.specs.IndexMap.{get, insert_entry}
 use Rattle.indexmap.proofs.CallerLemmas.{insert_entry-new}
 use Rattle.nut_words.specs.Spelling.{is_printing}
+use Rattle.nut_words.specs.declared.limits.TheConstants.{UPS_NAME_MAX}
 use Rattle.nut_conf.specs.Faults.{◌>>=◌}
 use Rattle.nut_conf.specs.Values.{name, text}
 use Rattle.nut_conf.specs.Sections.{AllHold}
@@ -21,57 +22,58 @@ use Rattle.nut_conf.specs.declared.fault.FaultKind.{FaultKind}
 use Rattle.nut_conf.specs.declared.fault.FaultKind.TheVariants.{PastLimit, Repeated, Unreadable}
 use Rattle.nut_conf.proofs.SlotLemmas.{length-map}
 use Rattle.nut_conf.proofs.SectionLemmas.{same_name, none-from_not_some}
+use Rattle.nut_conf.specs.declared.limits.TheConstants.{DESCRIPTION_MAX, UPSES_MAX}
 
--- a text that isn't too long reads as it is
-pub text-short : (bytes : List ℕ) → length bytes ≤ 128 → text 0 128 bytes ≡ Ok bytes
+-- A text that isn't too long is read as it is.
+pub text-short : (bytes : List ℕ) → length bytes ≤ DESCRIPTION_MAX → text 0 DESCRIPTION_MAX bytes ≡ Ok bytes
 text-short bytes short = grind (arith, nat_tests)
 
 -- a configuration of no lines has no UPS
-pub no-shown : (es : List (Name 32 × Ups)) → AllHold UpsHolds es [] → map shown es ≡ []
+pub no-shown : (es : List (Name UPS_NAME_MAX × Ups)) → AllHold UpsHolds es [] → map shown es ≡ []
 no-shown [] all = refl
 no-shown (e ∷ es) all = absurd all
 
-any-shown : (es : List (Name 32 × Ups)) (k : Name 32) → list_any (same_name k) (keys_of es) ≡ list_any (is_shown_as k.bytes.items) (map shown es)
+any-shown : (es : List (Name UPS_NAME_MAX × Ups)) (k : Name UPS_NAME_MAX) → list_any (same_name k) (keys_of es) ≡ list_any (is_shown_as k.bytes.items) (map shown es)
 any-shown [] k = refl
 any-shown (e ∷ es) k = ap (λ b. bytes_eq k.bytes.items e.0.bytes.items || b) (any-shown es k)
 
-map-push : (es : List (Name 32 × Ups)) (k : Name 32) (u : Ups) → map shown (es ++ (k, u) ∷ []) ≡ map shown es ++ shown (k, u) ∷ []
+map-push : (es : List (Name UPS_NAME_MAX × Ups)) (k : Name UPS_NAME_MAX) (u : Ups) → map shown (es ++ (k, u) ∷ []) ≡ map shown es ++ shown (k, u) ∷ []
 map-push [] k u = refl
 map-push (e ∷ es) k u = ap (λ (us : List Shown). shown e ∷ us) (map-push es k u)
 
-module _ {H : Type 0} (m : HashMap (Name 32) Ups H) (k : Name 32) (new : is_some (get same_name m k) ≡ false) where
-  -- a new UPS goes last
-  pub shown-insert : (es : List (Name 32 × Ups)) (u : Ups) → es ≡ insert_entry same_name m.entries k u → map shown es ≡ map shown m.entries ++ shown (k, u) ∷ []
+module _ {H : Type 0} (m : HashMap (Name UPS_NAME_MAX) Ups H) (k : Name UPS_NAME_MAX) (new : is_some (get same_name m k) ≡ false) where
+  -- A new UPS comes last.
+  pub shown-insert : (es : List (Name UPS_NAME_MAX × Ups)) (u : Ups) → es ≡ insert_entry same_name m.entries k u → map shown es ≡ map shown m.entries ++ shown (k, u) ∷ []
   shown-insert es u is = ap (map shown) (is ∙ insert_entry-new same_name m k u (none-from_not_some _ new)) ∙ map-push m.entries k u
 
--- a name is in the map where a UPS is shown as it
-pub any-is : {H : Type 0} (m : HashMap (Name 32) Ups H) (k : Name 32) → is_some (get same_name m k) ≡ list_any (is_shown_as k.bytes.items) (map shown m.entries)
+-- A name is a key of the map if, and only if, a UPS has it.
+pub any-is : {H : Type 0} (m : HashMap (Name UPS_NAME_MAX) Ups H) (k : Name UPS_NAME_MAX) → is_some (get same_name m k) ≡ list_any (is_shown_as k.bytes.items) (map shown m.entries)
 any-is m k = is_some-lookup (same_name k) m.entries ∙ any-shown m.entries k
 
-pub length-shown : (es : List (Name 32 × Ups)) → length (map shown es) ≡ length es
+pub length-shown : (es : List (Name UPS_NAME_MAX × Ups)) → length (map shown es) ≡ length es
 length-shown es = length-map shown es
 
-module _ (before : List Shown) (bytes n desc d : List ℕ) (named : name 32 bytes ≡ Ok n) (described : text 0 128 desc ≡ Ok d) (room : length before < 32) where
+module _ (before : List Shown) (bytes n desc d : List ℕ) (named : name UPS_NAME_MAX bytes ≡ Ok n) (described : text 0 DESCRIPTION_MAX desc ≡ Ok d) (room : length before < UPSES_MAX) where
   tested : List ℕ → List ℕ → Result (List Shown) FaultKind
   tested n d =
-      if nat_le 32 (length before) then Err PastLimit
+      if nat_le UPSES_MAX (length before) then Err PastLimit
       else if list_any (is_shown_as n) before then Err Repeated
       else if not (list_all is_printing d) then Err Unreadable
       else Ok (before ++ record { name = n; driver = codes "dummy-ups"; port = []; description = d } ∷ [])
 
   with_ups-tested : with_ups before bytes desc ≡ tested n d
   unfolding tested
-  with_ups-tested = ap (λ r. r >>= (λ n. text 0 128 desc >>= (λ d. tested n d))) named ∙ ap (λ r. r >>= (λ d. tested n d)) described
+  with_ups-tested = ap (λ r. r >>= (λ n. text 0 DESCRIPTION_MAX desc >>= (λ d. tested n d))) named ∙ ap (λ r. r >>= (λ d. tested n d)) described
 
   pub with_ups-repeated : list_any (is_shown_as n) before ≡ true → with_ups before bytes desc ≡ Err Repeated
   unfolding tested
-  with_ups-repeated there = with_ups-tested ∙ rw (lt-leb 32 (length before) room, there) refl
+  with_ups-repeated there = with_ups-tested ∙ rw (lt-leb UPSES_MAX (length before) room, there) refl
 
   pub with_ups-unreadable : list_any (is_shown_as n) before ≡ false → list_all is_printing d ≡ false → with_ups before bytes desc ≡ Err Unreadable
   unfolding tested
-  with_ups-unreadable new bad = with_ups-tested ∙ rw (lt-leb 32 (length before) room, new, bad) refl
+  with_ups-unreadable new bad = with_ups-tested ∙ rw (lt-leb UPSES_MAX (length before) room, new, bad) refl
 
   pub with_ups-ok : list_any (is_shown_as n) before ≡ false → list_all is_printing d ≡ true
       → with_ups before bytes desc ≡ Ok (before ++ record { name = n; driver = codes "dummy-ups"; port = []; description = d } ∷ [])
   unfolding tested
-  with_ups-ok new good = with_ups-tested ∙ rw (lt-leb 32 (length before) room, new, good) refl
+  with_ups-ok new good = with_ups-tested ∙ rw (lt-leb UPSES_MAX (length before) room, new, good) refl

@@ -3,7 +3,7 @@ use Rattle.std.proofs.Common.{◌≡◌, ℕ, ◌+◌, ◌==◌, List, [], ◌�
 use Rattle.nut_conf.specs.Faults.{◌>>=◌}
 use Rattle.nut_conf.specs.Values.{Words}
 use Rattle.nut_conf.specs.Files.{LineFault, words_of, unless, with_line, at_line, read_lines}
-use Rattle.nut_conf.specs.Laws.{unnumbered, BlankChangesNothing}
+use Rattle.nut_conf.specs.laws.Laws.{unnumbered, BlankChangesNothing}
 
 module _ (fault : LineFault) where
   -- the number of the first line doesn't matter

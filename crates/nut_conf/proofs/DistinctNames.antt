@@ -1,4 +1,4 @@
--- In a file that reads, no section has the name of another.
+-- In a file that reads without a fault, no two sections have the same name.
 use Rattle.std.proofs.Common.{◌≡◌, ℕ, ◌+◌, ◌==◌, Bool, true, false, cond, ◌||◌, nat_lt, nat_le, List, [], ◌∷◌, ◌++◌, length, Option, None, Some, Result, Ok, Err, refl, sym, ap, ◌∙◌, subst}
 use Rattle.std.specs.List.{list_any}
 use Rattle.std.specs.Option.{option_map_or}
@@ -10,16 +10,19 @@ use Rattle.nut_conf.specs.Values.{Words, name}
 use Rattle.nut_conf.specs.Settings.{fault_of}
 use Rattle.nut_conf.specs.Files.{LineFault, words_of, unless, with_line, at_line, read_lines, read_file, lines_of}
 use Rattle.nut_conf.specs.Sections.{Section, section_name, sections, last, is_name_of, opens, sectioned_fault}
-use Rattle.nut_conf.specs.Laws.{HasDistinctNames}
+use Rattle.nut_conf.specs.laws.Laws.{HasDistinctNames}
 use Rattle.nut_conf.specs.declared.fault.FaultKind.{FaultKind}
 use Rattle.nut_conf.specs.declared.fault.FaultKind.TheVariants.{OutsideSection, Repeated, PastLimit}
 use Rattle.nut_words.proofs.CutLemmas.{false-from_not_true}
+use Rattle.nut_words.specs.declared.limits.TheConstants.{UPS_NAME_MAX}
 use Rattle.nut_conf.proofs.SectionLemmas.{sections-opens, sections-more, with_line_in, name-same}
+use Rattle.nut_conf.specs.declared.limits.TheConstants.{FILE_MAX}
 
 abbrev Taken : List Words → Result (List Words) FaultKind
 Taken lines = Ok lines
 
--- What holds before the first line and is kept by each line without a fault holds of a file that reads.
+-- What holds before the first line, and is kept by each line without a fault, holds of a file that reads without a
+-- fault.
 module _ (fault : LineFault) (P : List Words → Type 0) (keeps : (before : List Words) (ws : Words) → fault before ws ≡ None → P before → P (before ++ ws ∷ [])) where
   keeps_line : (before more : List Words) (line : List ℕ) → P before → with_line fault before line ≡ Ok more → P more
   keeps_line before more line holds is = by_words (words_of line) is where
@@ -45,7 +48,7 @@ module _ (fault : LineFault) (P : List Words → Type 0) (keeps : (before : List
       ] refl is
 
   pub keeps_file : (file : List ℕ) (after : List Words) → P [] → read_file fault file ≡ Ok after → P after
-  keeps_file file after holds is = by_test (nat_lt 1048576 (length file)) is where
+  keeps_file file after holds is = by_test (nat_lt FILE_MAX (length file)) is where
     by_test : (b : Bool) → cond b (Err (0, PastLimit)) (read_lines fault [] 1 (lines_of file)) ≡ Ok after → P after
     by_test true is = absurd (cc)
     by_test false is = keeps_lines (lines_of file) [] after 1 holds is
@@ -63,7 +66,7 @@ pub right_false : (a b : Bool) → (a || b) ≡ false → b ≡ false
 right_false true b h = absurd (cc)
 right_false false b h = h
 
--- a new name behind the others
+-- a new name after the others
 distinct-push : (ss : List Section) (n : List ℕ) → HasDistinctNames ss → list_any (is_name_of n) ss ≡ false → HasDistinctNames (ss ++ (n, []) ∷ [])
 distinct-push [] n all new = (refl, tt)
 distinct-push (s ∷ ss) n all new =
@@ -83,16 +86,16 @@ distinct-with_line_in (s ∷ t ∷ ss) ws all = (any-with_line_in s.0 (t ∷ ss)
 
 -- a section that may begin has a new name
 new_name : (most : ℕ) (earlier : List Section) (bytes : List ℕ) → fault_of (opens most earlier bytes) ≡ None → list_any (is_name_of bytes) earlier ≡ false
-new_name most earlier bytes is = by_name (name 32 bytes) refl is where
+new_name most earlier bytes is = by_name (name UPS_NAME_MAX bytes) refl is where
   by_test : (n : List ℕ) (b : Bool) → list_any (is_name_of n) earlier ≡ b → fault_of (cond b (Err Repeated) (cond (nat_le most (length earlier)) (Err PastLimit) (Ok n))) ≡ None → list_any (is_name_of n) earlier ≡ false
   by_test n true here is = absurd (cc)
   by_test n false here is = here
 
-  by_name : (r : Result (List ℕ) FaultKind) → name 32 bytes ≡ r
+  by_name : (r : Result (List ℕ) FaultKind) → name UPS_NAME_MAX bytes ≡ r
       → fault_of (r >>= (λ n. cond (list_any (is_name_of n) earlier) (Err Repeated) (cond (nat_le most (length earlier)) (Err PastLimit) (Ok n)))) ≡ None
       → list_any (is_name_of bytes) earlier ≡ false
   by_name (Ok n) here is =
-      subst (λ (b : List ℕ). list_any (is_name_of b) earlier ≡ false) (name-same 32 bytes n here) (by_test n (list_any (is_name_of n) earlier) refl is)
+      subst (λ (b : List ℕ). list_any (is_name_of b) earlier ≡ false) (name-same UPS_NAME_MAX bytes n here) (by_test n (list_any (is_name_of n) earlier) refl is)
   by_name (Err e) here is = absurd (cc)
 
 module _ (fault : List Words → Words → Option FaultKind) (most : ℕ) where

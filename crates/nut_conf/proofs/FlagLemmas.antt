@@ -1,4 +1,4 @@
--- Flags, and one word more.
+-- The flags of words, and of one word more.
 use Rattle.std.proofs.Common.{◌≡◌, ℕ, Bool, true, false, List, [], ◌∷◌, ◌++◌, ◌||◌, ◌&&◌, cond, Ok, Err, refl, ap, ◌∙◌}
 use Rattle.std.specs.List.{list_all, list_any}
 use Rattle.std.specs.Str.{bytes_eq}
@@ -15,23 +15,23 @@ or_false false = refl
 any_more : (p : List ℕ → Bool) (ws : Words) (w : List ℕ) → list_any p (ws ++ w ∷ []) ≡ (list_any p ws || p w)
 any_more p ws w = list_any-append p ws (w ∷ []) ∙ ap (λ b. list_any p ws || b) (or_false (p w))
 
--- the flags of a word more
+-- the flags of these words and one more
 pub flags_in-more : (ws : Words) (w : List ℕ) → flags_in (ws ++ w ∷ []) ≡ with_flag w (flags_in ws)
 flags_in-more ws w =
     rw (any_more (bytes_eq (codes "SYSLOG")) ws w, any_more (bytes_eq (codes "WALL")) ws w, any_more (bytes_eq (codes "EXEC")) ws w, any_more (bytes_eq (codes "IGNORE")) ws w) refl
 
--- known words with a known one more
+-- known words and one more that is known
 pub known_more : (ws : Words) (w : List ℕ) → list_all is_flag ws ≡ true → is_flag w ≡ true → list_all is_flag (ws ++ w ∷ []) ≡ true
 known_more ws w h g = list_all-append is_flag ws (w ∷ []) ∙ rw (h, g) refl
 
--- words with an unknown one among them
+-- words among which one is unknown
 pub unknown_at : (ws : Words) (w : List ℕ) (rest : Words) → is_flag w ≡ false → list_all is_flag (ws ++ w ∷ rest) ≡ false
 unknown_at ws w rest h = list_all-append is_flag ws (w ∷ rest) ∙ rw h (and_false (list_all is_flag ws)) where
   and_false : (b : Bool) → (b && false) ≡ false
   and_false true = refl
   and_false false = refl
 
--- flags whose parts are all known
+-- flags all of whose parts are known
 pub flags-known : (bytes : List ℕ) (done : Words) → plus_parts bytes ≡ done → list_all is_flag done ≡ true → flags bytes ≡ Ok (flags_in done)
 flags-known bytes done parts known =
     ap (λ ws. cond (list_all is_flag ws) (Ok (flags_in ws)) (Err UnknownWord)) parts ∙ ap (λ b. cond b (Ok (flags_in done)) (Err UnknownWord)) known

@@ -1,4 +1,4 @@
--- In a file that reads, what is set keeps the rules of the directives.
+-- In a file that reads without a fault, the settings of each directive keep its rule.
 use Rattle.std.proofs.Common.{◌≡◌, ℕ, ◌<◌, Bool, true, false, cond, List, [], ◌∷◌, ◌++◌, length, Option, None, Some, Result, Ok, Err, refl, sym, ap, ◌∙◌, subst, arith, length-append}
 use Rattle.std.specs.List.{list_any}
 use Rattle.std.specs.Option.{option_map_or}
@@ -11,7 +11,7 @@ use Rattle.nut_conf.specs.Values.{Words, nth}
 use Rattle.nut_conf.specs.Settings.{Directive, Rule, Setting, accepts, added, directive_of, fault_of, is_full, line_fault, names, setting, settings}
 use Rattle.nut_conf.specs.Files.{read_file}
 use Rattle.nut_conf.specs.Sections.{Section, last, opens, section_name, sectioned_fault, sections}
-use Rattle.nut_conf.specs.Laws.{AreApart, AreFew, EachKeepsRule, KeepRule}
+use Rattle.nut_conf.specs.laws.Laws.{AreApart, AreFew, EachKeepsRule, KeepRule}
 use Rattle.nut_conf.specs.declared.fault.FaultKind.{FaultKind}
 use Rattle.nut_conf.specs.declared.fault.FaultKind.TheVariants.{OutsideSection, PastLimit, Repeated, UnknownDirective}
 use Rattle.nut_conf.proofs.DraftLemmas.{settings-more, settings-other}
@@ -29,7 +29,7 @@ few-push : (most : Option ℕ) (xs : List Setting) (s : Setting) → is_full mos
 few-push None xs s room = tt
 few-push (Some n) xs s room = let below : length xs < n = grind (arith, nat_tests) in omega (arith, length-append xs (s ∷ []))
 
--- a setting that is taken in clashes with none, and there is room for it
+-- a setting that may be added: it clashes with none, and there is room for it
 record IsTaken (r : Rule) (earlier : List Setting) (s : Setting) : Type 0 where
   apart : list_any (r.clashes s) earlier ≡ false
   room : is_full r.most (length earlier) ≡ false
@@ -45,7 +45,7 @@ taken r earlier s ok = by (list_any (r.clashes s) earlier) (is_full r.most (leng
 keep-push : (r : Rule) (earlier : List Setting) (s : Setting) → KeepRule r earlier → IsTaken r earlier s → KeepRule r (earlier ++ s ∷ [])
 keep-push r earlier s k t = record { apart = apart-push r.clashes earlier s k.apart t.apart; few = few-push r.most earlier s t.room }
 
--- A directive that is found by its word keeps its rule over one line more.
+-- A directive that its word finds keeps its rule when one line is added.
 module _ (directives : List Directive) (d : Directive) (found : directive_of d.word directives ≡ Some d) where
   -- the fault of a line, by the directive that it names
   abbrev of_directive : List Words → Words → Option Directive → Option FaultKind
@@ -72,7 +72,7 @@ module _ (directives : List Directive) (d : Directive) (found : directive_of d.w
     none None = tt
     none (Some n) = omega arith
 
-  -- the same in each section
+  -- The settings of each section keep the rule when one line is added.
   opened : (ss : List Section) (n : List ℕ) → EachKeepsRule d ss → EachKeepsRule d (ss ++ (n, []) ∷ [])
   opened [] n all = (record { apart = tt; few = none d.rule.most }, tt) where
     none : (most : Option ℕ) → AreFew most []

@@ -11,6 +11,7 @@ pub mod DistinctNames
 pub mod KeptRules
 pub mod NameLookup
 pub mod AddedUps
+pub mod DescriptionLemmas
 pub mod FlagLemmas
 pub mod TargetLemmas
 pub mod UpsmonLemmas

@@ -1,4 +1,4 @@
--- The words that a line spells are printing bytes.
+-- The words that a line spells consist of printing bytes.
 use Rattle.std.proofs.Common.{◌≡◌, ℕ, Bool, true, false, cond, ◌&&◌, ◌==◌, nat_le, nat_lt, List, [], ◌∷◌, ◌++◌, length, Result, Ok, Err, refl, ap, ◌∙◌, subst, arith}
 use Rattle.std.specs.List.{list_all}
 use Rattle.std.proofs.lemmas.List.Folds.{list_all-append}
@@ -12,8 +12,10 @@ use Rattle.nut_words.proofs.ByteKinds.{KindMeans, kind_means}
 use Rattle.nut_words.specs.Quoting.{IsPrintable}
 use Rattle.nut_conf.specs.Files.{words_of, readable}
 use Rattle.nut_words.specs.Name.{is_name_byte, is_name}
+use Rattle.nut_words.specs.declared.limits.TheConstants.{WORDS_MAX}
 use Rattle.nut_conf.specs.Values.{is_text}
 use Rattle.nut_conf.specs.declared.fault.FaultKind.TheVariants.{PastLimit}
+use Rattle.nut_conf.specs.declared.limits.TheConstants.{FILE_LINE_MAX}
 
 abbrev is_word : List ℕ → Bool
 is_word w = list_all is_printing w
@@ -24,7 +26,7 @@ AllWords ws = list_all is_word ws ≡ true
 one_more : {X : Type 0} (p : X → Bool) (xs : List X) (x : X) → list_all p xs ≡ true → p x ≡ true → list_all p (xs ++ x ∷ []) ≡ true
 one_more p xs x h g = list_all-append p xs (x ∷ []) ∙ rw (h, g) refl
 
--- the words so far are printing, and so is the word that is being read
+-- The words so far are printing, and so is the word being read.
 abbrev Printing : State → Type 0
 Printing (Between ws) = AllWords ws
 Printing (Bare w ws) = (is_word w ≡ true) × AllWords ws
@@ -40,8 +42,8 @@ Reached s = Ok s
 land : (s t : State) → Reached s ≡ Ok t → Printing s → Printing t
 land s t is h = let same : s ≡ t = cc in subst Printing same h
 
-begun-keeps : (ws : List (List ℕ)) (s t : State) → Printing s → begun 32 ws s ≡ Ok t → Printing t
-begun-keeps ws s t h is = by_test (nat_lt (length ws) 32) is where
+begun-keeps : (ws : List (List ℕ)) (s t : State) → Printing s → begun WORDS_MAX ws s ≡ Ok t → Printing t
+begun-keeps ws s t h is = by_test (nat_lt (length ws) WORDS_MAX) is where
   by_test : (b : Bool) → cond b (Reached s) (Err TooManyWords) ≡ Ok t → Printing t
   by_test true is = land s t is h
   by_test false is = absurd (cc)
@@ -49,7 +51,7 @@ begun-keeps ws s t h is = by_test (nat_lt (length ws) 32) is where
 bare_printing : (c : ℕ) → is_bare c ≡ true → is_printing c ≡ true
 bare_printing c h = grind (arith, nat_tests)
 
-apart-keeps : (ws : List (List ℕ)) (k : Kind) (c : ℕ) (t : State) → KindMeans k c → AllWords ws → apart 32 ws k c ≡ Ok t → Printing t
+apart-keeps : (ws : List (List ℕ)) (k : Kind) (c : ℕ) (t : State) → KindMeans k c → AllWords ws → apart WORDS_MAX ws k c ≡ Ok t → Printing t
 apart-keeps ws Space c t m h is = land (Between ws) t is h
 apart-keeps ws Gap c t m h is = land (Between ws) t is h
 apart-keeps ws Quote c t m h is = begun-keeps ws (Quoted [] ws) t (refl, h) is
@@ -59,7 +61,7 @@ apart-keeps ws Equals c t m h is = begun-keeps ws (Between (ws ++ (61 ∷ []) �
 apart-keeps ws Plain c t m h is = begun-keeps ws (Bare (c ∷ []) ws) t (rw (bare_printing c m) refl, h) is
 apart-keeps ws Bad c t m h is = absurd (cc)
 
-in_bare-keeps : (w : List ℕ) (ws : List (List ℕ)) (k : Kind) (c : ℕ) (t : State) → KindMeans k c → is_word w ≡ true → AllWords ws → in_bare 32 w ws k c ≡ Ok t → Printing t
+in_bare-keeps : (w : List ℕ) (ws : List (List ℕ)) (k : Kind) (c : ℕ) (t : State) → KindMeans k c → is_word w ≡ true → AllWords ws → in_bare WORDS_MAX w ws k c ≡ Ok t → Printing t
 in_bare-keeps w ws Space c t m g h is = apart-keeps (ws ++ w ∷ []) Space c t m (one_more is_word ws w h g) is
 in_bare-keeps w ws Gap c t m g h is = apart-keeps (ws ++ w ∷ []) Gap c t m (one_more is_word ws w h g) is
 in_bare-keeps w ws Quote c t m g h is = absurd (cc)
@@ -89,7 +91,7 @@ escaped-keeps Equals c s t m h is = land s t is (h (ap is_printing m))
 escaped-keeps Plain c s t m h is = land s t is (h (bare_printing c m))
 escaped-keeps Bad c s t m h is = absurd (cc)
 
-behind_quote-keeps : (ws : List (List ℕ)) (k : Kind) (c : ℕ) (t : State) → KindMeans k c → AllWords ws → behind_quote 32 ws k c ≡ Ok t → Printing t
+behind_quote-keeps : (ws : List (List ℕ)) (k : Kind) (c : ℕ) (t : State) → KindMeans k c → AllWords ws → behind_quote WORDS_MAX ws k c ≡ Ok t → Printing t
 behind_quote-keeps ws Quote c t m h is = absurd (cc)
 behind_quote-keeps ws Backslash c t m h is = absurd (cc)
 behind_quote-keeps ws Plain c t m h is = absurd (cc)
@@ -109,7 +111,7 @@ in_comment-keeps ws Hash t h is = land (Comment ws) t is h
 in_comment-keeps ws Equals t h is = land (Comment ws) t is h
 in_comment-keeps ws Plain t h is = land (Comment ws) t is h
 
-step-keeps : (s : State) (k : Kind) (c : ℕ) (t : State) → KindMeans k c → Printing s → step 32 s k c ≡ Ok t → Printing t
+step-keeps : (s : State) (k : Kind) (c : ℕ) (t : State) → KindMeans k c → Printing s → step WORDS_MAX s k c ≡ Ok t → Printing t
 step-keeps (Between ws) k c t m h is = apart-keeps ws k c t m h is
 step-keeps (Bare w ws) k c t m h is = in_bare-keeps w ws k c t m h.0 h.1 is
 step-keeps (BareEscape w ws) k c t m h is = escaped-keeps k c (Bare (w ++ c ∷ []) ws) t m (λ p. (one_more is_printing w c h.0 p, h.1)) is
@@ -133,25 +135,25 @@ finish-keeps (QuotedEscape w vs) ws h is = absurd (cc)
 finish-keeps (Closed vs) ws h is = given vs ws is h
 finish-keeps (Comment vs) ws h is = given vs ws is h
 
-read-keeps : (line : List ℕ) (s : State) (ws : List (List ℕ)) → Printing s → read 32 s line ≡ Ok ws → AllWords ws
+read-keeps : (line : List ℕ) (s : State) (ws : List (List ℕ)) → Printing s → read WORDS_MAX s line ≡ Ok ws → AllWords ws
 unfolding read
 read-keeps [] s ws h is = finish-keeps s ws h is
 read-keeps (c ∷ cs) s ws h is =
-    elim (step 32 s (kind c) c) as (λ r. step 32 s (kind c) c ≡ r → (r >>= λ t. read 32 t cs) ≡ Ok ws → AllWords ws)
+    elim (step WORDS_MAX s (kind c) c) as (λ r. step WORDS_MAX s (kind c) c ≡ r → (r >>= λ t. read WORDS_MAX t cs) ≡ Ok ws → AllWords ws)
     [ Ok t ↦ λ here later. read-keeps cs t ws (step-keeps s (kind c) c t (kind_means c) h here) later | Err e ↦ λ here later. absurd (cc) ] refl is
 
 pub printing : (line : List ℕ) (ws : List (List ℕ)) → spelled line ≡ Ok ws → list_all (list_all is_printing) ws ≡ true
 printing line ws is = read-keeps line (Between []) ws refl is
 
--- a line without bytes has no words
+-- A line without bytes has no words.
 pub words_of-empty : (line : List ℕ) → (length line == 0) ≡ true → words_of line ≡ Ok []
 unfolding read
 words_of-empty [] h = refl
 words_of-empty (c ∷ cs) h = absurd (grind (arith, nat_tests))
 
--- so are those of a line that isn't too long
+-- The words of a line that isn't too long are printing.
 pub printing_of : (line : List ℕ) (ws : List (List ℕ)) → words_of line ≡ Ok ws → list_all (list_all is_printing) ws ≡ true
-printing_of line ws is = by_test (nat_lt 512 (length line)) is where
+printing_of line ws is = by_test (nat_lt FILE_LINE_MAX (length line)) is where
   by_words : (r : Result (List (List ℕ)) WordFault) → spelled line ≡ r → readable r ≡ Ok ws → AllWords ws
   by_words (Ok vs) here same = let e : vs ≡ ws = cc in subst AllWords e (printing line vs here)
   by_words (Err f) here same = absurd (cc)
@@ -168,7 +170,7 @@ right_true : (a b : Bool) → (a && b) ≡ true → b ≡ true
 right_true true b h = h
 right_true false b h = absurd (cc)
 
--- printing bytes can be written
+-- Printing bytes are printable.
 pub printable : (w : List ℕ) → list_all is_printing w ≡ true → IsPrintable w
 printable [] h = tt
 printable (c ∷ cs) h = (left_true (is_printing c) (list_all is_printing cs) h, printable cs (right_true (is_printing c) (list_all is_printing cs) h))
@@ -180,7 +182,7 @@ name_bytes_printable : (w : List ℕ) → list_all is_name_byte w ≡ true → I
 name_bytes_printable [] h = tt
 name_bytes_printable (c ∷ cs) h = (name_byte_printing c (left_true (is_name_byte c) (list_all is_name_byte cs) h), name_bytes_printable cs (right_true (is_name_byte c) (list_all is_name_byte cs) h))
 
--- so can names and texts
+-- Names and texts are printable.
 pub name_printable : (most : ℕ) (w : List ℕ) → is_name most w ≡ true → IsPrintable w
 name_printable most w h = name_bytes_printable w (right_true (nat_le 1 (length w) && nat_le (length w) most) (list_all is_name_byte w) h)
 

@@ -1,4 +1,4 @@
--- The row of a table that has a word.
+-- The row of a table that has a given word.
 use Rattle.std.proofs.Common.{◌≡◌, ℕ, Bool, true, false, List, [], ◌∷◌, ◌||◌, map, None, Some, cond, refl}
 use Rattle.std.specs.Prelude.{MatchOption}
 use Rattle.std.specs.List.{find, list_any}
@@ -6,7 +6,7 @@ use Rattle.std.specs.Str.{bytes_eq}
 use Rattle.std.proofs.lemmas.Slice.Eq.{bytes_eq-Decides}
 use Rattle.nut_conf.specs.Settings.{Directive, directive_of}
 
--- the row that was found has the word, or no directive has it
+-- The row that was found has the word, or no directive has it.
 pub row_of_directive : {D : Type 0} (directive : D → Directive) (word : List ℕ) (rows : List D)
     → MatchOption (find (λ d. bytes_eq word (directive d).word) rows) (directive_of word (map directive rows) ≡ None) (λ d. word ≡ (directive d).word)
 row_of_directive directive word [] = refl
@@ -17,7 +17,7 @@ row_of_directive {D} directive word (d ∷ ds) = by_test (bytes_eq word (directi
   by_test true same others = (bytes_eq-Decides word (directive d).word).0 same
   by_test false other others = others
 
--- the row that was found has the word, or the word is none of theirs
+-- The row that was found has the word, or no row has it.
 pub row_of_word : {D : Type 0} (word_of : D → List ℕ) (word : List ℕ) (rows : List D)
     → MatchOption (find (λ d. bytes_eq word (word_of d)) rows) (list_any (bytes_eq word) (map word_of rows) ≡ false) (λ d. word ≡ word_of d)
 row_of_word word_of word [] = refl

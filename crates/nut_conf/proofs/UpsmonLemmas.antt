@@ -1,4 +1,4 @@
--- The power values of a configuration and of its file.
+-- The power values of a configuration and those of its file.
 use Rattle.std.proofs.Common.{◌≡◌, ℕ, ◌+◌, List, [], ◌∷◌, map, nat_lt, cond, Option, None, Some, Ok, Err, refl, sym, ap, ◌∙◌}
 use Rattle.std.specs.Prelude.{sum_by, fold}
 use Rattle.std.specs.Option.{option_map, option_map_or, option_to_list}
@@ -21,7 +21,7 @@ number_or-set : {N : Type 0} (value : N → ℕ) (d : ℕ) (o : Option N) → nu
 number_or-set value d None = refl
 number_or-set value d (Some n) = refl
 
--- the file has enough where the configuration has
+-- The power values of the file suffice if those of the configuration do.
 pub supplied-conf : (c : UpsmonConf) (lines : List Words) → UpsmonHolds c lines
     → supplied lines ≡ cond (nat_lt (sum_by (λ m. m.power.value) c.monitors.lines.items) (option_map_or (λ n. n.value) c.min_supplies 1)) (Err (0, PastLimit)) (Ok lines)
 supplied-conf c lines holds =

@@ -1,20 +1,21 @@
--- The names and addresses of hosts.
+-- Names and addresses of hosts.
 use Rattle.std.specs.Prelude.{ℕ, Bool, ◌||◌, ◌&&◌, ◌==◌, List, length, nat_le}
 use Rattle.std.specs.List.{list_all}
 use Rattle.nut_conf.specs.Values.{is_letter, is_digit}
+use Rattle.nut_conf.specs.declared.limits.TheConstants.{HOST_MAX}
 
--- letters, digits, `.` and `-`
+-- whether the byte is a letter, a digit, `.` or `-`
 abbrev pub is_host_byte : ℕ → Bool
 is_host_byte c = is_letter c || is_digit c || (c == 46) || (c == 45)
 
--- 1 to 64 of them: the name of a host that is dialled, or its address
+-- 1 to HOST_MAX of them: the name of a host that is dialled, or its address
 abbrev pub is_host : List ℕ → Bool
-is_host bytes = nat_le 1 (length bytes) && nat_le (length bytes) 64 && list_all is_host_byte bytes
+is_host bytes = nat_le 1 (length bytes) && nat_le (length bytes) HOST_MAX && list_all is_host_byte bytes
 
--- letters, digits, `.`, `-` and `:`
+-- whether the byte is a letter, a digit, `.`, `-` or `:`
 abbrev pub is_address_byte : ℕ → Bool
 is_address_byte c = is_letter c || is_digit c || (c == 46) || (c == 45) || (c == 58)
 
--- 1 to 64 of them: the address on which a server listens
+-- 1 to HOST_MAX of them: the address on which a server listens
 abbrev pub is_address : List ℕ → Bool
-is_address bytes = nat_le 1 (length bytes) && nat_le (length bytes) 64 && list_all is_address_byte bytes
+is_address bytes = nat_le 1 (length bytes) && nat_le (length bytes) HOST_MAX && list_all is_address_byte bytes

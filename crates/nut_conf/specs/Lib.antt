@@ -2,7 +2,6 @@ pub mod Faults
 pub mod Values
 pub mod Hosts
 pub mod Settings
-pub mod Drafts
 pub mod Files
 pub mod Memory
 pub mod Sections
@@ -12,6 +11,7 @@ pub mod Upsd
 pub mod Target
 pub mod Notices
 pub mod Upsmon
+pub mod Descriptions
 pub mod Spares
-pub mod FirstFault
-pub mod Laws
+pub mod laws
+pub mod inside

@@ -1,18 +1,19 @@
--- Where memory may run out while a file is read.
+-- At which lines of a file reading may run out of memory.
 use Rattle.std.specs.Prelude.{◌≡◌, ◌⊎◌, ℕ, ◌+◌, ◌≤◌, Bool, List, [], ◌∷◌, ◌++◌, length, IsTrue, None, Ok}
 use Rattle.nut_words.specs.Reader.{has_backslash}
 use Rattle.nut_conf.specs.Values.{Words}
 use Rattle.nut_conf.specs.Files.{LineFault, lines_of, read_lines, words_of}
+use Rattle.nut_conf.specs.declared.limits.TheConstants.{FILE_LINE_MAX, FILE_MAX}
 
--- Taking in a line behind others may take memory only where it isn't too long, and has a backslash, or else no fault and
--- words that make a list longer.
+-- Reading this line after the lines `before` may allocate memory: it has at most 512 bytes, and it has a backslash, or
+-- its words have no fault and add to a list.
 abbrev pub MayTake : LineFault → (Words → Bool) → List Words → List ℕ → Type 0
 MayTake fault grows before line =
-    (length line ≤ 512) × (IsTrue (has_backslash line) ⊎ ((ws : Words) × (words_of line ≡ Ok ws) × IsTrue (grows ws) × (fault before ws ≡ None)))
+    (length line ≤ FILE_LINE_MAX) × (IsTrue (has_backslash line) ⊎ ((ws : Words) × (words_of line ≡ Ok ws) × IsTrue (grows ws) × (fault before ws ≡ None)))
 
--- Memory may run out at line n of a file: the file isn't too long, it has this line, the lines before it read, and the
--- line may take memory.
+-- Memory may run out at line n of a file: the file has at most 1,048,576 bytes and a line n, the lines before it read
+-- without a fault, and line n may allocate memory.
 abbrev pub MayRunOut : LineFault → (Words → Bool) → List ℕ → ℕ → Type 0
 MayRunOut fault grows file n =
     (front : List (List ℕ)) × (line : List ℕ) × (rest : List (List ℕ)) × (before : List Words)
-    × (length file ≤ 1048576) × (lines_of file ≡ front ++ line ∷ rest) × (n ≡ length front + 1) × (read_lines fault [] 1 front ≡ Ok before) × MayTake fault grows before line
+    × (length file ≤ FILE_MAX) × (lines_of file ≡ front ++ line ∷ rest) × (n ≡ length front + 1) × (read_lines fault [] 1 front ≡ Ok before) × MayTake fault grows before line

@@ -1,4 +1,4 @@
--- Types of notices: their words, their texts and what is done with them.
+-- Types of notices: their words, their texts, and what is done with them.
 use Rattle.std.specs.Prelude.{ℕ, Bool, true, false, ◌||◌, ◌==◌, List, [], ◌∷◌, map, codes, length, if◌then◌else◌, Result, Ok, Err}
 use Rattle.std.specs.List.{list_all, list_any, slice_split}
 use Rattle.std.specs.Str.{bytes_eq}
@@ -12,6 +12,7 @@ use Rattle.nut_conf.specs.declared.notice.Notice.TheVariants as notices
 use Rattle.nut_conf.specs.declared.notice.NoticeText.{NoticeText}
 use Rattle.nut_conf.specs.declared.notice.NoticeFlags.{NoticeFlags}
 use Rattle.nut_conf.specs.declared.notice.NoticeHandling.{NoticeHandling}
+use Rattle.nut_conf.specs.declared.limits.TheConstants.{MESSAGE_MAX}
 
 -- the word of a type of notice
 abbrev pub notice_word : Notice → List ℕ
@@ -33,7 +34,7 @@ all_notices = notices.Online ∷ notices.Onbatt ∷ notices.Lowbatt ∷ notices.
 abbrev pub notice_words : Words
 notice_words = map notice_word all_notices
 
--- the text of a notice where none is set; the first `%s` stands for the UPS
+-- the text of a type of notice used if none is set; the first `%s` stands for the UPS
 abbrev pub default_text : Notice → List ℕ
 default_text notices.Online = codes "UPS %s on line power"
 default_text notices.Onbatt = codes "UPS %s on battery"
@@ -45,13 +46,13 @@ default_text notices.Shutdown = codes "Auto logout and shutdown proceeding"
 default_text notices.Replbatt = codes "UPS %s battery needs to be replaced"
 default_text notices.Nocomm = codes "UPS %s is unavailable"
 
--- a type of notice and its text
+-- what a NOTIFYMSG line sets: a type of notice and its text
 abbrev pub message_value : Words → Result Setting FaultKind
 message_value vs =
-    if length vs == 2 then one_of notice_words (nth vs 0) >>= (λ n. text 0 128 (nth vs 1) >>= (λ t. Ok (Message n t)))
+    if length vs == 2 then one_of notice_words (nth vs 0) >>= (λ n. text 0 MESSAGE_MAX (nth vs 1) >>= (λ t. Ok (Message n t)))
     else Err BadForm
 
--- the text of a type of notice
+-- the setting that a text of a notice represents
 abbrev pub message_setting : NoticeText → Setting
 message_setting m = Message (notice_word m.notice) m.text.bytes.items
 
@@ -59,7 +60,7 @@ message_setting m = Message (notice_word m.notice) m.text.bytes.items
 abbrev pub flag_words : Words
 flag_words = codes "SYSLOG" ∷ codes "WALL" ∷ codes "EXEC" ∷ codes "IGNORE" ∷ []
 
--- what stands between the plus signs
+-- the bytes between the plus signs
 abbrev pub plus_parts : List ℕ → Words
 plus_parts bytes = slice_split (λ c. c == 43) bytes
 
@@ -72,7 +73,7 @@ flags_in ws = record {
   ignore = list_any (bytes_eq (codes "IGNORE")) ws;
 }
 
--- flags with that of one word more
+-- the flags, and the flag with this word
 abbrev pub with_flag : List ℕ → NoticeFlags → NoticeFlags
 with_flag w f = record {
   syslog = f.syslog || bytes_eq (codes "SYSLOG") w;
@@ -81,38 +82,38 @@ with_flag w f = record {
   ignore = f.ignore || bytes_eq (codes "IGNORE") w;
 }
 
--- the word is that of a flag
+-- whether the word is that of a flag
 abbrev pub is_flag : List ℕ → Bool
 is_flag w = list_any (bytes_eq w) flag_words
 
--- flags, with plus signs between them
+-- the flags named by words with plus signs between them; `UnknownWord` if one of these is no flag
 abbrev pub flags : List ℕ → Result NoticeFlags FaultKind
 flags bytes = if list_all is_flag (plus_parts bytes) then Ok (flags_in (plus_parts bytes)) else Err UnknownWord
 
--- a type of notice and its flags
+-- what a NOTIFYFLAG line sets: a type of notice and its flags
 abbrev pub flags_value : Words → Result Setting FaultKind
 flags_value vs =
     if length vs == 2 then one_of notice_words (nth vs 0) >>= (λ n. flags (nth vs 1) >>= (λ f. Ok (Flags n f)))
     else Err BadForm
 
--- the flags of a type of notice
+-- the setting that the flags of a notice represent
 abbrev pub handling_setting : NoticeHandling → Setting
 handling_setting h = Flags (notice_word h.notice) h.flags
 
--- two lines on one type of notice
+-- whether both settings are texts, or both are flags, of the same type of notice
 abbrev pub same_notice : Setting → Setting → Bool
 same_notice (Message n _) (Message m _) = bytes_eq n m
 same_notice (Flags n _) (Flags m _) = bytes_eq n m
 same_notice _ _ = false
 
--- the flags of a notice where none are set: `SYSLOG+WALL`
+-- the flags used if none are set: `SYSLOG+WALL`
 abbrev pub default_flags : NoticeFlags
 default_flags = record { syslog = true; wall = true; exec = false; ignore = false }
 
--- the text is that of this type of notice
+-- whether the text is one for this type of notice
 abbrev pub is_text_of : Notice → NoticeText → Bool
 is_text_of n m = bytes_eq (notice_word n) (notice_word m.notice)
 
--- the flags are those of this type of notice
+-- whether the flags are those for this type of notice
 abbrev pub is_handling_of : Notice → NoticeHandling → Bool
 is_handling_of n h = bytes_eq (notice_word n) (notice_word h.notice)

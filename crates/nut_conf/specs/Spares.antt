@@ -1,9 +1,10 @@
--- For private functions, nothing here has to be believed: no values are read as want of memory.
+-- For private functions, nothing here has to be believed: reading values never gives the fault `Memory`.
 use Rattle.std.specs.Prelude.{◌==◌, ◌||◌, ◌&&◌, ℕ, Bool, true, false, not, List, [], ◌∷◌, map, length, nat_le, nat_lt, codes, if◌then◌else◌, Result, Ok, Err}
 use Rattle.std.specs.List.{list_all, list_any}
 use Rattle.std.specs.Char.{to_ascii_lowercase}
 use Rattle.std.specs.Str.{bytes_eq}
 use Rattle.nut_words.specs.Name.{is_name_byte}
+use Rattle.nut_words.specs.declared.limits.TheConstants.{NAME_MAX}
 use Rattle.nut_conf.specs.Faults.{◌>>=◌, IsNoMemory, Spares}
 use Rattle.nut_conf.specs.Values.{Words, nth, values_of, one, one_of, name, text, number, is_numeral, decimal}
 use Rattle.nut_conf.specs.Hosts.{is_address}
@@ -12,11 +13,13 @@ use Rattle.nut_conf.specs.Target.{or_fault, target}
 use Rattle.nut_conf.specs.Users.{commands_value}
 use Rattle.nut_conf.specs.Upsd.{address, listen_value}
 use Rattle.nut_conf.specs.Upsmon.{monitored_target, monitor_value}
+use Rattle.nut_conf.specs.Descriptions.{description_value}
 use Rattle.nut_conf.specs.Notices.{notice_words, message_value, flags_value, flags, plus_parts, is_flag}
 use Rattle.nut_conf.specs.declared.values.Form.{Form}
 use Rattle.nut_conf.specs.declared.values.Form.TheVariants as forms
 use Rattle.nut_conf.specs.declared.fault.FaultKind.{FaultKind}
 use Rattle.nut_conf.specs.declared.fault.FaultKind.TheVariants as kinds
+use Rattle.nut_conf.specs.declared.limits.TheConstants.{DESCRIPTION_MAX, MESSAGE_MAX, PASSWORD_MAX, USER_NAME_MAX}
 
 spares_then : {X Y : Type 0} (r : Result X FaultKind) (next : X → Result Y FaultKind) → Spares r → ((x : X) → Spares (next x)) → Spares (r >>= next)
 spares_then (Ok x) next here later = later x
@@ -77,7 +80,7 @@ word_value_spares words vs = spares_then (one vs >>= one_of words) _ (spares_the
 pub commands_value_spares : (vs : Words) → Spares (commands_value vs)
 commands_value_spares vs =
     spares_then (one vs) _ (one_spares vs) (λ w.
-    spares_test (bytes_eq (map to_ascii_lowercase w) (codes "all")) (Ok AllCommands) (name 64 w >>= (λ n. Ok (Text n))) tt (spares_then (name 64 w) _ (name_spares 64 w) (λ n. tt)))
+    spares_test (bytes_eq (map to_ascii_lowercase w) (codes "all")) (Ok AllCommands) (name NAME_MAX w >>= (λ n. Ok (Text n))) tt (spares_then (name NAME_MAX w) _ (name_spares NAME_MAX w) (λ n. tt)))
 
 pub listen_value_spares : (vs : Words) → Spares (listen_value vs)
 listen_value_spares vs =
@@ -88,12 +91,17 @@ listen_value_spares vs =
 pub message_value_spares : (vs : Words) → Spares (message_value vs)
 message_value_spares vs =
     spares_test (length vs == 2) _ _
-    (spares_then (one_of notice_words (nth vs 0)) _ (word_spares notice_words (nth vs 0)) (λ n. spares_then (text 0 128 (nth vs 1)) _ (text_spares 0 128 (nth vs 1)) (λ t. tt))) tt
+    (spares_then (one_of notice_words (nth vs 0)) _ (word_spares notice_words (nth vs 0)) (λ n. spares_then (text 0 MESSAGE_MAX (nth vs 1)) _ (text_spares 0 MESSAGE_MAX (nth vs 1)) (λ t. tt))) tt
 
 pub flags_value_spares : (vs : Words) → Spares (flags_value vs)
 flags_value_spares vs =
     spares_test (length vs == 2) _ _
     (spares_then (one_of notice_words (nth vs 0)) _ (word_spares notice_words (nth vs 0)) (λ n. spares_then (flags (nth vs 1)) _ (flags_spare (nth vs 1)) (λ f. tt))) tt
+
+pub description_value_spares : (vs : Words) → Spares (description_value vs)
+description_value_spares vs =
+    spares_test (length vs == 2) _ _
+    (spares_then (name NAME_MAX (nth vs 0)) _ (name_spares NAME_MAX (nth vs 0)) (λ n. spares_then (text 0 DESCRIPTION_MAX (nth vs 1)) _ (text_spares 0 DESCRIPTION_MAX (nth vs 1)) (λ t. tt))) tt
 
 pub monitor_value_spares : (vs : Words) → Spares (monitor_value vs)
 monitor_value_spares vs =
@@ -101,6 +109,6 @@ monitor_value_spares vs =
     spares_test (length vs == 5) _ _
     (spares_then (monitored_target (nth vs 0)) _ (target_spares (nth vs 0)) (λ t.
     spares_then (number 0 1000 (nth vs 1)) _ (number_spares 0 1000 (nth vs 1)) (λ p.
-    spares_then (name 32 (nth vs 2)) _ (name_spares 32 (nth vs 2)) (λ u.
-    spares_then (text 1 128 (nth vs 3)) _ (text_spares 1 128 (nth vs 3)) (λ w.
+    spares_then (name USER_NAME_MAX (nth vs 2)) _ (name_spares USER_NAME_MAX (nth vs 2)) (λ u.
+    spares_then (text 1 PASSWORD_MAX (nth vs 3)) _ (text_spares 1 PASSWORD_MAX (nth vs 3)) (λ w.
     spares_then (one_of roles (nth vs 4)) _ (word_spares roles (nth vs 4)) (λ r. tt)))))) tt

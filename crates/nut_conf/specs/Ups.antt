@@ -1,10 +1,11 @@
--- The file ups.conf: the UPSes that a server serves.
+-- The file ups.conf: the UPSes of a server.
 use Rattle.std.specs.Prelude.{◌≡◌, ℕ, Bool, false, not, List, [], ◌∷◌, ◌++◌, length, map, codes, position, slice_get, nat_le, Option, Result, Ok, Err, if◌then◌else◌}
 use Rattle.std.specs.List.{list_all, list_any}
 use Rattle.std.specs.Option.{option_map, option_map_or, option_to_list}
 use Rattle.std.specs.Str.{bytes_eq}
 use Rattle.indexmap.specs.IndexMap.{keys, values}
 use Rattle.nut_words.specs.Spelling.{is_printing}
+use Rattle.nut_words.specs.declared.limits.TheConstants.{UPS_NAME_MAX}
 use Rattle.nut_conf.specs.Faults.{◌>>=◌}
 use Rattle.nut_conf.specs.Settings.{Setting, Text, Directive, settings, line_fault, once, name_value, text_value}
 use Rattle.nut_conf.specs.declared.values.Form.TheVariants.{Assigned}
@@ -18,52 +19,53 @@ use Rattle.nut_conf.specs.declared.ups.UpsConf.{UpsConf}
 use Rattle.nut_conf.specs.declared.ups.Ups.{Ups}
 use Rattle.nut_conf.specs.declared.ups.UpsDirective.{UpsDirective}
 use Rattle.nut_conf.specs.declared.ups.UpsDirective.TheVariants.{Driver, Port, Desc}
+use Rattle.nut_conf.specs.declared.limits.TheConstants.{DESCRIPTION_MAX, DEVICE_MAX, DRIVER_NAME_MAX, UPSES_MAX}
 
--- the table of directives in a section
+-- the directives of a section
 abbrev pub ups_directive : UpsDirective → Directive
-ups_directive Driver = record { word = codes "driver"; rule = once Assigned (name_value 32) }
-ups_directive Port = record { word = codes "port"; rule = once Assigned (text_value 0 128) }
-ups_directive Desc = record { word = codes "desc"; rule = once Assigned (text_value 0 128) }
+ups_directive Driver = record { word = codes "driver"; rule = once Assigned (name_value DRIVER_NAME_MAX) }
+ups_directive Port = record { word = codes "port"; rule = once Assigned (text_value 0 DEVICE_MAX) }
+ups_directive Desc = record { word = codes "desc"; rule = once Assigned (text_value 0 DESCRIPTION_MAX) }
 
--- the rows of the table
+-- all directives of a section
 abbrev pub ups_directives : List Directive
 ups_directives = map ups_directive (Driver ∷ Port ∷ Desc ∷ [])
 
--- what a section has for each directive
+-- what the section has set for each directive
 abbrev pub ups_settings : Ups → UpsDirective → List Setting
 ups_settings u Driver = option_to_list (option_map (λ n. Text n.bytes.items) u.driver)
 ups_settings u Port = option_to_list (option_map (λ t. Text t.bytes.items) u.port)
 ups_settings u Desc = option_to_list (option_map (λ t. Text t.bytes.items) u.desc)
 
--- no line in a section takes memory for what it sets
+-- whether a line within a section adds to a list: none does
 abbrev pub ups_grows : Words → Bool
 ups_grows ws = false
 
--- only a section line does
+-- whether a line allocates memory for what it sets: only a section line does
 abbrev pub ups_conf_grows : Words → Bool
 ups_conf_grows = sectioned_grows ups_grows
 
--- the first fault of a line of ups.conf, which has at most 32 sections
+-- the first fault of a line of ups.conf, which has at most UPSES_MAX sections
 abbrev pub ups_fault : LineFault
-ups_fault = sectioned_fault (line_fault ups_directives) 32
+ups_fault = sectioned_fault (line_fault ups_directives) UPSES_MAX
 
--- a section has what its lines set
+-- A UPS holds what the lines of its section set, for each directive.
 abbrev pub UpsHolds : Ups → List Words → Type 0
 UpsHolds u lines = (d : UpsDirective) → ups_settings u d ≡ settings (ups_directive d) lines
 
--- the configuration has the sections of the file, in order
+-- The configuration holds the sections of the file, in order.
 abbrev pub UpsConfHolds : UpsConf → List Words → Type 0
 UpsConfHolds c lines = AllHold UpsHolds c.ups.by_name.entries (sections lines)
 
--- the driver of a UPS; where none is set, `dummy-ups`
+-- the driver's program of a UPS: `dummy-ups` if none is set
 abbrev pub driver_of : Ups → List ℕ
 driver_of u = option_map_or (λ n. n.bytes.items) u.driver (codes "dummy-ups")
 
--- the port of a UPS; where none is set, empty
+-- the port of a UPS: empty if none is set
 abbrev pub port_of : Ups → List ℕ
 port_of u = option_map_or (λ t. t.bytes.items) u.port []
 
--- the description of a UPS; where none is set, `Unavailable`
+-- the description of a UPS: `Unavailable` if none is set
 abbrev pub desc_of : Ups → List ℕ
 desc_of u = option_map_or (λ t. t.bytes.items) u.desc (codes "Unavailable")
 
@@ -79,31 +81,31 @@ number_of name c = position (bytes_eq name) (names_of c)
 abbrev pub ups_at : UpsConf → ℕ → Option Ups
 ups_at c number = slice_get (values c.ups.by_name) number
 
--- a UPS without where it lies in memory: its name, its driver's program, what that is to open, and what people call it
+-- a UPS, whatever its place in memory: its name, its driver's program, its port and its description
 pub record Shown : Type 0 where
   pub name : List ℕ
   pub driver : List ℕ
   pub port : List ℕ
   pub description : List ℕ
 
--- what is set under a name, with the defaults
-abbrev pub shown : Name 32 × Ups → Shown
+-- the UPS of an entry, with the defaults for what isn't set
+abbrev pub shown : Name UPS_NAME_MAX × Ups → Shown
 shown e = record { name = e.0.bytes.items; driver = driver_of e.1; port = port_of e.1; description = desc_of e.1 }
 
 -- the UPSes, in the order of the file
 abbrev pub shown_in : UpsConf → List Shown
 shown_in c = map shown c.ups.by_name.entries
 
--- the UPS has this name
+-- whether the UPS has this name
 abbrev pub is_shown_as : List ℕ → Shown → Bool
 is_shown_as n u = bytes_eq n u.name
 
--- A name and a description behind other UPSes: these as they are with one more, whose driver and port are the defaults,
--- or the first fault.
+-- The UPSes with one more at the end, which has this name, this description and the default driver and port; or the
+-- first fault.
 abbrev pub with_ups : List Shown → List ℕ → List ℕ → Result (List Shown) FaultKind
 with_ups before n desc =
-    name 32 n >>= (λ n. text 0 128 desc >>= (λ d.
-    if nat_le 32 (length before) then Err PastLimit
+    name UPS_NAME_MAX n >>= (λ n. text 0 DESCRIPTION_MAX desc >>= (λ d.
+    if nat_le UPSES_MAX (length before) then Err PastLimit
     else if list_any (is_shown_as n) before then Err Repeated
     else if not (list_all is_printing d) then Err Unreadable
     else Ok (before ++ record { name = n; driver = codes "dummy-ups"; port = []; description = d } ∷ [])))

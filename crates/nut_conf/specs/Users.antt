@@ -1,9 +1,10 @@
--- The file upsd.users: who may do what.
+-- The file upsd.users: which users there are, and what they may do.
 use Rattle.std.specs.Prelude.{◌≡◌, ◌||◌, ℕ, Bool, true, false, List, [], ◌∷◌, map, codes, Option, None, Some, Result, Ok, if◌then◌else◌}
 use Rattle.std.specs.List.{list_any}
 use Rattle.std.specs.Option.{option_map, option_map_or, option_to_list}
 use Rattle.std.specs.Str.{bytes_eq}
 use Rattle.std.specs.Char.{to_ascii_lowercase}
+use Rattle.nut_words.specs.declared.limits.TheConstants.{NAME_MAX}
 use Rattle.indexmap.specs.IndexMap.{get_by}
 use Rattle.nut_conf.specs.Faults.{◌>>=◌}
 use Rattle.nut_conf.specs.Values.{Words, nth, one, name}
@@ -22,17 +23,18 @@ use Rattle.nut_conf.specs.declared.users.Role.{Role}
 use Rattle.nut_conf.specs.declared.users.Role.TheVariants as roles
 use Rattle.nut_conf.specs.declared.users.UserDirective.{UserDirective}
 use Rattle.nut_conf.specs.declared.users.UserDirective.TheVariants.{Password, Actions, Instcmds, Upsmon}
+use Rattle.nut_conf.specs.declared.limits.TheConstants.{INSTCMDS_MAX, PASSWORD_MAX, USERS_MAX}
 
 -- the word of a role
 abbrev pub role_word : Role → List ℕ
 role_word roles.Primary = codes "primary"
 role_word roles.Secondary = codes "secondary"
 
--- the role of a monitor
+-- the setting that a role represents
 abbrev pub role_setting : Role → Setting
 role_setting r = Text (role_word r)
 
--- the only value, the word of a role
+-- what an `upsmon` line sets: its only value, the word of a role
 abbrev pub role_value : Words → Result Setting FaultKind
 role_value = word_value (codes "primary" ∷ codes "secondary" ∷ [])
 
@@ -41,58 +43,58 @@ abbrev pub action_word : Action → List ℕ
 action_word actions.Set = codes "SET"
 action_word actions.Fsd = codes "FSD"
 
--- an action that a user may take
+-- the setting that an action represents
 abbrev pub action_setting : Action → Setting
 action_setting a = Text (action_word a)
 
--- the only value, the word of an action
+-- what an `actions` line sets: its only value, the word of an action
 abbrev pub action_value : Words → Result Setting FaultKind
 action_value = word_value (codes "SET" ∷ codes "FSD" ∷ [])
 
--- which commands a user may give
+-- the setting that the commands of a user represent
 abbrev pub commands_setting : Commands → Setting
 commands_setting commands.All = AllCommands
 commands_setting (commands.Named n) = Text n.bytes.items
 
--- `all` in any case, or the name of a command
+-- what an `instcmds` line sets: its only value, `all` in upper or lower case, or the name of a command
 abbrev pub commands_value : Words → Result Setting FaultKind
-commands_value vs = one vs >>= (λ w. if bytes_eq (map to_ascii_lowercase w) (codes "all") then Ok AllCommands else name 64 w >>= (λ n. Ok (Text n)))
+commands_value vs = one vs >>= (λ w. if bytes_eq (map to_ascii_lowercase w) (codes "all") then Ok AllCommands else name NAME_MAX w >>= (λ n. Ok (Text n)))
 
--- the table of directives in a section
+-- the directives of a section
 abbrev pub user_directive : UserDirective → Directive
-user_directive Password = record { word = codes "password"; rule = once Assigned (text_value 1 128) }
+user_directive Password = record { word = codes "password"; rule = once Assigned (text_value 1 PASSWORD_MAX) }
 user_directive Actions = record { word = codes "actions"; rule = listed None Assigned action_value }
-user_directive Instcmds = record { word = codes "instcmds"; rule = listed (Some 128) Assigned commands_value }
+user_directive Instcmds = record { word = codes "instcmds"; rule = listed (Some INSTCMDS_MAX) Assigned commands_value }
 user_directive Upsmon = record { word = codes "upsmon"; rule = once Plain role_value }
 
--- the rows of the table
+-- all directives of a section
 abbrev pub user_directives : List Directive
 user_directives = map user_directive (Password ∷ Actions ∷ Instcmds ∷ Upsmon ∷ [])
 
--- what a user has for each directive
+-- what the user has set for each directive
 abbrev pub user_settings : User → UserDirective → List Setting
 user_settings u Password = option_to_list (option_map (λ t. Text t.bytes.items) u.password)
 user_settings u Actions = map action_setting u.actions.items
 user_settings u Instcmds = map commands_setting u.instcmds.items
 user_settings u Upsmon = option_to_list (option_map role_setting u.upsmon)
 
--- actions and commands are listed, and a list takes memory
+-- whether a line within a section adds to a list: only `actions` and `instcmds` lines do
 abbrev pub user_grows : Words → Bool
 user_grows ws = bytes_eq (nth ws 0) (codes "actions") || bytes_eq (nth ws 0) (codes "instcmds")
 
--- and so does a section
+-- whether a line allocates memory for what it sets: only these lines and section lines do
 abbrev pub users_conf_grows : Words → Bool
 users_conf_grows = sectioned_grows user_grows
 
--- the first fault of a line of upsd.users, which has at most 64 sections
+-- the first fault of a line of upsd.users, which has at most USERS_MAX sections
 abbrev pub users_fault : LineFault
-users_fault = sectioned_fault (line_fault user_directives) 64
+users_fault = sectioned_fault (line_fault user_directives) USERS_MAX
 
--- a user has what the lines of the section set
+-- A user holds what the lines of the section set, for each directive.
 abbrev pub UserHolds : User → List Words → Type 0
 UserHolds u lines = (d : UserDirective) → user_settings u d ≡ settings (user_directive d) lines
 
--- the configuration has the sections of the file, in order
+-- The configuration holds the sections of the file, in order.
 abbrev pub UsersConfHolds : UsersConf → List Words → Type 0
 UsersConfHolds c lines = AllHold UserHolds c.users.by_name.entries (sections lines)
 
@@ -100,19 +102,19 @@ UsersConfHolds c lines = AllHold UserHolds c.users.by_name.entries (sections lin
 abbrev pub user_named : List ℕ → UsersConf → Option User
 user_named name c = get_by (is_named name) c.users.by_name
 
--- the user's password is this one; a user without a password has none
+-- whether this is the user's password; if the user has none, no password is right
 abbrev pub has_password : List ℕ → User → Bool
 has_password password u = option_map_or (λ t. bytes_eq password t.bytes.items) u.password false
 
--- the user may take the action
+-- whether the user may take the action
 abbrev pub may_act : Action → User → Bool
 may_act action u = list_any (λ a. bytes_eq (action_word action) (action_word a)) u.actions.items
 
--- these commands have one with this name among them
+-- whether the command with this name is among these commands
 abbrev pub covers : List ℕ → Commands → Bool
 covers name commands.All = true
 covers name (commands.Named n) = bytes_eq name n.bytes.items
 
--- the user may give the command
+-- whether the user may give the command with this name
 abbrev pub may_command : List ℕ → User → Bool
 may_command name u = list_any (covers name) u.instcmds.items

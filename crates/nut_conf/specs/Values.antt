@@ -13,17 +13,17 @@ use Rattle.nut_conf.specs.declared.fault.FaultKind.TheVariants.{BadForm, BadNumb
 abbrev pub Words : Type 0
 Words = List (List ℕ)
 
--- the word at a place, counted from 0
+-- the word at a place, counted from 0, or the empty word past the last
 abbrev pub nth : Words → ℕ → List ℕ
 nth ws k = slice_index_or ws k []
 
--- the values of a line with these words: what follows the directive, or the directive and `=`
+-- the values of a line with these words: those after the directive, or after the directive and `=`
 abbrev pub values_of : Form → Words → Result Words FaultKind
 values_of forms.Plain ws = Ok (drop 1 ws)
 values_of forms.Assigned ws =
     if nat_lt (length ws) 2 || not (bytes_eq (nth ws 1) (codes "=")) then Err BadForm else Ok (drop 2 ws)
 
--- the only value
+-- the only value, or `BadForm` if there isn't exactly one
 abbrev pub one : Words → Result (List ℕ) FaultKind
 one vs = if length vs == 1 then Ok (nth vs 0) else Err BadForm
 
@@ -35,34 +35,34 @@ is_digit c = nat_le 48 c && nat_le c 57
 abbrev pub is_letter : ℕ → Bool
 is_letter c = (nat_le 65 c && nat_le c 90) || (nat_le 97 c && nat_le c 122)
 
--- a name of at most so many bytes
+-- the bytes as a name of at most `most` bytes, or the fault
 abbrev pub name : ℕ → List ℕ → Result (List ℕ) FaultKind
 name most bytes =
     if (length bytes == 0) || not (list_all is_name_byte bytes) then Err BadName
     else if nat_lt most (length bytes) then Err PastLimit
     else Ok bytes
 
--- a text of so many bytes
+-- the bytes as a text, if they are `least` to `most`; else `PastLimit`
 abbrev pub text : ℕ → ℕ → List ℕ → Result (List ℕ) FaultKind
 text least most bytes = if nat_lt (length bytes) least || nat_lt most (length bytes) then Err PastLimit else Ok bytes
 
--- what every text is that was read: so many printing bytes
+-- whether a text has `least` to `most` bytes, all printing
 abbrev pub is_text : ℕ → ℕ → List ℕ → Bool
 is_text least most bytes = nat_le least (length bytes) && nat_le (length bytes) most && list_all is_printing bytes
 
--- the number that these digits write
+-- the number that these digits say
 abbrev pub decimal : List ℕ → ℕ
 decimal digits = fold (λ n c. n * 10 + (c - 48)) 0 digits
 
--- one to nine digits
+-- whether the bytes are one to nine digits
 abbrev pub is_numeral : List ℕ → Bool
 is_numeral bytes = nat_le 1 (length bytes) && nat_le (length bytes) 9 && list_all is_digit bytes
 
--- a numeral within these bounds
+-- the number that one to nine digits say, if it is `least` to `most`; else `BadNumber`
 abbrev pub number : ℕ → ℕ → List ℕ → Result ℕ FaultKind
 number least most bytes =
     if is_numeral bytes && nat_le least (decimal bytes) && nat_le (decimal bytes) most then Ok (decimal bytes) else Err BadNumber
 
--- one of these words
+-- the bytes, if they are one of these words; else `UnknownWord`
 abbrev pub one_of : Words → List ℕ → Result (List ℕ) FaultKind
 one_of words bytes = if list_any (bytes_eq bytes) words then Ok bytes else Err UnknownWord

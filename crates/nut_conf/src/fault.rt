@@ -1,41 +1,41 @@
-//! Why a configuration file doesn't read.
+//! Why a configuration file can't be read.
 ghost use Rattle.std.specs.Prelude.{◌≡◌, codes};
 ghost use Rattle.nut_conf.specs.declared.fault.FaultKind.TheVariants.{Memory};
 
 use std::alloc::{AllocError, AllocFailed};
 use thiserror::Error;
 
-/// What is wrong with a line, or with a file as a whole. It is shown by its name.
+/// What is wrong with a line, or with a file as a whole. Its text is its name.
 #[derive(Clone, Copy, Debug, PartialEq, Eq, Error)]
 pub enum FaultKind {
-    /// The line spells no words: an open quote, a lone backslash, a byte that isn't ASCII, more than 32 words and the like.
+    /// The line spells no words: an open quote, a lone backslash, a byte that isn't ASCII, more than [`WORDS_MAX`](nut_words::WORDS_MAX) words and the like.
     #[error("Unreadable")]
     Unreadable,
-    /// A directive stands before the first section.
+    /// A directive before the first section.
     #[error("OutsideSection")]
     OutsideSection,
-    /// The first word is none of the file's directives.
+    /// The first word is no directive of the file.
     #[error("UnknownDirective")]
     UnknownDirective,
-    /// Words are missing, or there are too many.
+    /// Values are missing, or there are too many.
     #[error("BadForm")]
     BadForm,
-    /// A section, a directive that may stand once, a target or a type of notice stands a second time.
+    /// A section, a directive that is allowed once, a target or a type of notice that came before.
     #[error("Repeated")]
     Repeated,
-    /// Not one to nine digits, or out of range.
+    /// A number that isn't one to nine digits, or is out of range.
     #[error("BadNumber")]
     BadNumber,
-    /// An empty name or one with a byte that may not stand there, a bad address or a bad target.
+    /// An empty name, a name with a byte that isn't allowed, a bad address or a bad target.
     #[error("BadName")]
     BadName,
-    /// Something is too long or too short, or there is too much of it.
+    /// Something is too long or too short, or there are too many of it.
     #[error("PastLimit")]
     PastLimit,
-    /// A role, an action, a type of notice or a flag that isn't known.
+    /// An unknown role, action, type of notice or flag.
     #[error("UnknownWord")]
     UnknownWord,
-    /// Memory ran out.
+    /// Memory cannot be allocated.
     #[error("Memory")]
     Memory,
 }
@@ -56,12 +56,12 @@ impl<T: Drop> From<AllocFailed<T>> for FaultKind {
     }
 }
 
-/// The first fault of a file, with its line. It is shown as `2: Repeated`.
+/// The first fault of a file, and its line. Its text is, for example, `2: Repeated`.
 #[derive(Clone, Copy, Debug, PartialEq, Eq, Error)]
 #[error("{line}: {kind}")]
 pub struct ConfFault {
-    /// Lines count from 1; 0 is the file as a whole.
+    /// The number of the line, counted from 1, or 0 for the file as a whole.
     pub line: u32,
-    /// What is wrong there.
+    /// What is wrong with the line.
     pub kind: FaultKind,
 }

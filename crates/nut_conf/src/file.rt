@@ -1,4 +1,4 @@
-//! A file by its lines.
+//! Reads a file line by line.
 ghost use Rattle.std.specs.Prelude.{◌≡◌, List, Ok, Err, IfErr, MatchResult};
 ghost use Rattle.nut_conf.specs.Faults.{Fails};
 ghost use Rattle.nut_conf.specs.Values.{Words as LineWords};
@@ -7,14 +7,12 @@ ghost use Rattle.nut_conf.specs.Memory.{MayRunOut, MayTake};
 
 use crate::draft::Draft;
 use crate::fault::{ConfFault, FaultKind};
+use crate::limits::FILE_MAX;
 use crate::line::Line;
 use nut_words::cut;
 use std::alloc::Global;
 
-/// How many bytes a configuration file has at most.
-pub const FILE_MAX: usize = 1_048_576;
-
-/// Takes in a line.
+/// Adds what a line of the file sets to the draft. A line without words sets nothing.
 fn take_line<D: Draft>(alloc: Global, draft: &mut D, bytes: &[u8]) -> Result<(), FaultKind>
     ensures memory { (before : List LineWords) → D.Holds draft.old before → result ≡ Err FaultKind.Memory → MayTake D.fault D.grows before bytes.now }
     ensures takes { (before : List LineWords) → D.Holds draft.old before
@@ -26,7 +24,7 @@ fn take_line<D: Draft>(alloc: Global, draft: &mut D, bytes: &[u8]) -> Result<(),
     }
 }
 
-/// Reads a file, line by line, to its end or to its first fault.
+/// Reads a file line by line, to its end or to its first fault.
 pub fn read_draft<D: Draft>(alloc: Global, bytes: &[u8]) -> Result<D, ConfFault>
     ensures means { Means (read_file D.fault bytes.now) D.Holds result }
     ensures memory { IfErr result (λ fault. fault.kind ≡ FaultKind.Memory → MayRunOut D.fault D.grows bytes.now fault.line) }

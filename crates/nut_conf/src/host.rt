@@ -1,21 +1,22 @@
-//! The names and addresses of hosts.
+//! Names and addresses of hosts.
 ghost use Rattle.std.specs.Prelude.{◌≡◌, IsTrue, MatchOption, false};
 ghost use Rattle.std.specs.List.{list_all};
 ghost use Rattle.nut_conf.specs.Hosts.{is_host_byte as host_byte, is_address_byte as address_byte, is_host, is_address};
 
+use crate::limits::HOST_MAX;
 use arrayvec::ArrayVec;
 
-/// The name of a host or its address, as one dials it: 1 to 64 letters, digits, `.` and `-`.
+/// The name of a host or its address, as one dials it: 1 to [`HOST_MAX`] letters, digits, `.` and `-`.
 #[derive(Debug, PartialEq, Eq, Drop)]
 pub struct Host {
-    pub bytes: ArrayVec<u8, 64>,
+    pub bytes: ArrayVec<u8, HOST_MAX>,
     pub ghost valid: { IsTrue (is_host bytes.items) },
 }
 
-/// An address on which a server listens: 1 to 64 letters, digits, `.`, `-` and `:`.
+/// An address on which a server listens: 1 to [`HOST_MAX`] letters, digits, `.`, `-` and `:`.
 #[derive(Debug, PartialEq, Eq, Drop)]
 pub struct Address {
-    pub bytes: ArrayVec<u8, 64>,
+    pub bytes: ArrayVec<u8, HOST_MAX>,
     pub ghost valid: { IsTrue (is_address bytes.items) },
 }
 
@@ -44,7 +45,7 @@ fn are_address_bytes(bytes: &[u8]) -> bool
 }
 
 impl Host {
-    /// Reads a host, or None where the bytes aren't one.
+    /// Reads a host. Returns `None` if the bytes aren't one.
     pub fn read(bytes: &[u8]) -> Option<Self>
         ensures { MatchOption result (is_host bytes.now ≡ false) (λ h. h.bytes.items ≡ bytes.now) }
     {
@@ -57,7 +58,7 @@ impl Host {
         }
     }
 
-    /// The bytes of the host.
+    /// Returns the bytes of the host.
     pub fn as_bytes(&self) -> &[u8]
         ensures value { result.now ≡ self.now.bytes.items }
         ensures valid { IsTrue (is_host result.now) }
@@ -67,7 +68,7 @@ impl Host {
 }
 
 impl Address {
-    /// Reads an address, or None where the bytes aren't one.
+    /// Reads an address. Returns `None` if the bytes aren't one.
     pub fn read(bytes: &[u8]) -> Option<Self>
         ensures { MatchOption result (is_address bytes.now ≡ false) (λ a. a.bytes.items ≡ bytes.now) }
     {
@@ -80,7 +81,7 @@ impl Address {
         }
     }
 
-    /// The bytes of the address.
+    /// Returns the bytes of the address.
     pub fn as_bytes(&self) -> &[u8]
         ensures value { result.now ≡ self.now.bytes.items }
         ensures valid { IsTrue (is_address result.now) }

@@ -1,41 +1,45 @@
-//! Laws of every file, over the definitions alone.
+//! Laws that hold of every file, stated over the definitions alone.
 ghost use Rattle.std.specs.Prelude.{◌≡◌, ℕ, List, [], Ok, Err};
 ghost use Rattle.nut_conf.specs.Values.{Words};
-ghost use Rattle.nut_conf.specs.FirstFault.{IsFirstFault};
+ghost use Rattle.nut_conf.specs.laws.FirstFault.{IsFirstFault};
 ghost use Rattle.nut_conf.specs.Files.{LineFault, read_file, read_lines};
-ghost use Rattle.nut_conf.specs.Laws.{BlankChangesNothing, EachKeepsRule, HasDistinctNames, KeepRule};
+ghost use Rattle.nut_conf.specs.laws.Laws.{BlankChangesNothing, EachKeepsRule, HasDistinctNames, KeepRule};
 ghost use Rattle.nut_conf.specs.Sections.{sections};
 ghost use Rattle.nut_conf.specs.Settings.{settings};
+ghost use Rattle.nut_conf.specs.Descriptions.{description_directive, descriptions_fault};
 ghost use Rattle.nut_conf.specs.Ups.{ups_directive, ups_fault};
 ghost use Rattle.nut_conf.specs.Upsd.{upsd_directive, upsd_fault};
 ghost use Rattle.nut_conf.specs.Upsmon.{upsmon_directive, upsmon_fault};
 ghost use Rattle.nut_conf.specs.Users.{user_directive, users_fault};
+ghost use Rattle.nut_conf.specs.declared.descriptions.DescriptionDirective.{DescriptionDirective};
 ghost use Rattle.nut_conf.specs.declared.ups.UpsDirective.{UpsDirective};
 ghost use Rattle.nut_conf.specs.declared.upsd.UpsdDirective.{UpsdDirective};
 ghost use Rattle.nut_conf.specs.declared.upsmon.UpsmonDirective.{UpsmonDirective};
 ghost use Rattle.nut_conf.specs.declared.users.UserDirective.{UserDirective};
 ghost use Rattle.nut_conf.specs.declared.fault.FaultKind.{FaultKind};
 
-/// The fault that is named stands in the first line that has one.
+/// States a law and does nothing when called: the fault that reading reports is that of the first line with a fault.
 pub fn first_fault()
     ensures { (fault : LineFault) (lines : List (List ℕ)) (n : ℕ) (k : FaultKind)
         → read_lines fault [] 1 lines ≡ Err (n, k) → IsFirstFault fault lines n k }
 {}
 
-/// A line without words changes nothing but the numbers of the lines behind it.
+/// States a law and does nothing when called: a line without words changes nothing except the numbers of the lines
+/// after it.
 pub fn blank_lines_change_nothing()
     ensures { (fault : LineFault) → BlankChangesNothing fault }
 {}
 
-/// In a file that reads, no UPS and no user has the name of another.
+/// States a law and does nothing when called: in a file that reads without a fault, no two UPSes and no two users have
+/// the same name.
 pub fn names_are_distinct()
     ensures ups { (file : List ℕ) (lines : List Words) → read_file ups_fault file ≡ Ok lines → HasDistinctNames (sections lines) }
     ensures users { (file : List ℕ) (lines : List Words) → read_file users_fault file ≡ Ok lines → HasDistinctNames (sections lines) }
 {}
 
 /// In a file that reads, what its lines set for a directive is as often as it may be, and no two settings are alike that
-/// may not be: at most 16 endpoints, 128 `instcmds` of a user and 32 targets, no target twice, and no type of notice with
-/// two texts or two lines of flags.
+/// may not be: no more endpoints, `instcmds` of a user, targets and descriptions than `limits` says, no target twice, no type of
+/// notice with two texts or two lines of flags, and no name with two descriptions.
 pub fn rules_are_kept()
     ensures ups { (file : List ℕ) (lines : List Words) → read_file ups_fault file ≡ Ok lines
         → (d : UpsDirective) → EachKeepsRule (ups_directive d) (sections lines) }
@@ -45,4 +49,6 @@ pub fn rules_are_kept()
         → (d : UpsdDirective) → KeepRule (upsd_directive d).rule (settings (upsd_directive d) lines) }
     ensures upsmon { (file : List ℕ) (lines : List Words) → read_file upsmon_fault file ≡ Ok lines
         → (d : UpsmonDirective) → KeepRule (upsmon_directive d).rule (settings (upsmon_directive d) lines) }
+    ensures descriptions { (file : List ℕ) (lines : List Words) → read_file descriptions_fault file ≡ Ok lines
+        → (d : DescriptionDirective) → KeepRule (description_directive d).rule (settings (description_directive d) lines) }
 {}

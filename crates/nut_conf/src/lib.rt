@@ -1,13 +1,16 @@
-//! The configuration files of Network UPS Tools: ups.conf, upsd.users, upsd.conf and upsmon.conf.
+//! The configuration files of Network UPS Tools: ups.conf, upsd.users, upsd.conf, upsmon.conf and cmdvartab.
 //!
-//! Each reader takes a whole file. It gives the configuration that the file's lines set, or the first fault with its line.
+//! Each reader reads a whole file. It returns the configuration that the file's lines set, or the first fault and its
+//! line.
 #![tactic(auto)]
 
+mod descriptions;
 mod draft;
 mod fault;
 mod file;
 mod host;
 mod laws;
+mod limits;
 mod line;
 mod monitor;
 mod monitors;
@@ -16,22 +19,29 @@ mod sections;
 mod slot;
 mod target;
 mod text;
+mod texts;
 mod ups;
 mod upsd;
 mod upsmon;
 mod users;
 mod values;
 
+pub use descriptions::{DescriptionDirective, Descriptions, read_descriptions};
 pub use fault::{ConfFault, FaultKind};
-pub use file::FILE_MAX;
 pub use host::{Address, Host};
 pub use laws::{blank_lines_change_nothing, first_fault, names_are_distinct, rules_are_kept};
+pub use limits::{
+    COMMAND_MAX, CONNECTIONS_MAX, DESCRIPTION_MAX, DESCRIPTIONS_MAX, DEVICE_MAX, DRIVER_NAME_MAX,
+    FILE_LINE_MAX, FILE_MAX, HOST_MAX, INSTCMDS_MAX, LISTENERS_MAX, MESSAGE_MAX, MONITORS_MAX,
+    PASSWORD_MAX, TARGET_MAX, UPSES_MAX, USER_NAME_MAX, USERS_MAX, file_limits,
+};
 pub use monitor::Monitored;
 pub use monitors::Monitors;
 pub use notice::{Notice, NoticeFlags, NoticeHandling, NoticeText};
 pub use sections::Sections;
 pub use target::{NameFault, Target, split_name};
 pub use text::{Name, Number, Port, Text};
+pub use texts::Texts;
 pub use ups::{Ups, UpsConf, UpsDirective, read_ups};
 pub use upsd::{Endpoint, UpsdConf, UpsdDirective, read_upsd};
 pub use upsmon::{UpsmonConf, UpsmonDirective, read_upsmon};

@@ -8,10 +8,11 @@ ghost use Rattle.nut_conf.specs.Faults.{Gives};
 ghost use Rattle.nut_conf.specs.Files.{words_of};
 
 use crate::fault::FaultKind;
-use nut_words::{LINE_MAX, WordFault, Words, split};
+use crate::limits::FILE_LINE_MAX;
+use nut_words::{WordFault, Words, split};
 use std::alloc::Global;
 
-/// The words of a line that has some.
+/// The words of a line that has at least one.
 #[derive(Drop)]
 pub struct Line<'a> {
     pub words: Words<'a>,
@@ -19,12 +20,12 @@ pub struct Line<'a> {
     ghost printing: { IsTrue (list_all (list_all is_printing) words) },
 }
 
-/// Reads the words of a line.
+/// Reads the words of a line of at most [`FILE_LINE_MAX`] bytes.
 fn words(alloc: Global, bytes: &[u8]) -> Result<Words<'_>, FaultKind>
     ensures words { Gives (λ words. words) result (words_of bytes.now) }
-    ensures memory { result ≡ Err FaultKind.Memory → (length bytes.now ≤ 512) × IsTrue (has_backslash bytes.now) }
+    ensures memory { result ≡ Err FaultKind.Memory → (length bytes.now ≤ FILE_LINE_MAX) × IsTrue (has_backslash bytes.now) }
 {
-    if bytes.len() > LINE_MAX {
+    if bytes.len() > FILE_LINE_MAX {
         return Err(FaultKind::PastLimit);
     }
     match split(alloc, bytes) {
@@ -35,10 +36,10 @@ fn words(alloc: Global, bytes: &[u8]) -> Result<Words<'_>, FaultKind>
 }
 
 impl<'a> Line<'a> {
-    /// Reads a line, or None where it has no words.
+    /// Reads a line. Returns `None` if it has no words.
     pub fn read(alloc: Global, bytes: &'a [u8]) -> Result<Option<Self>, FaultKind>
         ensures line { Gives (λ line. option_map_or (λ l. l.words) line []) result (words_of bytes.now) }
-        ensures memory { result ≡ Err FaultKind.Memory → (length bytes.now ≤ 512) × IsTrue (has_backslash bytes.now) }
+        ensures memory { result ≡ Err FaultKind.Memory → (length bytes.now ≤ FILE_LINE_MAX) × IsTrue (has_backslash bytes.now) }
     {
         if bytes.is_empty() {
             return Ok(None);
@@ -50,7 +51,7 @@ impl<'a> Line<'a> {
         Ok(Some(Line { words }))
     }
 
-    /// How many words there are, at least one.
+    /// Returns the number of words, at least one.
     pub fn len(&self) -> usize
         ensures len { result ≡ length self.now.words }
         ensures some { 0 < result }
@@ -58,7 +59,7 @@ impl<'a> Line<'a> {
         self.words.len()
     }
 
-    /// A word, counted from 0.
+    /// Returns the word at place `index`, counted from 0.
     pub fn word(&self, index: usize) -> &[u8]
         requires { index < length self.now.words }
         ensures word { result.now ≡ slice_index_or self.now.words index [] }
@@ -67,7 +68,7 @@ impl<'a> Line<'a> {
         self.words.get(index)
     }
 
-    /// The word of the directive.
+    /// Returns the first word, which names the directive.
     pub fn directive(&self) -> &[u8]
         ensures { result.now ≡ slice_index_or self.now.words 0 [] }
     {

@@ -6,6 +6,7 @@ ghost use Rattle.nut_conf.specs.Target.{target_view};
 ghost use Rattle.nut_conf.specs.Upsmon.{monitored_target, written_target};
 
 use crate::fault::FaultKind;
+use crate::limits::{PASSWORD_MAX, TARGET_MAX, USER_NAME_MAX};
 use crate::slot::{Clashes, FromValues};
 use crate::target::Target;
 use crate::text::{Name, Number, Text};
@@ -13,20 +14,17 @@ use crate::users::Role;
 use crate::values::Values;
 use arrayvec::ArrayVec;
 
-/// How long a target is at most: a UPS of 32 bytes, a host of 64, a port of 9 digits, `@` and `:`.
-const TARGET_MAX: usize = 107;
-
-/// A UPS that is watched.
+/// A UPS that a monitor watches: a MONITOR line.
 #[derive(Drop)]
 pub struct Monitored {
-    /// The target as it is written in the file, as notices name the UPS.
+    /// The target as the file writes it. Notices name the UPS by it.
     pub written: ArrayVec<u8, TARGET_MAX>,
-    /// What the target names.
+    /// The UPS, host and port that the target names.
     pub target: Target,
-    /// How many power supplies of this machine the UPS feeds.
+    /// How many power supplies of this machine the UPS feeds: the power value.
     pub power: Number<0, 1000>,
-    pub user: Name<32>,
-    pub password: Text<1, 128>,
+    pub user: Name<USER_NAME_MAX>,
+    pub password: Text<1, PASSWORD_MAX>,
     pub role: Role,
 }
 
@@ -36,7 +34,7 @@ fn has_at(bytes: &[u8]) -> bool
     bytes.iter().any(|b| *b == b'@')
 }
 
-/// A target that names its host.
+/// Reads a target that names its host. Returns `BadName` for anything else.
 fn read_target(bytes: &[u8]) -> Result<Target, FaultKind>
     ensures { Reads target_view result (monitored_target bytes.now) }
 {
@@ -49,7 +47,7 @@ fn read_target(bytes: &[u8]) -> Result<Target, FaultKind>
     }
 }
 
-/// A target as it is written, and what it names.
+/// Reads a target that names its host. Returns the target as written, and what it names.
 fn read_written(bytes: &[u8]) -> Result<(ArrayVec<u8, TARGET_MAX>, Target), FaultKind>
     ensures { Reads (λ t. (t.0.items, target_view t.1)) result (written_target bytes.now) }
 {

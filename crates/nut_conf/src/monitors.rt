@@ -1,18 +1,20 @@
-//! The lines of upsmon.conf that name a UPS.
+//! The MONITOR lines of upsmon.conf.
 ghost use Rattle.std.specs.Prelude.{◌≤◌, length};
+ghost use Rattle.nut_conf.specs.declared.limits.TheConstants.{MONITORS_MAX};
 
 use crate::fault::FaultKind;
+use crate::limits::MONITORS_MAX;
 use crate::line::Line;
 use crate::monitor::Monitored;
 use crate::slot::listed_apart;
 use crate::values::Form;
 use std::alloc::Global;
 
-/// At most 32 of them, in the order of the file; of a file that was read, no two with the same target.
+/// At most [`MONITORS_MAX`] of them, in the order of the file; of a file that was read, no two with the same target.
 #[derive(Drop)]
 pub struct Monitors {
     pub lines: Vec<Monitored>,
-    pub ghost few: { length lines.items ≤ 32 },
+    pub ghost few: { length lines.items ≤ MONITORS_MAX },
 }
 
 impl Monitors {
@@ -21,7 +23,7 @@ impl Monitors {
     ghost use Rattle.nut_conf.specs.Upsmon.{monitor_setting, monitor_value, same_target};
     ghost use Rattle.nut_conf.specs.declared.values.Form.TheVariants.{Plain};
 
-    /// No lines.
+    /// Returns an empty list.
     pub(crate) fn new(alloc: Global) -> Self
         ensures { result.lines.items ≡ [] }
     {
@@ -30,10 +32,10 @@ impl Monitors {
         }
     }
 
-    /// Puts one more line behind the others.
+    /// Adds the line at the end.
     pub(crate) fn put(&mut self, line: &Line<'_>) -> Result<(), FaultKind>
-        ensures { Puts (distinct same_target (Some 32) Plain monitor_value) (map monitor_setting self.old.lines.items) line.now.words result (map monitor_setting self.new.lines.items) }
+        ensures { Puts (distinct same_target (Some MONITORS_MAX) Plain monitor_value) (map monitor_setting self.old.lines.items) line.now.words result (map monitor_setting self.new.lines.items) }
     {
-        listed_apart(&mut self.lines, Form::Plain, line, Some(32))
+        listed_apart(&mut self.lines, Form::Plain, line, Some(MONITORS_MAX))
     }
 }

@@ -1,4 +1,4 @@
-//! What a monitor tells, and how.
+//! Notices: their types, their texts, and what is done with them.
 ghost use Rattle.std.specs.Prelude.{◌≡◌, [], true, false, MatchOption, MatchResult};
 ghost use Rattle.std.specs.List.{find, list_any};
 ghost use Rattle.std.specs.Option.{option_copied};
@@ -8,6 +8,7 @@ ghost use Rattle.nut_conf.specs.Values.{one_of};
 ghost use Rattle.nut_conf.specs.Notices.{all_notices, notice_word, notice_words, default_text as usual_text, flags, flags_in, with_flag, is_flag as flag_word, default_flags as usual_flags, is_text_of, is_handling_of};
 
 use crate::fault::FaultKind;
+use crate::limits::MESSAGE_MAX;
 use crate::slot::{Clashes, FromValues};
 use crate::text::Text;
 use crate::values::Values;
@@ -62,7 +63,7 @@ impl Notice {
         }
     }
 
-    /// The word of the type, as in upsmon.conf.
+    /// Returns the type as upsmon.conf writes it.
     pub fn word(self) -> &'static [u8]
         ensures { result.now ≡ notice_word self }
     {
@@ -79,7 +80,7 @@ impl Notice {
         }
     }
 
-    /// The text where none is set. Its first `%s` stands for the UPS.
+    /// Returns the text used if none is set. The first `%s` stands for the UPS.
     pub fn default_text(self) -> &'static [u8]
         ensures { result.now ≡ usual_text self }
     {
@@ -101,7 +102,7 @@ impl Notice {
 #[derive(Debug, PartialEq, Eq, Drop)]
 pub struct NoticeText {
     pub notice: Notice,
-    pub text: Text<0, 128>,
+    pub text: Text<0, MESSAGE_MAX>,
 }
 
 impl NoticeText {
@@ -112,7 +113,7 @@ impl NoticeText {
     }
 }
 
-/// The text of a type of notice, where one is set.
+/// Returns the text that is set for a type of notice, if there is one.
 pub fn text_of(texts: &[NoticeText], notice: Notice) -> Option<&NoticeText>
     ensures { option_copied result ≡ find (is_text_of notice) texts.now }
 {
@@ -158,21 +159,21 @@ fn is_flag(word: &[u8]) -> bool
         || word == b"IGNORE".as_slice()
 }
 
-/// What is done with a notice: each flag that was named.
+/// What is done with a notice: each flag says whether upsmon.conf names it.
 #[derive(Clone, Copy, Debug, PartialEq, Eq)]
 pub struct NoticeFlags {
-    /// It is printed.
+    /// `SYSLOG`: the notice is printed.
     pub syslog: bool,
-    /// It is printed.
+    /// `WALL`: the notice is printed.
     pub wall: bool,
-    /// NOTIFYCMD is run with it.
+    /// `EXEC`: NOTIFYCMD is run with the notice.
     pub exec: bool,
-    /// It asks for nothing.
+    /// `IGNORE`: asks for nothing.
     pub ignore: bool,
 }
 
 impl NoticeFlags {
-    /// What is done where no flags are set: `SYSLOG+WALL`.
+    /// Returns the flags used if none are set: `SYSLOG+WALL`.
     pub fn default_flags() -> Self
         ensures { result ≡ usual_flags }
     {
@@ -195,7 +196,7 @@ impl NoticeFlags {
         }
     }
 
-    /// Adds the flag with this word; `UnknownWord` where there is none.
+    /// Adds the flag with this word. Returns `UnknownWord` if there is none.
     fn add(&mut self, word: &[u8]) -> Result<(), FaultKind>
         ensures { MatchResult result (λ _. (flag_word word.now ≡ true) × (self.new ≡ with_flag word.now self.old))
             (λ fault. (flag_word word.now ≡ false) × (fault ≡ FaultKind.UnknownWord)) }
@@ -210,7 +211,11 @@ impl NoticeFlags {
         Ok(())
     }
 
-    /// Reads flags with plus signs between them; `UnknownWord` for anything else.
+    /// Reads flags with plus signs between them.
+    ///
+    /// # Errors
+    ///
+    /// `UnknownWord` for anything else.
     pub fn read(bytes: &[u8]) -> Result<Self, FaultKind>
         ensures { Reads (λ f. f) result (flags bytes.now) }
     {
@@ -240,7 +245,7 @@ impl NoticeHandling {
     }
 }
 
-/// The flags of a type of notice, where some are set.
+/// Returns the flags that are set for a type of notice, if there are any.
 pub fn handling_of(handlings: &[NoticeHandling], notice: Notice) -> Option<&NoticeHandling>
     ensures { option_copied result ≡ find (is_handling_of notice) handlings.now }
 {

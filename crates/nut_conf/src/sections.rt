@@ -1,4 +1,4 @@
-//! Files in sections.
+//! Files that consist of sections.
 ghost use Rattle.std.specs.Prelude.{◌≡◌, ◌≤◌, ◌∷◌, ◌++◌, [], length};
 ghost use Rattle.std.specs.Option.{option_map};
 ghost use Rattle.nut_conf.specs.Sections.{section_name as name_in};
@@ -8,17 +8,18 @@ use crate::fault::FaultKind;
 use crate::line::Line;
 use crate::text::Name;
 use indexmap::IndexMap;
+use nut_words::UPS_NAME_MAX;
 use std::alloc::Global;
 
-/// At most `MOST` sections, by name, in the order of the file.
+/// At most `MOST` sections with their names, in the order of the file.
 #[derive(Drop)]
 pub struct Sections<S, const MOST: usize> {
-    pub by_name: IndexMap<Name<32>, S>,
+    pub by_name: IndexMap<Name<UPS_NAME_MAX>, S>,
     alloc: Global,
     pub ghost few: { length by_name.entries ≤ MOST },
 }
 
-/// The name in a section line.
+/// Returns the name in a section line. Returns `None` for any other line.
 fn section_name<'a>(line: &'a Line<'_>) -> Option<&'a [u8]>
     ensures { option_map (λ n. n.now) result ≡ name_in line.now.words }
 {
@@ -35,12 +36,12 @@ fn section_name<'a>(line: &'a Line<'_>) -> Option<&'a [u8]>
 }
 
 impl<S: Draft, const MOST: usize> Sections<S, MOST> {
-    ghost use Rattle.nut_conf.specs.Drafts.{Takes};
+    ghost use Rattle.nut_conf.specs.inside.Drafts.{Takes};
     ghost use Rattle.nut_conf.specs.Settings.{fault_of};
     ghost use Rattle.nut_conf.specs.Sections.{AllHold, Section, opens};
     ghost use Rattle.std.specs.Prelude.{List};
 
-    /// Begins a section.
+    /// Begins a section with this name.
     fn open(&mut self, bytes: &[u8]) -> Result<(), FaultKind>
         ensures { (earlier : List Section) → AllHold S.Holds self.old.by_name.entries earlier
             → Takes (fault_of (opens MOST earlier bytes.now)) result (AllHold S.Holds self.new.by_name.entries (earlier ++ (bytes.now, []) ∷ [])) }

@@ -1,4 +1,4 @@
-//! Places for what the lines of a directive set.
+//! Stores what the lines of a directive set.
 ghost use Rattle.std.specs.Prelude.{◌≡◌, ◌≤◌, ℕ, List, Bool, Option, Some, Result, length, map};
 ghost use Rattle.std.specs.List.{list_any};
 ghost use Rattle.std.specs.Option.{option_map, option_to_list};
@@ -11,23 +11,23 @@ use crate::fault::FaultKind;
 use crate::line::Line;
 use crate::values::{Form, Values};
 
-/// What a line of a directive sets.
+/// A value that a line of a directive sets.
 pub trait FromValues: Drop + Sized {
-    /// What it is without where it lies in memory.
+    /// The setting that the value represents, whatever its place in memory.
     ghost setting: { Self → Setting };
 
-    /// How the values are read, from left to right.
+    /// What the values of a line set, or their first fault, read from left to right.
     ghost reads: { List (List ℕ) → Result Setting FaultKind };
 
-    /// Reads the values of a line.
+    /// Reads the values of a line. Returns their first fault, if they have one.
     fn from_values(values: &Values<'_, '_>) -> Result<Self, FaultKind>
         ensures { Reads setting result (reads values.now) };
 
-    /// No values are read as want of memory.
+    /// Reading the values never gives the fault `Memory`.
     ghost spares: { (values : List (List ℕ)) → Spares (reads values) };
 }
 
-/// Sets what may be set once. Takes no memory.
+/// Stores the setting of a directive that is allowed once. Returns `Repeated` if it is set. Allocates no memory.
 pub fn once<T: FromValues>(
     slot: &mut Option<T>,
     form: Form,
@@ -54,7 +54,7 @@ fn is_full<T>(most: Option<usize>, items: &[T]) -> bool
     }
 }
 
-/// Puts one more setting behind the others, of which there may be `most`.
+/// Adds the setting of a line to the list. Returns `PastLimit` if the list has `most` settings already.
 pub fn listed<T: FromValues>(
     slot: &mut Vec<T>,
     form: Form,
@@ -72,12 +72,12 @@ pub fn listed<T: FromValues>(
     Ok(())
 }
 
-/// A setting that may not stand beside one like it.
+/// A setting that can clash with another: both can't be in one list.
 pub trait Clashes: FromValues {
-    /// Whether two settings may not stand beside each other.
+    /// Whether two settings clash.
     ghost clashes: { Setting → Setting → Bool };
 
-    /// Whether the two may not stand beside each other.
+    /// Whether the two settings clash.
     fn clashes(&self, other: &Self) -> bool
         ensures { result ≡ clashes (Self.setting self.now) (Self.setting other.now) };
 }
@@ -88,7 +88,8 @@ fn clashes_with_any<T: Clashes>(value: &T, others: &[T]) -> bool
     others.iter().any(|other| value.clashes(other))
 }
 
-/// Puts one more setting behind the others, of which there may be `most`, no two alike.
+/// Adds the setting of a line to the list. Returns `Repeated` if it clashes with one in the list, and `PastLimit` if
+/// the list has `most` settings already.
 pub fn listed_apart<T: Clashes>(
     slot: &mut Vec<T>,
     form: Form,

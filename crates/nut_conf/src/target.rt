@@ -1,4 +1,4 @@
-//! The name of a UPS at a host.
+//! Names of UPSes at hosts: `ups[@host[:port]]`.
 ghost use Rattle.std.specs.Prelude.{◌≡◌, ◌==◌, ◌<◌, IfSome, codes, length, position};
 ghost use Rattle.std.specs.Option.{option_map};
 ghost use Rattle.nut_conf.specs.Faults.{Reads};
@@ -8,15 +8,16 @@ ghost use Rattle.nut_conf.specs.declared.target.NameFault.TheVariants.{BadPort, 
 
 use crate::host::Host;
 use crate::text::{Name, Port};
+use nut_words::UPS_NAME_MAX;
 use thiserror::Error;
 
-/// Why a name of a UPS at a host doesn't read.
+/// Why a name of a UPS at a host can't be read.
 #[derive(Clone, Copy, Debug, PartialEq, Eq, Error)]
 pub enum NameFault {
-    /// The name of the UPS isn't 1 to 32 letters, digits, `.`, `_` and `-`.
+    /// The name of the UPS isn't 1 to [`UPS_NAME_MAX`] letters, digits, `.`, `_` and `-`.
     #[error("BadUps")]
     BadUps,
-    /// The host isn't 1 to 64 letters, digits, `.` and `-`.
+    /// The host isn't 1 to [`HOST_MAX`](crate::limits::HOST_MAX) letters, digits, `.` and `-`.
     #[error("BadHost")]
     BadHost,
     /// The port isn't a number from 1 to 65,535.
@@ -28,14 +29,14 @@ pub enum NameFault {
 #[derive(Debug, PartialEq, Eq, Drop)]
 pub struct Target {
     /// The name of the UPS.
-    pub ups: Name<32>,
+    pub ups: Name<UPS_NAME_MAX>,
     /// The host of its server.
     pub host: Host,
     /// The port of its server.
     pub port: Port,
 }
 
-/// Where the first such byte stands.
+/// Returns the place of the first such byte, if there is one.
 fn place_of(byte: u8, bytes: &[u8]) -> Option<usize>
     ensures place { result ≡ position (λ b. b == byte) bytes.now }
     ensures within { IfSome result (λ at. at < length bytes.now) }
@@ -43,7 +44,7 @@ fn place_of(byte: u8, bytes: &[u8]) -> Option<usize>
     bytes.iter().position(|b| *b == byte)
 }
 
-/// What stands before and after the first such byte.
+/// Returns the bytes before and after the first such byte, if there is one.
 fn parted(byte: u8, bytes: &[u8]) -> Option<(&[u8], &[u8])>
     ensures { option_map (λ p. (p.0.now, p.1.now)) result ≡ parted_at byte bytes.now }
 {
@@ -71,8 +72,8 @@ fn port(bytes: &[u8]) -> Result<Port, NameFault>
     }
 }
 
-fn ups(bytes: &[u8]) -> Result<Name<32>, NameFault>
-    ensures { Reads (λ n. n.bytes.items) result (or_fault BadUps (name 32 bytes.now)) }
+fn ups(bytes: &[u8]) -> Result<Name<UPS_NAME_MAX>, NameFault>
+    ensures { Reads (λ n. n.bytes.items) result (or_fault BadUps (name UPS_NAME_MAX bytes.now)) }
 {
     match Name::read(bytes) {
         Ok(name) => Ok(name),
@@ -80,7 +81,7 @@ fn ups(bytes: &[u8]) -> Result<Name<32>, NameFault>
     }
 }
 
-/// Reads `host[:port]`.
+/// Reads `host[:port]`. The port is 3493 if none is named.
 fn located(bytes: &[u8]) -> Result<(Host, Port), NameFault>
     ensures { Reads (λ l. (l.0.bytes.items, l.1.number)) result (located_of bytes.now) }
 {
@@ -97,7 +98,7 @@ fn located(bytes: &[u8]) -> Result<(Host, Port), NameFault>
     }
 }
 
-/// The host that is meant where none is named.
+/// Returns `localhost`, the host of a target that names none.
 fn local_host() -> Host
     ensures { result.bytes.items ≡ codes "localhost" }
 {
@@ -108,7 +109,11 @@ fn local_host() -> Host
 }
 
 impl Target {
-    /// Reads `ups[@host[:port]]`, parted at its first `@` and after that at the first `:`.
+    /// Reads `ups[@host[:port]]`, cut at its first `@` and after that at the first `:`.
+    ///
+    /// # Errors
+    ///
+    /// The first of these that applies: [`NameFault::BadUps`], [`NameFault::BadHost`], [`NameFault::BadPort`].
     pub fn read(bytes: &[u8]) -> Result<Self, NameFault>
         ensures { Reads target_view result (target bytes.now) }
     {
@@ -130,10 +135,13 @@ impl Target {
     }
 }
 
-/// Reads `ups[@host[:port]]`, parted at its first `@` and after that at the first `:`.
+/// Reads `ups[@host[:port]]`, cut at its first `@` and after that at the first `:`.
 ///
-/// Without a host it is `localhost`, without a port 3493. The parts are tested in this order: `BadUps`, `BadHost`, `BadPort`.
-/// Takes no memory.
+/// If no host is named it is `localhost`, and if no port is named it is 3493. Allocates no memory.
+///
+/// # Errors
+///
+/// The first of these that applies: [`NameFault::BadUps`], [`NameFault::BadHost`], [`NameFault::BadPort`].
 pub fn split_name(name: &str) -> Result<Target, NameFault>
     ensures { Reads target_view result (target name.now) }
 {

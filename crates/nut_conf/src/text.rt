@@ -35,7 +35,7 @@ pub struct Number<const LEAST: u32, const MOST: u32> {
     pub ghost most: { value ≤ MOST },
 }
 
-/// A TCP port, from 1 on.
+/// A TCP port, 1 to 65,535.
 #[derive(Clone, Copy, Debug, PartialEq, Eq)]
 pub struct Port {
     pub number: u16,
@@ -60,7 +60,7 @@ fn is_numeral(bytes: &[u8]) -> bool
     1 <= bytes.len() && bytes.len() <= 9 && are_digits(bytes)
 }
 
-/// The number that these digits write.
+/// Returns the number that these digits say.
 fn decimal(digits: &[u8]) -> u32
     requires { numeral digits.now ≡ true }
     ensures { result ≡ decimal_of digits.now }
@@ -73,7 +73,12 @@ fn decimal(digits: &[u8]) -> u32
 }
 
 impl<const MOST: usize> Name<MOST> {
-    /// Reads a name: `BadName` where it is empty or has a byte that may not stand there, `PastLimit` past `MOST` bytes.
+    /// Reads a name.
+    ///
+    /// # Errors
+    ///
+    /// `BadName` if it is empty or has a byte that names can't have; else `PastLimit` if it is longer than `MOST`
+    /// bytes.
     pub fn read(bytes: &[u8]) -> Result<Self, FaultKind>
         ensures { Reads (λ n. n.bytes.items) result (name MOST bytes.now) }
     {
@@ -86,7 +91,7 @@ impl<const MOST: usize> Name<MOST> {
         }
     }
 
-    /// The bytes of the name.
+    /// Returns the bytes of the name.
     pub fn as_bytes(&self) -> &[u8]
         ensures value { result.now ≡ self.now.bytes.items }
         ensures named { IsTrue (is_name MOST result.now) }
@@ -97,7 +102,11 @@ impl<const MOST: usize> Name<MOST> {
 }
 
 impl<const LEAST: usize, const MOST: usize> Text<LEAST, MOST> {
-    /// Takes printing bytes: `PastLimit` where they are fewer than `LEAST` or more than `MOST`.
+    /// Reads a text of printing bytes.
+    ///
+    /// # Errors
+    ///
+    /// `PastLimit` if there are fewer bytes than `LEAST` or more than `MOST`.
     pub fn read(bytes: &[u8]) -> Result<Self, FaultKind>
         requires { IsTrue (list_all is_printing bytes.now) }
         ensures { Reads (λ t. t.bytes.items) result (bounded_text LEAST MOST bytes.now) }
@@ -111,7 +120,7 @@ impl<const LEAST: usize, const MOST: usize> Text<LEAST, MOST> {
         }
     }
 
-    /// The bytes of the text.
+    /// Returns the bytes of the text.
     pub fn as_bytes(&self) -> &[u8]
         ensures value { result.now ≡ self.now.bytes.items }
         ensures bounded { IsTrue (is_text LEAST MOST result.now) }
@@ -122,7 +131,11 @@ impl<const LEAST: usize, const MOST: usize> Text<LEAST, MOST> {
 }
 
 impl<const LEAST: u32, const MOST: u32> Number<LEAST, MOST> {
-    /// Reads one to nine digits: `BadNumber` for anything else, and out of range.
+    /// Reads one to nine digits.
+    ///
+    /// # Errors
+    ///
+    /// `BadNumber` for anything else, or if the number isn't `LEAST` to `MOST`.
     pub fn read(bytes: &[u8]) -> Result<Self, FaultKind>
         ensures { Reads (λ n. n.value) result (number LEAST MOST bytes.now) }
     {
@@ -139,7 +152,11 @@ impl<const LEAST: u32, const MOST: u32> Number<LEAST, MOST> {
 }
 
 impl Port {
-    /// Reads a port: `BadNumber` where it isn't a number from 1 to 65,535.
+    /// Reads a port.
+    ///
+    /// # Errors
+    ///
+    /// `BadNumber` if it isn't one to nine digits, or not a number from 1 to 65,535.
     pub fn read(bytes: &[u8]) -> Result<Self, FaultKind>
         ensures { Reads (λ p. p.number) result (number 1 65535 bytes.now) }
     {

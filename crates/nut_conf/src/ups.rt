@@ -12,33 +12,34 @@ ghost use Rattle.nut_conf.specs.Ups.{UpsConfHolds, ups_fault, ups_conf_grows, dr
 use crate::draft::Draft;
 use crate::fault::{ConfFault, FaultKind};
 use crate::file::read_draft;
+use crate::limits::{DESCRIPTION_MAX, DEVICE_MAX, DRIVER_NAME_MAX, UPSES_MAX};
 use crate::line::Line;
 use crate::sections::Sections;
 use crate::slot::once;
 use crate::text::{Name, Text};
 use crate::values::Form;
-use nut_words::are_printing;
+use nut_words::{UPS_NAME_MAX, are_printing};
 use std::alloc::Global;
 
-/// A UPS: a section of ups.conf. What isn't set has its default.
+/// A UPS: a section of ups.conf. A directive that isn't set has its default.
 #[derive(Debug, Drop)]
 pub struct Ups {
-    pub driver: Option<Name<32>>,
-    pub port: Option<Text<0, 128>>,
-    pub desc: Option<Text<0, 128>>,
+    pub driver: Option<Name<DRIVER_NAME_MAX>>,
+    pub port: Option<Text<0, DEVICE_MAX>>,
+    pub desc: Option<Text<0, DESCRIPTION_MAX>>,
 }
 
-/// The configuration of ups.conf: at most 32 UPSes by name, in the order of the file, numbered from 0.
+/// The configuration of ups.conf: at most [`UPSES_MAX`] UPSes by name, in the order of the file, numbered from 0.
 #[derive(Drop)]
 pub struct UpsConf {
-    pub ups: Sections<Ups, 32>,
+    pub ups: Sections<Ups, UPSES_MAX>,
 }
 
 impl Ups {
-    /// The name of the driver's program; where none is set, `dummy-ups`.
+    /// Returns the name of the driver's program: `dummy-ups` if none is set.
     pub fn driver(&self) -> &[u8]
         ensures value { result.now ≡ driver_of self.now }
-        ensures named { IsTrue (is_name 32 result.now) }
+        ensures named { IsTrue (is_name DRIVER_NAME_MAX result.now) }
         ensures printable { IsPrintable result.now }
     {
         match &self.driver {
@@ -47,10 +48,10 @@ impl Ups {
         }
     }
 
-    /// What the driver is to open; where none is set, empty.
+    /// Returns the port, which says what the driver opens: empty if none is set.
     pub fn port(&self) -> &[u8]
         ensures value { result.now ≡ port_of self.now }
-        ensures bounded { IsTrue (is_text 0 128 result.now) }
+        ensures bounded { IsTrue (is_text 0 DEVICE_MAX result.now) }
         ensures printable { IsPrintable result.now }
     {
         match &self.port {
@@ -59,10 +60,10 @@ impl Ups {
         }
     }
 
-    /// What people call the UPS; where none is set, `Unavailable`.
+    /// Returns the description of the UPS: `Unavailable` if none is set.
     pub fn desc(&self) -> &[u8]
         ensures value { result.now ≡ desc_of self.now }
-        ensures bounded { IsTrue (is_text 0 128 result.now) }
+        ensures bounded { IsTrue (is_text 0 DESCRIPTION_MAX result.now) }
         ensures printable { IsPrintable result.now }
     {
         match &self.desc {
@@ -72,13 +73,8 @@ impl Ups {
     }
 }
 
-/// How many UPSes there are at most.
-const UPS_MAX: usize = 32;
-/// How many bytes a description has at most.
-const DESC_MAX: usize = 128;
-
 impl UpsConf {
-    /// A configuration without a UPS, as that of an empty file.
+    /// Returns a configuration without UPSes, like that of an empty file.
     pub fn new(alloc: Global) -> Self
         ensures shown { shown_in result ≡ [] }
         ensures holds { UpsConfHolds result [] }
@@ -88,24 +84,24 @@ impl UpsConf {
         }
     }
 
-    /// Puts a UPS behind the others, with this description, the default driver and the default port. The others stay as they
+    /// Adds a UPS at the end, with this description, the default driver and the default port. The others stay as they
     /// are.
     ///
     /// # Errors
     ///
     /// The first test that fails, in this order: `BadName` where the name is empty or has a byte that may not stand
-    /// there; `PastLimit` where it has more than 32 bytes, the description has more than 128, or there are 32 UPSes;
-    /// `Repeated` where one has this name; `Unreadable` where a byte of the description isn't printing; `Memory`.
-    /// Nothing changes then.
+    /// there; `PastLimit` where it has more than [`UPS_NAME_MAX`] bytes, the description has more than
+    /// [`DESCRIPTION_MAX`], or there are [`UPSES_MAX`] UPSes; `Repeated` where one has this name; `Unreadable` where a
+    /// byte of the description isn't printing; `Memory`. Nothing changes then.
     pub fn add(&mut self, name: &[u8], desc: &[u8]) -> Result<(), FaultKind>
         ensures added { Gives (λ _. shown_in self.new) result (with_ups (shown_in self.old) name.now desc.now) }
         ensures unchanged { OnErr result (shown_in self.new ≡ shown_in self.old) }
 
-        // Memory may run out only where all tests pass.
+        // Memory can run out only if all tests pass.
         ensures memory { result ≡ Err FaultKind.Memory → IsOk (with_ups (shown_in self.old) name.now desc.now) }
     {
         let name = Name::read(name)?;
-        if desc.len() > DESC_MAX || self.ups.by_name.len() >= UPS_MAX {
+        if desc.len() > DESCRIPTION_MAX || self.ups.by_name.len() >= UPSES_MAX {
             return Err(FaultKind::PastLimit);
         }
         if self.ups.by_name.contains_key(&name) {
@@ -123,10 +119,10 @@ impl UpsConf {
         Ok(())
     }
 
-    /// How many UPSes there are, at most 32.
+    /// How many UPSes there are, at most [`UPSES_MAX`].
     pub fn len(&self) -> usize
         ensures len { result ≡ length (names_of self.now) }
-        ensures few { result ≤ 32 }
+        ensures few { result ≤ UPSES_MAX }
     {
         self.ups.by_name.len()
     }
@@ -138,9 +134,9 @@ impl UpsConf {
         self.ups.by_name.len() == 0
     }
 
-    /// The number of the UPS with this name, counted from 0 in the order of the file.
+    /// Returns the number of the UPS with this name, counted from 0 in the order of the file.
     ///
-    /// Takes no memory, and no longer for many UPSes.
+    /// Allocates no memory. The time it takes doesn't grow with the number of UPSes.
     pub fn find(&self, name: &[u8]) -> Option<usize>
         ensures number { result ≡ number_of name.now self.now }
         ensures within { IfSome result (λ number. number < length (names_of self.now)) }
@@ -151,8 +147,8 @@ impl UpsConf {
         }
     }
 
-    /// The name of the UPS with this number.
-    pub fn name(&self, number: usize) -> Option<&Name<32>>
+    /// Returns the name of the UPS with this number, if there is one.
+    pub fn name(&self, number: usize) -> Option<&Name<UPS_NAME_MAX>>
         ensures { option_map (λ name. name.now.bytes.items) result ≡ slice_get (names_of self.now) number }
     {
         match self.ups.by_name.get_index(number) {
@@ -161,7 +157,7 @@ impl UpsConf {
         }
     }
 
-    /// The UPS with this number.
+    /// Returns the UPS with this number, if there is one.
     pub fn get(&self, number: usize) -> Option<&Ups>
         ensures { option_copied result ≡ ups_at self.now number }
     {
@@ -172,7 +168,7 @@ impl UpsConf {
     }
 }
 
-/// What may stand in a section.
+/// The directives of a section.
 #[derive(Clone, Copy)]
 pub enum UpsDirective {
     Driver,
@@ -224,10 +220,13 @@ impl Draft for Ups {
     }
 }
 
-/// Reads ups.conf (NUT man page ups.conf(5), the directives `driver`, `port` and `desc`).
+/// Reads ups.conf (NUT manual page ups.conf(5), the directives `driver`, `port` and `desc`). Returns the configuration
+/// that its lines set.
 ///
-/// Gives the configuration that its lines set, or the first line with a fault and the first fault in it. Memory may run
-/// out only at a line with a backslash, or at one without a fault that begins a section.
+/// # Errors
+///
+/// The first fault of the first line that has one. `Memory` comes only at a line with a backslash, or at a line without
+/// a fault that begins a section.
 pub fn read_ups(alloc: Global, bytes: &[u8]) -> Result<UpsConf, ConfFault>
     ensures means { Means (read_file ups_fault bytes.now) UpsConfHolds result }
     ensures memory { IfErr result (λ fault. fault.kind ≡ FaultKind.Memory → MayRunOut ups_fault ups_conf_grows bytes.now fault.line) }

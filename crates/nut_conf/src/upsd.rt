@@ -10,37 +10,39 @@ use crate::draft::Draft;
 use crate::fault::{ConfFault, FaultKind};
 use crate::file::read_draft;
 use crate::host::Address;
+use crate::limits::{CONNECTIONS_MAX, LISTENERS_MAX};
 use crate::line::Line;
 use crate::slot::{FromValues, listed, once};
 use crate::text::{Number, Port};
 use crate::values::{Form, Values};
 use std::alloc::Global;
 
-/// Where a server listens.
+/// An address and a port on which a server listens.
 #[derive(Debug, PartialEq, Eq, Drop)]
 pub struct Endpoint {
     pub address: Address,
     pub port: Port,
 }
 
-/// The configuration of upsd.conf. What isn't set has its default.
+/// The configuration of upsd.conf. A directive that isn't set has its default.
 #[derive(Drop)]
 pub struct UpsdConf {
-    /// Of a file that was read, at most 16.
+    /// Of a file that was read, at most [`LISTENERS_MAX`].
     pub listen: Vec<Endpoint>,
     pub max_age: Option<Number<1, 86400>>,
-    pub max_conn: Option<Number<1, 256>>,
+    pub max_conn: Option<Number<1, CONNECTIONS_MAX>>,
 }
 
 impl UpsdConf {
-    /// A configuration in which nothing is set, as that of an empty file.
+    /// Returns a configuration in which nothing is set, like that of an empty file.
     pub fn new(alloc: Global) -> Self
         ensures { UpsdHolds result [] }
     {
         Draft::new(alloc)
     }
 
-    /// After how many seconds without a word from its driver the data of a UPS is stale; where none is set, 15.
+    /// Returns MAXAGE: after this many seconds without a word from its driver, the data of a UPS are stale. It is 15 if
+    /// none is set.
     pub fn max_age(&self) -> u32
         ensures value { result ≡ max_age_of self.now }
         ensures least { 1 ≤ result }
@@ -52,26 +54,27 @@ impl UpsdConf {
         }
     }
 
-    /// How many connections may be open; where none is set, 256.
+    /// How many connections may be open; where none is set, [`CONNECTIONS_MAX`].
     pub fn max_conn(&self) -> u32
         ensures value { result ≡ max_conn_of self.now }
         ensures least { 1 ≤ result }
-        ensures most { result ≤ 256 }
+        ensures most { result ≤ CONNECTIONS_MAX }
     {
         match &self.max_conn {
             Some(number) => number.value,
-            None => 256,
+            None => CONNECTIONS_MAX,
         }
     }
 
-    /// On how many endpoints the server listens, at least one.
+    /// Returns on how many endpoints the server listens: at least one.
     pub fn endpoints(&self) -> usize
         ensures { result ≡ length (endpoints_of self.now) }
     {
         self.listen.len().max(1)
     }
 
-    /// An address and a port on which the server listens, counted from 0 in the order of the file; where none is set, 127.0.0.1 and 3493.
+    /// Returns the address and the port of an endpoint, counted from 0 in the order of the file. If no endpoint is set,
+    /// the first is 127.0.0.1 and 3493.
     pub fn endpoint(&self, index: usize) -> Option<(&[u8], u16)>
         ensures { option_map (λ e. (e.0.now, e.1)) result ≡ slice_get (endpoints_of self.now) index }
     {
@@ -85,7 +88,7 @@ impl UpsdConf {
     }
 }
 
-/// What may stand in the file.
+/// The directives of the file.
 #[derive(Clone, Copy)]
 pub enum UpsdDirective {
     Listen,
@@ -162,7 +165,12 @@ impl Draft for UpsdConf {
 
     fn put(&mut self, line: &Line<'_>) -> Result<(), FaultKind> {
         match UpsdDirective::of(line.directive()) {
-            Some(UpsdDirective::Listen) => listed(&mut self.listen, Form::Plain, line, Some(16)),
+            Some(UpsdDirective::Listen) => listed(
+                &mut self.listen,
+                Form::Plain,
+                line,
+                Some(LISTENERS_MAX),
+            ),
             Some(UpsdDirective::MaxAge) => once(&mut self.max_age, Form::Plain, line),
             Some(UpsdDirective::MaxConn) => once(&mut self.max_conn, Form::Plain, line),
             None => Err(FaultKind::UnknownDirective),
@@ -170,13 +178,16 @@ impl Draft for UpsdConf {
     }
 }
 
-/// Reads upsd.conf (NUT man page upsd.conf(5), the directives `LISTEN`, `MAXAGE` and `MAXCONN`).
+/// Reads upsd.conf (NUT manual page upsd.conf(5), the directives `LISTEN`, `MAXAGE` and `MAXCONN`). Returns the
+/// configuration that its lines set.
 ///
-/// Gives the configuration that its lines set, or the first line with a fault and the first fault in it. Memory may run
-/// out only at a line with a backslash, or at one without a fault that has `LISTEN`.
+/// # Errors
+///
+/// The first fault of the first line that has one. `Memory` comes only at a line with a backslash, or at a `LISTEN`
+/// line without a fault.
 pub fn read_upsd(alloc: Global, bytes: &[u8]) -> Result<UpsdConf, ConfFault>
     ensures means { Means (read_file upsd_fault bytes.now) UpsdHolds result }
-    ensures few { IfOk result (λ conf. length conf.listen.items ≤ 16) }
+    ensures few { IfOk result (λ conf. length conf.listen.items ≤ LISTENERS_MAX) }
     ensures memory { IfErr result (λ fault. fault.kind ≡ FaultKind.Memory → MayRunOut upsd_fault upsd_grows bytes.now fault.line) }
 {
     read_draft(alloc, bytes)

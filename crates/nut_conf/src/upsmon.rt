@@ -12,6 +12,7 @@ ghost use Rattle.nut_conf.specs.Upsmon.{UpsmonHolds, upsmon_fault, upsmon_grows,
 use crate::draft::Draft;
 use crate::fault::{ConfFault, FaultKind};
 use crate::file::read_draft;
+use crate::limits::{COMMAND_MAX, MESSAGE_MAX};
 use crate::line::Line;
 use crate::monitor::Monitored;
 use crate::monitors::Monitors;
@@ -21,28 +22,28 @@ use crate::text::{Number, Text};
 use crate::values::Form;
 use std::alloc::Global;
 
-/// The configuration of upsmon.conf. What isn't set has its default.
+/// The configuration of upsmon.conf. A directive that isn't set has its default.
 #[derive(Drop)]
 pub struct UpsmonConf {
-    /// At most 32, in the order of the file.
+    /// At most [`MONITORS_MAX`](crate::limits::MONITORS_MAX), in the order of the file.
     pub monitors: Monitors,
     pub min_supplies: Option<Number<0, 32000>>,
-    pub shutdown_cmd: Option<Text<1, 256>>,
-    pub notify_cmd: Option<Text<1, 256>>,
-    pub power_down_flag: Option<Text<1, 256>>,
+    pub shutdown_cmd: Option<Text<1, COMMAND_MAX>>,
+    pub notify_cmd: Option<Text<1, COMMAND_MAX>>,
+    pub power_down_flag: Option<Text<1, COMMAND_MAX>>,
     pub poll_freq: Option<Number<1, 1000000>>,
     pub dead_time: Option<Number<1, 1000000>>,
     pub rb_warn_time: Option<Number<1, 1000000>>,
     pub no_comm_warn_time: Option<Number<1, 1000000>>,
     pub host_sync: Option<Number<0, 1000000>>,
     pub final_delay: Option<Number<0, 1000000>>,
-    /// The texts that are set; of a file that was read, at most one a type of notice.
+    /// The texts that are set. A file that was read has at most one for each type of notice.
     pub messages: Vec<NoticeText>,
-    /// The flags that are set; of a file that was read, at most one line a type of notice.
+    /// The flags that are set. A file that was read has at most one line of them for each type of notice.
     pub handlings: Vec<NoticeHandling>,
 }
 
-/// The number that is set, or else this one.
+/// Returns the number that is set, or else `default`.
 fn number_or<const LEAST: u32, const MOST: u32>(
     number: &Option<Number<LEAST, MOST>>,
     default: u32,
@@ -56,59 +57,61 @@ fn number_or<const LEAST: u32, const MOST: u32>(
 }
 
 impl UpsmonConf {
-    /// The sum of power values below which a shutdown begins; where none is set, 1.
+    /// Returns MINSUPPLIES: a shutdown begins if the sum of power values is less. It is 1 if none is set.
     pub fn min_supplies(&self) -> u32
         ensures { result ≡ min_supplies_of self.now }
     {
         number_or(&self.min_supplies, 1)
     }
 
-    /// Seconds between two questions for the status of a UPS; where none are set, 5.
+    /// Returns POLLFREQ: the seconds between two queries for the status of a UPS. It is 5 if none is set.
     pub fn poll_freq(&self) -> u32
         ensures { result ≡ poll_freq_of self.now }
     {
         number_or(&self.poll_freq, 5)
     }
 
-    /// Seconds without a status after which a UPS on battery is critical; where none are set, 15.
+    /// Returns DEADTIME: after this many seconds without a status, a UPS on battery is critical. It is 15 if none is
+    /// set.
     pub fn dead_time(&self) -> u32
         ensures { result ≡ dead_time_of self.now }
     {
         number_or(&self.dead_time, 15)
     }
 
-    /// Seconds between two notices that a battery needs to be replaced; where none are set, 43,200.
+    /// Returns RBWARNTIME: the seconds between two notices that a battery needs to be replaced. It is 43,200 if none is
+    /// set.
     pub fn rb_warn_time(&self) -> u32
         ensures { result ≡ rb_warn_time_of self.now }
     {
         number_or(&self.rb_warn_time, 43_200)
     }
 
-    /// Seconds between two notices that a UPS is unavailable; where none are set, 300.
+    /// Returns NOCOMMWARNTIME: the seconds between two notices that a UPS is unavailable. It is 300 if none is set.
     pub fn no_comm_warn_time(&self) -> u32
         ensures { result ≡ no_comm_warn_time_of self.now }
     {
         number_or(&self.no_comm_warn_time, 300)
     }
 
-    /// Seconds that the machines of a UPS wait for each other; where none are set, 15.
+    /// Returns HOSTSYNC: how many seconds the machines fed by a UPS wait for each other. It is 15 if none is set.
     pub fn host_sync(&self) -> u32
         ensures { result ≡ host_sync_of self.now }
     {
         number_or(&self.host_sync, 15)
     }
 
-    /// Seconds between the last notice and the halt; where none are set, 5.
+    /// Returns FINALDELAY: the seconds between the last notice and the halt. It is 5 if none is set.
     pub fn final_delay(&self) -> u32
         ensures { result ≡ final_delay_of self.now }
     {
         number_or(&self.final_delay, 5)
     }
 
-    /// The text of a type of notice. Its first `%s` stands for the UPS.
+    /// Returns the text of a type of notice, or its default. The first `%s` stands for the UPS.
     pub fn message(&self, notice: Notice) -> &[u8]
         ensures value { result.now ≡ message_of notice self.now }
-        ensures bounded { IsTrue (is_text 0 128 result.now) }
+        ensures bounded { IsTrue (is_text 0 MESSAGE_MAX result.now) }
         ensures printable { IsPrintable result.now }
     {
         match text_of(self.messages.as_slice(), notice) {
@@ -117,7 +120,7 @@ impl UpsmonConf {
         }
     }
 
-    /// What is done with a type of notice.
+    /// Returns what is done with a type of notice, or the default `SYSLOG+WALL`.
     pub fn flags(&self, notice: Notice) -> NoticeFlags
         ensures { result ≡ flags_of notice self.now }
     {
@@ -128,7 +131,7 @@ impl UpsmonConf {
     }
 }
 
-/// What may stand in the file.
+/// The directives of the file.
 #[derive(Clone, Copy)]
 pub enum UpsmonDirective {
     Monitor,
@@ -167,7 +170,7 @@ impl UpsmonDirective {
     ghost use Rattle.nut_conf.specs.Settings.{directive_of};
     ghost use Rattle.nut_conf.specs.Upsmon.{upsmon_directive, upsmon_directives, upsmon_rows};
 
-    /// The directive with this word.
+    /// Returns the directive with this word, if there is one.
     #[tactic(auto, using(crate::proofs::Rows::row_of_directive))]
     fn of(word: &[u8]) -> Option<Self>
         ensures { MatchOption result (directive_of word.now upsmon_directives ≡ None) (λ d. word.now ≡ (upsmon_directive d).word) }
@@ -205,7 +208,7 @@ impl UpsmonDirective {
     }
 }
 
-/// Whether the power values of the lines are less than what is needed.
+/// Whether the power values of the lines sum to less than `needed`.
 fn lacks_power(monitors: &[Monitored], needed: u32) -> bool
     ensures { result ≡ nat_lt (sum_by (λ m. m.power.value) monitors.now) needed }
 {
@@ -266,11 +269,13 @@ impl Draft for UpsmonConf {
     }
 }
 
-/// Reads upsmon.conf (NUT man page upsmon.conf(5)).
+/// Reads upsmon.conf (NUT manual page upsmon.conf(5)). Returns the configuration that its lines set.
 ///
-/// Gives the configuration that its lines set, or the first line with a fault and the first fault in it. Where no line has a
-/// fault and the power values sum to less than `MINSUPPLIES`, the file as a whole is past a limit. Memory may run out only at
-/// a line with a backslash, or at one without a fault that has `MONITOR`, `NOTIFYMSG` or `NOTIFYFLAG`.
+/// # Errors
+///
+/// The first fault of the first line that has one. If no line has a fault and the power values sum to less than
+/// `MINSUPPLIES`, `PastLimit` for the file as a whole. `Memory` comes only at a line with a backslash, or at a line
+/// without a fault that has `MONITOR`, `NOTIFYMSG` or `NOTIFYFLAG`.
 pub fn read_upsmon(alloc: Global, bytes: &[u8]) -> Result<UpsmonConf, ConfFault>
     ensures means { Means (upsmon_reading bytes.now) UpsmonHolds result }
     ensures memory { IfErr result (λ fault. fault.kind ≡ FaultKind.Memory → MayRunOut upsmon_fault upsmon_grows bytes.now fault.line) }

@@ -10,50 +10,52 @@ ghost use Rattle.nut_conf.specs.Users.{UsersConfHolds, users_fault, users_conf_g
 use crate::draft::Draft;
 use crate::fault::{ConfFault, FaultKind};
 use crate::file::read_draft;
+use crate::limits::{INSTCMDS_MAX, PASSWORD_MAX, USERS_MAX};
 use crate::line::Line;
 use crate::sections::Sections;
 use crate::slot::{FromValues, listed, once};
 use crate::text::{Name, Text};
 use crate::values::{Form, Values};
+use nut_words::NAME_MAX;
 use std::alloc::Global;
 
 /// A user: a section of upsd.users.
 #[derive(Drop)]
 pub struct User {
-    pub password: Option<Text<1, 128>>,
+    pub password: Option<Text<1, PASSWORD_MAX>>,
     pub actions: Vec<Action>,
     pub instcmds: Vec<Commands>,
     pub upsmon: Option<Role>,
 }
 
-/// The configuration of upsd.users: at most 64 users by name, in the order of the file.
+/// The configuration of upsd.users: at most [`USERS_MAX`] users by name, in the order of the file.
 #[derive(Drop)]
 pub struct UsersConf {
-    pub users: Sections<User, 64>,
+    pub users: Sections<User, USERS_MAX>,
 }
 
-/// What a user may do.
+/// An action that a user may take.
 #[derive(Clone, Copy, Debug, PartialEq, Eq)]
 pub enum Action {
-    /// Set variables.
+    /// Setting variables.
     Set,
-    /// Begin a forced shutdown.
+    /// Beginning a forced shutdown.
     Fsd,
 }
 
-/// Which commands a user may give.
+/// The commands that a user may give.
 #[derive(Debug, PartialEq, Eq, Drop)]
 pub enum Commands {
     All,
-    Named(Name<64>),
+    Named(Name<NAME_MAX>),
 }
 
-/// What a monitor is to a UPS.
+/// The role of a monitor for a UPS.
 #[derive(Clone, Copy, Debug, PartialEq, Eq)]
 pub enum Role {
-    /// It shuts the UPS down, last of all.
+    /// It shuts the UPS down, after all others.
     Primary,
-    /// It is only fed by the UPS.
+    /// It is fed by the UPS, and doesn't shut it down.
     Secondary,
 }
 
@@ -80,7 +82,7 @@ impl Commands {
 }
 
 impl User {
-    /// Whether the user's password is this one. A user without a password has none.
+    /// Whether this is the user's password. If the user has no password, no password is right.
     pub fn has_password(&self, password: &[u8]) -> bool
         ensures { result ≡ password_is password.now self.now }
     {
@@ -106,7 +108,7 @@ impl User {
 }
 
 impl UsersConf {
-    /// A configuration without a user, as that of an empty file.
+    /// Returns a configuration without users, like that of an empty file.
     pub fn new(alloc: Global) -> Self
         ensures { UsersConfHolds result [] }
     {
@@ -115,7 +117,8 @@ impl UsersConf {
         }
     }
 
-    /// The user with this name. Takes no memory, and no longer for many users.
+    /// Returns the user with this name, if there is one. Allocates no memory. The time it takes doesn't grow with the
+    /// number of users.
     pub fn find(&self, name: &[u8]) -> Option<&User>
         ensures { option_copied result ≡ user_named name.now self.now }
     {
@@ -126,7 +129,7 @@ impl UsersConf {
     }
 }
 
-/// What may stand in a section.
+/// The directives of a section.
 #[derive(Clone, Copy)]
 pub enum UserDirective {
     Password,
@@ -204,7 +207,11 @@ impl Role {
     ghost use Rattle.nut_conf.specs.Values.{one_of};
     ghost use Rattle.nut_conf.specs.Users.{role_word};
 
-    /// Reads `primary` or `secondary`; `UnknownWord` for anything else.
+    /// Reads `primary` or `secondary`.
+    ///
+    /// # Errors
+    ///
+    /// `UnknownWord` for anything else.
     pub fn read(word: &[u8]) -> Result<Self, FaultKind>
         ensures { Reads role_word result (one_of (codes "primary" ∷ codes "secondary" ∷ []) word.now) }
     {
@@ -258,7 +265,7 @@ impl Draft for User {
             Some(UserDirective::Password) => once(&mut self.password, Form::Assigned, line),
             Some(UserDirective::Actions) => listed(&mut self.actions, Form::Assigned, line, None),
             Some(UserDirective::Instcmds) => {
-                listed(&mut self.instcmds, Form::Assigned, line, Some(128))
+                listed(&mut self.instcmds, Form::Assigned, line, Some(INSTCMDS_MAX))
             }
             Some(UserDirective::Upsmon) => once(&mut self.upsmon, Form::Plain, line),
             None => Err(FaultKind::UnknownDirective),
@@ -266,10 +273,12 @@ impl Draft for User {
     }
 }
 
-/// Reads upsd.users (NUT man page upsd.users(5)).
+/// Reads upsd.users (NUT manual page upsd.users(5)). Returns the configuration that its lines set.
 ///
-/// Gives the configuration that its lines set, or the first line with a fault and the first fault in it. Memory may run
-/// out only at a line with a backslash, or at one without a fault that begins a section or has `actions` or `instcmds`.
+/// # Errors
+///
+/// The first fault of the first line that has one. `Memory` comes only at a line with a backslash, or at a line without
+/// a fault that begins a section or has `actions` or `instcmds`.
 pub fn read_users(alloc: Global, bytes: &[u8]) -> Result<UsersConf, ConfFault>
     ensures means { Means (read_file users_fault bytes.now) UsersConfHolds result }
     ensures memory { IfErr result (λ fault. fault.kind ≡ FaultKind.Memory → MayRunOut users_fault users_conf_grows bytes.now fault.line) }

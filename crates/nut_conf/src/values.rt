@@ -1,4 +1,4 @@
-//! The values on a directive's line.
+//! The values on the line of a directive.
 ghost use Rattle.std.specs.Prelude.{◌≡◌, ◌<◌, [], IfOk, IsTrue, length, slice_index_or};
 ghost use Rattle.std.specs.List.{list_all};
 ghost use Rattle.nut_words.specs.Spelling.{is_printing};
@@ -9,16 +9,16 @@ use crate::fault::FaultKind;
 use crate::line::Line;
 use std::marker::Model;
 
-/// How the values follow their directive.
+/// How the values follow the directive.
 #[derive(Clone, Copy)]
 pub enum Form {
-    /// As in `word = value`.
+    /// `word = value`.
     Assigned,
-    /// As in `WORD value ..`.
+    /// `WORD value ..`.
     Plain,
 }
 
-/// The values of a line, which are its last words.
+/// The values of a line: its last words.
 #[derive(Drop)]
 pub struct Values<'a, 'b> {
     line: &'a Line<'b>,
@@ -36,7 +36,7 @@ impl<'a, 'b> Model for Values<'a, 'b> {
 }
 
 impl<'a, 'b> Values<'a, 'b> {
-    /// The values of a line with this form.
+    /// Returns the values of a line of this form, or `BadForm` if an `=` is missing.
     pub fn of(form: Form, line: &'a Line<'b>) -> Result<Self, FaultKind>
         ensures { Reads (λ values. values) result (values_of form line.now.words) }
     {
@@ -51,14 +51,14 @@ impl<'a, 'b> Values<'a, 'b> {
         }
     }
 
-    /// How many values there are.
+    /// Returns how many values there are.
     pub fn len(&self) -> usize
         ensures { result ≡ length self.now }
     {
         self.line.len() - self.first
     }
 
-    /// A value, counted from 0.
+    /// Returns the value at place `index`, counted from 0.
     pub fn get(&self, index: usize) -> &'a [u8]
         requires { index < length self.now }
         ensures value { result.now ≡ slice_index_or self.now index [] }
@@ -68,7 +68,7 @@ impl<'a, 'b> Values<'a, 'b> {
         self.line.word(self.line.len() - behind)
     }
 
-    /// The only value.
+    /// Returns the only value, or `BadForm` if there isn't exactly one.
     pub fn one(&self) -> Result<&'a [u8], FaultKind>
         ensures value { Reads (λ value. value.now) result (one self.now) }
         ensures printing { IfOk result (λ value. IsTrue (list_all is_printing value.now)) }

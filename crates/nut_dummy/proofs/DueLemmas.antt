@@ -22,7 +22,7 @@ newest_more test [] step = sym (or_none (passed test step))
 newest_more test (s ∷ steps) step =
     ap (λ o. option_or o (passed test s)) (newest_more test steps step) ∙ or_assoc (passed test step) (newest test steps) (passed test s)
 
--- a step that does not pass changes nothing, and one that does is the newest
+-- a step that doesn't pass changes nothing, and one that does is the newest
 pub newest_same : (test : Step → Bool) (steps : List Step) (step : Step) → test step ≡ false → newest test (steps ++ step ∷ []) ≡ newest test steps
 newest_same test steps step fails = newest_more test steps step ∙ ap (λ b. option_or (cond b (Some step.value) None) (newest test steps)) fails
 
@@ -66,12 +66,12 @@ module _ (round after until : ℕ) where
         not_right (nat_lt after (step.at + k * round)) _ b
 
   module _ (steps : List Step) where
-    -- with none due in any round there is none
+    -- if none is due in any round, there is none
     pub none_up_to : (n : ℕ) → ((k : ℕ) → newest (is_due round after until k) steps ≡ None) → newest_up_to round after until steps n ≡ None
     none_up_to zero none = none 0
     none_up_to (suc n) none = rw (none (suc n)) (none_up_to n none)
 
-    -- with none due in a later round, that of the round is the last
+    -- if none is due in a round after b, that of round b is the last
     pub last_up_to : (n b : ℕ) (value : List ℕ) → b ≤ n → newest (is_due round after until b) steps ≡ Some value
         → ((k : ℕ) → b < k → newest (is_due round after until k) steps ≡ None) → newest_up_to round after until steps n ≡ Some value
     last_up_to zero b value le is later =
@@ -85,7 +85,7 @@ module _ (round after until : ℕ) where
       by_last (inl at) before = rw (ap (λ k. newest (is_due round after until k) steps) (sym at) ∙ is) refl
       by_last (inr below) before = rw (later (suc n) below) (before (omega arith))
 
--- without timers nothing is due past the start
+-- without timers nothing is due after the start
 pub no_round : (round after until : ℕ) (steps : List Step) → round ≡ 0 → latest round after until steps ≡ None
 unfolding latest
 no_round round after until steps is = rw is refl
@@ -127,7 +127,7 @@ module _ (round after until : ℕ) (steps : List Step) (b : ℕ) (best : Option 
     past : (j : ℕ) → k < j → is_due round after until j step ≡ false
     past j above = not_due round after until j step (λ h. let le : j ≤ k = most j h in absurd (omega arith))
 
-    -- one whose last round is not before the best one's
+    -- a step whose last round is not before that of the best
     pub known_new : b ≤ k → Known round after until (steps ++ step ∷ []) k (Some step.value)
     known_new le =
         let within : k ≤ until = omega (arith, mul-le-mul_left k positive) in (
@@ -137,7 +137,7 @@ module _ (round after until : ℕ) (steps : List Step) (b : ℕ) (best : Option 
           λ is. absurd (cc),
         )
 
-    -- one whose last round is before it
+    -- a step whose last round is before that of the best
     pub known_old : k < b → Known round after until (steps ++ step ∷ []) b best
     known_old lt =
         (unchanged b (past b lt) ∙ known.0, λ j above. unchanged j (past j (omega arith)) ∙ known.1 j above, known.2, known.3)

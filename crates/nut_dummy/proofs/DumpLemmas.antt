@@ -10,6 +10,7 @@ use Rattle.nut_words.specs.Quoting.{IsPrintable, escaped, quoted, stands_bare, w
 use Rattle.nut_words.specs.Spelling.{is_printing}
 use Rattle.nut_words.proofs.StreamGrowth.{lines-append, rest-append}
 use Rattle.nut_words.proofs.WrittenLine.{line_printable, lines_of_printable, quoted_printable, rest_of_printable}
+use Rattle.nut_words.specs.declared.limits.TheConstants.{LINE_MAX, NAME_MAX, VALUE_MAX}
 use Rattle.nut_proto.specs.declared.driver_ask.DriverAsk.{DriverAsk}
 use Rattle.nut_proto.specs.declared.driver_ask.DriverAsk.TheVariants as asks
 use Rattle.nut_proto.specs.Lines.{line, message}
@@ -19,13 +20,13 @@ use Rattle.nut_state.specs.Table.{Table, empty}
 use Rattle.nut_state.specs.Text.{is_name}
 use Rattle.nut_dummy.specs.declared.writable.Writable.{Writable}
 use Rattle.nut_dummy.specs.declared.writable.Writable.TheVariants.{ChargeLow, RuntimeLow, Sensitivity, ShutdownDelay, Id}
-use Rattle.nut_dummy.specs.Dummy.{Content, told_bytes, waits_of}
+use Rattle.nut_dummy.specs.machine.Dummy.{Content, told_bytes, waits_of}
 use Rattle.nut_dummy.specs.Dump.{Listener, table_after, after_piece, after_pieces, LeadTo, dump_messages, IsDump, OwesDump, DumpIsTheTable, DumpsWhereAsked}
 use Rattle.nut_dummy.specs.Heard.{heard_in}
 use Rattle.nut_dummy.specs.History.{driver}
 use Rattle.nut_dummy.specs.Item.{is_value}
 use Rattle.nut_dummy.specs.Table.{table_of}
-use Rattle.nut_dummy.specs.Teller.{Variable, Teller, answered, asked_by, dump, dumped, dumped_all, heard, heard_all, lines_of}
+use Rattle.nut_dummy.specs.machine.Teller.{Variable, Teller, answered, asked_by, dump, dumped, dumped_all, heard, heard_all, lines_of}
 use Rattle.nut_dummy.specs.Telling.{Message, text, value_message, limits, limits_of, variable_messages, closing_messages}
 use Rattle.nut_dummy.specs.Writable.{writable_of}
 use Rattle.nut_dummy.proofs.FilledLemmas.{followed, limiting, writable_named, changes_of, closing_changes, dump_fills}
@@ -80,15 +81,15 @@ more_lines ms ns h k = (
 )
 
 -- a printable message that is short enough is one line
-one_line : (m : Message) → IsPrintable (message m) → length (message m) ≤ 512 → AreLines (m ∷ [])
+one_line : (m : Message) → IsPrintable (message m) → length (message m) ≤ LINE_MAX → AreLines (m ∷ [])
 unfolding line
 one_line m printable short =
     let is : text (m ∷ []) ≡ message m ++ 10 ∷ [] = text_cons m [] ∙ ap (λ t. line m ++ t) text_nil ∙ append-nil (line m) in
     let fits : as_line (message m) ≡ Text (message m) = fitting (message m) short in
     (ap lines is ∙ lines_of_printable [] (message m) printable ∙ ap (λ l. l ∷ []) fits, ap rest is ∙ rest_of_printable [] (message m) printable)
   where
-    fitting : (t : List ℕ) → length t ≤ 512 → as_line t ≡ Text t
-    fitting t h = let small : nat_le (length t) 512 ≡ true = grind (arith, nat_tests) in rw small refl
+    fitting : (t : List ℕ) → length t ≤ LINE_MAX → as_line t ≡ Text t
+    fitting t h = let small : nat_le (length t) LINE_MAX ≡ true = grind (arith, nat_tests) in rw small refl
 
 -- ---- the line of a value
 
@@ -109,10 +110,10 @@ bytes_printable (c ∷ cs) h = (and_left _ _ h, bytes_printable cs (and_right (i
 
 module _ (name value : List ℕ) (named_so : is_name name ≡ true) (valued : is_value value ≡ true) where
   name_printable : IsPrintable name
-  name_printable = name_bytes_printable name (and_right (nat_le 1 (length name) && nat_le (length name) 64) (list_all is_name_byte name) named_so)
+  name_printable = name_bytes_printable name (and_right (nat_le 1 (length name) && nat_le (length name) NAME_MAX) (list_all is_name_byte name) named_so)
 
   value_printable : IsPrintable value
-  value_printable = bytes_printable value (and_right (nat_le (length value) 128) (list_all is_printing value) valued)
+  value_printable = bytes_printable value (and_right (nat_le (length value) VALUE_MAX) (list_all is_printing value) valued)
 
   message_printable : IsPrintable (message (value_message name value))
   message_printable =
@@ -142,8 +143,8 @@ at_most a b h = grind (arith, nat_tests)
 
 value_line : (name value : List ℕ) → is_name name ≡ true → is_value value ≡ true → AreLines (value_message name value ∷ [])
 value_line name value named_so valued =
-    let some_name : length name ≤ 64 = at_most _ _ (and_right (nat_le 1 (length name)) (nat_le (length name) 64) (and_left _ _ named_so)) in
-    let some_value : length value ≤ 128 = at_most _ _ (and_left _ _ valued) in
+    let some_name : length name ≤ NAME_MAX = at_most _ _ (and_right (nat_le 1 (length name)) (nat_le (length name) NAME_MAX) (and_left _ _ named_so)) in
+    let some_value : length value ≤ VALUE_MAX = at_most _ _ (and_left _ _ valued) in
     one_line (value_message name value) (message_printable name value named_so valued)
     (omega (arith, length-append (word_text name) (32 ∷ (quoted value ++ [])), length-append (quoted value) [], length-word name, length-quoted value))
 
@@ -239,7 +240,7 @@ dump_is variables h =
           (ap (λ r. record { rest = r; table = table_after (lines (dump variables)) empty }) ended ∙ ap (λ t. record { rest = Text []; table = t }) led);
     }
 
--- a dump marks variables as told, and tells nothing else of them
+-- marking variables as told changes nothing else of them
 dump_marked : (variables : List Variable) → flat_map (λ v. lines_of true v.name v.value) (map dumped variables) ≡ flat_map (λ v. lines_of true v.name v.value) variables
 dump_marked [] = refl
 dump_marked (v ∷ variables) = ap (λ t. lines_of true v.name v.value ++ t) (dump_marked variables)

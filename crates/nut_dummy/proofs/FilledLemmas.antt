@@ -1,4 +1,4 @@
--- How the changes of a dump fill an empty table: each variable goes behind those before it.
+-- How the changes of a dump fill an empty table: each variable is inserted behind those before it.
 use Rattle.std.proofs.Common.{◌≡◌, ℕ, ◌+◌, ◌<◌, ◌≤◌, Bool, true, false, List, [], ◌∷◌, ◌++◌, Option, Some, None, length, map, nat_lt, nat_le, refl, sym, ap, subst, ◌∙◌, arith, append_assoc, length-append, codes, ℤ, pos}
 use Rattle.std.specs.Prelude.{filter}
 use Rattle.std.specs.List.{AllByRecursion, find, flat_map}
@@ -8,7 +8,8 @@ use Rattle.std.specs.declared.cmp.Ordering.TheVariants.{Less}
 use Rattle.std.proofs.lemmas.Bool.Decides.{nat_tests}
 use Rattle.std.proofs.lemmas.List.{append-nil}
 use Rattle.std.proofs.lemmas.Slice.Eq.{bytes_eq-Decides}
-use Rattle.nut_state.specs.declared.limits.TheConstants.{VALUE_BYTES, MAX_VARIABLES}
+use Rattle.nut_words.specs.declared.limits.TheConstants.{VALUE_MAX}
+use Rattle.nut_state.specs.declared.limits.TheConstants.{VARIABLES_MAX}
 use Rattle.nut_state.specs.declared.number.Range.{Range}
 use Rattle.nut_state.specs.declared.variable.Flags.{Flags}
 use Rattle.nut_state.specs.Attribute.{takes_enum, takes_range}
@@ -23,7 +24,7 @@ use Rattle.nut_dummy.specs.declared.writable.Writable.TheVariants.{ChargeLow, Ru
 use Rattle.nut_dummy.specs.Command.{command_name, all_commands}
 use Rattle.nut_dummy.specs.Heard.{attribute_changes}
 use Rattle.nut_dummy.specs.Table.{with_attributes, entry, entries, table_of}
-use Rattle.nut_dummy.specs.Teller.{Variable}
+use Rattle.nut_dummy.specs.machine.Teller.{Variable}
 use Rattle.nut_dummy.specs.Writable.{all_writable, attributes, name_of, attributes_of, number_up_to, text_of, writable_of}
 use Rattle.nut_dummy.proofs.LimitLemmas.{AreSound, IsSound, IsValued, and_left}
 
@@ -88,7 +89,7 @@ followed-append [] b t = refl
 followed-append (change ∷ a) b t = followed-append a b (after t change)
 
 module _ (name : List ℕ) (xs : List Entry) (low : Each entry_name Less name xs) where
-  set_last : (value : List ℕ) → is_name name ≡ true → nat_le (length value) VALUE_BYTES ≡ true → nat_lt (length xs) MAX_VARIABLES ≡ true
+  set_last : (value : List ℕ) → is_name name ≡ true → nat_le (length value) VALUE_MAX ≡ true → nat_lt (length xs) VARIABLES_MAX ≡ true
       → after (filled xs) (set_info name value) ≡ filled (xs ++ fresh name value ∷ [])
   unfolding after accepts changed
   set_last value named_so short room =
@@ -99,7 +100,7 @@ module _ (name : List ℕ) (xs : List Entry) (low : Each entry_name Less name xs
     unfolding after accepts changed
     flags_last flags = rw (named_last entry_name name xs e low own) (ap filled (put_again entry_name name xs e (record e { flags = flags }) low own))
 
-    aux_last : (aux : ℕ) → nat_le aux VALUE_BYTES ≡ true → after (filled (xs ++ e ∷ [])) (set_aux name (Some aux)) ≡ filled (xs ++ (record e { aux = aux }) ∷ [])
+    aux_last : (aux : ℕ) → nat_le aux VALUE_MAX ≡ true → after (filled (xs ++ e ∷ [])) (set_aux name (Some aux)) ≡ filled (xs ++ (record e { aux = aux }) ∷ [])
     unfolding after accepts changed
     aux_last aux fits = rw (named_last entry_name name xs e low own, fits) (ap filled (put_again entry_name name xs e (record e { aux = aux }) low own))
 
@@ -113,7 +114,7 @@ module _ (name : List ℕ) (xs : List Entry) (low : Each entry_name Less name xs
 
 -- ---- the lines of one variable
 
--- a number's limits
+-- the limits of a number
 number_last : (name value : List ℕ) (most : ℤ) (xs : List Entry) → Each entry_name Less name xs
     → followed (attribute_changes name (number_up_to most)) (filled (xs ++ fresh name value ∷ [])) ≡ filled (xs ++ with_attributes name value (number_up_to most) ∷ [])
 number_last name value most xs low =
@@ -122,8 +123,8 @@ number_last name value most xs low =
     ap (λ t. after t (add_range name (Some range))) (flags_last name xs low (fresh name value) refl a.flags)
     ∙ range_last name xs low (record { name = name; value = value; flags = a.flags; aux = 0; enums = []; ranges = [] }) refl range refl
 
--- a text's number
-text_last : (name value : List ℕ) (most : ℕ) (xs : List Entry) → Each entry_name Less name xs → nat_le most VALUE_BYTES ≡ true
+-- the largest length of a text
+text_last : (name value : List ℕ) (most : ℕ) (xs : List Entry) → Each entry_name Less name xs → nat_le most VALUE_MAX ≡ true
     → after (after (filled (xs ++ fresh name value ∷ [])) (set_flags name (text_of 0 []).flags)) (set_aux name (Some most)) ≡ filled (xs ++ with_attributes name value (text_of most []) ∷ [])
 text_last name value most xs low fits =
     let flags = (text_of 0 []).flags in
@@ -169,12 +170,12 @@ limiting_last name value xs low = by (writable_of name) refl where
 abbrev pub changes_of : List ℕ → Option (List ℕ) → List Change
 changes_of name value = option_map_or (λ x. set_info name x ∷ limiting name (writable_of name)) value []
 
-variable_last : (name : List ℕ) (value : Option (List ℕ)) (xs : List Entry) → is_name name ≡ true → IsValued value → length xs < 512 → Each entry_name Less name xs
+variable_last : (name : List ℕ) (value : Option (List ℕ)) (xs : List Entry) → is_name name ≡ true → IsValued value → length xs < VARIABLES_MAX → Each entry_name Less name xs
     → followed (changes_of name value) (filled xs) ≡ filled (xs ++ entries name value)
 variable_last name None xs named_so valued room low = ap filled (sym (append-nil xs))
 variable_last name (Some value) xs named_so valued room low =
-    let short : nat_le (length value) VALUE_BYTES ≡ true = and_left _ _ valued in
-    let few : nat_lt (length xs) MAX_VARIABLES ≡ true = grind (arith, nat_tests) in
+    let short : nat_le (length value) VALUE_MAX ≡ true = and_left _ _ valued in
+    let few : nat_lt (length xs) VARIABLES_MAX ≡ true = grind (arith, nat_tests) in
     ap (followed (limiting name (writable_of name))) (set_last name xs low value named_so short few) ∙ limiting_last name value xs low
 
 -- ---- all of them
@@ -197,8 +198,8 @@ few_more : (name : List ℕ) (value : Option (List ℕ)) (xs : List Entry) → l
 few_more name None xs = omega (arith, length-append xs [])
 few_more name (Some value) xs = omega (arith, length-append xs (entry name value ∷ []))
 
--- Variables that ascend go one behind the other.
-fills : (variables : List Variable) (xs : List Entry) → AllLow xs variables → IsAscending (map (λ v. v.name) variables) → AllByRecursion IsSound variables → length xs + length variables ≤ 512
+-- Variables that ascend are inserted one behind the other.
+fills : (variables : List Variable) (xs : List Entry) → AllLow xs variables → IsAscending (map (λ v. v.name) variables) → AllByRecursion IsSound variables → length xs + length variables ≤ VARIABLES_MAX
     → followed (flat_map (λ v. changes_of v.name v.value) variables) (filled xs) ≡ filled (xs ++ flat_map (λ v. entries v.name v.value) variables)
 fills [] xs low up sound few = ap filled (sym (append-nil xs))
 fills (v ∷ variables) xs low up sound few =
@@ -208,7 +209,7 @@ fills (v ∷ variables) xs low up sound few =
     ∙ fills variables (xs ++ entries v.name v.value) (all_low_more v.name v.value xs variables up.0 low.1) up.1 sound.1 (omega (arith, few, few_more v.name v.value xs))
     ∙ ap filled (append_assoc xs (entries v.name v.value) (flat_map (λ v. entries v.name v.value) variables))
 
--- what ends a dump
+-- the changes at the end of a dump
 abbrev pub closing_changes : List Change
 closing_changes = map (λ c. add_command (command_name c)) all_commands ++ data_ok ∷ dump_done ∷ []
 

@@ -13,15 +13,15 @@ use Rattle.nut_dummy.specs.declared.dummy.DummyFault.TheVariants as faults
 use Rattle.nut_dummy.specs.declared.command.Command.{Command}
 use Rattle.nut_dummy.specs.Command.{variable_set, value_set, command_of}
 use Rattle.nut_dummy.specs.Script.{Script, Timeline}
-use Rattle.nut_dummy.specs.Teller.{Teller, Change, Passing, Assigning, Doing, followed, dumped, untold, changed, dumped_all, commanded, answered, heard_all, relinked, asked_by}
-use Rattle.nut_dummy.specs.Dummy.{Content, bytes_refusal, cut_behind, moment_refusal, passed, told_bytes, took_refusal, waits_of}
+use Rattle.nut_dummy.specs.machine.Teller.{Teller, Change, Passing, Assigning, Doing, followed, dumped, untold, changed, dumped_all, commanded, answered, heard_all, relinked, asked_by}
+use Rattle.nut_dummy.specs.machine.Dummy.{Content, bytes_refusal, cut_behind, moment_refusal, passed, told_bytes, took_refusal, waits_of}
 use Rattle.nut_dummy.specs.History.{Deed, Fresh, Changes, Dumps, Pongs, has_asked, seen, owed, told, by_command, by_ask, by_lines, Call, Linked, Moment, Bytes, Lost, Took, clock, input, count_taken, deeds, driver, step, refusal, IsAccepted, told_by, is_linked, left_by_cut, received, timelines, Stands, LooksBack}
 
 map_map : {A B C : Type 0} (f : B → C) (g : A → B) (xs : List A) → map f (map g xs) ≡ map (λ x. f (g x)) xs
 map_map f g [] = refl
 map_map f g (x ∷ xs) = ap (λ ys. f (g x) ∷ ys) (map_map f g xs)
 
--- nothing told, and nothing asked: a change tells nothing
+-- while nothing was told and DUMPALL wasn't asked, a change tells nothing
 untold_change : (ts : List Timeline) (past : List Deed) (change : Change) → told ts past ≡ [] → has_asked past ≡ false → told ts (Changes change ∷ past) ≡ []
 untold_change ts past change nothing unasked = rw (unasked, nothing) refl
 
@@ -75,7 +75,7 @@ module _ (ts : List Timeline) where
   lines_room [] past n room = room
   lines_room (l ∷ ls) past n room = lines_room ls (by_ask (asked_by l) past) n (ask_room past n room (asked_by l))
 
-  -- what lines owe comes behind what was told before them
+  -- what lines owe is appended to what was told before them
   command_tells : (command : Option Command) (past : List Deed) → (more : List ℕ) × (told ts (by_command command past) ≡ told ts past ++ more)
   command_tells None past = ([], sym (append-nil (told ts past)))
   command_tells (Some c) past = (owed ts (Changes (Doing (variable_set c) (value_set c))) past, refl)
@@ -94,20 +94,20 @@ module _ (ts : List Timeline) where
       let later = lines_tell ls (by_ask (asked_by l) past) in
       (first.0 ++ later.0, later.1 ∙ ap (λ t. t ++ later.0) first.1 ∙ append_assoc (told ts past) first.0 later.0)
 
-  -- so what was taken is a front of it still
+  -- so what was taken is still a front of it
   still_front : (ls : List LineText) (past : List Deed) (n : ℕ) → n ≤ length (told ts past) → take n (told ts past) ≡ take n (told ts (by_lines ls past))
   still_front ls past n room =
       let tells = lines_tell ls past in
       sym (ap (take n) tells.1 ∙ take-append-le n (told ts past) tells.0 room)
 
--- what was taken had to wait
+-- bytes that were taken had to wait
 taken_waits : (n : ℕ) (s : Content) → took_refusal n s ≡ None → n ≤ length s.teller.waits
 taken_waits n s h = by (nat_lt (length s.teller.waits) n) refl h where
   by : (b : Bool) → nat_lt (length s.teller.waits) n ≡ b → cond b (Some faults.TooMuchTaken) None ≡ None → n ≤ length s.teller.waits
   by true is h = absurd (cc)
   by false is h = grind (arith, nat_tests)
 
--- bytes are heard on a link alone
+-- bytes are heard only if there is a link
 heard_linked : (piece : List ℕ) (s : Content) → bytes_refusal piece s ≡ None → s.linked ≡ true
 heard_linked piece s h = by s.linked refl h where
   by : (b : Bool) → s.linked ≡ b → bytes_refusal piece s ≡ None → b ≡ true

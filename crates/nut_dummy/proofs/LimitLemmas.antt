@@ -1,4 +1,4 @@
--- What a script that reads says, and what a driver that tells it holds, is within the limits of a table.
+-- A script that was read, and a driver that tells it, stay within the limits of a table.
 use Rattle.std.proofs.Common.{◌≡◌, ℕ, zero, suc, ◌+◌, ◌-◌, ◌==◌, ◌<◌, ◌≤◌, ◌&&◌, ◌||◌, Bool, true, false, not, cond, List, [], ◌∷◌, ◌++◌, Option, Some, None, Result, Ok, Err, drop, length, map, max, take, nat_lt, nat_le, refl, sym, ap, subst, arith}
 use Rattle.std.specs.Prelude.{is_some, if◌then◌else◌}
 use Rattle.std.specs.List.{All, AllByRecursion, list_all, position}
@@ -12,12 +12,14 @@ use Rattle.nut_words.specs.Lines.{LineText}
 use Rattle.nut_words.specs.Name.{is_name_byte}
 use Rattle.nut_words.specs.Reader.{spelled}
 use Rattle.nut_words.specs.Spelling.{is_comment, is_printing}
+use Rattle.nut_words.specs.declared.limits.TheConstants.{NAME_MAX, VALUE_MAX}
 use Rattle.nut_proto.specs.declared.driver_ask.DriverAsk.{DriverAsk}
 use Rattle.nut_proto.specs.declared.driver_ask.DriverAsk.TheVariants as asks
 use Rattle.nut_state.specs.Number.{natural}
 use Rattle.nut_state.specs.Sorted.{put, IsAscending}
 use Rattle.nut_state.specs.Text.{is_name}
 use Rattle.nut_state.proofs.PutLemmas.{All-put, All-named, ascending-put, length-put, length-put_found}
+use Rattle.nut_state.specs.declared.limits.TheConstants.{VARIABLES_MAX}
 use Rattle.nut_dummy.specs.declared.command.Command.{Command}
 use Rattle.nut_dummy.specs.declared.command.Command.TheVariants.{BeeperDisable, BeeperEnable, LoadOff, LoadOn, BatteryTestStart, BatteryTestStop, FailureStart, FailureStop}
 use Rattle.nut_dummy.specs.declared.fault.ScriptFaultKind.{ScriptFaultKind}
@@ -25,14 +27,14 @@ use Rattle.nut_dummy.specs.declared.fault.ScriptFaultKind.TheVariants as kinds
 use Rattle.nut_dummy.specs.declared.item.ScriptKind.{ScriptKind}
 use Rattle.nut_dummy.specs.declared.item.ScriptKind.TheVariants.{Dev, Seq}
 use Rattle.nut_dummy.specs.declared.writable.Writable.{Writable}
-use Rattle.nut_dummy.specs.declared.limits.TheConstants.{LINE_MAX}
+use Rattle.nut_dummy.specs.declared.limits.TheConstants.{SCRIPT_LINE_MAX, SCRIPT_VARIABLES_MAX}
 use Rattle.nut_dummy.specs.Command.{command_of, command_variables, variable_set, value_set}
-use Rattle.nut_dummy.specs.Dummy.{all_declared, beginning, begun, brought, declared}
+use Rattle.nut_dummy.specs.machine.Dummy.{all_declared, beginning, begun, brought, declared}
 use Rattle.nut_dummy.specs.Due.{is_due, latest, newest, newest_up_to}
 use Rattle.nut_dummy.specs.History.{Call, Linked, Moment, Bytes, Lost, Took, driver}
 use Rattle.nut_dummy.specs.Item.{Item, Timer, Setting, is_skipped, is_value, item, parted, setting, timed, timer, timer_in, trimmed}
 use Rattle.nut_dummy.specs.Script.{Script, Step, Timeline, at_line, extended, has_room, no_script, read_lines, read_script, steps_of, taken_in, timeline, whole, with_line, with_step}
-use Rattle.nut_dummy.specs.Teller.{Change, Passing, Assigning, Doing, Teller, Variable, answered, asked_by, changed, commanded, dumped, followed, heard, heard_all, is_assigned, relinked, untold, value_after}
+use Rattle.nut_dummy.specs.machine.Teller.{Change, Passing, Assigning, Doing, Teller, Variable, answered, asked_by, changed, commanded, dumped, followed, heard, heard_all, is_assigned, relinked, untold, value_after}
 use Rattle.nut_dummy.specs.Writable.{attributes, fits, may_be, writable_of}
 
 -- ---- tests
@@ -45,7 +47,7 @@ pub and_right : (a b : Bool) → (a && b) ≡ true → b ≡ true
 and_right true b h = h
 and_right false b h = cc
 
--- what is said behind a refusal, or before one
+-- a test that refuses, before a result and behind it
 module _ {X E : Type 0} where
   behind : (b : Bool) (e : E) (r : Result X E) (x : X) → cond b (Err e) r ≡ Ok x → (b ≡ false) × (r ≡ Ok x)
   behind true e r x h = cc
@@ -57,11 +59,11 @@ module _ {X E : Type 0} where
 
 -- ---- one line of a script
 
-is_name_from : (n : ℕ) (named_so : Bool) → not (nat_lt 0 n && named_so) ≡ false → nat_lt 64 n ≡ false → (nat_le 1 n && nat_le n 64 && named_so) ≡ true
+is_name_from : (n : ℕ) (named_so : Bool) → not (nat_lt 0 n && named_so) ≡ false → nat_lt NAME_MAX n ≡ false → (nat_le 1 n && nat_le n NAME_MAX && named_so) ≡ true
 is_name_from n true some few = grind (arith, nat_tests)
 is_name_from n false some few = grind (arith, nat_tests)
 
-is_value_from : (n : ℕ) (printing : Bool) → not printing ≡ false → nat_lt 128 n ≡ false → (nat_le n 128 && printing) ≡ true
+is_value_from : (n : ℕ) (printing : Bool) → not printing ≡ false → nat_lt VALUE_MAX n ≡ false → (nat_le n VALUE_MAX && printing) ≡ true
 is_value_from n true some few = grind (arith, nat_tests)
 is_value_from n false some few = cc
 
@@ -102,7 +104,7 @@ parted_good kind line (Some at) name value h = setting_good (trimmed (take at li
 item_good : (kind : ScriptKind) (line name value : List ℕ) → item kind line ≡ Ok (Setting name value) → IsSetting name value
 item_good kind line name value h =
     let at = position (λ c. c == 58) line in
-    let short = behind (nat_lt LINE_MAX (length line)) kinds.PastLimit (if not (list_all is_comment line) then Err kinds.BadLine else parted kind line at) (Setting name value) h in
+    let short = behind (nat_lt SCRIPT_LINE_MAX (length line)) kinds.PastLimit (if not (list_all is_comment line) then Err kinds.BadLine else parted kind line at) (Setting name value) h in
     parted_good kind line at name value (behind (not (list_all is_comment line)) kinds.BadLine (parted kind line at) (Setting name value) short.1).1
 
 -- ---- a script
@@ -128,7 +130,7 @@ steps_good (Some t) h = (h t refl).1
 abbrev name_of : Timeline → List ℕ
 name_of t = t.name
 
--- a variable more, or another under the name of one that is there
+-- a variable more, or another in place of one with the same name
 put_good : (t : Timeline) (variables : List Timeline) → IsGood t → AreGood variables → AreGood (put name_of t.name (Some t) variables)
 put_good t variables good h = record {
   ascending = ascending-put name_of t.name (Some t) variables refl h.ascending;
@@ -149,7 +151,7 @@ room_for name t variables most room h = by (is_some (timeline name variables)) r
 
 record IsGoodScript (s : Script) : Type 0 where
   good : AreGood s.variables
-  few : length s.variables ≤ 509
+  few : length s.variables ≤ SCRIPT_VARIABLES_MAX
 
 taken_in_good : (s more : Script) (said : Result Item ScriptFaultKind) → ((name value : List ℕ) → said ≡ Ok (Setting name value) → IsSetting name value)
     → taken_in s said ≡ Ok more → IsGoodScript s → IsGoodScript more
@@ -163,7 +165,7 @@ taken_in_good s more (Ok (Setting name value)) proper is h =
     let own = proper name value refl in
     subst IsGoodScript same (record {
       good = with_step_good name (record { at = s.round; value = value }) s.variables own.0 own.1 h.good;
-      few = room_for name (record { name = name; steps = steps_of (timeline name s.variables) ++ (record { at = s.round; value = value }) ∷ [] }) s.variables 509 (and_right _ _ fits.0) h.few;
+      few = room_for name (record { name = name; steps = steps_of (timeline name s.variables) ++ (record { at = s.round; value = value }) ∷ [] }) s.variables SCRIPT_VARIABLES_MAX (and_right _ _ fits.0) h.few;
     })
 
 with_line_good : (kind : ScriptKind) (s more : Script) (line : List ℕ) → with_line kind s line ≡ Ok more → IsGoodScript s → IsGoodScript more
@@ -216,14 +218,14 @@ abbrev pub IsValued : Option (List ℕ) → Type 0
 IsValued None = Unit {0}
 IsValued (Some value) = is_value value ≡ true
 
--- A variable has a name, and its value, if it has one, and those that it gets are values.
+-- A variable has a name. Its value, if it has one, and those that it gets are values.
 abbrev pub IsSound : Variable → Type 0
 IsSound v = (is_name v.name ≡ true) × AreValues v.steps × IsValued v.value
 
 -- Variables ascend by name, are no more than a table holds, and each is sound.
 pub record AreSound (variables : List Variable) : Type 0 where
   pub ascending : IsAscending (map (λ v. v.name) variables)
-  pub few : length variables ≤ 512
+  pub few : length variables ≤ VARIABLES_MAX
   pub each : AllByRecursion IsSound variables
 
 or_valued : (a b : Option (List ℕ)) → IsValued a → IsValued b → IsValued (option_or a b)
@@ -273,7 +275,7 @@ after_valued (Doing name value) own steps before proper h k = by (bytes_eq own n
   by true = proper
   by false = k
 
--- what changes neither names nor soundness
+-- a function on variables that changes neither names nor soundness
 module _ (f : Variable → Variable) (same_name : (v : Variable) → (f v).name ≡ v.name) (same : (v : Variable) → IsSound v → IsSound (f v)) where
   names_kept : (variables : List Variable) → map (λ v. v.name) (map f variables) ≡ map (λ v. v.name) variables
   names_kept [] = refl
@@ -340,7 +342,7 @@ beginning_sound script start h =
       each = begun_each variables (recursion_from_All IsGood variables all.0.each);
     }
 
--- Whatever calls are made, what a driver holds is sound.
+-- Whatever calls are made, the variables of a driver are sound.
 pub driver_sound : (kind : ScriptKind) (text : List ℕ) (script : Script) (start : ℕ) (h : List Call) → read_script kind text ≡ Ok script → AreSound (driver script start h).teller.variables
 driver_sound kind text script start [] is = beginning_sound script start (script_good kind text script is)
 driver_sound kind text script start (Linked ∷ h) is = relinked_sound (driver script start h).teller (driver_sound kind text script start h is)

@@ -4,7 +4,7 @@ use Rattle.std.specs.Prelude.{is_some, slice_set, slice_index_or, map, if◌then
 use Rattle.std.specs.List.{insert}
 use Rattle.nut_state.specs.Sorted.{put, IsFound, IsFree, IsAscending}
 use Rattle.nut_state.proofs.PutLemmas.{name-named, ascending-put}
-use Rattle.nut_dummy.specs.Dummy.{declared}
+use Rattle.nut_dummy.specs.machine.Dummy.{declared}
 use Rattle.nut_words.specs.Lines.{parts}
 use Rattle.nut_dummy.specs.Memory.{Makes}
 use Rattle.nut_dummy.specs.Script.{Step, Timeline, Script, timeline, steps_of, with_step, with_line, at_line, whole, no_script, read_lines, read_script, IsFaultOf, Fails}
@@ -15,7 +15,7 @@ use Rattle.nut_dummy.specs.declared.item.ScriptKind.{ScriptKind}
 abbrev pub name_of : Timeline → List ℕ
 name_of t = t.name
 
--- A variable that is there gets one value more.
+-- A variable of the script gets one more value.
 pub step_found : (name : List ℕ) (step : Step) (variables : List Timeline) (i : ℕ) (v new : Timeline)
     → IsFound name_of name variables i → v ≡ slice_index_or variables i v → new ≡ record v { steps = v.steps ++ step ∷ [] }
     → slice_set variables i new ≡ with_step name step variables
@@ -26,7 +26,7 @@ step_found name step variables i v new f at to =
     ∙ sym (f.replaced (record { name = name; steps = v.steps ++ step ∷ [] }))
     ∙ ap (λ o. put name_of name (Some (record { name = name; steps = steps_of o ++ step ∷ [] })) variables) (sym is)
 
--- A variable that is there counts as room.
+-- A variable of the script needs no further room.
 pub step_taken : (name : List ℕ) (step : Step) (variables : List Timeline) (i : ℕ) (v new : Timeline) (small : Bool)
     → IsFound name_of name variables i → v ≡ slice_index_or variables i v → new ≡ record v { steps = v.steps ++ step ∷ [] }
     → (if is_some (timeline name variables) || small then Ok (with_step name step variables) else Err kinds.PastLimit) ≡ Ok (slice_set variables i new)
@@ -34,7 +34,7 @@ step_taken name step variables i v new small f at to =
     ap (λ o. if is_some o || small then Ok (with_step name step variables) else Err kinds.PastLimit) (f.is v ∙ ap Some (sym at))
     ∙ ap Ok (sym (step_found name step variables i v new f at to))
 
--- One that is not there gets its first.
+-- A new variable gets its first value.
 pub step_free : (name : List ℕ) (step : Step) (variables : List Timeline) (i : ℕ)
     → IsFree name_of name variables i
     → insert variables i (record { name = name; steps = step ∷ [] }) ≡ with_step name step variables
@@ -75,7 +75,7 @@ module _ (kind : ScriptKind) where
   unfolding read_lines
   read_lines-done before n = refl
 
--- a line more makes the script that it makes of the one before
+-- a further line makes the script that it makes of the one before
 pub makes_more : (kind : ScriptKind) (front : List (List ℕ)) (line : List ℕ) (before after : Script) → Makes kind front before → with_line kind before line ≡ Ok after
     → Makes kind (front ++ line ∷ []) after
 makes_more kind front line before after makes takes more =
@@ -84,7 +84,7 @@ makes_more kind front line before after makes takes more =
     ∙ read_lines-more kind before after (length front + 1) line more takes
     ∙ ap (λ n. read_lines kind after (n + 1) more) (sym (length-append front (line ∷ [])))
 
--- the text is read on from the script that its first lines made
+-- a text is read on from the script that its first lines made
 pub reads_on : (kind : ScriptKind) (bytes : List ℕ) (front rest : List (List ℕ)) (s : Script) (n : ℕ) → parts bytes ≡ front ++ rest → n ≡ length front → Makes kind front s
     → read_script kind bytes ≡ read_lines kind s (n + 1) rest
 reads_on kind bytes front rest s n parted count makes =
@@ -92,7 +92,7 @@ reads_on kind bytes front rest s n parted count makes =
 
 -- ---- the variables with which a driver begins
 
--- a variable that is there stays as it is
+-- a variable of the script is left as it is
 pub declared_found : (name : List ℕ) (variables : List Timeline) (i : ℕ) → IsFound name_of name variables i → variables ≡ declared name variables
 declared_found name [] i f = absurd (omega (arith, f.within))
 declared_found name (v ∷ vs) i f =

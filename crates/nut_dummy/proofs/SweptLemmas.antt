@@ -1,4 +1,4 @@
--- A list of which the first elements were changed in place, one after the other.
+-- A list whose first elements were changed in place, one after the other.
 use Rattle.std.proofs.Common.{◌≡◌, ℕ, zero, suc, ◌+◌, ◌<◌, ◌≤◌, List, [], ◌∷◌, length, get_or, refl, sym, ap, ◌∙◌, arith, add-one}
 use Rattle.std.specs.Prelude.{map}
 use Rattle.std.proofs.Math.ListN.{set}
@@ -28,7 +28,7 @@ module _ {A : Type 0} (f : A → A) where
   swept-all (suc n) [] h = refl
   swept-all (suc n) (x ∷ xs) h = ap (λ ys. f x ∷ ys) (swept-all n xs (omega arith))
 
-  -- the same, of a list that is known to be so far
+  -- the same of a list that equals the swept one
   pub swept-step : (now xs : List A) (n : ℕ) (d v : A) → n < length xs → now ≡ swept n xs → v ≡ f (get_or now n d) → set now n v ≡ swept (n + 1) xs
   swept-step now xs n d v h so_far is =
       ap (λ ys. set ys n v) so_far

@@ -1,4 +1,4 @@
--- The commands and what they set: this project's own.
+-- The instant commands of a dummy driver, and what they set: this project's own.
 use Rattle.std.specs.Prelude.{ℕ, List, [], ◌∷◌, Option, codes, find}
 use Rattle.std.specs.Str.{bytes_eq}
 use Rattle.nut_dummy.specs.declared.command.Command.{Command}
@@ -25,7 +25,7 @@ variable_set BatteryTestStop = codes "ups.test.result"
 variable_set FailureStart = codes "ups.status"
 variable_set FailureStop = codes "ups.status"
 
--- the value that it gives it
+-- the value that a command sets
 abbrev pub value_set : Command → List ℕ
 value_set BeeperDisable = codes "disabled"
 value_set BeeperEnable = codes "enabled"
@@ -36,7 +36,7 @@ value_set BatteryTestStop = codes "Aborted"
 value_set FailureStart = codes "OB"
 value_set FailureStop = codes "OL"
 
--- ascending by name
+-- all commands, ascending by name
 abbrev pub all_commands : List Command
 all_commands =
     BeeperDisable ∷ BeeperEnable ∷ LoadOff ∷ LoadOn ∷ BatteryTestStart ∷ BatteryTestStop ∷ FailureStart ∷ FailureStop ∷ []
@@ -45,6 +45,6 @@ all_commands =
 abbrev pub command_variables : List (List ℕ)
 command_variables = codes "ups.beeper.status" ∷ codes "ups.status" ∷ codes "ups.test.result" ∷ []
 
--- the command of a name, if it is one
+-- the command of a name, if there is one
 unfoldable pub command_of : List ℕ → Option Command
 command_of name = find (λ c. bytes_eq (command_name c) name) all_commands

@@ -1,4 +1,4 @@
--- What a server's table hears in the lines told.
+-- How a server hears the lines that a dummy driver tells.
 use Rattle.std.specs.Prelude.{◌≡◌, ℕ, ◌==◌, List, [], ◌∷◌, ◌++◌, Option, Some, if◌then◌else◌, map}
 use Rattle.nut_words.specs.Quoting.{IsPrintable}
 use Rattle.nut_proto.specs.Lines.{message}
@@ -8,7 +8,7 @@ use Rattle.nut_dummy.specs.Command.{command_name, all_commands}
 use Rattle.nut_dummy.specs.Telling.{Message, value_message, limits_of, closing_messages}
 use Rattle.nut_dummy.specs.Writable.{Attributes, attributes, name_of}
 
--- what a line is heard as
+-- the change as which a server hears a line, if it does
 abbrev pub heard_in : Message → Option Change
 heard_in m = heard (message m)
 
@@ -19,8 +19,8 @@ attribute_changes name a =
     ∷ ((if a.aux == 0 then [] else set_aux name (Some a.aux) ∷ [])
     ++ (map (λ value. add_enum name value) a.enums ++ map (λ range. add_range name (Some range)) a.ranges))
 
--- The line of a value is heard as that value, the lines that limit a variable as just its attributes, and the end of a dump
--- as all commands, current data and a dump that is done.
+-- The line of a value is heard as that value; the lines that limit a variable as exactly its attributes; and the end of
+-- a dump as all commands, current data and a dump that is done.
 abbrev pub ToldLinesAreHeard : Type 0
 ToldLinesAreHeard =
     ((name value : List ℕ) → IsPrintable name → IsPrintable value → heard_in (value_message name value) ≡ Some (set_info name value))

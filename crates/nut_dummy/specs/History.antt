@@ -1,5 +1,5 @@
 -- What a dummy driver was told, and what looking back over it says: the values, and the lines that are owed to a link.
--- Histories, and lists of deeds, have the newest first.
+-- Histories and lists of deeds have the newest first.
 use Rattle.std.specs.Prelude.{◌≡◌, ℕ, ◌+◌, ◌-◌, ◌||◌, ◌&&◌, Bool, true, false, List, [], ◌∷◌, ◌++◌, Option, Some, None, Result, Ok, Err, if◌then◌else◌, codes, drop, is_some, map, max, take}
 use Rattle.std.specs.List.{flat_map}
 use Rattle.nut_words.specs.Lines.{LineText, lines_after, rest}
@@ -11,19 +11,19 @@ use Rattle.nut_dummy.specs.declared.command.Command.{Command}
 use Rattle.nut_dummy.specs.Command.{variable_set, value_set, command_of, command_variables}
 use Rattle.nut_dummy.specs.Due.{at_start}
 use Rattle.nut_dummy.specs.Script.{Script, Timeline}
-use Rattle.nut_dummy.specs.Teller.{Variable, Teller, Change, Passing, Assigning, Doing, value_after, is_told, says, dump, asked_by}
-use Rattle.nut_dummy.specs.Dummy.{Content, all_declared, beginning, linked, passed, told_bytes, cut_behind, taken, waits_of, moment_refusal, bytes_refusal, took_refusal}
+use Rattle.nut_dummy.specs.machine.Teller.{Variable, Teller, Change, Passing, Assigning, Doing, value_after, is_told, says, dump, asked_by}
+use Rattle.nut_dummy.specs.machine.Dummy.{Content, all_declared, beginning, linked, passed, told_bytes, cut_behind, taken, waits_of, moment_refusal, bytes_refusal, took_refusal}
 
--- ---- what was done
+-- ---- deeds
 
--- What calls and lines come to: a new link or a cut, a change, a dump, or the answer to PING.
+-- What calls and lines do: they make or cut a link, change values, dump, or answer PING.
 pub data Deed : Type 0 where
   Fresh : Deed
   Changes : (change : Change) → Deed
   Dumps : Deed
   Pongs : Deed
 
--- whether the link has asked DUMPALL
+-- whether DUMPALL was asked on the link
 abbrev pub has_asked : List Deed → Bool
 has_asked [] = false
 has_asked (Fresh ∷ past) = false
@@ -31,8 +31,8 @@ has_asked (Changes change ∷ past) = has_asked past
 has_asked (Dumps ∷ past) = true
 has_asked (Pongs ∷ past) = has_asked past
 
--- The value of a variable: the latest of the steps that were due, the SETs and the commands, in the order in which they
--- were counted; at first the one that is due at the start.
+-- The value of a variable: the newest of its steps that became due, the SETs and the commands, in the order of the
+-- deeds; before any, the one that is due at the start.
 abbrev pub value : Timeline → List Deed → Option (List ℕ)
 value t [] = at_start t.steps
 value t (Fresh ∷ past) = value t past
@@ -48,18 +48,18 @@ was_told t (Changes change ∷ past) = was_told t past || (has_asked past && is_
 was_told t (Dumps ∷ past) = was_told t past || is_some (value t past)
 was_told t (Pongs ∷ past) = was_told t past
 
--- what is seen of a variable
+-- a variable as looking back shows it
 abbrev pub seen : List Deed → Timeline → Variable
 seen past t = record { name = t.name; steps = t.steps; value = value t past; told = was_told t past }
 
--- The lines that a deed owes the link: a change is told only once DUMPALL was asked.
+-- The bytes that a deed owes the link. A change is told only once DUMPALL was asked.
 abbrev pub owed : List Timeline → Deed → List Deed → List ℕ
 owed ts Fresh past = []
 owed ts (Changes change) past = if has_asked past then flat_map (says change) (map (seen past) ts) else []
 owed ts Dumps past = dump (map (seen past) ts)
 owed ts Pongs past = codes "PONG\n"
 
--- The lines owed since the link was made.
+-- The bytes owed since the link was made.
 abbrev pub told : List Timeline → List Deed → List ℕ
 told ts [] = []
 told ts (Fresh ∷ past) = []
@@ -69,7 +69,7 @@ told ts (Pongs ∷ past) = told ts past ++ owed ts Pongs past
 
 -- ---- what calls do
 
--- what is asked, done
+-- the deeds after one that was asked
 abbrev pub by_command : Option Command → List Deed → List Deed
 by_command None past = past
 by_command (Some c) past = Changes (Doing (variable_set c) (value_set c)) ∷ past
@@ -89,11 +89,11 @@ pub data Call : Type 0 where
   Linked : Call
   Moment : (t : ℕ) → Call
   Bytes : (piece : List ℕ) → Call
-  -- memory ran out in a piece, behind so many lines
+  -- memory ran out at a piece, behind k lines
   Lost : (k : ℕ) (piece : List ℕ) → Call
   Took : (n : ℕ) → Call
 
--- the greatest moment, at least the start
+-- the greatest moment so far, at least the start
 abbrev pub clock : ℕ → List Call → ℕ
 clock start [] = start
 clock start (Moment t ∷ h) = max (clock start h) t
@@ -120,7 +120,7 @@ count_taken (Took n ∷ h) = count_taken h + n
 count_taken (Moment t ∷ h) = count_taken h
 count_taken (Bytes piece ∷ h) = count_taken h
 
--- The deeds of a history: a piece stands for the lines that it completes.
+-- The deeds of a history. A piece stands for the lines that it completes.
 abbrev pub deeds : ℕ → ℕ → List Call → List Deed
 deeds round start [] = []
 deeds round start (Linked ∷ h) = Fresh ∷ deeds round start h
@@ -142,7 +142,7 @@ abbrev pub driver : Script → ℕ → List Call → Content
 driver script start [] = beginning script start
 driver script start (call ∷ h) = step call (driver script start h)
 
--- No call was refused.
+-- the fault with which a call is refused, if it is; a lack of memory is no refusal
 abbrev pub refusal : Call → Content → Option DummyFault
 refusal Linked s = None
 refusal (Moment t) s = moment_refusal s
@@ -150,17 +150,18 @@ refusal (Bytes piece) s = bytes_refusal piece s
 refusal (Lost k piece) s = bytes_refusal piece s
 refusal (Took n) s = took_refusal n s
 
+-- no call of the history was refused
 abbrev pub IsAccepted : Script → ℕ → List Call → Type 0
 IsAccepted script start [] = Unit {0}
 IsAccepted script start (call ∷ h) = IsAccepted script start h × (refusal call (driver script start h) ≡ None)
 
--- what is held and told, by looking back over deeds, where so many bytes were taken
+-- what a driver holds and tells, by looking back over deeds, after n bytes were taken
 abbrev pub told_by : List Timeline → List Deed → ℕ → Teller
 told_by ts past n = record { variables = map (seen past) ts; asked = has_asked past; waits = drop n (told ts past) }
 
 -- ---- what was told and taken
 
--- whether a link is there
+-- whether there is a link
 abbrev pub is_linked : List Call → Bool
 is_linked [] = false
 is_linked (Linked ∷ h) = true
@@ -169,7 +170,7 @@ is_linked (Moment t ∷ h) = is_linked h
 is_linked (Bytes piece ∷ h) = is_linked h
 is_linked (Took n ∷ h) = is_linked h
 
--- What a cut left of the lines owed to the link: those of their bytes that were taken.
+-- What a cut left of the bytes owed to the link: those that were taken.
 abbrev pub left_by_cut : List Timeline → ℕ → ℕ → List Call → List ℕ
 left_by_cut ts round start [] = []
 left_by_cut ts round start (Linked ∷ h) = []
@@ -179,7 +180,7 @@ left_by_cut ts round start (Moment t ∷ h) = left_by_cut ts round start h
 left_by_cut ts round start (Bytes piece ∷ h) = left_by_cut ts round start h
 left_by_cut ts round start (Took n ∷ h) = left_by_cut ts round start h
 
--- The bytes told on the last link: those of the lines owed to it; after a cut, those of them that were taken.
+-- The bytes told on the last link: those owed to it; after a cut, those of them that were taken.
 abbrev pub told_on_link : List Timeline → ℕ → ℕ → List Call → List ℕ
 told_on_link ts round start h = if is_linked h then told ts (deeds round start h) else left_by_cut ts round start h
 
@@ -194,13 +195,12 @@ received script start (Lost k piece ∷ h) = received script start h
 
 -- ---- after a history of accepted calls
 
--- the variables that the script names and those that commands set
+-- the variables that the script names, and those that commands set
 abbrev pub timelines : Script → List Timeline
 timelines script = all_declared command_variables script.variables
 
--- The driver is the one that this history of accepted calls led to. It holds the values that looking back gives; the bytes
--- that wait are those of the lines owed to the link that were not taken; and the bytes taken and those that wait are the
--- bytes told.
+-- This history of accepted calls led to the driver. Its values are those that looking back gives. The bytes that wait
+-- are those owed to the link without those taken. The bytes taken, followed by those that wait, are the bytes told.
 pub record Stands (script : Script) (start : ℕ) (h : List Call) (s : Content) : Type 0 where
   pub accepted : IsAccepted script start h
   pub is_driver : s ≡ driver script start h
@@ -210,11 +210,11 @@ pub record Stands (script : Script) (start : ℕ) (h : List Call) (s : Content) 
   pub teller_is : s.teller ≡ told_by (timelines script) (deeds script.round start h) (count_taken h)
   pub told_is : received script start h ++ waits_of s ≡ told_on_link (timelines script) script.round start h
 
--- So it is after every history.
+-- This holds after every history of accepted calls.
 abbrev pub LooksBack : Type 0
 LooksBack = (script : Script) (start : ℕ) (h : List Call) → IsAccepted script start h → Stands script start h (driver script start h)
 
--- Where memory ran out in a piece, the lines before it and the cut stand in the history; a refused piece doesn't.
+-- If memory ran out at a piece, the lines before and the cut enter the history. A refused piece doesn't.
 abbrev pub BytesStand : {U : Type 0} → List ℕ → Script → ℕ → List Call → Content → Result U DummyFault → Type 0
 BytesStand piece script start h s (Ok u) = Stands script start (Bytes piece ∷ h) s
 BytesStand piece script start h s (Err (faults.Memory k)) = Stands script start (Lost k piece ∷ h) s

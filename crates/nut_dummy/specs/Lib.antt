@@ -1,15 +1,13 @@
 pub mod Item
 pub mod Script
-pub mod Read
 pub mod Memory
 pub mod Due
 pub mod Writable
 pub mod Command
 pub mod Telling
-pub mod Teller
-pub mod Changes
-pub mod Dummy
 pub mod Table
 pub mod History
 pub mod Heard
 pub mod Dump
+pub mod machine
+pub mod inside

@@ -1,19 +1,19 @@
--- The table that a dummy driver holds, as the table of a UPS.
+-- The table of a dummy driver, as the table of a UPS.
 use Rattle.std.specs.Prelude.{ℕ, true, List, [], ◌∷◌, Option, Some, None, map}
 use Rattle.std.specs.List.{flat_map}
 use Rattle.nut_state.specs.Table.{Table, Entry}
 use Rattle.nut_dummy.specs.Command.{command_name, all_commands}
-use Rattle.nut_dummy.specs.Teller.{Variable}
+use Rattle.nut_dummy.specs.machine.Teller.{Variable}
 use Rattle.nut_dummy.specs.Writable.{Attributes, attributes_of, writable_of}
 
--- a variable of the table, with the attributes that its name gives it
+-- a variable of the table, with its attributes
 abbrev pub with_attributes : List ℕ → List ℕ → Attributes → Entry
 with_attributes name value a = record { name = name; value = value; flags = a.flags; aux = a.aux; enums = a.enums; ranges = a.ranges }
 
 abbrev pub entry : List ℕ → List ℕ → Entry
 entry name value = with_attributes name value (attributes_of (writable_of name))
 
--- a variable is in the table once it has a value
+-- a variable is in the table only if it has a value
 abbrev pub entries : List ℕ → Option (List ℕ) → List Entry
 entries name None = []
 entries name (Some value) = entry name value ∷ []

@@ -46,11 +46,11 @@ attributes Id = text_of 16 []
 abbrev pub all_writable : List Writable
 all_writable = ChargeLow ∷ RuntimeLow ∷ Sensitivity ∷ ShutdownDelay ∷ Id ∷ []
 
--- the writable variable of a name, if it is one
+-- the writable variable of a name, if there is one
 unfoldable pub writable_of : List ℕ → Option Writable
 writable_of name = find (λ w. bytes_eq (name_of w) name) all_writable
 
--- A variable that no client may set has its value alone.
+-- A variable that clients may not set has only a value.
 abbrev pub attributes_of : Option Writable → Attributes
 attributes_of w = option_map_or attributes w (record { flags = no_flags; aux = 0; enums = []; ranges = [] })
 
@@ -60,17 +60,18 @@ abbrev pub is_within : Option ℤ → Range → Bool
 is_within None range = false
 is_within (Some n) range = int_le range.minimum n && int_le n range.maximum
 
--- The kind of a variable is the first that applies: enum, range, string, number.
+-- What a value has to fit depends on the first of these that the variable has: enum values, ranges, a string's length.
+-- Else any value fits.
 abbrev pub fits_kind : List (List ℕ) → List Range → Bool → ℕ → List ℕ → Bool
 fits_kind (first ∷ more) ranges is_string aux value = lists_enum value (first ∷ more)
 fits_kind [] (first ∷ more) is_string aux value = list_any (is_within (whole_number value)) (first ∷ more)
 fits_kind [] [] true aux value = nat_le (length value) aux
 fits_kind [] [] false aux value = true
 
--- It is set to a value that isn't too long and is of its kind.
+-- A writable variable may be set to a value that isn't too long and fits.
 abbrev pub fits : Attributes → List ℕ → Bool
 fits a value = is_value value && fits_kind a.enums a.ranges a.flags.string a.aux value
 
--- whether a client may set the variable of this name so
+-- whether a client may set the variable of this name to this value
 abbrev pub may_be : List ℕ → List ℕ → Bool
 may_be name value = option_map_or (λ w. fits (attributes w) value) (writable_of name) false

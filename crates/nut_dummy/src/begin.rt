@@ -1,9 +1,9 @@
-//! The variables with which a driver begins.
+//! The variables that a driver has at its start.
 ghost use Rattle.std.specs.Prelude.{◌≡◌, map, IfOk, IsTrue};
 ghost use Rattle.nut_state.specs.Sorted.{IsAscending};
 ghost use Rattle.nut_state.specs.Text.{is_name};
 ghost use Rattle.nut_dummy.specs.Command.{command_variables};
-ghost use Rattle.nut_dummy.specs.Dummy.{declared, all_declared, begun};
+ghost use Rattle.nut_dummy.specs.machine.Dummy.{declared, all_declared, begun};
 
 use crate::script::Script;
 use crate::text::Name;
@@ -11,7 +11,7 @@ use crate::timeline::{Timeline, place_of};
 use crate::variable::Variable;
 use std::alloc::{AllocError, Global};
 
-/// The variables with one of this name.
+/// Returns the variables, with one of this name added if there was none.
 fn declared(
     alloc: Global,
     mut variables: Vec<Timeline>,
@@ -31,7 +31,7 @@ fn declared(
     }
 }
 
-/// The variables that commands set stand beside those of the script.
+/// Returns the variables of a script, with those that commands set added.
 fn all_declared(alloc: Global, variables: Vec<Timeline>) -> Result<Vec<Timeline>, AllocError>
     requires { IsAscending (map (λ t. t.name) variables.items) }
     ensures { IfOk result (λ v. v.items ≡ all_declared command_variables variables.items) }
@@ -42,7 +42,7 @@ fn all_declared(alloc: Global, variables: Vec<Timeline>) -> Result<Vec<Timeline>
     Ok(variables)
 }
 
-/// The variables with which a driver begins that tells this script.
+/// Returns the variables that a driver of this script has at its start.
 pub fn into_variables(alloc: Global, script: Script) -> Result<Vec<Variable>, AllocError>
     ensures { IfOk result (λ v. v.items ≡ map begun (all_declared command_variables script.variables)) }
 {

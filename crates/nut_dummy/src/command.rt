@@ -1,11 +1,11 @@
-//! The commands and what they set: this project's own.
+//! The instant commands of a dummy driver, and what they set: this project's own.
 ghost use Rattle.std.specs.Prelude.{◌≡◌, IsTrue};
 ghost use Rattle.nut_dummy.specs.Command.{command_name, variable_set, value_set, command_of};
 ghost use Rattle.nut_dummy.specs.Item.{is_value};
 
 use crate::text::Text;
 
-/// A command that the driver knows.
+/// An instant command that the driver knows.
 #[derive(Clone, Copy, PartialEq, Eq)]
 pub enum Command {
     BeeperDisable,
@@ -45,7 +45,7 @@ impl Command {
         }
     }
 
-    /// The command of this name, if it is one.
+    /// Returns the command of this name, if there is one.
     #[tactic(auto, unfolding(crate::specs::Command::command_of))]
     pub fn of(name: &[u8]) -> Option<Command>
         ensures { result ≡ command_of name.now }
@@ -53,7 +53,7 @@ impl Command {
         ALL.iter().copied().find(|c| c.name() == name)
     }
 
-    /// The variable that it sets.
+    /// Returns the name of the variable that it sets.
     pub fn variable(self) -> &'static [u8]
         ensures { result.now ≡ variable_set self }
     {
@@ -80,7 +80,7 @@ impl Command {
         }
     }
 
-    /// The value that it gives it.
+    /// Returns the value that it sets.
     pub fn value(self) -> Text
         ensures { result ≡ value_set self }
     {

@@ -1,11 +1,12 @@
-//! The latest of the values that are due.
+//! The latest of the values that became due.
 ghost use Rattle.std.specs.Prelude.{◌≡◌, ◌≤◌, ◌<◌, ◌+◌, ◌*◌, ℕ, option_map, MatchOption, false, true};
 ghost use Rattle.nut_dummy.specs.Due.{is_due, latest};
 
 use crate::text::Text;
 use crate::timeline::Step;
 
-/// The last round in which a step is due after one time and not after another. Times are seconds since the start.
+/// Returns the last round in which a step is due later than `after` and not later than `until`, in seconds since the
+/// start.
 fn last_round(at: u128, round: u128, after: u128, until: u128) -> Option<u128>
     requires { 0 < round }
     ensures { MatchOption result
@@ -25,7 +26,7 @@ fn last_round(at: u128, round: u128, after: u128, until: u128) -> Option<u128>
     }
 }
 
-/// The value that was due last after one time and not after another, where a round with timers takes so many seconds.
+/// Returns the value that was due last, later than `after` and not later than `until`; a round takes `round` seconds.
 pub fn latest(steps: &[Step], round: u128, after: u128, until: u128) -> Option<&Text>
     ensures { option_map (λ t. t.now) result ≡ latest round after until steps.now }
 {

@@ -4,42 +4,39 @@ ghost use Rattle.nut_queue.specs.Front.{IsFrontPart};
 ghost use Rattle.nut_dummy.specs.Dump.{DumpsWhereAsked};
 ghost use Rattle.nut_dummy.specs.History.{BytesStand, Call, Linked, Moment, Stands, Took};
 ghost use Rattle.nut_dummy.specs.Script.{Script as ScriptValue};
-ghost use Rattle.nut_dummy.specs.Dummy.{beginning, linked, waits_of, brought, told_bytes, cut, cut_behind, Passes, Hears, Takes};
+ghost use Rattle.nut_dummy.specs.machine.Dummy.{beginning, linked, waits_of, brought, told_bytes, cut, cut_behind, Passes, Hears, Takes};
 
 use crate::begin::into_variables;
 use crate::script::Script;
 use crate::teller::{Teller, hear_piece};
 use crate::variable::{Change, Variable};
-use nut_words::LineCutter;
+use nut_words::{LineCutter, PIECE_MAX};
 use std::alloc::Global;
 use std::marker::Model;
 use thiserror::Error;
 
-/// How many bytes a piece has at most.
-const PIECE_MAX: usize = 512;
-
-/// Why a call of a dummy driver isn't done. All but `Memory` change nothing.
+/// Why a call of a dummy driver failed. All faults but `Memory` leave the driver unchanged.
 #[derive(Clone, Copy, Debug, PartialEq, Eq, Error)]
 pub enum DummyFault {
-    /// Memory ran out, in bytes behind so many lines that were done, else behind none. Those lines stand, and the link is
-    /// cut: its waiting bytes are gone. Elsewhere nothing changed.
+    /// Memory could not be allocated. At a piece of bytes, the number is that of the lines that were done: they took
+    /// effect, and the link is cut, with its waiting bytes lost. Elsewhere the number is 0, and nothing changed.
     #[error("out of memory")]
     Memory(usize),
     /// There is no link: none was made yet, or it was cut.
     #[error("there is no link")]
     NotLinked,
-    /// Bytes wait: they have to be taken first.
+    /// Bytes wait and have to be taken first.
     #[error("bytes wait")]
     Busy,
-    /// More bytes were taken than wait.
+    /// The server is said to have taken more bytes than wait.
     #[error("more was taken than waits")]
     TooMuchTaken,
-    /// The piece has more than 512 bytes.
+    /// The piece has more than [`PIECE_MAX`] bytes.
     #[error("the piece is too long")]
     PieceTooLong,
 }
 
-/// A dummy driver, which tells a script to one server at a time.
+/// A dummy driver: it tells a script to one server at a time.
 #[derive(Drop)]
 pub struct Dummy {
     alloc: Global,
@@ -53,7 +50,7 @@ pub struct Dummy {
 
 impl Model for Dummy {
     ghost use Rattle.std.specs.Prelude.{◌≤◌};
-    ghost use Rattle.nut_dummy.specs.Dummy.{Content, IsRest};
+    ghost use Rattle.nut_dummy.specs.machine.Dummy.{Content, IsRest};
 
     ghost Value = { Content };
 
@@ -70,11 +67,11 @@ impl Model for Dummy {
 }
 
 impl Dummy {
-    /// A driver that tells this script from `start` on, a moment in whole seconds. No link is there yet.
+    /// Makes a driver that tells this script from `start` on, a moment in whole seconds. It has no link yet.
     ///
     /// # Errors
     ///
-    /// `Memory(0)` where memory was refused.
+    /// `Memory(0)` if memory cannot be allocated.
     pub fn new(alloc: Global, script: Script, start: u64) -> Result<Dummy, DummyFault>
         ensures begins { MatchResult result (λ d. d ≡ beginning script start) (λ fault. fault ≡ DummyFault.Memory 0) }
         ensures stands { IfOk result (λ d. Stands script start [] d) }
@@ -94,11 +91,11 @@ impl Dummy {
         })
     }
 
-    /// A new link: waiting bytes and an unfinished line go. It takes no memory.
+    /// Makes a new link: bytes that wait and an unfinished line are dropped. It allocates nothing.
     pub fn linked(&mut self)
         ensures linked { self.new ≡ linked self.old }
 
-        // Whatever history of accepted calls led to the driver, it is then the one of that history and this call.
+        // If a history of accepted calls led to the driver, this history and this call lead to it now.
         ensures stands { (script : ScriptValue) (start : ℕ) (h : List Call) → Stands script start h self.old
             → Stands script start (Linked ∷ h) self.new }
     {
@@ -107,12 +104,13 @@ impl Dummy {
         self.teller.relink();
     }
 
-    /// A moment, in whole seconds; one before the greatest so far changes nothing. Values that became due are told, where
-    /// the link has asked DUMPALL. However far ahead the moment is, it costs what the steps of one round cost.
+    /// Sets the clock to a moment in whole seconds; a moment before the greatest so far changes nothing. Values that
+    /// became due are told if DUMPALL was asked on the link. However far ahead the moment is, the cost is that of the
+    /// steps of one round.
     ///
     /// # Errors
     ///
-    /// `Busy` exactly while bytes wait. `Memory(0)` where memory was refused. Nothing changed then.
+    /// `Busy` exactly while bytes wait. `Memory(0)` if memory cannot be allocated. Nothing changed then.
     pub fn moment(&mut self, t: u64) -> Result<(), DummyFault>
         ensures passes { Passes t self.old self.new result }
         ensures stands { (script : ScriptValue) (start : ℕ) (h : List Call) → Stands script start h self.old
@@ -134,7 +132,7 @@ impl Dummy {
         Ok(())
     }
 
-    /// Hears a piece. An `Err` tells how many lines were done when memory ran out; they stand.
+    /// Takes in a piece. An `Err` has the number of lines that took effect before memory could not be allocated.
     fn hear(&mut self, piece: &[u8]) -> Result<(), usize>
         ensures heard { OnOk result (self.new ≡ told_bytes piece.now self.old) }
         ensures stopped { IfErr result (λ k. (k < length (brought piece.now self.old)) × (cut self.new ≡ cut_behind k piece.now self.old)) }
@@ -143,7 +141,7 @@ impl Dummy {
         hear_piece(alloc, &mut self.cutter, &mut self.teller, piece)
     }
 
-    /// The link is cut.
+    /// Cuts the link.
     fn cut(&mut self)
         ensures { self.new ≡ cut self.old }
     {
@@ -152,13 +150,13 @@ impl Dummy {
         self.teller.relink();
     }
 
-    /// A piece of the server's bytes: each line that it completes is heard. Where it brings just `DUMPALL`, what waits then
-    /// is a dump: lines that lead a server from an empty table to the driver's own.
+    /// Takes in a piece of the server's bytes and answers each line that it completes. If the piece completes one line,
+    /// `DUMPALL`, then a dump waits: lines that lead a server from an empty table to the driver's own.
     ///
     /// # Errors
     ///
-    /// The first of these that applies: `NotLinked`; `Busy`, exactly while bytes wait; `PieceTooLong` past 512 bytes.
-    /// These change nothing. `Memory` with the number of lines that were done, which stand; then the link is cut.
+    /// The first of these that applies: `NotLinked`; `Busy`, exactly while bytes wait; `PieceTooLong` past [`PIECE_MAX`]
+    /// bytes. These change nothing. `Memory` with the number of lines that were done, which stand; then the link is cut.
     pub fn server_bytes(&mut self, piece: &[u8]) -> Result<(), DummyFault>
         ensures heard { Hears piece.now self.old self.new result }
         ensures stands { (script : ScriptValue) (start : ℕ) (h : List Call) → Stands script start h self.old
@@ -181,11 +179,11 @@ impl Dummy {
         Ok(())
     }
 
-    /// The server took the first `n` of the bytes that wait. It takes no memory.
+    /// Removes the first `n` of the bytes that wait: the server took them. It allocates nothing.
     ///
     /// # Errors
     ///
-    /// `TooMuchTaken` where fewer wait. Nothing changed then.
+    /// `TooMuchTaken` if fewer than `n` bytes wait. Nothing changed then.
     pub fn took(&mut self, n: usize) -> Result<(), DummyFault>
         ensures takes { Takes n self.old self.new result }
         ensures stands { (script : ScriptValue) (start : ℕ) (h : List Call) → Stands script start h self.old
@@ -197,21 +195,21 @@ impl Dummy {
         Ok(())
     }
 
-    /// A front part of the bytes that wait, empty only where none wait.
+    /// Returns some of the bytes that wait, from the first on; empty only if none wait.
     pub fn waiting(&self) -> &[u8]
         ensures { IsFrontPart result.now (waits_of self.now) }
     {
         self.teller.outbox.front()
     }
 
-    /// How many bytes wait.
+    /// Returns how many bytes wait.
     pub fn waits(&self) -> usize
         ensures { result ≡ length (waits_of self.now) }
     {
         self.teller.outbox.len()
     }
 
-    /// The table that the driver holds: its variables, ascending by name. Those that have no value yet aren't in it.
+    /// Returns all variables of the driver, ascending by name, also those that have no value yet.
     pub fn table(&self) -> &[Variable]
         ensures { result.now ≡ self.now.teller.variables }
     {

@@ -1,32 +1,32 @@
-//! Why a script doesn't read.
+//! Why a script cannot be read.
 ghost use Rattle.std.specs.Prelude.{◌≡◌};
 ghost use Rattle.nut_dummy.specs.declared.fault.ScriptFaultKind.TheVariants.{Memory};
 
 use std::alloc::{AllocError, AllocFailed};
 use thiserror::Error;
 
-/// What is wrong with a line of a script, or with the script as a whole. It is shown by its name.
+/// What is wrong with a line of a script, or with the script as a whole. It is displayed by its name.
 #[derive(Clone, Copy, Debug, PartialEq, Eq, Error)]
 pub enum ScriptFaultKind {
-    /// A byte that may not stand there, or neither a timer nor `name: value`.
+    /// A byte that isn't allowed in its place, or a line that is neither a timer nor `name: value`.
     #[error("BadLine")]
     BadLine,
-    /// The name is empty or has a byte other than letters, digits, `.`, `_` and `-`.
+    /// The name is empty or has a byte that isn't a letter, a digit, `.`, `_` or `-`.
     #[error("BadName")]
     BadName,
-    /// The time of a timer isn't 1 to 86,400 seconds.
+    /// The time of a timer isn't a number of 1 to 86,400 seconds.
     #[error("BadTimer")]
     BadTimer,
-    /// A timer in a script that is told once.
+    /// A timer in a `.dev` script, which is told only once.
     #[error("TimerInDev")]
     TimerInDev,
-    /// Something is too long, or there is too much of it.
+    /// A line, a name or a value is too long, or there are too many variables or values.
     #[error("PastLimit")]
     PastLimit,
-    /// A script that goes round has no timer.
+    /// A `.seq` script, which is repeated, has no timer.
     #[error("NoTimer")]
     NoTimer,
-    /// Memory ran out.
+    /// Memory could not be allocated.
     #[error("Memory")]
     Memory,
 }
@@ -47,12 +47,12 @@ impl<T: Drop> From<AllocFailed<T>> for ScriptFaultKind {
     }
 }
 
-/// The first fault of a script, with its line. It is shown as `2: BadName`.
+/// The first fault of a script, with its line. It is displayed as in `2: BadName`.
 #[derive(Clone, Copy, Debug, PartialEq, Eq, Error)]
 #[error("{line}: {kind}")]
 pub struct ScriptFault {
-    /// Lines count from 1; 0 is the script as a whole.
+    /// The number of the line, counted from 1; 0 for the script as a whole.
     pub line: usize,
-    /// What is wrong there.
+    /// The kind of the fault.
     pub kind: ScriptFaultKind,
 }

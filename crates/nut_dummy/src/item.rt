@@ -1,34 +1,34 @@
-//! What one line of a script says.
+//! What a line of a script says.
 ghost use Rattle.std.specs.Prelude.{◌≡◌, ◌==◌, Err, IsTrue};
 ghost use Rattle.std.specs.List.{list_all, position};
 ghost use Rattle.nut_words.specs.Spelling.{is_comment};
 ghost use Rattle.nut_words.specs.Reader.{has_backslash, spelled};
 ghost use Rattle.nut_dummy.specs.Item.{is_skipped, timer, timed, setting, item};
 ghost use Rattle.nut_dummy.specs.Memory.{IsEscaped};
-ghost use Rattle.nut_dummy.specs.Read.{item_of};
+ghost use Rattle.nut_dummy.specs.inside.Read.{item_of};
 ghost use Rattle.nut_dummy.specs.Script.{Gives};
 
 use crate::fault::ScriptFaultKind;
-use crate::limits::{LINE_MAX, TIMER_MAX};
+use crate::limits::{SCRIPT_LINE_MAX, TIMER_MAX};
 use crate::text::{Name, Text};
 use crate::trim::{skip_blanks, trim};
-use nut_state::{NAME_BYTES, VALUE_BYTES, natural};
-use nut_words::{WordFault, are_name_bytes, are_printing, split};
+use nut_state::natural;
+use nut_words::{NAME_MAX, VALUE_MAX, WordFault, are_name_bytes, are_printing, split};
 use std::alloc::Global;
 
-/// How a script is told (NUT's manual page dummy-ups).
+/// How a script is told (NUT manual page dummy-ups(8)).
 #[derive(Clone, Copy, Debug, PartialEq, Eq)]
 pub enum ScriptKind {
     /// `.dev`: once, at the start. It has no timers.
     Dev,
-    /// `.seq`: round after round. It has a timer.
+    /// `.seq`: round after round. It has at least one timer.
     Seq,
 }
 
 /// What a line says.
 #[derive(Drop)]
 pub enum Item {
-    /// A wait, in seconds.
+    /// A wait, in seconds: 1 to 86,400.
     Timer(u32),
     /// A value for a variable.
     Setting(Name, Text),
@@ -46,7 +46,7 @@ fn has_line_bytes(line: &[u8]) -> bool
     line.iter().all(|byte| is_line_byte(*byte))
 }
 
-/// Whether the line is blank, or its first byte past blanks is `#`.
+/// Whether a line is to be skipped: it is blank, or its first byte after blanks is `#`.
 pub fn is_skipped(line: &[u8]) -> bool
     ensures { result ≡ is_skipped line.now }
 {
@@ -56,7 +56,7 @@ pub fn is_skipped(line: &[u8]) -> bool
     }
 }
 
-/// The place of the first colon.
+/// Returns the place of the first colon.
 fn colon(line: &[u8]) -> Option<usize>
     ensures { result ≡ position (λ c. c == 58) line.now }
 {
@@ -79,7 +79,7 @@ fn read_seconds(kind: ScriptKind, seconds: Option<u32>) -> Result<Item, ScriptFa
     }
 }
 
-/// Reads a line without a colon.
+/// Reads a line without a colon, which has to be a timer.
 fn read_timer(alloc: Global, kind: ScriptKind, line: &[u8]) -> Result<Item, ScriptFaultKind>
     ensures item { Gives item_of result (timed kind (spelled line.now)) }
     ensures memory { result ≡ Err ScriptFaultKind.Memory → IsTrue (has_backslash line.now) }
@@ -95,7 +95,7 @@ fn read_timer(alloc: Global, kind: ScriptKind, line: &[u8]) -> Result<Item, Scri
     read_seconds(kind, natural(words.get(1)))
 }
 
-/// Reads a name and a value, without the blanks at their ends.
+/// Reads a name and a value, without the blanks around them.
 fn read_setting(name: &[u8], value: &[u8]) -> Result<Item, ScriptFaultKind>
     ensures item { Gives item_of result (setting name.now value.now) }
     ensures memory { result ≡ Err ScriptFaultKind.Memory → ⊥ }
@@ -103,24 +103,24 @@ fn read_setting(name: &[u8], value: &[u8]) -> Result<Item, ScriptFaultKind>
     if name.is_empty() || !are_name_bytes(name) {
         return Err(ScriptFaultKind::BadName);
     }
-    if name.len() > NAME_BYTES {
+    if name.len() > NAME_MAX {
         return Err(ScriptFaultKind::PastLimit);
     }
     if !are_printing(value) {
         return Err(ScriptFaultKind::BadLine);
     }
-    if value.len() > VALUE_BYTES {
+    if value.len() > VALUE_MAX {
         return Err(ScriptFaultKind::PastLimit);
     }
     Ok(Item::Setting(Name::new(name), Text::new(value)))
 }
 
-/// Reads a line that isn't one to skip.
+/// Reads a line that isn't to be skipped.
 pub fn read_item(alloc: Global, kind: ScriptKind, line: &[u8]) -> Result<Item, ScriptFaultKind>
     ensures item { Gives item_of result (item kind line.now) }
     ensures memory { result ≡ Err ScriptFaultKind.Memory → IsEscaped line.now }
 {
-    if line.len() > LINE_MAX {
+    if line.len() > SCRIPT_LINE_MAX {
         return Err(ScriptFaultKind::PastLimit);
     }
     if !has_line_bytes(line) {

@@ -1,10 +1,11 @@
-//! How much a script holds: this project's own limits.
+//! The limits of a script: this project's own.
 
-/// How many bytes a line has at most, its line feed not counted.
-pub const LINE_MAX: usize = 512;
-/// The greatest number of seconds of a timer.
+/// The greatest length of a line of a script in bytes. Its line feed isn't counted, a carriage return is.
+pub const SCRIPT_LINE_MAX: usize = 512;
+/// The longest timer, in seconds.
 pub const TIMER_MAX: u32 = 86400;
-/// How many variables a script names at most: with the three that commands set, they are as many as a table holds.
-pub const SCRIPT_VARIABLES: usize = 509;
-/// How many settings a script has at most.
-pub const MAX_STEPS: usize = 4096;
+/// The greatest number of variables that a script names: with the three that commands set, they are as many as a table
+/// holds.
+pub const SCRIPT_VARIABLES_MAX: usize = 509;
+/// The greatest number of settings of a script.
+pub const STEPS_MAX: usize = 4096;

@@ -1,11 +1,11 @@
-//! What the driver holds and tells.
+//! What a driver holds and tells.
 ghost use Rattle.std.specs.Prelude.{◌≡◌, ◌<◌, [], false, length, take, OnOk, OnErr, IfErr};
 ghost use Rattle.nut_words.specs.Lines.{lines_after, rest_after};
 ghost use Rattle.nut_words.specs.Cutter.{line_of};
 ghost use Rattle.nut_queue.specs.Front.{IsFrontPart};
-ghost use Rattle.nut_dummy.specs.Teller.{changed, dumped_all, answered, heard, heard_all, relinked};
-ghost use Rattle.nut_dummy.specs.Changes.{change_of};
-ghost use Rattle.nut_dummy.specs.Dummy.{IsRest};
+ghost use Rattle.nut_dummy.specs.machine.Teller.{changed, dumped_all, answered, heard, heard_all, relinked};
+ghost use Rattle.nut_dummy.specs.inside.Changes.{change_of};
+ghost use Rattle.nut_dummy.specs.machine.Dummy.{IsRest};
 
 use crate::command::Command;
 use crate::telling::{dump, follow_all, forget_link, mark_all_dumped, say_all};
@@ -16,7 +16,7 @@ use nut_words::{Line, LineCutter, WordFault, split};
 use std::alloc::{AllocError, Global};
 use std::marker::Model;
 
-/// The variables, whether this link has asked DUMPALL, and the bytes that wait.
+/// The variables, whether DUMPALL was asked on this link, and the bytes that wait.
 #[derive(Drop)]
 pub struct Teller {
     variables: Vec<Variable>,
@@ -26,7 +26,7 @@ pub struct Teller {
 }
 
 impl Model for Teller {
-    ghost use Rattle.nut_dummy.specs.Teller.{Teller as TellerValue};
+    ghost use Rattle.nut_dummy.specs.machine.Teller.{Teller as TellerValue};
 
     ghost Value = { TellerValue };
 
@@ -34,7 +34,7 @@ impl Model for Teller {
 }
 
 impl Teller {
-    /// A teller without a link.
+    /// Makes a teller without a link.
     pub fn new(alloc: Global, variables: Vec<Variable>) -> Teller
         ensures { result ≡ record { variables = variables.items; asked = false; waits = [] } }
     {
@@ -46,14 +46,15 @@ impl Teller {
         }
     }
 
-    /// The variables.
+    /// Returns the variables.
     pub fn variables(&self) -> &[Variable]
         ensures { result.now ≡ self.now.variables }
     {
         &self.variables
     }
 
-    /// Lets all variables follow a change. What it tells is made first, so that nothing changes where memory runs out.
+    /// Applies a change to all variables. The lines that tell it are made first, so that nothing changes if memory
+    /// cannot be allocated.
     pub fn change(&mut self, change: &Change<'_>) -> Result<(), AllocError>
         ensures ok { OnOk result (self.new ≡ changed (change_of change.now) self.old) }
         ensures err { OnErr result (self.new ≡ self.old) }
@@ -67,7 +68,7 @@ impl Teller {
         Ok(())
     }
 
-    /// Tells all there is.
+    /// Queues a dump.
     fn dump(&mut self) -> Result<(), AllocError>
         ensures ok { OnOk result (self.new ≡ dumped_all self.old) }
         ensures err { OnErr result (self.new ≡ self.old) }
@@ -80,7 +81,7 @@ impl Teller {
         Ok(())
     }
 
-    /// Does what is asked.
+    /// Does what the server asked.
     fn answer(&mut self, ask: Option<DriverAsk<'_>>) -> Result<(), AllocError>
         ensures ok { OnOk result (self.new ≡ answered ask.entry self.old) }
         ensures err { OnErr result (self.new ≡ self.old) }
@@ -103,7 +104,7 @@ impl Teller {
         }
     }
 
-    /// Hears a line.
+    /// Takes in a line of the server.
     fn hear(&mut self, alloc: Global, line: Line<'_>) -> Result<(), AllocError>
         ensures ok { OnOk result (self.new ≡ heard (line_of line.entry) self.old) }
         ensures err { OnErr result (self.new ≡ self.old) }
@@ -125,7 +126,7 @@ impl Teller {
         }
     }
 
-    /// A link is new, or cut: nothing waits, and nothing was told on it.
+    /// Starts a new link, or ends one: no bytes wait, and nothing was told on it.
     pub fn relink(&mut self)
         ensures { self.new ≡ relinked self.old }
     {
@@ -135,7 +136,8 @@ impl Teller {
     }
 }
 
-/// Hears a piece of the server's bytes, line by line. An `Err` tells how many lines were done when memory ran out.
+/// Takes in a piece of the server's bytes, line by line. An `Err` has the number of lines that took effect before
+/// memory could not be allocated.
 pub fn hear_piece(
     alloc: Global,
     cutter: &mut LineCutter,

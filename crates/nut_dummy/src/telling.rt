@@ -1,18 +1,18 @@
-//! What is told of all variables, in their order.
+//! The lines that tell of all variables, in their order.
 ghost use Rattle.std.specs.Prelude.{◌≡◌, ◌++◌, true, map, OnOk};
 ghost use Rattle.std.specs.List.{flat_map};
 ghost use Rattle.nut_dummy.specs.Telling.{text, closing_messages};
-ghost use Rattle.nut_dummy.specs.Teller.{says, followed, lines_of, dump, dumped, untold};
-ghost use Rattle.nut_dummy.specs.Changes.{change_of};
+ghost use Rattle.nut_dummy.specs.machine.Teller.{says, followed, lines_of, dump, dumped, untold};
+ghost use Rattle.nut_dummy.specs.inside.Changes.{change_of};
 
 use crate::variable::{Change, Variable};
 use std::alloc::AllocError;
 
-/// What ends a dump: the commands, and that all is told and current.
+/// The end of a dump: the commands, that the data are current, and that the dump is done.
 const CLOSING: &[u8] =
     b"ADDCMD beeper.disable\nADDCMD beeper.enable\nADDCMD load.off\nADDCMD load.on\nADDCMD test.battery.start\nADDCMD test.battery.stop\nADDCMD test.failure.start\nADDCMD test.failure.stop\nDATAOK\nDUMPDONE\n";
 
-/// Appends what a change tells.
+/// Appends the lines that tell a change.
 pub fn say_all(
     out: &mut Vec<u8>,
     variables: &[Variable],
@@ -26,7 +26,7 @@ pub fn say_all(
     Ok(())
 }
 
-/// Lets all follow a change.
+/// Applies a change to all variables.
 pub fn follow_all(variables: &mut [Variable], change: &Change<'_>, asked: bool)
     ensures { variables.new ≡ map (followed asked (change_of change.now)) variables.old }
 {
@@ -35,7 +35,7 @@ pub fn follow_all(variables: &mut [Variable], change: &Change<'_>, asked: bool)
     }
 }
 
-/// Appends the lines of a dump's variables.
+/// Appends the lines of the variables in a dump.
 fn dump_variables(out: &mut Vec<u8>, variables: &[Variable]) -> Result<(), AllocError>
     ensures { OnOk result (out.new.items ≡ out.old.items ++ flat_map (λ v. lines_of true v.name v.value) variables.now) }
 {
@@ -45,7 +45,7 @@ fn dump_variables(out: &mut Vec<u8>, variables: &[Variable]) -> Result<(), Alloc
     Ok(())
 }
 
-/// What ends a dump.
+/// Returns the end of a dump.
 fn closing() -> &'static [u8]
     ensures { result.now ≡ text closing_messages }
 {
@@ -61,7 +61,7 @@ pub fn dump(out: &mut Vec<u8>, variables: &[Variable]) -> Result<(), AllocError>
     Ok(())
 }
 
-/// A dump told all that have a value.
+/// Marks all variables that have a value as told: a dump told them.
 pub fn mark_all_dumped(variables: &mut [Variable])
     ensures { variables.new ≡ map dumped variables.old }
 {
@@ -70,7 +70,7 @@ pub fn mark_all_dumped(variables: &mut [Variable])
     }
 }
 
-/// None was told on the link.
+/// Marks all variables as not told on the link.
 pub fn forget_link(variables: &mut [Variable])
     ensures { variables.new ≡ map untold variables.old }
 {

@@ -1,17 +1,16 @@
-//! Names and values, which stand in place and take no memory of their own.
+//! Names and values, kept in place without an allocation.
 ghost use Rattle.std.specs.Prelude.{◌≡◌, ◌≤◌, List, ℕ, length, IsTrue};
 ghost use Rattle.nut_state.specs.Text.{is_name};
 ghost use Rattle.nut_dummy.specs.Item.{is_value};
 
 use arrayvec::ArrayVec;
-use nut_state::{NAME_BYTES, VALUE_BYTES};
-use nut_words::are_printing;
+use nut_words::{NAME_MAX, VALUE_MAX, are_printing};
 use std::marker::Model;
 
-/// The name of a variable: 1 to [`NAME_BYTES`] letters, digits, `.`, `_` and `-`.
+/// The name of a variable: 1 to [`NAME_MAX`] letters, digits, `.`, `_` and `-`.
 #[derive(Drop)]
 pub struct Name {
-    bytes: ArrayVec<u8, NAME_BYTES>,
+    bytes: ArrayVec<u8, NAME_MAX>,
 }
 
 impl Model for Name {
@@ -23,6 +22,7 @@ impl Model for Name {
 }
 
 impl Name {
+    /// Makes a name of bytes that are one.
     pub fn new(bytes: &[u8]) -> Name
         requires { IsTrue (is_name bytes.now) }
         ensures { result ≡ bytes.now }
@@ -32,7 +32,7 @@ impl Name {
         Name { bytes: name }
     }
 
-    /// The bytes of the name.
+    /// Returns the bytes of the name.
     pub fn as_bytes(&self) -> &[u8]
         ensures value { result.now ≡ self.now }
         ensures named { IsTrue (is_name result.now) }
@@ -45,13 +45,13 @@ impl Name {
 pub fn is_value(bytes: &[u8]) -> bool
     ensures { result ≡ is_value bytes.now }
 {
-    bytes.len() <= VALUE_BYTES && are_printing(bytes)
+    bytes.len() <= VALUE_MAX && are_printing(bytes)
 }
 
-/// A value: 0 to [`VALUE_BYTES`] printing bytes.
+/// A value: 0 to [`VALUE_MAX`] printing bytes.
 #[derive(Drop)]
 pub struct Text {
-    contents: ArrayVec<u8, VALUE_BYTES>,
+    contents: ArrayVec<u8, VALUE_MAX>,
 }
 
 impl Model for Text {
@@ -63,6 +63,7 @@ impl Model for Text {
 }
 
 impl Text {
+    /// Makes a value of bytes that are one.
     pub fn new(bytes: &[u8]) -> Text
         requires { IsTrue (is_value bytes.now) }
         ensures { result ≡ bytes.now }
@@ -72,7 +73,7 @@ impl Text {
         Text { contents: text }
     }
 
-    /// The bytes of the value.
+    /// Returns the bytes of the value.
     pub fn as_bytes(&self) -> &[u8]
         ensures value { result.now ≡ self.now }
         ensures valued { IsTrue (is_value result.now) }

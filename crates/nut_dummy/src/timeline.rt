@@ -1,4 +1,4 @@
-//! The values that a script gives one variable.
+//! The values that a script gives a variable.
 ghost use Rattle.std.specs.Prelude.{◌≡◌, [], ◌∷◌, ◌++◌, map, IsTrue, OnOk, OnErr};
 ghost use Rattle.nut_state.specs.Sorted.{IsAscending, IsPlace};
 
@@ -21,7 +21,7 @@ impl Model for Step {
     ghost view = { λ s. record { at = s.at; value = s.value } };
 }
 
-/// A variable, and the values that a round gives it, in the order of their lines.
+/// A variable, and the values that it gets in a round, in the order of their lines.
 #[derive(Drop)]
 pub struct Timeline {
     pub name: Name,
@@ -37,6 +37,7 @@ impl Model for Timeline {
 }
 
 impl Step {
+    /// Makes a value that is due `at` seconds after the beginning of a round.
     pub fn new(at: u128, value: Text) -> Step
         ensures { result ≡ record { at = at; value = value } }
     {
@@ -45,7 +46,7 @@ impl Step {
 }
 
 impl Timeline {
-    /// A variable that gets no value.
+    /// Makes a variable that gets no value.
     pub fn new(alloc: Global, name: Name) -> Timeline
         ensures { result ≡ record { name = name; steps = [] } }
     {
@@ -55,14 +56,14 @@ impl Timeline {
         }
     }
 
-    /// Its name.
+    /// Returns its name.
     pub fn name(&self) -> &[u8]
         ensures { result.now ≡ self.now.name }
     {
         self.name.as_bytes()
     }
 
-    /// Adds a value behind the others.
+    /// Appends a value.
     pub fn add(&mut self, step: Step) -> Result<(), AllocError>
         ensures ok { OnOk result (self.new ≡ record self.old { steps = self.old.steps ++ step ∷ [] }) }
         ensures err { OnErr result (self.new ≡ self.old) }
@@ -72,7 +73,7 @@ impl Timeline {
     }
 }
 
-/// Where the variable of this name stands, or where it would go.
+/// Returns the place of the variable of this name, or as an `Err` the place where it has to be inserted.
 pub fn place_of(variables: &[Timeline], name: &[u8]) -> Result<usize, usize>
     requires { IsAscending (map (λ t. t.name) variables.now) }
     ensures { IsPlace (λ t. t.name) name.now variables.now result }

@@ -10,7 +10,7 @@ fn is_blank(byte: u8) -> bool
     matches!(byte, b' ' | b'\t' | b'\r')
 }
 
-/// The text without the blanks at its beginning.
+/// Returns the text without the blanks at its beginning.
 pub fn skip_blanks(text: &[u8]) -> &[u8]
     ensures { result.now ≡ skip_blanks text.now }
 {
@@ -24,7 +24,7 @@ pub fn skip_blanks(text: &[u8]) -> &[u8]
     left
 }
 
-/// The text without the blanks at its end.
+/// Returns the text without the blanks at its end.
 fn skip_last_blanks(text: &[u8]) -> &[u8]
     ensures { result.now ≡ skip_last_blanks text.now }
 {
@@ -38,7 +38,7 @@ fn skip_last_blanks(text: &[u8]) -> &[u8]
     left
 }
 
-/// The text without the blanks at its ends.
+/// Returns the text without the blanks at both ends.
 pub fn trim(text: &[u8]) -> &[u8]
     ensures { result.now ≡ trimmed text.now }
 {

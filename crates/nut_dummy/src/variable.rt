@@ -1,11 +1,11 @@
-//! One variable of a dummy driver.
+//! A variable of a dummy driver.
 ghost use Rattle.std.specs.Prelude.{◌≡◌, ◌++◌, [], ◌∷◌, false, true, option_map, map, IsTrue, IfSome, OnOk};
 ghost use Rattle.nut_dummy.specs.Item.{is_value};
 ghost use Rattle.nut_dummy.specs.Due.{at_start};
 ghost use Rattle.nut_dummy.specs.Telling.{text, limits, variable_messages};
-ghost use Rattle.nut_dummy.specs.Teller.{value_after, is_assigned, differ, is_told, lines_of, says, followed, dumped, untold};
-ghost use Rattle.nut_dummy.specs.Changes.{change_of};
-ghost use Rattle.nut_dummy.specs.Dummy.{begun};
+ghost use Rattle.nut_dummy.specs.machine.Teller.{value_after, is_assigned, differ, is_told, lines_of, says, followed, dumped, untold};
+ghost use Rattle.nut_dummy.specs.inside.Changes.{change_of};
+ghost use Rattle.nut_dummy.specs.machine.Dummy.{begun};
 
 use crate::due::latest;
 use crate::text::{Name, Text};
@@ -18,7 +18,7 @@ use std::marker::Model;
 /// What may change the values of variables.
 #[derive(Drop)]
 pub enum Change<'a> {
-    /// Time passes, in seconds since the start.
+    /// Time passes, from `after` to `until`, in seconds since the start.
     Passing {
         /// How many seconds a round takes.
         round: u128,
@@ -37,7 +37,7 @@ pub enum Change<'a> {
     },
 }
 
-/// A variable: the values that a round gives it, its value, and whether it was told on this link.
+/// A variable: the values that it gets in a round, its value, and whether it was told on this link.
 #[derive(Drop)]
 pub struct Variable {
     name: Name,
@@ -47,7 +47,7 @@ pub struct Variable {
 }
 
 impl Model for Variable {
-    ghost use Rattle.nut_dummy.specs.Teller.{Variable as VariableValue};
+    ghost use Rattle.nut_dummy.specs.machine.Teller.{Variable as VariableValue};
 
     ghost Value = { VariableValue };
 
@@ -65,7 +65,7 @@ fn differ(before: Option<&[u8]>, after: Option<&[u8]>) -> bool
     }
 }
 
-/// Appends the lines that limit the variable of this name.
+/// Appends the lines that limit the variable of this name; none if clients may not set it.
 fn put_limits(out: &mut Vec<u8>, name: &[u8]) -> Result<(), AllocError>
     ensures { OnOk result (out.new.items ≡ out.old.items ++ text (limits name.now)) }
 {
@@ -87,7 +87,7 @@ fn put_value(out: &mut Vec<u8>, name: &[u8], value: &[u8]) -> Result<(), AllocEr
     Ok(())
 }
 
-/// Appends the lines of a variable, with its limits or without.
+/// Appends the lines of a variable, with or without its limits.
 fn put_variable(
     out: &mut Vec<u8>,
     limited: bool,
@@ -103,7 +103,7 @@ fn put_variable(
     Ok(())
 }
 
-/// The value that is due at the start.
+/// Returns the value that is due at the start.
 fn at_start(steps: &[Step]) -> Option<Text>
     ensures { result ≡ at_start steps.now }
 {
@@ -117,7 +117,7 @@ fn at_start(steps: &[Step]) -> Option<Text>
 }
 
 impl Variable {
-    /// A variable at the start.
+    /// Makes the variable that a driver has at the start.
     pub(crate) fn begin(timeline: Timeline) -> Variable
         ensures { result ≡ begun timeline }
     {
@@ -131,14 +131,14 @@ impl Variable {
         }
     }
 
-    /// Its name.
+    /// Returns its name.
     pub fn name(&self) -> &[u8]
         ensures { result.now ≡ self.now.name }
     {
         self.name.as_bytes()
     }
 
-    /// Its value, if it has one.
+    /// Returns its value, if it has one.
     pub fn value(&self) -> Option<&[u8]>
         ensures value { option_map (λ t. t.now) result ≡ self.now.value }
         ensures valued { IfSome result (λ t. IsTrue (is_value t.now)) }
@@ -149,7 +149,7 @@ impl Variable {
         }
     }
 
-    /// Whether a client may set it so: it has a value, and may have this one.
+    /// Whether a client sets it by this: it has this name and a value, and may be set to the new one.
     fn is_assigned(&self, name: &[u8], value: &[u8]) -> bool
         ensures assigned { result ≡ is_assigned name.now value.now self.now.name self.now.value }
         ensures valued { IsTrue result → IsTrue (is_value value.now) }
@@ -157,7 +157,7 @@ impl Variable {
         self.name() == name && self.value.is_some() && may_be(self.name(), value)
     }
 
-    /// Its value after a change.
+    /// Returns its value after a change.
     fn value_after<'v>(&'v self, change: &'v Change<'_>) -> Option<&'v [u8]>
         ensures value { option_map (λ t. t.now) result ≡ value_after (change_of change.now) self.now.name self.now.steps self.now.value }
         ensures valued { IfSome result (λ t. IsTrue (is_value t.now)) }
@@ -188,7 +188,7 @@ impl Variable {
         }
     }
 
-    /// Whether a change is told of it.
+    /// Whether a change of it is told.
     fn is_told(&self, change: &Change<'_>) -> bool
         ensures { result ≡ is_told (change_of change.now) self.now.name self.now.steps self.now.value }
     {
@@ -200,7 +200,7 @@ impl Variable {
         }
     }
 
-    /// Appends what a change tells of it.
+    /// Appends the lines that tell a change of it.
     pub fn say(&self, out: &mut Vec<u8>, change: &Change<'_>) -> Result<(), AllocError>
         ensures { OnOk result (out.new.items ≡ out.old.items ++ says (change_of change.now) self.now) }
     {
@@ -213,7 +213,7 @@ impl Variable {
         }
     }
 
-    /// Follows a change.
+    /// Applies a change.
     pub fn follow(&mut self, change: &Change<'_>, asked: bool)
         ensures { self.new ≡ followed asked (change_of change.now) self.old }
     {
@@ -236,14 +236,14 @@ impl Variable {
         }
     }
 
-    /// A dump told it, if it has a value.
+    /// Marks it as told if it has a value: a dump told it.
     pub fn mark_dumped(&mut self)
         ensures { self.new ≡ dumped self.old }
     {
         self.told = self.told || self.value.is_some();
     }
 
-    /// It was not told on this link.
+    /// Marks it as not told on this link.
     pub fn forget_link(&mut self)
         ensures { self.new ≡ untold self.old }
     {

@@ -28,7 +28,7 @@ const ALL: [Writable; 5] = [
     Writable::Id,
 ];
 
-/// Whether the value is a whole number from 0 to this one.
+/// Whether the value is a whole number from 0 to `most`.
 fn is_up_to(most: i32, value: &[u8]) -> bool
     ensures { result ≡ is_within (whole_number value.now) (record { minimum = pos 0; maximum = most }) }
 {
@@ -38,7 +38,7 @@ fn is_up_to(most: i32, value: &[u8]) -> bool
     }
 }
 
-/// Whether the value is one of the sensitivities.
+/// Whether the value is one of the sensitivities: `low`, `medium` or `high`.
 fn is_sensitivity(value: &[u8]) -> bool
     ensures { result ≡ lists_enum value.now (codes "low" ∷ codes "medium" ∷ codes "high" ∷ []) }
 {
@@ -58,7 +58,7 @@ impl Writable {
         }
     }
 
-    /// The writable variable of this name, if it is one.
+    /// Returns the writable variable of this name, if there is one.
     #[tactic(auto, unfolding(crate::specs::Writable::writable_of))]
     pub fn of(name: &[u8]) -> Option<Writable>
         ensures { result ≡ writable_of name.now }
@@ -66,7 +66,7 @@ impl Writable {
         ALL.iter().copied().find(|w| w.name() == name)
     }
 
-    /// The lines that limit it.
+    /// Returns the lines that limit it.
     pub fn limits(self) -> &'static [u8]
         ensures { result.now ≡ text (limits_of self) }
     {
@@ -105,7 +105,7 @@ impl Writable {
     }
 }
 
-/// Whether a client may set the variable of this name so.
+/// Whether a client may set the variable of this name to this value.
 pub fn may_be(name: &[u8], value: &[u8]) -> bool
     ensures may_be { result ≡ may_be name.now value.now }
     ensures valued { IsTrue result → IsTrue (is_value value.now) }

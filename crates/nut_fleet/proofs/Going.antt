@@ -1,34 +1,35 @@
--- How a fleet that a program keeps goes on with a step.
+-- How a fleet that a program keeps continues with a step.
 use Rattle.std.proofs.Common.{◌≡◌, ◌⊎◌, ℕ, suc, ◌==◌, ◌&&◌, ◌++◌, ◌≤◌, ◌<◌, not, min, Bool, true, false, inl, inr, List, [], ◌∷◌, length, take, drop, map, None, is_some, is_none, refl, sym, ◌∙◌, ap, subst, arith, append-nil}
 use Rattle.std.specs.Prelude.{if◌then◌else◌}
 use Rattle.std.proofs.lemmas.Bool.{cases_Bool, cases_eq, and_parts, eqb-true, eq-eqb, ne_eqb, not-true, lt-ltb}
 use Rattle.std.specs.Prelude.{nat_lt}
 use Rattle.nut_words.specs.Quoting.{Begins}
-use Rattle.nut_history.specs.Event as arrivals
-use Rattle.nut_history.specs.Content as server
-use Rattle.nut_history.specs.Acceptance as server_tests
-use Rattle.nut_history.specs.Machine as server_machine
-use Rattle.nut_history.specs.Trace.{opened}
-use Rattle.nut_history.proofs.Kept as server_kept
-use Rattle.nut_history.proofs.Sent.{sent-step}
-use Rattle.nut_history.proofs.Others.{closed-stays}
-use Rattle.nut_decision.specs.declared.Notice.{Notice}
-use Rattle.nut_decision.specs.Configuration.{Configuration}
-use Rattle.nut_decision.specs.Event as events
-use Rattle.nut_decision.specs.Content as knowledge
-use Rattle.nut_decision.specs.Acceptance as monitor_tests
-use Rattle.nut_decision.specs.Machine as monitor_machine
-use Rattle.nut_decision.specs.Trace.{linked, trace, notices_waiting}
-use Rattle.nut_decision.specs.Trace as monitor
-use Rattle.nut_decision.proofs.Kept as monitor_kept
-use Rattle.nut_decision.proofs.Lists.{get_at}
+use Rattle.nut_words.specs.declared.limits.TheConstants.{PIECE_MAX}
+use Rattle.nut_server_spec.specs.Event as arrivals
+use Rattle.nut_server_spec.specs.Content as server
+use Rattle.nut_server_spec.specs.Acceptance as server_tests
+use Rattle.nut_server_spec.specs.machine.Machine as server_machine
+use Rattle.nut_server_spec.specs.Trace.{opened}
+use Rattle.nut_server_spec.proofs.Kept as server_kept
+use Rattle.nut_server_spec.proofs.Sent.{sent-step}
+use Rattle.nut_server_spec.proofs.Others.{closed-stays}
+use Rattle.nut_monitor_spec.specs.declared.Notice.{Notice}
+use Rattle.nut_monitor_spec.specs.Configuration.{Configuration}
+use Rattle.nut_monitor_spec.specs.Event as events
+use Rattle.nut_monitor_spec.specs.Content as knowledge
+use Rattle.nut_monitor_spec.specs.Acceptance as monitor_tests
+use Rattle.nut_monitor_spec.specs.machine.Machine as monitor_machine
+use Rattle.nut_monitor_spec.specs.Trace.{linked, trace, notices_waiting}
+use Rattle.nut_monitor_spec.specs.Trace as monitor
+use Rattle.nut_monitor_spec.proofs.Kept as monitor_kept
+use Rattle.nut_monitor_spec.proofs.Lists.{get_at}
 use Rattle.nut_fleet.specs.Schedule.{Step, ServerClock, MonitorClock, Up, Driver, Down, Link, Out, Reach, Back, Land, CutServer, CutMonitor}
 use Rattle.nut_fleet.specs.World.{Setup, World, Deed, Skip, Tell, Inform, Join, monitor_of, seen, served, known, is_open, is_linked, to_server, to_monitor, server_waits, monitor_waits, tell, inform, carried, counted, moved, address_of, has_link, is_fit, deed, deed_of, all_taken, informed, for_monitor, after, world}
 use Rattle.nut_fleet.specs.Fleet.{IsSetup}
 use Rattle.nut_fleet.specs.Log.{Noticed, turned, news, news_of}
-use Rattle.nut_fleet.specs.Moves.{reached, sent_off, landed, put_in, makes, ContentsTell}
+use Rattle.nut_fleet.specs.machine.Moves.{reached, sent_off, landed, put_in, makes, ContentsTell}
 use Rattle.nut_fleet.specs.Seen.{Ends, Fleet, Stands, open_seen, linked_seen, tell_seen, inform_seen, deed_by}
-use Rattle.nut_fleet.specs.Going.{KeepsLink, Keeps, what_counts, told_on, hushed, informed_on, with_ends, put_on, ends_reached, ends_back, ends_out, ends_landed, ends_made, moved_by, moved_on, heard_news, news_by, news_seen, FleetsGoOn}
+use Rattle.nut_fleet.specs.machine.Going.{KeepsLink, Keeps, what_counts, told_on, hushed, informed_on, with_ends, put_on, ends_reached, ends_back, ends_out, ends_landed, ends_made, moved_by, moved_on, heard_news, news_by, news_seen, FleetsGoOn}
 use Rattle.nut_fleet.proofs.Sound.{Sound, IsLawful}
 use Rattle.nut_fleet.proofs.Steps.{for-own, for-other, line-within, zero-closed, is_none-true, some-there}
 use Rattle.nut_fleet.proofs.Worlds.{sound}
@@ -36,7 +37,7 @@ use Rattle.nut_fleet.proofs.Moves.{input-grows, taken-same, drop-more, drop-begi
 use Rattle.nut_fleet.proofs.Entries.{entry-input}
 use Rattle.nut_fleet.proofs.Seen.{both-ways, same-carried, same-counted}
 
--- ---- a monitor's content, once its notices are taken
+-- ---- a monitor's content, after its notices were taken
 
 taken-content : (config : Configuration) (notices : List Notice) (told : List events.Event) → monitor_tests.IsAccepted config told →
     notices_waiting (trace config told) ≡ notices → knowledge.content config (all_taken notices told) ≡ hushed (knowledge.content config told)
@@ -129,11 +130,11 @@ one-other m i x f k j ne = elim (cases_eq k m) [
 
 -- ---- a fleet at a deed
 
--- what an event of the server doesn't bring to this connection, nor take of it
+-- an event of the server brings nothing to this connection and takes nothing of it
 abbrev IsQuiet : ℕ → arrivals.Event → Type 0
 IsQuiet c e = (reached c e ≡ []) × (sent_off c e ≡ 0)
 
--- the same of an event of a monitor, for link i
+-- an event of a monitor neither makes link i nor brings or takes bytes on it
 abbrev IsQuietFor : ℕ → events.Event → Type 0
 IsQuietFor i event = (makes i event ≡ false) × (put_in i event ≡ 0) × (landed i event ≡ [])
 
@@ -184,7 +185,7 @@ module _ (setup : Setup) (earlier : List Step) (s : Sound setup earlier (world s
     ];
   }
 
-  -- the connections of two links differ, where one is open
+  -- the connections of two links differ if one is open
   other-connection : (m i : ℕ) → is_open setup w m i ≡ true → (k j : ℕ) → ((k ≡ m) × (j ≡ i) → ⊥) → (w.connection m i == w.connection k j) ≡ false
   other-connection m i up k j ne = elim (cases_Bool (w.connection m i == w.connection k j)) [
     | inr other ↦ other
@@ -280,7 +281,7 @@ module _ (setup : Setup) (earlier : List Step) (s : Sound setup earlier (world s
         | inr ne ↦ for-other m k new f.monitor ne ∙ keeps.monitor k ∙ sym (ap (knowledge.content (monitor_of setup k)) (for-other m k told w.monitor ne))
       ]
 
-  -- a link of it of which the event says nothing, where its connection is c and these are the server's events
+  -- a link that the monitor's event doesn't concern, if its connection is c and these are the server's events
   informed-quiet : (m : ℕ) (event : events.Event) → monitor_tests.Accepts (known setup w m) event → (i c : ℕ) (h : List arrivals.Event) → has_link setup m i ≡ true →
       IsQuietFor i event → Begins (arrivals.input c h) (monitor.sent (monitor_of setup m) i (seen setup w m)) →
       KeepsLink setup m i c h (w.monitor m) (f.link m i) → KeepsLink setup m i c h (informed (monitor_of setup m) (w.monitor m) event) (f.link m i)
@@ -290,7 +291,7 @@ module _ (setup : Setup) (earlier : List Step) (s : Sound setup earlier (world s
       (λ up. sym (ap (λ n. ends.to_server ++ take n (monitor.waits (monitor_of setup m) i (seen setup w m))) quiet.1 ∙ append-nil ends.to_server))
       (sym (ap (λ x. drop (length x) ends.to_monitor) quiet.2))
 
-  -- any link, where the events of the server and its connection stay
+  -- any link, if the events of the server and its connection stay
   link-informed : (m : ℕ) (event : events.Event) → monitor_tests.Accepts (known setup w m) event → (k j : ℕ) → has_link setup k j ≡ true →
       (k ≡ m → IsQuietFor j event) →
       KeepsLink setup k j (w.connection k j) w.server (for_monitor m (informed (monitor_of setup m) (w.monitor m) event) w.monitor k) (f.link k j)
@@ -453,8 +454,8 @@ module _ (setup : Setup) (earlier : List Step) (s : Sound setup earlier (world s
       ∙ same-counted (moved n (monitor_waits setup w m i)) (λ k. inform_seen f m (events.LinkTook i k)) (λ k. inform setup w m (events.LinkTook i k)) (λ k. heard m (events.LinkTook i k)))
   same-deed (Reach m i n) ok =
       both-ways (open_seen f m i) (is_open setup w m i) _ _ (same-open m i ok) (λ up.
-      ap (λ bytes. carried (take (min n 512) bytes) (λ piece. tell_seen f (arrivals.Bytes (f.link m i).connection piece))) (same-to_server m i ok up)
-      ∙ same-carried (take (min n 512) (to_server setup w m i)) (λ piece. tell_seen f (arrivals.Bytes (f.link m i).connection piece))
+      ap (λ bytes. carried (take (min n PIECE_MAX) bytes) (λ piece. tell_seen f (arrivals.Bytes (f.link m i).connection piece))) (same-to_server m i ok up)
+      ∙ same-carried (take (min n PIECE_MAX) (to_server setup w m i)) (λ piece. tell_seen f (arrivals.Bytes (f.link m i).connection piece))
       (λ piece. tell setup w (arrivals.Bytes (w.connection m i) piece)) (λ piece. told-at m i ok (λ c. arrivals.Bytes c piece)))
   same-deed (Back m i n) ok =
       both-ways (open_seen f m i) (is_open setup w m i) _ _ (same-open m i ok) (λ up.
@@ -463,8 +464,8 @@ module _ (setup : Setup) (earlier : List Step) (s : Sound setup earlier (world s
       (λ k. tell setup w (arrivals.Took (w.connection m i) k)) (λ k. told-at m i ok (λ c. arrivals.Took c k)))
   same-deed (Land m i n) ok =
       both-ways (linked_seen f m i) (is_linked setup w m i) _ _ (same-linked m i ok) (λ up.
-      ap (λ bytes. carried (take (min n 512) bytes) (λ piece. inform_seen f m (events.LinkBytes i piece))) (same-to_monitor m i ok up)
-      ∙ same-carried (take (min n 512) (to_monitor setup w m i)) (λ piece. inform_seen f m (events.LinkBytes i piece))
+      ap (λ bytes. carried (take (min n PIECE_MAX) bytes) (λ piece. inform_seen f m (events.LinkBytes i piece))) (same-to_monitor m i ok up)
+      ∙ same-carried (take (min n PIECE_MAX) (to_monitor setup w m i)) (λ piece. inform_seen f m (events.LinkBytes i piece))
       (λ piece. inform setup w m (events.LinkBytes i piece)) (λ piece. heard m (events.LinkBytes i piece)))
   same-deed (CutServer m i) ok = told-at m i ok (λ c. arrivals.Close c)
   same-deed (CutMonitor m i) ok = heard m (events.LinkLost i)
@@ -530,17 +531,17 @@ module _ (setup : Setup) (earlier : List Step) (s : Sound setup earlier (world s
       when-counted (Out m i n) (moved n (monitor_waits setup w m i)) (λ k. inform setup w m (events.LinkTook i k))
       (heard-goes (Out m i n) m (events.LinkTook i (moved n (monitor_waits setup w m i))) tt (out-keeps m i (moved n (monitor_waits setup w m i)) ok)))
   goes (Reach m i n) ok =
-      when-test (Reach m i n) (is_open setup w m i) (carried (take (min n 512) (to_server setup w m i)) (λ piece. tell setup w (arrivals.Bytes (w.connection m i) piece))) (λ up.
-      when-carried (Reach m i n) (take (min n 512) (to_server setup w m i)) (λ piece. tell setup w (arrivals.Bytes (w.connection m i) piece))
-      (told-goes (Reach m i n) (arrivals.Bytes (w.connection m i) (take (min n 512) (to_server setup w m i))) (reach-keeps m i (take (min n 512) (to_server setup w m i)) ok up)))
+      when-test (Reach m i n) (is_open setup w m i) (carried (take (min n PIECE_MAX) (to_server setup w m i)) (λ piece. tell setup w (arrivals.Bytes (w.connection m i) piece))) (λ up.
+      when-carried (Reach m i n) (take (min n PIECE_MAX) (to_server setup w m i)) (λ piece. tell setup w (arrivals.Bytes (w.connection m i) piece))
+      (told-goes (Reach m i n) (arrivals.Bytes (w.connection m i) (take (min n PIECE_MAX) (to_server setup w m i))) (reach-keeps m i (take (min n PIECE_MAX) (to_server setup w m i)) ok up)))
   goes (Back m i n) ok =
       when-test (Back m i n) (is_open setup w m i) (counted (moved n (server_waits setup w m i)) (λ k. tell setup w (arrivals.Took (w.connection m i) k))) (λ up.
       when-counted (Back m i n) (moved n (server_waits setup w m i)) (λ k. tell setup w (arrivals.Took (w.connection m i) k))
       (told-goes (Back m i n) (arrivals.Took (w.connection m i) (moved n (server_waits setup w m i))) (back-keeps m i (moved n (server_waits setup w m i)) ok up)))
   goes (Land m i n) ok =
-      when-test (Land m i n) (is_linked setup w m i) (carried (take (min n 512) (to_monitor setup w m i)) (λ piece. inform setup w m (events.LinkBytes i piece))) (λ up.
-      when-carried (Land m i n) (take (min n 512) (to_monitor setup w m i)) (λ piece. inform setup w m (events.LinkBytes i piece))
-      (heard-goes (Land m i n) m (events.LinkBytes i (take (min n 512) (to_monitor setup w m i))) tt (land-keeps m i (take (min n 512) (to_monitor setup w m i)) ok)))
+      when-test (Land m i n) (is_linked setup w m i) (carried (take (min n PIECE_MAX) (to_monitor setup w m i)) (λ piece. inform setup w m (events.LinkBytes i piece))) (λ up.
+      when-carried (Land m i n) (take (min n PIECE_MAX) (to_monitor setup w m i)) (λ piece. inform setup w m (events.LinkBytes i piece))
+      (heard-goes (Land m i n) m (events.LinkBytes i (take (min n PIECE_MAX) (to_monitor setup w m i))) tt (land-keeps m i (take (min n PIECE_MAX) (to_monitor setup w m i)) ok)))
   goes (CutServer m i) ok = told-goes (CutServer m i) (arrivals.Close (w.connection m i)) (λ e. tell-quiet (arrivals.Close (w.connection m i)) e (λ c. (refl, refl)))
   goes (CutMonitor m i) ok = heard-goes (CutMonitor m i) m (events.LinkLost i) tt (λ e. inform-quiet m (events.LinkLost i) e (λ j. (refl, refl, refl)))
 
@@ -570,7 +571,7 @@ module _ (setup : Setup) (earlier : List Step) (s : Sound setup earlier (world s
     to_monitor = λ m i there. if-same (linked_seen f m i) (is_linked setup w m i) _ _ (same-linked m i there) (λ up. (keeps.link m i there).to_monitor up);
   }
 
--- the other way
+-- ---- `Keeps` from `Stands`
 module _ (setup : Setup) (w : World) (tells : ContentsTell setup w) (f : Fleet) (stands : Stands setup w (what_counts f)) where
   is-open : (m i : ℕ) → has_link setup m i ≡ true → open_seen f m i ≡ is_open setup w m i
   is-open m i there =

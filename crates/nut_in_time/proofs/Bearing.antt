@@ -1,12 +1,12 @@
--- Lines that are borne: what is known of them is no reason for a shutdown.
+-- Lines that give no reason for a shutdown, by what is known of them.
 use Rattle.std.proofs.Common.{◌≡◌, ◌⊎◌, ℕ, suc, ◌+◌, ◌<◌, ◌≤◌, ◌&&◌, inl, inr, List, ◌∷◌, length, Bool, true, false, not, Option, Some, None, is_some, refl, sym, ◌∙◌, ap, subst, arith}
 use Rattle.std.specs.Prelude.{nat_lt}
 use Rattle.std.proofs.lemmas.Bool.{cases_Bool, and_parts, eq-eqb, lt-ltb, ltb-false, ltb-true, not-true}
-use Rattle.nut_decision.specs.Configuration.{Configuration}
-use Rattle.nut_decision.specs.Decision.{power_where}
-use Rattle.nut_decision.specs.Event.{Event, NoticeTaken}
-use Rattle.nut_decision.specs.Query.{status_in}
-use Rattle.nut_decision.specs.Trace.{Asked, Entry, clock, at_status, status, status_of_answer, newest_answer, polled, gives_status, is_short, begun, has_begun, answer_of, entry_of, notices_waiting, trace}
+use Rattle.nut_monitor_spec.specs.Configuration.{Configuration}
+use Rattle.nut_monitor_spec.specs.Decision.{power_where}
+use Rattle.nut_monitor_spec.specs.Event.{Event, NoticeTaken}
+use Rattle.nut_monitor_spec.specs.Query.{status_in}
+use Rattle.nut_monitor_spec.specs.Trace.{Asked, Entry, clock, at_status, status, status_of_answer, newest_answer, polled, gives_status, is_short, begun, has_begun, answer_of, entry_of, notices_waiting, trace}
 use Rattle.nut_fleet.specs.Schedule.{Step, IsFront}
 use Rattle.nut_fleet.specs.World.{Setup, monitor_of, line_of, world}
 use Rattle.nut_fleet.specs.Fleet.{IsSetup, IsReason, Cause}
@@ -24,7 +24,7 @@ use Rattle.nut_in_time.proofs.Polling.{IsGiven, Current, late-next, status-unrea
 use Rattle.nut_in_time.proofs.Lasting.{Chosen, AllGood, Lasts, lasts-next, lasts-first, event-by-event}
 use Rattle.nut_in_time.proofs.Beginning.{power-less}
 
--- ---- an event, where the monitor is up to date
+-- ---- an event of a monitor that is up to date
 
 module _ (configuration : Configuration) (i n0 t0 turn : ℕ) (pace : Pace) (Words : List (List ℕ) → Bool) where
   -- the status has such words, and it isn't old
@@ -138,11 +138,11 @@ same-words o a b p q = let e : Some a ≡ Some b = sym p ∙ q in cc
 says-words : (o : Option (List (List ℕ))) (words : List (List ℕ)) → Says is_bearable o → o ≡ Some words → is_bearable words ≡ true
 says-words o words says is = subst (λ w. is_bearable w ≡ true) (same-words o says.0 words says.1 is) says.2
 
--- the lines that there are
+-- those of the lines whose number is less than `count`
 abbrev among : ℕ → (ℕ → Bool) → ℕ → Bool
 among count fine i = fine i && nat_lt i count
 
--- A shutdown has begun: were none of these lines a cause, they would have supplied enough.
+-- A shutdown has begun: if none of these lines were a cause, they would have supplied enough.
 no-causes : (setup : Setup) → IsLawful setup.server → IsSetup setup → (schedule : List Step) (m : ℕ) (fine : ℕ → Bool) →
     (monitor_of setup m).min_supplies ≤ power_where fine (monitor_of setup m).lines →
     has_begun (monitor_of setup m) (seen_at setup m schedule) ≡ true →
@@ -183,7 +183,7 @@ module _ (setup : Setup) (law : IsLawful setup.server) (fine_setup : IsSetup set
         | inr early ↦ ltb-false (seen_by config pace t0) (clock (begun config past)) early
       ]
 
-  -- ---- from a time on at which none has begun
+  -- ---- from a time at which no shutdown has begun
 
   module _ (m : ℕ) (middle : List Step) where
     pub record Behind (told : List Event) : Type 0 where
@@ -236,7 +236,7 @@ module _ (setup : Setup) (law : IsLawful setup.server) (fine_setup : IsSetup set
     abbrev seen_first : ℕ
     seen_first = seen_by (monitor_of setup m) pace (clock (seen_at setup m start))
 
-    -- there is no status, or it may last until then
+    -- there is no status, or the last one is young enough to last until then
     abbrev Lasting : List Entry → Type 0
     Lasting past = (status i past ≡ None) ⊎ (seen_by (monitor_of setup m) pace (clock (seen_at setup m start)) ≤ polled i past + (monitor_of setup m).dead_time)
 

@@ -1,15 +1,15 @@
--- A primary whose shutdown has begun asks for FSD, once the status that it waits for has come.
+-- A primary whose shutdown has begun puts FSD once the status that it waits for has come.
 use Rattle.std.proofs.Common.{◌≡◌, ◌⊎◌, ℕ, zero, suc, ◌+◌, ◌<◌, ◌≤◌, ◌||◌, ◌&&◌, inl, inr, List, [], ◌∷◌, length, Bool, true, false, not, Option, Some, is_some, is_none, refl, sym, ◌∙◌, ap, arith}
 use Rattle.std.specs.Prelude.{if◌then◌else◌}
 use Rattle.std.proofs.lemmas.Bool.{cases_Bool, and_parts, or_cases, ltb-true, not-true}
-use Rattle.nut_decision.specs.declared.LastQuery.{LastQuery}
-use Rattle.nut_decision.specs.declared.Phase.{Phase}
-use Rattle.nut_decision.specs.declared.Phase.TheVariants.{Watching, Forcing}
-use Rattle.nut_decision.specs.declared.Query.TheVariants.{Status, Fsd}
-use Rattle.nut_decision.specs.Configuration.{Configuration, Line, line_in}
-use Rattle.nut_decision.specs.Decision.{each_primary, is_alone, is_over_by, is_past, next_query, phase_at}
-use Rattle.nut_decision.specs.Event.{Event}
-use Rattle.nut_decision.specs.Trace.{Asked, Answer, Entry, clock, clock_after, moment_of, linked, is_any, may_ask, last_in, last_query, forced, logins, alone, phase, begun, has_begun, is_short, ended, has_ended, is_over_at, answer_of, came, query_put, entry_of}
+use Rattle.nut_monitor_spec.specs.declared.LastQuery.{LastQuery}
+use Rattle.nut_monitor_spec.specs.declared.Phase.{Phase}
+use Rattle.nut_monitor_spec.specs.declared.Phase.TheVariants.{Watching, Forcing}
+use Rattle.nut_monitor_spec.specs.declared.Query.TheVariants.{Status, Fsd}
+use Rattle.nut_monitor_spec.specs.Configuration.{Configuration, Line, line_in}
+use Rattle.nut_monitor_spec.specs.Decision.{each_primary, is_alone, is_over_by, is_past, next_query, phase_at}
+use Rattle.nut_monitor_spec.specs.Event.{Event}
+use Rattle.nut_monitor_spec.specs.Trace.{Asked, Answer, Entry, clock, clock_after, moment_of, linked, is_any, may_ask, last_in, last_query, forced, logins, alone, phase, begun, has_begun, is_short, ended, has_ended, is_over_at, answer_of, came, query_put, entry_of}
 use Rattle.nut_fleet.proofs.Entries.{entry-linked, is_made}
 use Rattle.nut_in_time.specs.Pace.{Pace, IsPrompt}
 use Rattle.nut_in_time.proofs.Asking.{Waits, Rests, answer-is, wait-comes, rest-stays, waits-on, waits-outstanding, rests-none, phase-came, next-queries, next-answers}
@@ -46,7 +46,7 @@ forcing-by (x ∷ front) any = refl
 -- ---- from its last status query to its FSD
 
 module _ (configuration : Configuration) (i n0 t0 turn : ℕ) (pace : Pace) (Words : List (List ℕ) → Bool) where
-  -- The shutdown has begun, and the first status query since `start` or one before it waits for its answer.
+  -- The shutdown has begun, and a status query that was put by t0 + `turn` waits for its answer.
   pub record Waiting (past : List Entry) : Type 0 where
     pub began : has_begun configuration past ≡ true
     pub not_ended : has_ended configuration past ≡ false
@@ -110,7 +110,7 @@ module _ (configuration : Configuration) (i n0 t0 turn : ℕ) (pace : Pace) (Wor
     abbrev fsd : Asked
     fsd = record { query = Fsd; moment = clock_after event (clock past); event = suc (length past) }
 
-    -- on a link that rests FSD is put
+    -- FSD is put on a link that rests
     fsd-next : (last : Asked) → last.query ≡ Status → Rests i midway last → phase configuration next ≡ Forcing → Waits i next fsd
     fsd-next last is_status r phase_is =
         let up : linked i midway ≡ true = sym (entry-linked configuration past event i) ∙ there in
@@ -127,7 +127,7 @@ module _ (configuration : Configuration) (i n0 t0 turn : ℕ) (pace : Pace) (Wor
           count = r.count ∙ sym (ap length (next-answers configuration i past event));
         }
 
-    -- the status query waits on, or its answer comes and FSD is asked
+    -- the status query waits on, or its answer comes and FSD is put
     status-next : (last : Asked) → last.query ≡ Status → last.moment ≤ t0 + turn → Waits i past last → has_begun configuration next ≡ true →
         has_ended configuration past ≡ false → last.moment ≤ clock (begun configuration next) → Track next
     status-next last is_status early w began not_ended before = elim (wait-comes configuration i past event last made w) [

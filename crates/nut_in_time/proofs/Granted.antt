@@ -5,30 +5,30 @@ use Rattle.nut_words.specs.Lines.{LineText}
 use Rattle.nut_proto.specs.declared.refusal.Refusal.{Refusal}
 use Rattle.nut_proto.specs.declared.refusal.Refusal.TheVariants as refusals
 use Rattle.nut_proto.specs.declared.reply.Reply.TheVariants as replies
-use Rattle.nut_history.specs.Configuration.{Configuration, User, number_of_ups, user_named, has_password}
-use Rattle.nut_history.specs.Command.{Asks, command_of}
-use Rattle.nut_history.specs.Event.{Event, Moment, Open, Bytes, Took, Close, WriteFailed, DriverUp, DriverBytes, DriverTook, DriverDown, Step, Clock, Opened, Said, Gone, Up, Reported, Drained, Down, steps, with_lines, with_reports, brought, input, driver_input}
-use Rattle.nut_history.specs.Content.{past}
-use Rattle.nut_history.specs.Answer.{Answer, Line as OneLine, Scene, Caller, refused, require, check, once, with_right, has_right, may_be_primary, may_force}
-use Rattle.nut_history.specs.Effect.{user_then, password_then, forced_then, at_target, target}
-use Rattle.nut_history.specs.Trace.{Entry, trace, configuration, user, password, logged_out, forced, scene, caller, answer_to}
-use Rattle.nut_history.proofs.Requests.{require-case, check-case}
-use Rattle.nut_history.proofs.Waiting.{configuration_stays}
-use Rattle.nut_decision.specs.declared.Query.{Query}
-use Rattle.nut_decision.specs.declared.Query.TheVariants.{Username, Password, Login, Primary, Status, Fsd, NumLogins}
-use Rattle.nut_decision.specs.Configuration.{Line}
-use Rattle.nut_decision.specs.Query.{request}
+use Rattle.nut_server_spec.specs.Configuration.{Configuration, User, number_of_ups, user_named, has_password}
+use Rattle.nut_server_spec.specs.Command.{Asks, command_of}
+use Rattle.nut_server_spec.specs.Event.{Event, Moment, Open, Bytes, Took, Close, WriteFailed, DriverUp, DriverBytes, DriverTook, DriverDown, Step, Clock, Opened, Said, Gone, Up, Reported, Drained, Down, steps, with_lines, with_reports, brought, input, driver_input}
+use Rattle.nut_server_spec.specs.Content.{past}
+use Rattle.nut_server_spec.specs.Answer.{Answer, Line as OneLine, Scene, Caller, refused, require, check, once, with_right, has_right, may_be_primary, may_force}
+use Rattle.nut_server_spec.specs.Effect.{user_then, password_then, forced_then, at_target, target}
+use Rattle.nut_server_spec.specs.Trace.{Entry, trace, configuration, user, password, logged_out, forced, scene, caller, answer_to}
+use Rattle.nut_server_spec.proofs.Requests.{require-case, check-case}
+use Rattle.nut_server_spec.proofs.Waiting.{configuration_stays}
+use Rattle.nut_monitor_spec.specs.declared.Query.{Query}
+use Rattle.nut_monitor_spec.specs.declared.Query.TheVariants.{Username, Password, Login, Primary, Status, Fsd, NumLogins}
+use Rattle.nut_monitor_spec.specs.Configuration.{Line}
+use Rattle.nut_monitor_spec.specs.Query.{request}
 use Rattle.nut_fleet.specs.Schedule.{Step as Playing}
 use Rattle.nut_fleet.specs.World.{Setup, line_of, world}
 use Rattle.nut_fleet.specs.Shown.{query_line}
-use Rattle.nut_fleet.specs.Exchange.{Exchange, exchanges}
+use Rattle.nut_fleet.specs.machine.Exchange.{Exchange, exchanges}
 use Rattle.nut_fleet.specs.Fleet.{IsSpoken, IsAnswered, Exists}
 use Rattle.nut_fleet.proofs.Sound.{IsOwn, AreOwn}
 use Rattle.nut_fleet.proofs.Reading.{answer-said, reply-same}
 use Rattle.nut_fleet.proofs.Replying.{query-command, query-answer, never-out, number-there}
 use Rattle.nut_in_time.specs.Room.{IsGrant}
 
--- ---- a connection that gave a user and a password who may be the primary of the UPS of this line
+-- ---- a connection that gave the user and the password of a primary of the line's UPS
 
 pub record IsEntitled (first : Configuration) (line : Line) (names secrets : Option (List ℕ)) : Type 0 where
   pub name : List ℕ
@@ -39,7 +39,7 @@ pub record IsEntitled (first : Configuration) (line : Line) (names secrets : Opt
   pub number : number_of_ups line.ups first.upses ≡ Some u
   pub right : has_right may_be_primary secret (user_named name first.users) ≡ true
 
--- what is known where a request with a right is granted
+-- what is known if a request that needs a right is granted
 right-known : (P : Answer → Type 0) (s : Scene) (k : Caller) (right : User → Bool) (ups : List ℕ) (next : ℕ → Answer) → ((r : Refusal) → P (refused r)) →
     ((name secret : List ℕ) (u : ℕ) → k.user ≡ Some name → k.password ≡ Some secret → number_of_ups ups s.configuration.upses ≡ Some u →
     has_right right secret (user_named name s.configuration.users) ≡ true → P (next u)) → P (with_right s k right ups next)
@@ -71,10 +71,10 @@ granted-entitled first t c line s is =
     bad : (r : Refusal) → P (refused r)
     bad r e = let same : replies.Refused r ≡ replies.Accepted = reply-same (replies.Refused r) replies.Accepted e in cc
 
--- ---- it stays so
+-- ---- the connection stays entitled
 
 module _ (first : Configuration) (line : Line) (c : ℕ) (t : List Entry) (spoken : IsSpoken line) (stays : logged_out c t ≡ false) where
-  -- a user name isn't given twice
+  -- a user name isn't taken twice
   name-kept : (query : Query) (name : List ℕ) → user c t ≡ Some name →
       user_then (Asks (request line query)) (answer_to first t c (query_line line query)) (user c t) ≡ Some name
   name-kept Username name is =
@@ -193,7 +193,7 @@ answered-forced setup m i u step early spoken number a =
     (ap (λ k. forced_then k (answer_to first t c (query_line line Fsd)) (forced first u t)) command
     ∙ ap (λ x. forced_then (Asks (request line Fsd)) x (forced first u t)) a.answered)
 
--- ---- what was said stays said
+-- ---- what was said isn't taken back
 
 module _ (first : Configuration) (c : ℕ) (P : Exchange → Type 0) where
   lines-keep : (d : ℕ) (ls : List LineText) (s : List Step) → Exists P (exchanges c (trace first s)) → Exists P (exchanges c (trace first (with_lines d ls s)))

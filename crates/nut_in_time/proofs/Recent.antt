@@ -1,20 +1,20 @@
 -- What holds of each query as it is put holds of the one that waits for its answer.
 use Rattle.std.proofs.Common.{◌≡◌, ◌⊎◌, ℕ, suc, ◌<◌, ◌≤◌, ◌==◌, inl, inr, List, ◌∷◌, length, true, false, Option, Some, None, refl, sym, ◌∙◌, ap, subst, arith}
 use Rattle.std.proofs.lemmas.Bool.{cases_Bool}
-use Rattle.nut_decision.specs.declared.Query.{Query}
-use Rattle.nut_decision.specs.Acceptance.{IsAccepted}
-use Rattle.nut_decision.specs.Configuration.{Configuration}
-use Rattle.nut_decision.specs.Event.{Event, NoticeTaken}
-use Rattle.nut_decision.specs.Trace.{Asked, clock, clock_after, linked, queries, answers, outstanding, number, came, query_put, answer_of, answered_in, notices_waiting, trace}
-use Rattle.nut_decision.proofs.Lists.{number-none}
-use Rattle.nut_decision.proofs.Putting.{come-alone, come-in-turn}
+use Rattle.nut_monitor_spec.specs.declared.Query.{Query}
+use Rattle.nut_monitor_spec.specs.Acceptance.{IsAccepted}
+use Rattle.nut_monitor_spec.specs.Configuration.{Configuration}
+use Rattle.nut_monitor_spec.specs.Event.{Event, NoticeTaken}
+use Rattle.nut_monitor_spec.specs.Trace.{Asked, clock, clock_after, linked, queries, answers, outstanding, number, came, query_put, answer_of, answered_in, notices_waiting, trace}
+use Rattle.nut_monitor_spec.proofs.Lists.{number-none}
+use Rattle.nut_monitor_spec.proofs.Putting.{come-alone, come-in-turn}
 use Rattle.nut_fleet.specs.World.{informed}
 use Rattle.nut_fleet.proofs.Entries.{entry-linked, is_made}
 use Rattle.nut_in_time.proofs.Asking.{not-made, answer-cases, midway-queries, midway-answers, next-queries, next-answers}
 use Rattle.nut_in_time.proofs.Climbing.{forth, back}
 use Rattle.nut_in_time.proofs.Starting.{turn-counts}
 
--- ---- a link that is there
+-- ---- a link that is up
 
 module _ (configuration : Configuration) (i : ℕ) where
   pub record Up (told : List Event) : Type 0 where
@@ -34,7 +34,7 @@ module _ (configuration : Configuration) (i : ℕ) where
     | inr f ↦ inr (rw f at is)
   ]
 
-  -- before a query is put, what waits has waited
+  -- before a query is put, the query that waits has waited before
   midway-asked : (told : List Event) (event : Event) → Up told → is_made i event ≡ false → (a : Asked) →
       outstanding i (came configuration (trace configuration told) event ∷ trace configuration told) ≡ Some a → outstanding i (trace configuration told) ≡ Some a
   midway-asked told event u made a is =
@@ -55,7 +55,7 @@ module _ (configuration : Configuration) (i : ℕ) where
       ]
 
   module _ (within : i < length configuration.lines) where
-    -- An event puts no query, and what waits has waited; or it puts one, and that waits.
+    -- An event puts no query, and the query that waits has waited before; or it puts one, and that waits.
     pub put-cases : (told : List Event) (event : Event) → Up told → Up (event ∷ told) →
         ((queries i (trace configuration (event ∷ told)) ≡ queries i (trace configuration told))
         × ((a : Asked) → outstanding i (trace configuration (event ∷ told)) ≡ Some a → outstanding i (trace configuration told) ≡ Some a))
@@ -93,7 +93,7 @@ module _ (configuration : Configuration) (i : ℕ) where
 
 -- ---- what holds of each query as it is put
 
--- `At` is the time from which on it holds
+-- `At` holds from some event on
 module _ (configuration : Configuration) (i : ℕ) (within : i < length configuration.lines) (At : List Event → Type 0)
     (on : (told : List Event) (event : Event) → At told → At (event ∷ told)) (Fits : Asked → Type 0)
     (fits : (told : List Event) (event : Event) (query : Query) → At (event ∷ told) → Fits (newly configuration i told event query)) where
@@ -104,7 +104,7 @@ module _ (configuration : Configuration) (i : ℕ) (within : i < length configur
     | inr new ↦ let n = new a is in subst Fits n.1 (fits told event n.0 now)
   ]
 
-  -- an event and the notices that are taken
+  -- an event and the taking of its notices
   pub recent-informed : (told : List Event) (event : Event) → At (event ∷ told) → Up configuration i told → Up configuration i (informed configuration told event) →
       ((a : Asked) → outstanding i (trace configuration told) ≡ Some a → Fits a) →
       At (informed configuration told event) × ((a : Asked) → outstanding i (trace configuration (informed configuration told event)) ≡ Some a → Fits a)

@@ -1,8 +1,8 @@
 -- Machines with more UPSes than they need.
 use Rattle.std.proofs.Common.{◌≡◌, ℕ, zero, suc, ◌<◌, ◌≤◌, ◌==◌, List, [], ◌∷◌, length, Bool, true, not, refl, subst, sym, arith}
 use Rattle.std.proofs.lemmas.Bool.{eqb-true, eq-eqb}
-use Rattle.nut_decision.specs.Configuration.{Line, line_in}
-use Rattle.nut_decision.specs.Decision.{power_where}
+use Rattle.nut_monitor_spec.specs.Configuration.{Line, line_in}
+use Rattle.nut_monitor_spec.specs.Decision.{power_where}
 use Rattle.nut_fleet.specs.Schedule.{Step}
 use Rattle.nut_fleet.specs.World.{Setup, monitor_of}
 use Rattle.nut_fleet.specs.Fleet.{IsSetup}
@@ -14,14 +14,14 @@ use Rattle.nut_in_time.specs.Redundant.{IsRedundant, OneIsEnough, AllAreLow, Las
 use Rattle.nut_in_time.proofs.Bearing.{none-begins_later}
 use Rattle.nut_in_time.proofs.Calming.{machines-halt_in_time}
 
--- what one line supplies
+-- one line supplies no more than all lines that pass
 power-one : (i : ℕ) (lines : List Line) (test : ℕ → Bool) → i < length lines → test i ≡ true → (line_in lines i).power ≤ power_where test lines
 power-one i [] test within is = absurd (omega (arith, within))
 power-one zero (line ∷ lines) test within is = rw is (omega arith)
 power-one (suc i) (line ∷ lines) test within is =
     let rest = power-one i lines (λ k. test (suc k)) (omega (arith, within)) is in omega (arith, rest)
 
--- no line supplies nothing
+-- if no line passes, the sum is 0
 power-none : (lines : List Line) → power_where (λ i. not true) lines ≡ 0
 power-none [] = refl
 power-none (line ∷ lines) = let rest = power-none lines in omega (arith, rest)

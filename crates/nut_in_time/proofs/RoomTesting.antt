@@ -1,7 +1,7 @@
 -- The tests of a room's premises prove them.
 use Rattle.std.proofs.Common.{◌≡◌, ℕ, ◌+◌, ◌<◌, ◌≤◌, ◌&&◌, ◌||◌, nat_le, inl, inr, List, ◌++◌, length, true, false, sym, ◌∙◌, ◌∷◌, arith}
 use Rattle.std.proofs.lemmas.Bool.{and_parts, leb-true, or_cases}
-use Rattle.nut_decision.specs.Trace.{clock, outstanding}
+use Rattle.nut_monitor_spec.specs.Trace.{clock, outstanding}
 use Rattle.nut_fleet.specs.Schedule.{Step, IsFront}
 use Rattle.nut_fleet.specs.World.{Setup, is_linked, is_open, world}
 use Rattle.nut_in_time.specs.Pace.{Pace, FromOn, seen_at, shown_at}

@@ -2,24 +2,24 @@
 use Rattle.std.proofs.Common.{◌≡◌, ◌⊎◌, ℕ, zero, suc, ◌+◌, ◌<◌, ◌≤◌, ◌||◌, ◌&&◌, inl, inr, List, [], ◌∷◌, length, Bool, true, false, Option, Some, None, is_some, refl, sym, ◌∙◌, ap, subst, arith, Contains}
 use Rattle.std.specs.Prelude.{nat_lt, if◌then◌else◌}
 use Rattle.std.proofs.lemmas.Bool.{cases_Bool, cases_eq, lt-ltb}
-use Rattle.nut_state.specs.Holds.{EveryTableHolds}
-use Rattle.nut_history.specs.Acceptance as server_tests
-use Rattle.nut_history.specs.Configuration.{number_of_ups}
-use Rattle.nut_history.specs.Content.{past as happened}
-use Rattle.nut_history.specs.Content as server
-use Rattle.nut_history.specs.Trace.{forced}
-use Rattle.nut_decision.specs.declared.LastQuery.{LastQuery}
-use Rattle.nut_decision.specs.declared.Phase.{Phase}
-use Rattle.nut_decision.specs.declared.Phase.TheVariants.{Watching, Forcing, Halted}
-use Rattle.nut_decision.specs.declared.Query.TheVariants.{Login, Status}
-use Rattle.nut_decision.specs.Configuration.{Configuration, Line, has_primary, line_in}
-use Rattle.nut_decision.specs.Decision.{phase_at}
-use Rattle.nut_decision.specs.Event.{Event, NoticeTaken}
-use Rattle.nut_decision.specs.Query.{logins_in}
-use Rattle.nut_decision.specs.Trace.{Asked, Entry, gives, clock, moment_of, latest, earliest, is_any, last_in, queries, phase, begun, has_begun, is_short, ended, has_ended, is_over_at, notices_waiting, entry_of, trace}
+use Rattle.nut_state.specs.laws.Holds.{EveryTableHolds}
+use Rattle.nut_server_spec.specs.Acceptance as server_tests
+use Rattle.nut_server_spec.specs.Configuration.{number_of_ups}
+use Rattle.nut_server_spec.specs.Content.{past as happened}
+use Rattle.nut_server_spec.specs.Content as server
+use Rattle.nut_server_spec.specs.Trace.{forced}
+use Rattle.nut_monitor_spec.specs.declared.LastQuery.{LastQuery}
+use Rattle.nut_monitor_spec.specs.declared.Phase.{Phase}
+use Rattle.nut_monitor_spec.specs.declared.Phase.TheVariants.{Watching, Forcing, Halted}
+use Rattle.nut_monitor_spec.specs.declared.Query.TheVariants.{Login, Status}
+use Rattle.nut_monitor_spec.specs.Configuration.{Configuration, Line, has_primary, line_in}
+use Rattle.nut_monitor_spec.specs.Decision.{phase_at}
+use Rattle.nut_monitor_spec.specs.Event.{Event, NoticeTaken}
+use Rattle.nut_monitor_spec.specs.Query.{logins_in}
+use Rattle.nut_monitor_spec.specs.Trace.{Asked, Entry, gives, clock, moment_of, latest, earliest, is_any, last_in, queries, phase, begun, has_begun, is_short, ended, has_ended, is_over_at, notices_waiting, entry_of, trace}
 use Rattle.nut_fleet.specs.Schedule.{Step, IsFront}
 use Rattle.nut_fleet.specs.World.{Setup, World, Deed, Skip, Rest, Tell, Inform, Join, after, deed, has_link, line_of, monitor_of, world}
-use Rattle.nut_fleet.specs.Exchange.{exchanges}
+use Rattle.nut_fleet.specs.machine.Exchange.{exchanges}
 use Rattle.nut_fleet.specs.Fleet.{Exists, IsSetup, WasAlone, at_count}
 use Rattle.nut_fleet.specs.Shown.{logins}
 use Rattle.nut_fleet.proofs.Entries.{length-trace}
@@ -63,7 +63,7 @@ first-forced setup u start (step ∷ earlier) (inr front) none is = elim (cases_
   | inr not_before ↦ record { step = step; early = earlier; played = inl refl; since = front; not_yet = not_before; now = is }
 ]
 
--- it is one of the server's, so the monitors' clocks stand
+-- it is a step of the server, so the monitors' clocks don't move
 deed-server : (setup : Setup) (u m : ℕ) (w : World) (d : Deed) → forced setup.server u (happened setup.server w.server) ≡ false →
     forced setup.server u (happened setup.server (after setup w d).server) ≡ true → (after setup w d).monitor m ≡ w.monitor m
 deed-server setup u m w Skip none now = refl
@@ -99,7 +99,7 @@ none-primary [] one is = cc
 none-primary (line ∷ []) one is = rw is refl
 none-primary (line ∷ other ∷ lines) one is = absurd (omega (arith, one))
 
--- the beginning of a shutdown is that which its Final had
+-- the shutdown began at the same time by the past of Final
 begun-ending : (configuration : Configuration) (past : List Entry) → has_ended configuration past ≡ true →
     begun configuration (ended configuration past) ≡ begun configuration past
 begun-ending configuration [] any = cc
@@ -111,7 +111,7 @@ begun-ending configuration (e ∷ p) any = elim (cases_Bool (has_ended configura
   | inr not_before ↦ ap (begun configuration) (earliest-now (is_over_at configuration) e p not_before any).0
 ]
 
--- what has ended stays so
+-- what has ended stays ended
 ended-stays : (setup : Setup) (m : ℕ) (early late : List Step) → IsFront early late → has_ended (monitor_of setup m) (seen_at setup m early) ≡ true →
     ended (monitor_of setup m) (seen_at setup m late) ≡ ended (monitor_of setup m) (seen_at setup m early)
 ended-stays setup m early late front any =
@@ -127,7 +127,7 @@ ended-stays setup m early late front any =
         ended (monitor_of setup m) (entry ∷ past) ≡ ended (monitor_of setup m) (seen_at setup m early)
     on past entry same = earliest-stays (is_over_at (monitor_of setup m)) entry past (ap is_any same ∙ any) ∙ same
 
--- a shutdown that hadn't begun at a time begins no earlier
+-- a shutdown that hadn't begun at a time begins no earlier than that
 begins-later : (setup : Setup) (m : ℕ) (early late : List Step) → IsFront early late → has_begun (monitor_of setup m) (seen_at setup m early) ≡ false →
     has_begun (monitor_of setup m) (seen_at setup m late) ≡ true → clock (seen_at setup m early) ≤ clock (begun (monitor_of setup m) (seen_at setup m late))
 begins-later setup m early late front none any =
@@ -172,7 +172,7 @@ earliest-shorter test (e ∷ past) = elim (cases_Bool (is_any (earliest test pas
   ]
 ]
 
--- of at most one connection each two are one
+-- two members of a list of at most one are equal
 same-one : (xs : List ℕ) (one other : ℕ) → length xs ≤ 1 → Contains xs one → Contains xs other → other ≡ one
 same-one [] one other le a b = absurd (let lt = a.1 in omega (arith, lt))
 same-one (x ∷ []) one other le (zero, lt, e) (zero, lt', e') = sym e' ∙ e
@@ -211,7 +211,7 @@ module _ (tables : EveryTableHolds) (setup : Setup) (law : IsLawful setup.server
       let b : nat_lt 0 (length (monitor_of setup m).lines) ≡ true = lt-ltb 0 (length (monitor_of setup m).lines) (omega (arith, one)) in
       both-true (nat_lt m (length setup.monitors)) (nat_lt 0 (length (monitor_of setup m).lines)) a b
 
-  -- what is shown stops a primary at once
+  -- the status that is shown stops a primary at once
   urgent-at : FromOn start schedule (λ early. Says is_urgent (shown_at setup early ups))
   urgent-at early within since = elim (cases_Bool (is_forced setup u early)) [
     | inl t ↦
@@ -235,7 +235,7 @@ module _ (tables : EveryTableHolds) (setup : Setup) (law : IsLawful setup.server
   before-forced e within since none =
       stops.primary e within since none
 
-  -- and each machine until it is to be halted
+  -- each machine keeps step until it is in Halted
   before-halted : (m : ℕ) → m < length setup.monitors → (e : List Step) → IsFront e schedule → IsFront start e →
       is_halted (phase (monitor_of setup m) (seen_at setup m e)) ≡ false → KeepsStep setup pace drift p m start e
   before-halted m less e within since none =
@@ -353,7 +353,7 @@ module _ (tables : EveryTableHolds) (setup : Setup) (law : IsLawful setup.server
 
     -- ---- the primary leaves Forcing
 
-    -- a connection that was logged in at `start` is so as long as it is open
+    -- a connection that was logged in at `start` is logged in while it is open
     logged-in : (k : ℕ) (there : k < length setup.monitors) (e : List Step) → IsFront start e → IsFront e schedule → KeepsStep setup pace drift p k start e →
         Contains (logins setup.server (happened setup.server (world setup e).server) ups) ((world setup e).connection k 0)
     logged-in k there e since within step =
@@ -452,7 +452,7 @@ module _ (tables : EveryTableHolds) (setup : Setup) (law : IsLawful setup.server
         begun-over : has_begun (monitor_of setup p) (seen_at setup p schedule) ≡ true
         begun-over = ended-begun (monitor_of setup p) (seen_at setup p schedule) over
 
-        -- nobody had forced the shutdown at this time: it is soon behind the beginning, or before it
+        -- nobody had forced the shutdown at this time: it is soon after the primary's shutdown began, or before
         soon-forced : (e : List Step) → IsFront e schedule → IsFront start e → is_forced setup u e ≡ false →
             clock (seen_at setup p e) ≤ clock (begun (monitor_of setup p) (seen_at setup p schedule)) + pace.delay + pace.delay
         soon-forced e inside since none = elim (cases_Bool (has_begun (monitor_of setup p) (seen_at setup p e))) [

@@ -4,19 +4,19 @@ use Rattle.std.specs.Prelude.{if◌then◌else◌}
 use Rattle.std.specs.List.{AllByRecursion}
 use Rattle.nut_words.specs.Lines.{lines}
 use Rattle.nut_words.specs.Quoting.{Begins}
-use Rattle.nut_history.specs.Event as arrivals
-use Rattle.nut_history.specs.Content.{past as happened}
-use Rattle.nut_history.specs.Content as server
-use Rattle.nut_history.specs.Trace.{due as server_due}
-use Rattle.nut_decision.specs.declared.Query.{Query}
-use Rattle.nut_decision.specs.Configuration.{Configuration, Line}
-use Rattle.nut_decision.specs.Event.{Event, NoticeTaken}
-use Rattle.nut_decision.specs.Trace.{Asked, clock, queries, answers, outstanding, due, joined_queries, taken, notices_waiting, trace}
-use Rattle.nut_decision.specs.Trace as monitor
-use Rattle.nut_decision.proofs.Lists.{number-none}
+use Rattle.nut_server_spec.specs.Event as arrivals
+use Rattle.nut_server_spec.specs.Content.{past as happened}
+use Rattle.nut_server_spec.specs.Content as server
+use Rattle.nut_server_spec.specs.Trace.{due as server_due}
+use Rattle.nut_monitor_spec.specs.declared.Query.{Query}
+use Rattle.nut_monitor_spec.specs.Configuration.{Configuration, Line}
+use Rattle.nut_monitor_spec.specs.Event.{Event, NoticeTaken}
+use Rattle.nut_monitor_spec.specs.Trace.{Asked, clock, queries, answers, outstanding, due, joined_queries, taken, notices_waiting, trace}
+use Rattle.nut_monitor_spec.specs.Trace as monitor
+use Rattle.nut_monitor_spec.proofs.Lists.{number-none}
 use Rattle.nut_fleet.specs.Schedule.{Step, IsFront}
 use Rattle.nut_fleet.specs.World.{Setup, monitor_of, line_of, world, informed, has_link}
-use Rattle.nut_fleet.specs.Exchange.{Exchange, exchanges}
+use Rattle.nut_fleet.specs.machine.Exchange.{Exchange, exchanges}
 use Rattle.nut_fleet.specs.Fleet.{IsSetup}
 use Rattle.nut_fleet.proofs.Entries.{entry-taken, length-trace}
 use Rattle.nut_fleet.proofs.Exchanges.{said-lines}
@@ -75,7 +75,7 @@ module _ (setup : Setup) (law : IsLawful setup.server) (fine : IsSetup setup) (m
   pipes : (e : List Step) → PipeSound setup e m i ((world setup e).connection m i) (world setup e).server ((world setup e).monitor m)
   pipes e = ((sound setup law fine e).monitors m).links i there
 
-  -- ---- what was asked behind so many events and from a moment on
+  -- ---- queries that were put after some events and from a moment on
 
   module _ (n0 t0 : ℕ) (first : (n0 ≤ suc (length ((world setup start).monitor m))) × (t0 ≤ clock (seen_at setup m start))) where
     abbrev Fits : Asked → Type 0
@@ -120,7 +120,7 @@ module _ (setup : Setup) (law : IsLawful setup.server) (fine : IsSetup setup) (m
         forth Since (λ t. Unit {0}) (λ t q. tt) (λ t p q. since-of (NoticeTaken ∷ t) (behind-next t NoticeTaken p)) (notices_waiting (trace config (event ∷ told))) (event ∷ told)
         (since-of (event ∷ told) (behind-next told event before)) tt)
 
-    -- once it is so of what waits, it stays so
+    -- once this holds of the query that waits, it stays so
     recent-later : (early late : List Step) → IsFront start early → IsFront early late → IsFront late schedule → Recent ((world setup early).monitor m) →
         Recent ((world setup late).monitor m)
     recent-later early late since front within r =
@@ -133,7 +133,7 @@ module _ (setup : Setup) (law : IsLawful setup.server) (fine : IsSetup setup) (m
         (subst Up' moved (up-at (step ∷ earlier) (inr from) inside)) before.1 in
         (since-of (informed config told event) next.0, next.1))).1
 
-    -- it is so, or no query was put since `start`
+    -- this holds, or no query was put since `start`
     abbrev State : List Event → Type 0
     State told = Recent told ⊎ (queries i (trace config told) ≡ queries i (seen_at setup m start))
 
@@ -159,7 +159,7 @@ module _ (setup : Setup) (law : IsLawful setup.server) (fine : IsSetup setup) (m
         (λ t p u. let later = behind-next t NoticeTaken p.0 in (since-of (NoticeTaken ∷ t) later, state-next t NoticeTaken later (up-older config i t u) u p.1)) notices (event ∷ told)
         (since-of (event ∷ told) now, state-next told event now here next before.1) last)).1
 
-  -- ---- what its monitor put becomes no less
+  -- ---- what its monitor put only grows
 
   taken-later : (early late : List Step) → IsFront start early → IsFront early late → IsFront late schedule → taken i (seen_at setup m early) ≤ taken i (seen_at setup m late)
   taken-later early late since front within =
@@ -210,7 +210,7 @@ module _ (setup : Setup) (law : IsLawful setup.server) (fine : IsSetup setup) (m
     abbrev NoneAsked : List Step → Type 0
     NoneAsked e = queries i (seen_at setup m e) ≡ queries i (seen_at setup m start)
 
-    -- all that was asked has reached the server
+    -- all queries have reached the server
     all-heard : NoneAsked round.out → NoneAsked round.reach →
         length (lines (arrivals.input ((world setup round.reach).connection m i) (world setup round.reach).server)) ≡ length asked
     all-heard q1 q2 =
@@ -242,7 +242,7 @@ module _ (setup : Setup) (law : IsLawful setup.server) (fine : IsSetup setup) (m
         ap (λ x. length (lines x)) put ∙ ap length (due-lines c (happened setup.server h) replies).0 ∙ length-in_turn _ given
         ∙ sym (ap length (said-lines setup.server h c) ∙ length-in_turn _ given)
 
-    -- and have landed
+    -- and have arrived
     all-read : let c = (world setup round.land).connection m i in
         length (lines (server.sent setup.server c (world setup round.land).server)) ≡ length (answers i (seen_at setup m round.land))
     all-read =

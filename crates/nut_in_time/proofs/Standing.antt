@@ -1,13 +1,14 @@
--- What a link that is there keeps: its connection, what its server heard on it, and what each end put into its pipe.
+-- What a link that is up keeps: its connection, what the server heard on it, and what each end put into its pipe.
 use Rattle.std.proofs.Common.{◌≡◌, ◌⊎◌, ℕ, ◌≤◌, ◌==◌, ◌&&◌, ◌++◌, min, not, true, false, inl, inr, List, [], ◌∷◌, take, is_none, refl, sym, ◌∙◌, ap, subst, arith}
 use Rattle.std.proofs.lemmas.Bool.{cases_Bool, cases_eq, and_parts, not-true, eq-eqb, ne_eqb}
 use Rattle.nut_words.specs.Quoting.{Begins}
-use Rattle.nut_history.specs.Event as arrivals
-use Rattle.nut_history.specs.Acceptance as server_tests
-use Rattle.nut_history.specs.Content as server
-use Rattle.nut_decision.specs.Acceptance as monitor_tests
-use Rattle.nut_decision.specs.Event.{Event, Moment, Linked, LinkBytes, LinkLost, LinkTook, OutOfMemory, NoticeTaken}
-use Rattle.nut_decision.specs.Trace.{taken_after}
+use Rattle.nut_words.specs.declared.limits.TheConstants.{PIECE_MAX}
+use Rattle.nut_server_spec.specs.Event as arrivals
+use Rattle.nut_server_spec.specs.Acceptance as server_tests
+use Rattle.nut_server_spec.specs.Content as server
+use Rattle.nut_monitor_spec.specs.Acceptance as monitor_tests
+use Rattle.nut_monitor_spec.specs.Event.{Event, Moment, Linked, LinkBytes, LinkLost, LinkTook, OutOfMemory, NoticeTaken}
+use Rattle.nut_monitor_spec.specs.Trace.{taken_after}
 use Rattle.nut_fleet.specs.Schedule.{Step, IsFront, ServerClock, MonitorClock, Up, Driver, Down, Link, Out, Reach, Back, Land, CutServer, CutMonitor}
 use Rattle.nut_fleet.specs.World.{Setup, World, Deed, Skip, Rest, Tell, Inform, Join, served, known, is_open, is_linked, to_server, to_monitor, server_waits, monitor_waits, tell, inform, carried, counted, moved, address_of, is_fit, deed, deed_of, after, world}
 use Rattle.nut_fleet.specs.Fleet.{IsSetup}
@@ -30,7 +31,7 @@ module _ (setup : Setup) (w : World) (m i : ℕ) (up : is_linked setup w m i ≡
   heard : (k : ℕ) (event : Event) → Same (after setup w (inform setup w k event))
   heard k event = if-played Same setup w (is_none (monitor_tests.refusal (known setup w k) event)) (Inform k event) refl (λ ok. refl)
 
-  -- only a link that isn't there is made
+  -- only a link that is down is made
   made : (k j : ℕ) → is_linked setup w k j ≡ false → Same (after setup w (Join k j))
   made k j cut = elim (cases_eq m k) [
     | inl same ↦ elim (cases_eq i j) [
@@ -62,22 +63,22 @@ module _ (setup : Setup) (w : World) (m i : ℕ) (up : is_linked setup w m i ≡
           (λ ok. if-counted Same setup w (moved n (monitor_waits setup w k j)) (λ x. inform setup w k (LinkTook j x)) refl (heard k (LinkTook j (moved n (monitor_waits setup w k j)))))
       by (Reach k j n) =
           if-played Same setup w (is_open setup w k j)
-          (carried (take (min n 512) (to_server setup w k j)) (λ piece. tell setup w (arrivals.Bytes (w.connection k j) piece))) refl
-          (λ ok. if-carried Same setup w (take (min n 512) (to_server setup w k j)) (λ piece. tell setup w (arrivals.Bytes (w.connection k j) piece)) refl
-          (told (arrivals.Bytes (w.connection k j) (take (min n 512) (to_server setup w k j)))))
+          (carried (take (min n PIECE_MAX) (to_server setup w k j)) (λ piece. tell setup w (arrivals.Bytes (w.connection k j) piece))) refl
+          (λ ok. if-carried Same setup w (take (min n PIECE_MAX) (to_server setup w k j)) (λ piece. tell setup w (arrivals.Bytes (w.connection k j) piece)) refl
+          (told (arrivals.Bytes (w.connection k j) (take (min n PIECE_MAX) (to_server setup w k j)))))
       by (Back k j n) =
           if-played Same setup w (is_open setup w k j) (counted (moved n (server_waits setup w k j)) (λ x. tell setup w (arrivals.Took (w.connection k j) x))) refl
           (λ ok. if-counted Same setup w (moved n (server_waits setup w k j)) (λ x. tell setup w (arrivals.Took (w.connection k j) x)) refl
           (told (arrivals.Took (w.connection k j) (moved n (server_waits setup w k j)))))
       by (Land k j n) =
           if-played Same setup w (is_linked setup w k j)
-          (carried (take (min n 512) (to_monitor setup w k j)) (λ piece. inform setup w k (LinkBytes j piece))) refl
-          (λ ok. if-carried Same setup w (take (min n 512) (to_monitor setup w k j)) (λ piece. inform setup w k (LinkBytes j piece)) refl
-          (heard k (LinkBytes j (take (min n 512) (to_monitor setup w k j)))))
+          (carried (take (min n PIECE_MAX) (to_monitor setup w k j)) (λ piece. inform setup w k (LinkBytes j piece))) refl
+          (λ ok. if-carried Same setup w (take (min n PIECE_MAX) (to_monitor setup w k j)) (λ piece. inform setup w k (LinkBytes j piece)) refl
+          (heard k (LinkBytes j (take (min n PIECE_MAX) (to_monitor setup w k j)))))
       by (CutServer k j) = told (arrivals.Close (w.connection k j))
       by (CutMonitor k j) = heard k (LinkLost j)
 
--- from one time to a later, over which it is there
+-- from one time to a later one, while the link is up
 pub connection-kept : (setup : Setup) (m i : ℕ) (early late : List Step) → IsFront early late →
     ((e : List Step) → IsFront early e → IsFront e late → is_linked setup (world setup e) m i ≡ true) →
     (world setup late).connection m i ≡ (world setup early).connection m i
@@ -124,7 +125,7 @@ server-moves setup w (Tell event) = inr (event, refl)
 server-moves setup w (Inform m event) = inl refl
 server-moves setup w (Join m i) = inr (arrivals.Open (address_of m), refl)
 
--- Of what the server's events say, what is kept by each is kept from one time to a later.
+-- What holds of the server's events at one time, and is kept by each event, holds at a later time.
 pub server-climb : (setup : Setup) (early late : List Step) (P : List arrivals.Event → Type 0) → IsFront early late → P (world setup early).server →
     ((e : List Step) (event : arrivals.Event) → IsFront early e → P (world setup e).server → P (event ∷ (world setup e).server)) → P (world setup late).server
 server-climb setup early [] P front base on = subst (λ e. P (world setup e).server) front base

@@ -2,24 +2,24 @@
 use Rattle.std.proofs.Common.{◌≡◌, ◌⊎◌, ℕ, zero, suc, ◌+◌, ◌<◌, ◌≤◌, ◌||◌, inl, inr, List, [], ◌∷◌, length, Bool, true, false, not, Some, is_some, refl, sym, ◌∙◌, ap, subst, arith}
 use Rattle.std.specs.Prelude.{nat_lt}
 use Rattle.std.proofs.lemmas.Bool.{cases_Bool, ltb-false, ltb-true, or_cases}
-use Rattle.nut_client.specs.declared.outcome.Outcome.{Outcome}
+use Rattle.nut_link.specs.declared.outcome.Outcome.{Outcome}
 use Rattle.nut_proto.specs.declared.reply.Reply.{Reply}
 use Rattle.nut_proto.specs.declared.reply.Reply.TheVariants as replies
-use Rattle.nut_history.specs.Answer.{Line as OneLine}
-use Rattle.nut_history.specs.Configuration.{number_of_ups}
-use Rattle.nut_history.specs.Content.{past}
-use Rattle.nut_history.specs.Event as arrivals
-use Rattle.nut_history.specs.Trace.{answer_to}
-use Rattle.nut_decision.specs.declared.Query.{Query}
-use Rattle.nut_decision.specs.declared.Query.TheVariants.{Username, Password, Login, Primary, Status, Fsd, NumLogins}
-use Rattle.nut_decision.specs.Configuration.{Configuration, Line, has_primary, line_in}
-use Rattle.nut_decision.specs.Decision.{is_alone, power_where}
-use Rattle.nut_decision.specs.Event.{Event, NoticeTaken}
-use Rattle.nut_decision.specs.Query.{logins_in}
-use Rattle.nut_decision.specs.Trace.{Answer, Entry, clock, newest_answer, logins_of_answer, logins, status, critical, begun, has_begun, came, notices_waiting, trace}
+use Rattle.nut_server_spec.specs.Answer.{Line as OneLine}
+use Rattle.nut_server_spec.specs.Configuration.{number_of_ups}
+use Rattle.nut_server_spec.specs.Content.{past}
+use Rattle.nut_server_spec.specs.Event as arrivals
+use Rattle.nut_server_spec.specs.Trace.{answer_to}
+use Rattle.nut_monitor_spec.specs.declared.Query.{Query}
+use Rattle.nut_monitor_spec.specs.declared.Query.TheVariants.{Username, Password, Login, Primary, Status, Fsd, NumLogins}
+use Rattle.nut_monitor_spec.specs.Configuration.{Configuration, Line, has_primary, line_in}
+use Rattle.nut_monitor_spec.specs.Decision.{is_alone, power_where}
+use Rattle.nut_monitor_spec.specs.Event.{Event, NoticeTaken}
+use Rattle.nut_monitor_spec.specs.Query.{logins_in}
+use Rattle.nut_monitor_spec.specs.Trace.{Answer, Entry, clock, newest_answer, logins_of_answer, logins, status, critical, begun, has_begun, came, notices_waiting, trace}
 use Rattle.nut_fleet.specs.Schedule.{Step, IsFront}
 use Rattle.nut_fleet.specs.World.{Setup, has_link, informed, line_of, monitor_of, world}
-use Rattle.nut_fleet.specs.Exchange.{exchanges}
+use Rattle.nut_fleet.specs.machine.Exchange.{exchanges}
 use Rattle.nut_fleet.specs.Fleet.{Exists, IsAnswered, IsSetup}
 use Rattle.nut_fleet.specs.Shown.{query_line}
 use Rattle.nut_fleet.proofs.Entries.{entry-answer, forced-by, forced-entry, length-trace}
@@ -58,7 +58,7 @@ clock-later setup m early late front =
     let grows = clock-grows event (clock (trace config told)) in
     omega (arith, before, same, time, grows))
 
--- ---- words that stop a primary at once
+-- ---- statuses that stop a primary at once
 
 abbrev pub is_urgent : List (List ℕ) → Bool
 is_urgent words = has_fsd words || is_low words
@@ -114,7 +114,7 @@ module _ (setup : Setup) (pace : Pace) (m : ℕ) (Words : List (List ℕ) → Bo
     short = let none : power_where (λ i. not (every i)) (monitor_of setup m).lines ≡ 0 = none-power (monitor_of setup m).lines in omega (arith, none, needed);
   }
 
--- ---- the primary, as long as nobody has forced the shutdown
+-- ---- the primary, while nobody has forced the shutdown
 
 module _ (setup : Setup) (law : IsLawful setup.server) (fine : IsSetup setup) (pace : Pace) (ups : List ℕ) (u p : ℕ) (start schedule : List Step)
     (front : IsFront start schedule) (there : has_link setup p 0 ≡ true) (one : length (monitor_of setup p).lines ≡ 1) (needed : 0 < (monitor_of setup p).min_supplies)
@@ -179,7 +179,7 @@ module _ (setup : Setup) (law : IsLawful setup.server) (fine : IsSetup setup) (p
         reply-same reply replies.FsdSet (sym answered ∙ entitled-forces setup.server line c t line_fine own right)
 
     module _ (e : List Step) (inside : IsFront e schedule) where
-      -- no count was read
+      -- no number of logins was read
       none-counted : (past : List Entry) → EachGenuine setup e p past → is_alone (logins 0 past) ≡ true → ⊥
       none-counted past all alone = elim (found setup e p (λ query outcome. is_some (logins_in query outcome)) 0 past all) [
         | inl none ↦
@@ -197,7 +197,7 @@ module _ (setup : Setup) (law : IsLawful setup.server) (fine : IsSetup setup) (p
           let forced = forced-genuine setup e p law 0 n past is all in
           none-accepted e inside forced.step forced.early forced.played forced.answered
 
-      -- no answer to one that was asked since `start` was read
+      -- no answer to an FSD that was put since `start` was read
       none-read : (past : List Entry) (a : Answer) → Genuine setup e p past a → a.link ≡ 0 → a.asked.query ≡ Fsd → n0 < a.asked.event → ⊥
       none-read past a g link query late =
           let early = g.was.early in

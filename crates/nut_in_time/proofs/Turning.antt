@@ -1,8 +1,8 @@
--- Written schedules in which a link goes round each time its monitor's clock goes on.
+-- Written schedules in which a link goes round each time its monitor's clock moves on.
 use Rattle.std.proofs.Common.{◌≡◌, ◌⊎◌, ℕ, zero, suc, ◌+◌, ◌≤◌, ◌==◌, ◌&&◌, nat_le, inl, inr, List, [], ◌∷◌, ◌++◌, Bool, true, false, sym, subst, arith}
 use Rattle.std.specs.Prelude.{if◌then◌else◌}
 use Rattle.std.proofs.lemmas.Bool.{cases_Bool, and_parts, eqb-true, leb-true, ltb-false}
-use Rattle.nut_decision.specs.Trace.{clock, outstanding}
+use Rattle.nut_monitor_spec.specs.Trace.{clock, outstanding}
 use Rattle.nut_fleet.specs.Schedule.{Step, IsFront}
 use Rattle.nut_fleet.specs.World.{Setup, is_open, is_linked, monitor_waits, to_server, server_waits, to_monitor, world}
 use Rattle.nut_fleet.specs.Fleet.{IsSetup}
@@ -15,7 +15,7 @@ use Rattle.nut_in_time.proofs.Rounding.{rounds-keep_pace}
 use Rattle.nut_in_time.proofs.Testing.{front-append, front-same, nothing-holds, each-holds, prompt-holds}
 
 module _ (setup : Setup) (m i : ℕ) where
-  -- what has to be so at each place of a round
+  -- what has to hold at each place of a round
   abbrev Holds : ℕ → List Step → Type 0
   Holds zero e = monitor_waits setup (world setup e) m i ≡ []
   Holds (suc zero) e = (is_open setup (world setup e) m i ≡ true) × (to_server setup (world setup e) m i ≡ [])
@@ -23,7 +23,7 @@ module _ (setup : Setup) (m i : ℕ) where
   Holds (suc (suc (suc zero))) e = to_monitor setup (world setup e) m i ≡ []
   Holds (suc (suc (suc (suc k)))) e = Unit {0}
 
-  -- since then the link has come so far
+  -- the link has come this far since then
   abbrev Far : List Step → ℕ → List Step → Type 0
   Far since zero e = IsFront since e
   Far since (suc k) e = (x : List Step) × (Far since k x × Holds k x) × IsFront x e
@@ -93,7 +93,7 @@ module _ (setup : Setup) (m i : ℕ) where
   }
 
   module _ (pace : Pace) (start : List Step) where
-    -- no tick leaves the clock where it was
+    -- a step that is no tick doesn't move the clock
     stands : (step : Step) (e : List Step) → is_tick setup m step e ≡ false → clock (seen_at setup m (step ∷ e)) ≤ clock (seen_at setup m e)
     stands step e is = ltb-false (clock (seen_at setup m e)) (clock (seen_at setup m (step ∷ e))) is
 
@@ -124,7 +124,7 @@ module _ (setup : Setup) (m i : ℕ) where
           }
         ]
 
-    -- a step of the clock ago at most
+    -- since at most a step of the clock ago
     pub record Went (e : List Step) : Type 0 where
       pub since : List Step
       pub front : IsFront start since

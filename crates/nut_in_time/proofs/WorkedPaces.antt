@@ -14,13 +14,13 @@ use Rattle.nut_proto.specs.Lines.{line}
 use Rattle.nut_proto.specs.Refusals.{refusal_name}
 use Rattle.nut_proto.specs.Replies.{reply_line}
 use Rattle.nut_proto.specs.Requests.{request_line}
-use Rattle.nut_history.specs.Answer.{text_of}
-use Rattle.nut_decision.specs.Trace.{entry_of}
-use Rattle.nut_fleet.specs.Examples.{alone}
+use Rattle.nut_server_spec.specs.Answer.{text_of}
+use Rattle.nut_monitor_spec.specs.Trace.{entry_of}
+use Rattle.nut_fleet.specs.examples.Examples.{alone}
 use Rattle.nut_in_time.specs.Pace.{IsWatched}
 use Rattle.nut_in_time.specs.InTime.{is_low, IsFailing}
-use Rattle.nut_in_time.specs.Examples.{all, pace, start}
-use Rattle.nut_in_time.specs.PaceExamples.{PaceExamples, comes_at_last, first_low, leaps, needs_both, on_its_way, only_first, reads_first, skipping, sluggish}
+use Rattle.nut_in_time.specs.examples.Examples.{all, pace, start}
+use Rattle.nut_in_time.specs.examples.PaceExamples.{PaceExamples, comes_at_last, first_low, leaps, needs_both, on_its_way, only_first, reads_first, skipping, sluggish}
 use Rattle.nut_in_time.specs.Tests.{is_steady, is_watched}
 use Rattle.nut_in_time.proofs.Testing.{front-append, steady-holds, watched-holds}
 use Rattle.nut_in_time.proofs.Worked.{spoken, spoken-too}

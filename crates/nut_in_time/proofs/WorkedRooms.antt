@@ -14,14 +14,14 @@ use Rattle.nut_proto.specs.Lines.{line}
 use Rattle.nut_proto.specs.Refusals.{refusal_name}
 use Rattle.nut_proto.specs.Replies.{reply_line}
 use Rattle.nut_proto.specs.Requests.{request_line}
-use Rattle.nut_history.specs.Answer.{text_of}
-use Rattle.nut_decision.specs.Trace.{entry_of, last_query}
-use Rattle.nut_decision.specs.declared.Query.TheVariants.{Login, Primary}
+use Rattle.nut_server_spec.specs.Answer.{text_of}
+use Rattle.nut_monitor_spec.specs.Trace.{entry_of, last_query}
+use Rattle.nut_monitor_spec.specs.declared.Query.TheVariants.{Login, Primary}
 use Rattle.nut_fleet.specs.Schedule.{Step, IsFront}
 use Rattle.nut_fleet.specs.World.{line_of, monitor_of}
 use Rattle.nut_in_time.specs.Pace.{IsPolled, seen_at}
 use Rattle.nut_in_time.specs.Room.{IsRoom, IsReady, IsStopping, KeepsStep, WasGranted}
-use Rattle.nut_in_time.specs.RoomExamples.{RoomExamples, at_once, room, low, too_early, over}
+use Rattle.nut_in_time.specs.examples.RoomExamples.{RoomExamples, at_once, room, low, too_early, over}
 use Rattle.nut_in_time.specs.RoomTests.{is_shown_low, keeps_step}
 use Rattle.nut_in_time.specs.Tests.{each_since, is_polled}
 use Rattle.nut_in_time.proofs.RoomTesting.{step-holds, stopping-holds}

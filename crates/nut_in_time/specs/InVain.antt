@@ -1,19 +1,19 @@
--- Nobody halts who needn't.
+-- Machines that don't halt without need.
 use Rattle.std.specs.Prelude.{ℕ, ◌≡◌, ◌+◌, ◌<◌, ◌≤◌, ◌&&◌, Bool, true, false, not, List, length, Some, is_some}
-use Rattle.nut_decision.specs.Configuration.{Configuration}
-use Rattle.nut_decision.specs.Decision.{power_where}
-use Rattle.nut_decision.specs.Trace.{Entry, clock, begun, has_begun, polled, status}
+use Rattle.nut_monitor_spec.specs.Configuration.{Configuration}
+use Rattle.nut_monitor_spec.specs.Decision.{power_where}
+use Rattle.nut_monitor_spec.specs.Trace.{Entry, clock, begun, has_begun, polled, status}
 use Rattle.nut_fleet.specs.Schedule.{Step, IsFront}
 use Rattle.nut_fleet.specs.World.{Setup, monitor_of, line_of}
 use Rattle.nut_in_time.specs.Pace.{Pace, IsSteady, IsWatched, seen_at, shown_at}
 use Rattle.nut_in_time.specs.InTime.{is_low, has_fsd, seen_by}
 
--- neither FSD, nor OB and LB without CAL: no reason to stop, as long as news of the UPS comes
+-- the status has neither FSD, nor OB and LB without CAL: no reason to stop, as long as news of the UPS comes
 abbrev pub is_bearable : List (List ℕ) → Bool
 is_bearable words = not (has_fsd words) && not (is_low words)
 
--- Since `start` the UPSes of these lines are shown with such words, in time, and they supply enough, whatever the others do. And
--- DEADTIME is no shorter than the age that a status can have.
+-- Since `start` the UPSes of these lines are shown with such words, in time, and they supply enough, whatever the
+-- others do. DEADTIME is at least the age that a status can have.
 pub record IsBorne (setup : Setup) (pace : Pace) (m : ℕ) (fine : ℕ → Bool) (start schedule : List Step) : Type 0 where
   pub front : IsFront start schedule
   pub steady : IsSteady setup pace m start schedule
@@ -21,7 +21,7 @@ pub record IsBorne (setup : Setup) (pace : Pace) (m : ℕ) (fine : ℕ → Bool)
   pub enough : (monitor_of setup m).min_supplies ≤ power_where fine (monitor_of setup m).lines
   pub patient : (monitor_of setup m).poll_freq + pace.skip + pace.delay ≤ (monitor_of setup m).dead_time
 
--- Then no shutdown begins once the monitor knows that.
+-- Then no shutdown begins after the monitor knows that.
 abbrev pub NoneBeginsLater : Setup → List Step → Type 0
 NoneBeginsLater setup schedule = (pace : Pace) (m : ℕ) (fine : ℕ → Bool) (start : List Step) →
     let configuration : Configuration = monitor_of setup m in
@@ -29,7 +29,7 @@ NoneBeginsLater setup schedule = (pace : Pace) (m : ℕ) (fine : ℕ → Bool) (
     IsBorne setup pace m fine start schedule → has_begun configuration past ≡ true →
     clock (begun configuration past) ≤ seen_by configuration pace (clock (seen_at setup m start))
 
--- So one that hasn't begun by then doesn't begin any more.
+-- So a shutdown that hasn't begun by then never begins.
 abbrev pub NoneBeginsAnyMore : Setup → List Step → Type 0
 NoneBeginsAnyMore setup schedule = (pace : Pace) (m : ℕ) (fine : ℕ → Bool) (start middle : List Step) →
     let configuration : Configuration = monitor_of setup m in
@@ -37,15 +37,15 @@ NoneBeginsAnyMore setup schedule = (pace : Pace) (m : ℕ) (fine : ℕ → Bool)
     seen_by configuration pace (clock (seen_at setup m start)) < clock (seen_at setup m middle) →
     has_begun configuration (seen_at setup m middle) ≡ false → has_begun configuration (seen_at setup m schedule) ≡ false
 
--- Up to `start` the UPS of line i was shown with no other words either, and the last status, where there is one, is young enough
--- to wait for the next.
+-- Up to `start` the UPS of line i was shown with no other words either, and the last status, if there is one, is young
+-- enough to wait for the next.
 pub record WasBorne (setup : Setup) (pace : Pace) (m i : ℕ) (start : List Step) : Type 0 where
   pub shown : (early : List Step) (words : List (List ℕ)) → IsFront early start →
       shown_at setup early (line_of setup m i).ups ≡ Some words → is_bearable words ≡ true
   pub young : is_some (status i (seen_at setup m start)) ≡ true →
       seen_by (monitor_of setup m) pace (clock (seen_at setup m start)) ≤ polled i (seen_at setup m start) + (monitor_of setup m).dead_time
 
--- And none begins at all, where that was so before.
+-- And no shutdown begins at all if that was so before.
 abbrev pub NoneBegins : Setup → List Step → Type 0
 NoneBegins setup schedule = (pace : Pace) (m : ℕ) (fine : ℕ → Bool) (start : List Step) →
     let configuration : Configuration = monitor_of setup m in

@@ -1,20 +1,21 @@
 -- Machines with more UPSes than they need.
 use Rattle.std.specs.Prelude.{ℕ, suc, ◌≡◌, ◌+◌, ◌<◌, ◌≤◌, true, List, length, Bool, is_some}
-use Rattle.nut_decision.specs.Configuration.{Configuration, line_in}
-use Rattle.nut_decision.specs.Trace.{Entry, clock, begun, has_begun, status}
+use Rattle.nut_monitor_spec.specs.Configuration.{Configuration, line_in}
+use Rattle.nut_monitor_spec.specs.Trace.{Entry, clock, begun, has_begun, status}
 use Rattle.nut_fleet.specs.Schedule.{Step, IsFront}
 use Rattle.nut_fleet.specs.World.{Setup, monitor_of, line_of}
 use Rattle.nut_in_time.specs.Pace.{Pace, IsSteady, IsWatched, seen_at}
 use Rattle.nut_in_time.specs.InTime.{is_low, seen_by, secondary_by, IsUntil, IsHaltedBy}
 use Rattle.nut_in_time.specs.InVain.{is_bearable}
 
--- Each UPS supplies enough by itself, and without any it isn't enough: as of two UPSes where MINSUPPLIES is 1.
+-- Each UPS alone supplies enough, and at least one is needed: for example two UPSes and MINSUPPLIES 1.
 pub record IsRedundant (configuration : Configuration) : Type 0 where
   pub there : 0 < length configuration.lines
   pub some : 0 < configuration.min_supplies
   pub each : (i : ℕ) → i < length configuration.lines → configuration.min_supplies ≤ (line_in configuration.lines i).power
 
--- While one of the UPSes is borne, whatever becomes of the others, no shutdown begins once the monitor knows that.
+-- While one of the UPSes gives no reason for a shutdown, whatever happens to the others, no shutdown begins after the
+-- monitor knows that.
 abbrev pub OneIsEnough : Setup → List Step → Type 0
 OneIsEnough setup schedule = (pace : Pace) (m i : ℕ) (start : List Step) →
     let configuration : Configuration = monitor_of setup m in
@@ -24,13 +25,13 @@ OneIsEnough setup schedule = (pace : Pace) (m i : ℕ) (start : List Step) →
     configuration.poll_freq + pace.skip + pace.delay ≤ configuration.dead_time → has_begun configuration past ≡ true →
     clock (begun configuration past) ≤ seen_by configuration pace (clock (seen_at setup m start))
 
--- Since `start`, when the last of them was, all UPSes are on a low battery, up to `middle`.
+-- From `start`, when the last of them became so, to `middle`, all UPSes are on a low battery.
 pub record AllAreLow (setup : Setup) (pace : Pace) (m : ℕ) (start middle : List Step) : Type 0 where
   pub front : IsFront start middle
   pub steady : IsSteady setup pace m start middle
   pub lines : (i : ℕ) → i < length (monitor_of setup m).lines → IsWatched setup pace m i is_low start middle
 
--- Then the machine is to be halted as soon after that as if the last had been its only one.
+-- Then the machine is in Halted as soon after that as if the last UPS had been its only one.
 pub record LastCounts (setup : Setup) (pace : Pace) (m : ℕ) (start middle schedule : List Step) : Type 0 where
   pub primary : IsRedundant (monitor_of setup m) → IsFront middle schedule → AllAreLow setup pace m start middle →
       ((i : ℕ) → i < length (monitor_of setup m).lines → (line_of setup m i).primary ≡ true) →

@@ -1,13 +1,13 @@
--- Where the pace of a link comes from when it is never quiet: its bytes go there and come back.
+-- How a link that is never quiet keeps its pace: its bytes go to the server, and the answers come back.
 use Rattle.std.specs.Prelude.{ℕ, suc, ◌≡◌, ◌+◌, ◌≤◌, ◌<◌, ◌⊎◌, ◌==◌, ◌&&◌, nat_lt, if◌then◌else◌, Bool, true, List, [], ◌∷◌, ◌++◌, length, Some}
-use Rattle.nut_decision.specs.Trace.{Asked, Entry, clock, outstanding}
+use Rattle.nut_monitor_spec.specs.Trace.{Asked, Entry, clock, outstanding}
 use Rattle.nut_fleet.specs.Schedule.{Step, IsFront}
 use Rattle.nut_fleet.specs.World.{Setup, has_link, is_open, is_linked, monitor_waits, to_server, server_waits, to_monitor, world}
 use Rattle.nut_in_time.specs.Pace.{Pace, FromOn, KeepsPace, seen_at}
 use Rattle.nut_in_time.specs.Tests.{each_since, is_nothing, is_prompt, is_steady}
 
--- Since `start` the link went round: at one time its monitor had put all that it has to say into the pipe, at a later one all of
--- that had reached the server, then the server had put all its answers into the pipe, and then those had landed.
+-- Since `start` the link went round: at one time its monitor had put all that waits into the pipe; later all of that
+-- had reached the server; then the server had put all its answers into the pipe; and then those had arrived.
 pub record WentRound (setup : Setup) (m i : ℕ) (start schedule : List Step) : Type 0 where
   pub out : List Step
   pub reach : List Step
@@ -24,42 +24,44 @@ pub record WentRound (setup : Setup) (m i : ℕ) (start schedule : List Step) : 
   pub taken : server_waits setup (world setup back) m i ≡ []
   pub landed : to_monitor setup (world setup land) m i ≡ []
 
--- the link is there, since `start`
+-- the link is up since `start`
 abbrev pub IsThere : Setup → ℕ → ℕ → List Step → List Step → Type 0
 IsThere setup m i start schedule = FromOn start schedule (λ early. is_linked setup (world setup early) m i ≡ true)
 
--- Where a link that is there went round since `start`, a query that waits for its answer was asked since then, by the monitor's
+-- If a link that is up went round since `start`, a query that waits for its answer was put since then, by the monitor's
 -- events and by its clock.
 abbrev pub RoundsAnswer : Setup → List Step → Type 0
 RoundsAnswer setup schedule = (m i : ℕ) (start : List Step) (asked : Asked) → has_link setup m i ≡ true → IsThere setup m i start schedule →
     WentRound setup m i start schedule → outstanding i (seen_at setup m schedule) ≡ Some asked →
     (length (seen_at setup m start) < asked.event) × (clock (seen_at setup m start) ≤ asked.moment)
 
--- There was a time since `start`, `delay` seconds ago at most, since which the link went round.
+-- There was a time since `start`, at most `delay` seconds ago, since which the link went round.
 pub record WasRound (setup : Setup) (pace : Pace) (m i : ℕ) (start early : List Step) : Type 0 where
   pub since : List Step
   pub front : IsFront start since
   pub soon : clock (seen_at setup m early) ≤ clock (seen_at setup m since) + pace.delay
   pub round : WentRound setup m i since early
 
--- Since `start` the link goes round again and again: at each time it was so, or `start` itself is no longer ago.
+-- Since `start` the link goes round again and again: at each time there was such a time, or `start` itself is at most
+-- `delay` seconds ago.
 abbrev pub GoesRound : Setup → Pace → ℕ → ℕ → List Step → List Step → Type 0
 GoesRound setup pace m i start schedule = FromOn start schedule (λ early.
     (clock (seen_at setup m early) ≤ clock (seen_at setup m start) + pace.delay) ⊎ WasRound setup pace m i start early)
 
--- What waits for its answer was asked in this second.
+-- A query that waits for its answer was put in this second.
 abbrev pub IsFresh : ℕ → List Entry → Type 0
 IsFresh i past = (asked : Asked) → outstanding i past ≡ Some asked → clock past ≤ asked.moment
 
--- A link that is there and goes round again and again keeps pace, where a query that waited at `start` was asked in that second.
+-- A link that is up and goes round again and again keeps pace, if a query that waited at `start` was put in that
+-- second.
 abbrev pub RoundsKeepPace : Setup → List Step → Type 0
 RoundsKeepPace setup schedule = (pace : Pace) (m i : ℕ) (start : List Step) → has_link setup m i ≡ true → IsThere setup m i start schedule →
     IsFresh i (seen_at setup m start) → GoesRound setup pace m i start schedule → KeepsPace setup pace m i start schedule
 
 -- ---- written schedules
 
--- How far a link has gone round: 1 once all is put, 2 once that has reached the server, 3 once the answers are put, 4 once they
--- have landed. It goes on by one where the test holds.
+-- How far a link has gone round: 1 once all bytes are put, 2 once they have reached the server, 3 once the answers are
+-- put, 4 once they have arrived. It moves on by one if the test holds.
 abbrev pub goes_on : Bool → ℕ → ℕ → ℕ
 goes_on holds place far = if far == place && holds then suc place else far
 
@@ -70,23 +72,24 @@ further setup m i early far =
     (goes_on (is_open setup (world setup early) m i && is_nothing (to_server setup (world setup early) m i)) 1
     (goes_on (is_nothing (monitor_waits setup (world setup early) m i)) 0 far)))
 
--- the monitor's clock goes on at this step
+-- the monitor's clock moves on at this step
 abbrev pub is_tick : Setup → ℕ → Step → List Step → Bool
 is_tick setup m step early = nat_lt (clock (seen_at setup m early)) (clock (seen_at setup m (step ∷ early)))
 
--- how far it has gone since the clock went on, or since `start`
+-- how far the link has gone since the clock moved on, or since `start`
 abbrev pub round_in : Setup → ℕ → ℕ → List Step → List Step → ℕ
 round_in setup m i start [] = further setup m i start 0
 round_in setup m i start (step ∷ newest) =
     further setup m i (step ∷ (newest ++ start)) (if is_tick setup m step (newest ++ start) then 0 else round_in setup m i start newest)
 
--- it has gone round each time the clock goes on
+-- the link has gone round whenever the clock moves on
 abbrev pub goes_round : Setup → ℕ → ℕ → List Step → List Step → Bool
 goes_round setup m i start [] = true
 goes_round setup m i start (step ∷ newest) =
     (if is_tick setup m step (newest ++ start) then round_in setup m i start newest == 4 else true) && goes_round setup m i start newest
 
--- The link is there from `start` on, no older query waits then, and it goes round between each two steps of the clock.
+-- The link is up from `start` on, no older query waits at `start`, and the link goes round between any two steps of the
+-- clock.
 abbrev pub is_rounded : Setup → ℕ → ℕ → List Step → List Step → Bool
 is_rounded setup m i start newest =
     each_since (λ early. is_linked setup (world setup early) m i) start newest

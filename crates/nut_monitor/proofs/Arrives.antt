@@ -1,20 +1,21 @@
--- What stands after an event, and after the oldest notice was asked for.
+-- The history and the content after an event, and after the oldest notice was asked for.
 use Rattle.std.proofs.Common.{◌≡◌, ℕ, Bool, refl, sym, ap, subst, ◌∙◌, List, [], ◌∷◌, length, drop, Option, Some, None, Result, Ok, arith}
 use Rattle.std.proofs.lemmas.Bool.{lt-ltb}
-use Rattle.nut_decision.specs.Acceptance.{Tells, is_linked, waiting_on, watch_at}
-use Rattle.nut_decision.specs.Configuration.{Configuration}
-use Rattle.nut_decision.specs.Content.{Content}
-use Rattle.nut_decision.specs.Event.{Event, NoticeTaken}
-use Rattle.nut_decision.specs.Handing.{after_asking}
-use Rattle.nut_decision.specs.Outcome.{IsAnswer, after, content_after}
-use Rattle.nut_decision.specs.Trace.{linked, trace, waits}
-use Rattle.nut_decision.specs.declared.MonitorFault.{MonitorFault}
-use Rattle.nut_decision.specs.declared.Notice.{Notice}
-use Rattle.nut_monitor.specs.Inside.{IsOrderly}
-use Rattle.nut_monitor.specs.Kept.{KeepsLittle}
-use Rattle.nut_monitor.specs.Sound.{first_of}
-use Rattle.nut_decision.proofs.Answering.{answers-keep}
-use Rattle.nut_decision.proofs.Told.{links-told}
+use Rattle.nut_monitor_spec.specs.Acceptance.{Tells, is_linked, waiting_on, watch_at}
+use Rattle.nut_monitor_spec.specs.Configuration.{Configuration}
+use Rattle.nut_monitor_spec.specs.Content.{Content}
+use Rattle.nut_monitor_spec.specs.Event.{Event, NoticeTaken}
+use Rattle.nut_monitor_spec.specs.Handing.{after_asking}
+use Rattle.nut_monitor_spec.specs.Outcome.{IsAnswer, after}
+use Rattle.nut_monitor_spec.specs.MachineOutcome.{content_after}
+use Rattle.nut_monitor_spec.specs.Trace.{linked, trace, waits}
+use Rattle.nut_monitor_spec.specs.declared.MonitorFault.{MonitorFault}
+use Rattle.nut_monitor_spec.specs.declared.Notice.{Notice}
+use Rattle.nut_monitor.specs.inside.Inside.{IsOrderly}
+use Rattle.nut_monitor.specs.inside.Kept.{KeepsLittle}
+use Rattle.nut_monitor.specs.inside.Sound.{first_of}
+use Rattle.nut_monitor_spec.proofs.Answering.{answers-keep}
+use Rattle.nut_monitor_spec.proofs.Told.{links-told}
 
 pub stands_after : (old new : Content) (e : Event) (r : Result (Unit {0}) MonitorFault) → IsAnswer old e r → new ≡ content_after r old e
     → (configuration : Configuration) (events : List Event) → Tells configuration events old → Tells configuration (after r e events) new
@@ -50,6 +51,6 @@ pub waiting_told : (s : Content) (i : ℕ) (bytes : List ℕ) → bytes ≡ wait
 waiting_told s i bytes is configuration events told =
     is ∙ ap (λ (x : Content). waiting_on (watch_at i x.watches)) told.1 ∙ links-told.left configuration events i told.0
 
--- what is kept in an orderly monitor
+-- an orderly monitor keeps little
 pub orderly_little : (s : Content) → IsOrderly s → KeepsLittle s
 orderly_little s o = record { notices = omega (arith, o.few); links = o.links }

@@ -1,9 +1,9 @@
 -- A monitor that was told nothing has the content of the empty history.
 use Rattle.std.proofs.Common.{◌≡◌, ℕ, suc, List, [], ◌∷◌, map, refl, ap, ◌∙◌}
-use Rattle.nut_decision.specs.Configuration.{Line, Configuration}
-use Rattle.nut_decision.specs.Content.{Watch, Content, content, watch, for_each_line}
+use Rattle.nut_monitor_spec.specs.Configuration.{Line, Configuration}
+use Rattle.nut_monitor_spec.specs.Content.{Watch, Content, content, watch, for_each_line}
 use Rattle.nut_monitor.specs.Answers.{beginning}
-use Rattle.nut_monitor.specs.Inside.{unwatched}
+use Rattle.nut_monitor.specs.inside.Inside.{unwatched}
 
 all_unwatched : (f : ℕ → Watch) → ((i : ℕ) → unwatched ≡ f i) → (lines : List Line) → map (λ line. unwatched) lines ≡ for_each_line f lines
 all_unwatched f each [] = refl

@@ -1,29 +1,31 @@
--- The links of a monitor keep no more than they may.
+-- The links of a monitor keep no more than `IsLinkBounded` allows.
 use Rattle.std.proofs.Common.{◌≡◌, ℕ, zero, suc, ◌<◌, ◌≤◌, Bool, true, false, List, [], ◌∷◌, length, map, sym, subst, Option, Some, None, is_some, Result, slice_set, slice_index_or, arith, leb-true}
 use Rattle.std.specs.Prelude.{if◌then◌else◌, nat_le}
 use Rattle.std.specs.List.{AllByRecursion, list_all}
 use Rattle.std.proofs.lemmas.Bool.{and_parts}
 use Rattle.nut_words.specs.Spelling.{is_printing}
+use Rattle.nut_words.specs.declared.limits.TheConstants.{LINE_MAX}
 use Rattle.nut_conf.specs.declared.monitor.Monitored.{Monitored}
 use Rattle.nut_proto.specs.Lines.{message}
 use Rattle.nut_proto.specs.Requests.{request_parts, request_line}
 use Rattle.nut_proto.specs.declared.request.Request.{Request}
-use Rattle.nut_client.specs.Asking.{is_writable}
-use Rattle.nut_client.specs.Bounds.{IsBounded}
-use Rattle.nut_client.specs.Hearing.{Feeds}
-use Rattle.nut_client.specs.Link.{LinkValue, outcome_of}
-use Rattle.nut_client.specs.declared.fault.LinkFault.{LinkFault}
-use Rattle.nut_client.proofs.Bounded.{bounds_stay, fed_within}
-use Rattle.nut_client.proofs.Writable.{length_line}
-use Rattle.nut_decision.specs.Configuration.{Configuration, Line, line_of}
-use Rattle.nut_decision.specs.Content.{Watch}
-use Rattle.nut_decision.specs.Machine.{all_asked, all_silent, goes_on, is_silent, link_after, link_asked, link_took, lost, made, put, silent, took, watch_answered, watch_heard}
-use Rattle.nut_decision.specs.Query.{request}
-use Rattle.nut_decision.specs.declared.Phase.{Phase}
-use Rattle.nut_decision.specs.declared.Query.{Query}
-use Rattle.nut_decision.proofs.Writables.{query_writable}
-use Rattle.nut_monitor.specs.Inside.{unwatched}
-use Rattle.nut_monitor.specs.Kept.{AreLinksBounded, IsLinkBounded}
+use Rattle.nut_link.specs.Asking.{is_writable}
+use Rattle.nut_link.specs.Bounds.{IsBounded}
+use Rattle.nut_link.specs.Hearing.{Feeds}
+use Rattle.nut_link.specs.Link.{LinkValue, outcome_of}
+use Rattle.nut_link.specs.declared.fault.LinkFault.{LinkFault}
+use Rattle.nut_link.proofs.Bounded.{bounds_stay, fed_within}
+use Rattle.nut_link.proofs.Writable.{length_line}
+use Rattle.nut_link.specs.declared.limits.TheConstants.{QUERY_MAX}
+use Rattle.nut_monitor_spec.specs.Configuration.{Configuration, Line, line_of}
+use Rattle.nut_monitor_spec.specs.Content.{Watch}
+use Rattle.nut_monitor_spec.specs.machine.Machine.{all_asked, all_silent, goes_on, is_silent, link_after, link_asked, link_took, lost, made, put, silent, took, watch_answered, watch_heard}
+use Rattle.nut_monitor_spec.specs.Query.{request}
+use Rattle.nut_monitor_spec.specs.declared.Phase.{Phase}
+use Rattle.nut_monitor_spec.specs.declared.Query.{Query}
+use Rattle.nut_monitor_spec.proofs.Writables.{query_writable}
+use Rattle.nut_monitor.specs.inside.Inside.{unwatched}
+use Rattle.nut_monitor.specs.inside.Kept.{AreLinksBounded, IsLinkBounded}
 
 -- ---- one link
 
@@ -50,7 +52,7 @@ heard_bounded c clock b v l w p done r feeds is h =
 
 -- ---- a query is put
 
--- the queries of these lines can be written
+-- the queries of these lines are writable
 abbrev pub AreWritable : List Line → Type 0
 AreWritable lines = AllByRecursion (λ line. (query : Query) → is_writable (request line query) ≡ true) lines
 
@@ -58,11 +60,11 @@ pub lines_writable : (ms : List Monitored) → AreWritable (map line_of ms)
 lines_writable [] = tt
 lines_writable (m ∷ ms) = (query_writable m, lines_writable ms)
 
-query_few : (asked : Request) → is_writable asked ≡ true → length (request_line asked) ≤ 513
+query_few : (asked : Request) → is_writable asked ≡ true → length (request_line asked) ≤ QUERY_MAX
 query_few asked writable =
     let text = message (request_parts asked) in
-    let short : nat_le (length text) 512 ≡ true = (and_parts (nat_le (length text) 512) (list_all is_printing text) writable).0 in
-    omega (arith, length_line asked, leb-true (length text) 512 short)
+    let short : nat_le (length text) LINE_MAX ≡ true = (and_parts (nat_le (length text) LINE_MAX) (list_all is_printing text) writable).0 in
+    omega (arith, length_line asked, leb-true (length text) LINE_MAX short)
 
 put_bounded : (line : Line) (clock : ℕ) (query : Option Query) (w : Watch) → ((query : Query) → is_writable (request line query) ≡ true) → IsLinkBounded w.link → IsLinkBounded (put line clock query w).link
 put_bounded line clock None w writable h = h

@@ -1,23 +1,24 @@
--- What a piece makes of a monitor's content.
+-- What a piece changes in a monitor's content.
 use Rattle.std.proofs.Common.{◌≡◌, ℕ, ◌<◌, ◌≤◌, Bool, true, false, List, [], ◌++◌, length, refl, sym, ap, subst, ◌∙◌, Option, Some, None, is_some, is_none, Result, Ok, Err, inl, inr, slice_set, slice_index_or}
 use Rattle.std.specs.Prelude.{if◌then◌else◌}
 use Rattle.std.proofs.lemmas.Bool.{false≢true}
 use Rattle.nut_words.specs.Lines.{lines_after}
-use Rattle.nut_client.specs.Hearing.{Feeds, RunsOut}
-use Rattle.nut_client.specs.Link.{LinkValue, answer_by, failed}
-use Rattle.nut_client.specs.declared.fault.LinkFault.{LinkFault}
-use Rattle.nut_client.specs.declared.fault.LinkFault.TheVariants.{NotMine, BadLine, OutOfOrder, Memory, BadQuery, TooMuchTaken}
-use Rattle.nut_decision.specs.Acceptance.{is_linked, refusal, watch_at}
-use Rattle.nut_decision.specs.Content.{Watch, Content}
-use Rattle.nut_decision.specs.Event.{LinkBytes, OutOfMemory}
-use Rattle.nut_decision.specs.Machine.{advance, settled, told_heard, watch_heard}
-use Rattle.nut_decision.specs.Outcome.{IsRefusal, MayRunOut, MayRunOutIn}
-use Rattle.nut_decision.specs.declared.MonitorFault.TheVariants as refusals
-use Rattle.nut_decision.specs.declared.Notice.{Notice}
+use Rattle.nut_link.specs.Hearing.{Feeds, RunsOut}
+use Rattle.nut_link.specs.Link.{LinkValue, answer_by, failed}
+use Rattle.nut_link.specs.declared.fault.LinkFault.{LinkFault}
+use Rattle.nut_link.specs.declared.fault.LinkFault.TheVariants.{NotMine, BadLine, OutOfOrder, Memory, BadQuery, TooMuchTaken}
+use Rattle.nut_words.specs.declared.limits.TheConstants.{PIECE_MAX}
+use Rattle.nut_monitor_spec.specs.Acceptance.{is_linked, refusal, watch_at}
+use Rattle.nut_monitor_spec.specs.Content.{Watch, Content}
+use Rattle.nut_monitor_spec.specs.Event.{LinkBytes, OutOfMemory}
+use Rattle.nut_monitor_spec.specs.machine.Machine.{advance, settled, told_heard, watch_heard}
+use Rattle.nut_monitor_spec.specs.Outcome.{IsRefusal, MayRunOut, MayRunOutIn}
+use Rattle.nut_monitor_spec.specs.declared.MonitorFault.TheVariants as refusals
+use Rattle.nut_monitor_spec.specs.declared.Notice.{Notice}
 use Rattle.nut_monitor.specs.declared.answer.Scene.{Scene}
-use Rattle.nut_monitor.specs.Hearing.{HearsPiece}
-use Rattle.nut_monitor.specs.Sound.{is_memory, lacks_memory}
-use Rattle.nut_monitor.specs.Kept.{AreLinksBounded, IsLinkBounded}
+use Rattle.nut_monitor.specs.inside.Hearing.{HearsPiece}
+use Rattle.nut_monitor.specs.inside.Sound.{is_memory, lacks_memory}
+use Rattle.nut_monitor.specs.inside.Kept.{AreLinksBounded, IsLinkBounded}
 use Rattle.nut_monitor.proofs.Bounded.{at_bounded, heard_bounded}
 use Rattle.nut_monitor.proofs.Links.{ran_out}
 use Rattle.nut_monitor.proofs.Steps.{bytes_accepted, heard_content, here, linked_here, out_content}
@@ -43,7 +44,7 @@ not_lacking r f is memory = ap lacks_memory is ∙ ap (λ f. lacks_memory (answe
 
 module _ (s : Content) (i : ℕ) (p : List ℕ) (w w' : Watch) (scene : Scene) (r : ℕ × Result (Unit {0}) LinkFault) (news : List Notice)
     (lt : i < length s.watches) (is : w ≡ slice_index_or s.watches i w) (linked : is_linked (watch_at i s.watches) ≡ true)
-    (short : length p ≤ 512) (free : length s.notices ≤ 0)
+    (short : length p ≤ PIECE_MAX) (free : length s.notices ≤ 0)
     (seen : scene ≡ record { line = i; clock = s.clock; watching = is_none s.begun })
     (hears : (v : LinkValue) → w.link ≡ Some v → HearsPiece s.configuration scene p v w s.notices r w' news) where
   at : watch_at i s.watches ≡ Some w

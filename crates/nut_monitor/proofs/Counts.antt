@@ -1,16 +1,16 @@
--- Counts of those who are logged in, as numerals.
+-- Numbers of logins, as numerals.
 use Rattle.std.proofs.Common.{◌≡◌, ℕ, suc, ◌+◌, ◌-◌, ◌*◌, ◌^◌, ◌<◌, ◌≤◌, nat_le, Bool, true, false, ◌&&◌, cond, List, [], ◌∷◌, length, fold, refl, sym, ap, ◌∙◌, Option, Some, None, Result, Ok, Err, slice_get, arith, leb-true, le-leb}
 use Rattle.std.proofs.lemmas.Grind.{pow_more}
 use Rattle.std.proofs.lemmas.Bool.{false≢true}
 use Rattle.std.proofs.Math.Nat.{pow-le-pow_right}
 use Rattle.std.specs.List.{list_all}
-use Rattle.nut_client.specs.declared.outcome.Outcome.TheVariants as outcomes
+use Rattle.nut_link.specs.declared.outcome.Outcome.TheVariants as outcomes
 use Rattle.nut_conf.specs.Values.{decimal, is_digit, is_numeral, number}
 use Rattle.nut_conf.specs.declared.fault.FaultKind.{FaultKind}
-use Rattle.nut_decision.specs.Machine.{newer}
-use Rattle.nut_decision.specs.Query.{logins_in}
-use Rattle.nut_decision.specs.declared.Query.TheVariants.{NumLogins}
-use Rattle.nut_monitor.specs.Sound.{IsCount}
+use Rattle.nut_monitor_spec.specs.machine.Machine.{newer}
+use Rattle.nut_monitor_spec.specs.Query.{logins_in}
+use Rattle.nut_monitor_spec.specs.declared.Query.TheVariants.{NumLogins}
+use Rattle.nut_monitor.specs.inside.Sound.{IsCount}
 
 pub left_true : (x y : Bool) → (x && y) ≡ true → x ≡ true
 left_true true y h = refl
@@ -20,7 +20,7 @@ pub right_true : (x y : Bool) → (x && y) ≡ true → y ≡ true
 right_true true y h = h
 right_true false y h = absurd (false≢true h)
 
--- one digit more
+-- a number with one more digit
 abbrev more : ℕ → ℕ → ℕ
 more n c = n * 10 + (c - 48)
 

@@ -1,4 +1,4 @@
--- What lines make of a link: an answer to a question for a count is a numeral, and want of memory is told by none.
+-- What lines do to a link: the answer to a query for a number is a numeral, and no line says that memory is lacking.
 use Rattle.std.proofs.Common.{◌≡◌, ℕ, ◌+◌, ◌++◌, Bool, true, false, ◌&&◌, cond, nat_le, nat_lt, List, [], ◌∷◌, length, drop, refl, sym, ap, subst, ◌∙◌, Option, Some, None, is_some, is_err, Result, Ok, Err, inl, inr, arith, le-leb, leb-true, ltb-true}
 use Rattle.std.specs.Prelude.{◌==◌, if◌then◌else◌}
 use Rattle.std.specs.List.{list_all}
@@ -7,26 +7,27 @@ use Rattle.nut_proto.specs.Answers.{answer_in}
 use Rattle.nut_proto.specs.declared.answer.Answer.{Answer}
 use Rattle.nut_proto.specs.declared.answer.Answer.TheVariants as answers
 use Rattle.nut_proto.specs.declared.answer.AnswerFault.{AnswerFault}
-use Rattle.nut_client.specs.Asking.{Asked}
-use Rattle.nut_client.specs.Hearing.{Feeds, RunsOut}
-use Rattle.nut_client.specs.Link.{LinkValue, answer_by, failed, fed, heard, left_of, lines_heard, moved, on_line, on_read, outcome_in, outcome_of, progress_of, stage_after, stage_without, taken_out, with_exchange}
-use Rattle.nut_client.specs.Matching.{Progress, Listing, Complete, begins, first, has_more, is_count, is_heading, is_line, is_row, next, progress}
-use Rattle.nut_client.specs.declared.exchange.Exchange.{Exchange}
-use Rattle.nut_client.specs.declared.exchange.Stage.{Stage}
-use Rattle.nut_client.specs.declared.exchange.Stage.TheVariants as stages
-use Rattle.nut_client.specs.declared.expected.Expected.{Expected}
-use Rattle.nut_client.specs.declared.expected.Expected.TheVariants as expects
-use Rattle.nut_client.specs.declared.expected.More.TheVariants as mores
-use Rattle.nut_client.specs.declared.fault.LinkFault.{LinkFault}
-use Rattle.nut_client.specs.declared.fault.LinkFault.TheVariants.{NotMine, BadLine, OutOfOrder, Memory, BadQuery, TooMuchTaken}
-use Rattle.nut_client.specs.declared.outcome.Outcome.{Outcome}
-use Rattle.nut_client.specs.declared.outcome.Outcome.TheVariants as outcomes
+use Rattle.nut_link.specs.Asking.{Asked}
+use Rattle.nut_link.specs.Hearing.{Feeds, RunsOut}
+use Rattle.nut_link.specs.Link.{LinkValue, answer_by, failed, fed, heard, left_of, lines_heard, moved, on_line, on_read, outcome_in, outcome_of, progress_of, stage_after, stage_without, taken_out, with_exchange}
+use Rattle.nut_link.specs.Matching.{Progress, Listing, Complete, begins, first, has_more, is_count, is_heading, is_line, is_row, next, progress}
+use Rattle.nut_link.specs.declared.exchange.Exchange.{Exchange}
+use Rattle.nut_link.specs.declared.exchange.Stage.{Stage}
+use Rattle.nut_link.specs.declared.exchange.Stage.TheVariants as stages
+use Rattle.nut_link.specs.declared.expected.Expected.{Expected}
+use Rattle.nut_link.specs.declared.expected.Expected.TheVariants as expects
+use Rattle.nut_link.specs.declared.expected.More.TheVariants as mores
+use Rattle.nut_link.specs.declared.fault.LinkFault.{LinkFault}
+use Rattle.nut_link.specs.declared.fault.LinkFault.TheVariants.{NotMine, BadLine, OutOfOrder, Memory, BadQuery, TooMuchTaken}
+use Rattle.nut_link.specs.declared.outcome.Outcome.{Outcome}
+use Rattle.nut_link.specs.declared.outcome.Outcome.TheVariants as outcomes
+use Rattle.nut_proto.specs.declared.limits.TheConstants.{ROWS_MAX}
 use Rattle.nut_conf.specs.Values.{is_numeral}
-use Rattle.nut_decision.specs.declared.LastQuery.{LastQuery}
-use Rattle.nut_decision.specs.declared.Query.{Query}
-use Rattle.nut_decision.specs.declared.Query.TheVariants.{Username, Password, Login, Primary, Status, Fsd, NumLogins}
-use Rattle.nut_monitor.specs.Hearing.{IsFed}
-use Rattle.nut_monitor.specs.Sound.{ExpectsCount, IsCount, IsCountAfter, IsSound, IsSoundLink, IsSoundStage}
+use Rattle.nut_monitor_spec.specs.declared.LastQuery.{LastQuery}
+use Rattle.nut_monitor_spec.specs.declared.Query.{Query}
+use Rattle.nut_monitor_spec.specs.declared.Query.TheVariants.{Username, Password, Login, Primary, Status, Fsd, NumLogins}
+use Rattle.nut_monitor.specs.inside.Hearing.{IsFed}
+use Rattle.nut_monitor.specs.inside.Sound.{ExpectsCount, IsCount, IsCountAfter, IsSound, IsSoundLink, IsSoundStage}
 use Rattle.nut_monitor.proofs.Counts.{left_true, right_true}
 
 -- ---- counts
@@ -181,7 +182,7 @@ pub fed_sound : (last : Option LastQuery) (v : LinkValue) (p : List ℕ) (done :
 fed_sound None v p done r w sound feeds going = record { going = going; stage = sound_anew w.exchange.stage }
 fed_sound (Some last) v p done r w sound feeds going = record { going = going; stage = sound_without last w.exchange.stage (fine_fed last v p done r w sound feeds) }
 
--- ---- no line tells that memory is wanting
+-- ---- no line says that memory is lacking
 
 abbrev NotMemory : LinkFault → Type 0
 NotMemory NotMine = Unit {0}
@@ -252,7 +253,7 @@ nm_next (expects.Listing heading count) rows (answers.Ok words) = tt
 nm_next (expects.Listing heading count) rows (answers.Err name) = tt
 nm_next (expects.Listing heading count) rows (answers.Begin words) = tt
 nm_next (expects.Listing heading count) rows (answers.End words) = nm_if (is_heading heading words) (Ok (Complete (outcomes.List rows))) tt
-nm_next (expects.Listing heading count) rows (answers.Row words) = nm_row heading count rows words (is_row heading count words) (nat_lt (length rows) 512)
+nm_next (expects.Listing heading count) rows (answers.Row words) = nm_row heading count rows words (is_row heading count words) (nat_lt (length rows) ROWS_MAX)
 nm_next expects.Refusal rows (answers.Ok words) = tt
 nm_next expects.Refusal rows (answers.Err name) = tt
 nm_next expects.Refusal rows (answers.Begin words) = tt
@@ -298,7 +299,7 @@ nm_lines : (ls : List LineText) (e : Exchange) → NotLacking e.fault → NotLac
 nm_lines [] e h = h
 nm_lines (l ∷ ls) e h = nm_lines ls (heard l e) (nm_either (is_some e.fault) e (moved e (on_line e.stage l)) h (nm_moved e (on_line e.stage l) (nm_line e.stage l)))
 
--- a link that fails for want of memory ran out of it
+-- a link that failed for lack of memory ran out of it at one of the lines
 pub ran_out : (v : LinkValue) (p : List ℕ) (done : ℕ) (r : Result (Unit {0}) LinkFault) (w : LinkValue) → v.exchange.fault ≡ None → Feeds v p done r w → w.exchange.fault ≡ Some Memory
     → RunsOut (lines_after v.rest p) v.exchange done w.exchange
 ran_out v p done r w going feeds lacks = elim feeds.stands [

@@ -2,14 +2,14 @@
 use Rattle.std.proofs.Common.{◌≡◌, ℕ, zero, suc, ◌+◌, ◌-◌, ◌<◌, ◌≤◌, Bool, true, false, ◌&&◌, ◌||◌, cond, List, [], ◌∷◌, ◌++◌, map, drop, take, length, refl, sym, ◌∙◌, ap, slice_set, slice_index_or, arith, append_assoc}
 use Rattle.nut_conf.specs.declared.monitor.Monitored.{Monitored}
 use Rattle.nut_conf.specs.declared.notice.Notice.TheVariants as kinds
-use Rattle.nut_decision.specs.declared.Notice.{Notice}
-use Rattle.nut_decision.specs.declared.Phase.{Phase}
+use Rattle.nut_monitor_spec.specs.declared.Notice.{Notice}
+use Rattle.nut_monitor_spec.specs.declared.Phase.{Phase}
 use Rattle.std.specs.List.{list_any}
-use Rattle.nut_decision.specs.Configuration.{Configuration, Line, has_primary, line_of}
-use Rattle.nut_decision.specs.Content.{Watch}
-use Rattle.nut_decision.specs.Decision.{told, when}
-use Rattle.nut_decision.specs.Machine.{all_alone, all_asked, all_silent, asked_next, is_silent, silences_told, silent, supply_of}
-use Rattle.nut_monitor.specs.Inside.{lets_halt, power_of}
+use Rattle.nut_monitor_spec.specs.Configuration.{Configuration, Line, has_primary, line_of}
+use Rattle.nut_monitor_spec.specs.Content.{Watch}
+use Rattle.nut_monitor_spec.specs.Decision.{told, when}
+use Rattle.nut_monitor_spec.specs.machine.Machine.{all_alone, all_asked, all_silent, asked_next, is_silent, silences_told, silent, supply_of}
+use Rattle.nut_monitor.specs.inside.Inside.{lets_halt, power_of}
 
 pub suc_is : (n : ℕ) → suc n ≡ n + 1
 suc_is n = omega arith

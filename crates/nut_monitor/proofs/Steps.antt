@@ -1,29 +1,31 @@
--- What each event makes of a monitor's content.
+-- What each event changes in a monitor's content.
 use Rattle.std.proofs.Common.{◌≡◌, ℕ, zero, suc, ◌+◌, ◌<◌, ◌≤◌, nat_lt, Bool, true, false, List, [], ◌∷◌, ◌++◌, length, map, take, refl, sym, ap, ap₂, subst, ◌∙◌, Option, Some, None, is_some, is_none, Result, Ok, Err, slice_set, slice_index_or, arith, append_assoc, append-nil, length-set, le-ltb}
 use Rattle.std.specs.Prelude.{if◌then◌else◌, sum_by}
 use Rattle.std.proofs.lemmas.List.Sums.{sum_by-cons, sum_by-set}
 use Rattle.nut_words.specs.Lines.{LineText, lines_after}
-use Rattle.nut_client.specs.Hearing.{RunsOut}
-use Rattle.nut_client.specs.Link.{LinkValue, fed, left_of, lines_heard, outcome_in, outcome_of, taken_out, with_exchange}
-use Rattle.nut_client.specs.declared.exchange.Stage.{Stage}
-use Rattle.nut_client.specs.declared.exchange.Stage.TheVariants as stages
-use Rattle.nut_client.specs.declared.outcome.Outcome.{Outcome}
+use Rattle.nut_link.specs.Hearing.{RunsOut}
+use Rattle.nut_link.specs.Link.{LinkValue, fed, left_of, lines_heard, outcome_in, outcome_of, taken_out, with_exchange}
+use Rattle.nut_link.specs.declared.exchange.Stage.{Stage}
+use Rattle.nut_link.specs.declared.exchange.Stage.TheVariants as stages
+use Rattle.nut_link.specs.declared.outcome.Outcome.{Outcome}
+use Rattle.nut_words.specs.declared.limits.TheConstants.{PIECE_MAX}
 use Rattle.nut_conf.specs.declared.monitor.Monitored.{Monitored}
 use Rattle.nut_conf.specs.declared.upsmon.UpsmonConf.{UpsmonConf}
-use Rattle.nut_decision.specs.Acceptance.{bytes_refusal, is_linked, linked_refusal, lost_refusal, took_refusal, waits_on, watch_at}
-use Rattle.nut_decision.specs.Configuration.{Configuration, Line, configuration_of, line_of}
-use Rattle.nut_decision.specs.Content.{Watch, Content}
-use Rattle.nut_decision.specs.Decision.{loss_notices}
-use Rattle.nut_decision.specs.Machine.{all_asked, all_silent, answer_told, asked_next, bytes_heard, given, goes_on, heard_before, known_after, link_after, link_lost, link_made, loss_told, lost, made, memory_out, piece_heard, piece_out, put, silences_heard, silences_told, told_heard, told_out, took, update, watch_answered, watch_heard, watch_out, with_watch}
-use Rattle.nut_decision.specs.declared.Communication.TheVariants.{Bad}
-use Rattle.nut_decision.specs.declared.Known.{Known}
-use Rattle.nut_decision.specs.declared.Notice.{Notice}
-use Rattle.nut_decision.specs.declared.Phase.{Phase}
-use Rattle.nut_decision.specs.declared.Query.{Query}
-use Rattle.nut_decision.specs.Decision.{is_bad}
+use Rattle.nut_conf.specs.declared.limits.TheConstants.{MONITORS_MAX}
+use Rattle.nut_monitor_spec.specs.Acceptance.{bytes_refusal, is_linked, linked_refusal, lost_refusal, took_refusal, waits_on, watch_at}
+use Rattle.nut_monitor_spec.specs.Configuration.{Configuration, Line, configuration_of, line_of}
+use Rattle.nut_monitor_spec.specs.Content.{Watch, Content}
+use Rattle.nut_monitor_spec.specs.Decision.{loss_notices}
+use Rattle.nut_monitor_spec.specs.machine.Machine.{all_asked, all_silent, answer_told, asked_next, bytes_heard, given, goes_on, heard_before, known_after, link_after, link_lost, link_made, loss_told, lost, made, memory_out, piece_heard, piece_out, put, silences_heard, silences_told, told_heard, told_out, took, update, watch_answered, watch_heard, watch_out, with_watch}
+use Rattle.nut_monitor_spec.specs.declared.Communication.TheVariants.{Bad}
+use Rattle.nut_monitor_spec.specs.declared.Known.{Known}
+use Rattle.nut_monitor_spec.specs.declared.Notice.{Notice}
+use Rattle.nut_monitor_spec.specs.declared.Phase.{Phase}
+use Rattle.nut_monitor_spec.specs.declared.Query.{Query}
+use Rattle.nut_monitor_spec.specs.Decision.{is_bad}
 use Rattle.nut_monitor.specs.Answers.{beginning}
-use Rattle.nut_monitor.specs.Inside.{IsOrderly, to_lose, to_shut, unwatched}
-use Rattle.nut_monitor.specs.Kept.{AreLinksBounded, IsLinkBounded}
+use Rattle.nut_monitor.specs.inside.Inside.{IsOrderly, to_lose, to_shut, unwatched}
+use Rattle.nut_monitor.specs.inside.Kept.{AreLinksBounded, IsLinkBounded}
 use Rattle.nut_monitor.proofs.Bounded.{AreWritable, asked_bounded, set_bounded, unwatched_bounded}
 
 -- ---- one line
@@ -50,9 +52,9 @@ lost_accepted o w is linked = ap lost_refusal is ∙ rw (linked_here o w true is
 pub linked_accepted : (o : Option Watch) (w : Watch) → o ≡ Some w → is_linked o ≡ false → linked_refusal o ≡ None
 linked_accepted o w is linked = ap linked_refusal is ∙ rw (linked_here o w false is linked) refl
 
-pub bytes_accepted : (s : Content) (p : List ℕ) (o : Option Watch) (w : Watch) → o ≡ Some w → is_linked o ≡ true → length p ≤ 512 → length s.notices ≤ 0 → bytes_refusal s p o ≡ None
+pub bytes_accepted : (s : Content) (p : List ℕ) (o : Option Watch) (w : Watch) → o ≡ Some w → is_linked o ≡ true → length p ≤ PIECE_MAX → length s.notices ≤ 0 → bytes_refusal s p o ≡ None
 bytes_accepted s p o w is linked short free =
-    ap (bytes_refusal s p) is ∙ rw (linked_here o w true is linked, le-ltb 512 (length p) short, le-ltb 0 (length s.notices) free) refl
+    ap (bytes_refusal s p) is ∙ rw (linked_here o w true is linked, le-ltb PIECE_MAX (length p) short, le-ltb 0 (length s.notices) free) refl
 
 -- ---- bounds
 
@@ -77,8 +79,8 @@ set_orderly s i w w' lt is same bounded o =
       links = set_bounded s.watches i w' o.links bounded;
     }
 
--- what is told between two moments or pieces fits
-pub anew_orderly : (s : Content) (clock : ℕ) (news : List Notice) (ws : List Watch) → length ws ≡ length s.watches → length news ≤ 32 → AreLinksBounded ws → IsOrderly s
+-- the notices between two moments or pieces fit
+pub anew_orderly : (s : Content) (clock : ℕ) (news : List Notice) (ws : List Watch) → length ws ≡ length s.watches → length news ≤ MONITORS_MAX → AreLinksBounded ws → IsOrderly s
     → IsOrderly (record s { clock = clock; notices = news; watches = ws })
 anew_orderly s clock news ws same few bounded o = record {
   all = same ∙ o.all;
@@ -139,7 +141,7 @@ asked_orderly s p writable o =
       links = asked_bounded s.configuration s.clock p s.configuration.lines s.watches writable o.links;
     }
 
--- ---- what stands before it
+-- ---- what holds before it
 
 pub if_news : (b : Bool) (xs ys : List Notice) → xs ++ (if b then ys else []) ≡ (if b then xs ++ ys else xs)
 if_news true xs ys = refl

@@ -1,8 +1,8 @@
 -- The content of a monitor that was told nothing.
 use Rattle.std.specs.Prelude.{[], map, None}
-use Rattle.nut_decision.specs.Configuration.{Configuration}
-use Rattle.nut_decision.specs.Content.{Content}
-use Rattle.nut_monitor.specs.Inside.{unwatched}
+use Rattle.nut_monitor_spec.specs.Configuration.{Configuration}
+use Rattle.nut_monitor_spec.specs.Content.{Content}
+use Rattle.nut_monitor.specs.inside.Inside.{unwatched}
 
 -- a monitor that was told nothing
 abbrev pub beginning : Configuration → Content

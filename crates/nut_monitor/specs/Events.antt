@@ -1,9 +1,9 @@
--- What the events of the code are in the definitions.
-use Rattle.nut_decision.specs.Event as E
+-- The events of the definitions that the code's events are.
+use Rattle.nut_monitor_spec.specs.Event as E
 use Rattle.nut_monitor.specs.declared.event.Event.{Event}
 use Rattle.nut_monitor.specs.declared.event.Event.TheVariants as events
 
--- the event that is told
+-- the event of the definitions
 abbrev pub event_of : Event → E.Event
 event_of (events.Moment t) = E.Moment t
 event_of (events.Linked i) = E.Linked i

@@ -1,9 +1,5 @@
 pub mod Events
-pub mod Sound
-pub mod Hearing
-pub mod Kept
-pub mod Inside
 pub mod Answers
 pub mod Texts
-pub mod Steps
 pub mod Monitors
+pub mod inside

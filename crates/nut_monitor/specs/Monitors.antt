@@ -1,15 +1,15 @@
 -- What contracts see of a monitor.
 use Rattle.nut_conf.specs.declared.upsmon.UpsmonConf.{UpsmonConf}
 use Rattle.std.specs.Prelude.{Option, Some, None}
-use Rattle.nut_decision.specs.declared.LastQuery.{LastQuery}
-use Rattle.nut_decision.specs.Content.{Content, Watch}
+use Rattle.nut_monitor_spec.specs.declared.LastQuery.{LastQuery}
+use Rattle.nut_monitor_spec.specs.Content.{Content, Watch}
 
--- What it was made with, and its content.
+-- The configuration that a monitor was made with, and its content.
 pub record MonitorValue : Type 0 where
   pub config : UpsmonConf
   pub content : Content
 
--- the query that was put last on the link of a line
+-- the last query since the link of a line was made
 abbrev pub last_on : Option Watch → Option LastQuery
 last_on None = None
 last_on (Some w) = w.last

@@ -5,7 +5,7 @@ use Rattle.nut_conf.specs.Upsmon.{message_of}
 use Rattle.nut_conf.specs.declared.notice.Notice.{Notice as Kind}
 use Rattle.nut_conf.specs.declared.notice.Notice.TheVariants as kinds
 use Rattle.nut_conf.specs.declared.upsmon.UpsmonConf.{UpsmonConf}
-use Rattle.nut_decision.specs.declared.Notice.{Notice}
+use Rattle.nut_monitor_spec.specs.declared.Notice.{Notice}
 
 -- the text begins with `%s`
 abbrev pub is_mark : List ℕ → Bool
@@ -13,12 +13,12 @@ is_mark [] = false
 is_mark (c ∷ []) = false
 is_mark (c ∷ d ∷ text) = (c == 37) && (d == 115)
 
--- where the first `%s` stands in a text
+-- the place of the first `%s` in a text
 abbrev pub place_of : List ℕ → Option ℕ
 place_of [] = None
 place_of (c ∷ text) = if is_mark (c ∷ text) then Some 0 else option_map suc (place_of text)
 
--- a text with what stands at a place in place of two bytes there
+-- a text with its two bytes at a place replaced by the target
 abbrev pub filled_at : List ℕ → List ℕ → Option ℕ → List ℕ
 filled_at target text None = text
 filled_at target text (Some at) = take at text ++ target ++ drop (at + 2) text
@@ -27,12 +27,12 @@ filled_at target text (Some at) = take at text ++ target ++ drop (at + 2) text
 abbrev pub filled : List ℕ → List ℕ → List ℕ
 filled target text = filled_at target text (place_of text)
 
--- the target of a line as upsmon.conf has it, where there is such a line
+-- the UPS of a line as upsmon.conf writes it, if there is such a line
 abbrev pub target_at : UpsmonConf → Option ℕ → Option (List ℕ)
 target_at config None = None
 target_at config (Some i) = option_map (λ m. m.written.items) (slice_get config.monitors.lines.items i)
 
--- what `%s` stands for: nothing in the text of a shutdown
+-- what replaces `%s`: nothing in the text of SHUTDOWN, else the UPS of the line
 abbrev pub target_for : UpsmonConf → Kind → Option ℕ → Option (List ℕ)
 target_for config kinds.Shutdown line = None
 target_for config kind line = target_at config line
@@ -41,6 +41,6 @@ abbrev pub filled_if : Option (List ℕ) → List ℕ → List ℕ
 filled_if None text = text
 filled_if (Some target) text = filled target text
 
--- the text of a notice: that of its type, with its first `%s` replaced by the target of its line
+-- the text of a notice: the message of its type, with its first `%s` replaced by the UPS of its line
 abbrev pub text_of : UpsmonConf → Notice → List ℕ
 text_of config notice = filled_if (target_for config notice.kind notice.line) (message_of notice.kind config)

@@ -1,32 +1,32 @@
-//! What an answer does to what is known of a UPS, and what it tells.
+//! What an answer changes in what is known of a UPS, and which notices it gives.
 ghost use Rattle.std.specs.Prelude.{◌≡◌, ◌+◌, ◌≤◌, ◌++◌, [], if◌then◌else◌, length};
-ghost use Rattle.nut_decision.specs.declared.Query.TheVariants as queries;
-ghost use Rattle.nut_client.specs.declared.outcome.Outcome.TheVariants as outcomes;
-ghost use Rattle.nut_decision.specs.Configuration.{configuration_of};
-ghost use Rattle.nut_decision.specs.Decision.{answer_notices, had, is_bad as bad, loss_notices, status_notices, tells_replace, told};
-ghost use Rattle.nut_decision.specs.Machine.{known_answered, newer};
-ghost use Rattle.nut_decision.specs.Query.{logins_in};
-ghost use Rattle.nut_monitor.specs.Sound.{IsCount, with_flags};
-ghost use Rattle.nut_decision.specs.declared.Communication.TheVariants as communications;
+ghost use Rattle.nut_monitor_spec.specs.declared.Query.TheVariants as queries;
+ghost use Rattle.nut_link.specs.declared.outcome.Outcome.TheVariants as outcomes;
+ghost use Rattle.nut_monitor_spec.specs.Configuration.{configuration_of};
+ghost use Rattle.nut_monitor_spec.specs.Decision.{answer_notices, had, is_bad as bad, loss_notices, status_notices, tells_replace, told};
+ghost use Rattle.nut_monitor_spec.specs.machine.Machine.{known_answered, newer};
+ghost use Rattle.nut_monitor_spec.specs.Query.{logins_in};
+ghost use Rattle.nut_monitor.specs.inside.Sound.{IsCount, with_flags};
+ghost use Rattle.nut_monitor_spec.specs.declared.Communication.TheVariants as communications;
 
 use crate::flags::{no_flags, read_flags};
 use crate::notices::Notices;
 use crate::time::is_over;
-use nut_client::{Fields, Outcome};
 use nut_conf::{Notice as Kind, Number, UpsmonConf};
-use nut_decision::{Communication, Known, Notice, Query, StatusFlags};
+use nut_link::{Fields, Outcome};
+use nut_monitor_spec::{Communication, Known, Notice, Query, StatusFlags};
 
-/// Where and when an answer is heard.
+/// The line and the time at which an answer is heard.
 #[derive(Clone, Copy)]
 pub struct Scene {
     /// The number of the MONITOR line.
     pub line: usize,
     pub clock: u64,
-    /// Whether no shutdown began.
+    /// Whether no shutdown has begun: only then notices are given.
     pub watching: bool,
 }
 
-/// A notice of this type on a line.
+/// Returns a notice of this type about the UPS of a line.
 pub fn on_line(kind: Kind, line: usize) -> Notice
     ensures { result ≡ told kind line }
 {
@@ -42,7 +42,7 @@ fn is_bad(communication: Communication) -> bool
     matches!(communication, Communication::Bad)
 }
 
-/// What the last status said; before the first nothing is there.
+/// Returns the flags of the last status; none is set before the first.
 fn earlier(known: Known) -> StatusFlags
     ensures on_line { result.on_line ≡ had (λ f. f.on_line) known.flags }
     ensures on_battery { result.on_battery ≡ had (λ f. f.on_battery) known.flags }
@@ -56,7 +56,7 @@ fn earlier(known: Known) -> StatusFlags
     }
 }
 
-/// Whether a status tells that the battery needs to be replaced.
+/// Whether a status gives REPLBATT.
 fn is_worn(config: &UpsmonConf, clock: u64, known: Known, flags: StatusFlags) -> bool
     ensures { result ≡ tells_replace (configuration_of config.now) clock known.replace_told known.flags flags }
 {
@@ -66,7 +66,7 @@ fn is_worn(config: &UpsmonConf, clock: u64, known: Known, flags: StatusFlags) ->
             || is_over(u64::from(config.rb_warn_time()), clock, known.replace_told))
 }
 
-/// Tells what a status tells.
+/// Queues the notices that a status gives.
 fn tell_status(
     config: &UpsmonConf,
     scene: Scene,
@@ -99,7 +99,7 @@ fn tell_status(
     notices.tell_when(worn, on_line(Kind::Replbatt, line));
 }
 
-/// What is known after a status.
+/// Returns what is known after a status.
 fn with_status(config: &UpsmonConf, scene: Scene, known: Known, flags: StatusFlags) -> Known
     ensures { result ≡ with_flags (configuration_of config.now) scene.clock scene.watching flags known }
 {
@@ -125,7 +125,7 @@ fn with_status(config: &UpsmonConf, scene: Scene, known: Known, flags: StatusFla
     }
 }
 
-/// Tells that communication is disturbed, where it wasn't.
+/// Queues COMMBAD if communication wasn't bad before, and no shutdown has begun.
 pub fn tell_disturbed(scene: Scene, known: Known, notices: &mut Notices)
     requires { length notices.old ≤ 120 }
     ensures few { length notices.new ≤ length notices.old + 1 }
@@ -137,7 +137,7 @@ pub fn tell_disturbed(scene: Scene, known: Known, notices: &mut Notices)
     );
 }
 
-/// What is known once communication is disturbed.
+/// Returns what is known once communication is bad.
 pub fn disturbed(known: Known) -> Known
     ensures { result ≡ record known { communication = communications.Bad } }
 {
@@ -147,7 +147,7 @@ pub fn disturbed(known: Known) -> Known
     }
 }
 
-/// Hears the words of a status, and tells what they tell.
+/// Takes in the words of a status and queues the notices that they give. Returns what is known after it.
 fn hear_status(
     config: &UpsmonConf,
     scene: Scene,
@@ -170,7 +170,7 @@ fn hear_status(
     with_status(config, scene, known, flags)
 }
 
-/// How many are logged in, by the words of an answer, and else by the answer before.
+/// Returns the number of logins that an answer gives, or `before` if it gives none.
 fn count_said(fields: &Fields, before: Option<u32>) -> Option<u32>
     requires { IsCount queries.NumLogins (outcomes.Said fields.now) }
     ensures { result ≡ newer (logins_in queries.NumLogins (outcomes.Said fields.now)) before }
@@ -184,7 +184,7 @@ fn count_said(fields: &Fields, before: Option<u32>) -> Option<u32>
     }
 }
 
-/// Hears what came of a query, and tells what it tells.
+/// Takes in the outcome of a query and queues the notices that it gives. Returns what is known after it.
 pub fn hear(
     config: &UpsmonConf,
     scene: Scene,

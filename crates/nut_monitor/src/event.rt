@@ -1,19 +1,16 @@
-//! What a monitor is told.
+//! The events that a monitor is told.
 
-/// How many bytes a piece has at most.
-pub const PIECE_MAX: usize = 512;
-
-/// One thing that a monitor is told. Links go by the numbers of their MONITOR lines, from 0 on.
+/// An event that a monitor is told. A link has the number of its MONITOR line, from 0 on.
 #[derive(Clone, Copy, Drop)]
 pub enum Event<'a> {
-    /// It is so many seconds since the start.
+    /// This many seconds have passed since the start.
     Moment(u64),
-    /// A link is made.
+    /// A link was made: its server accepted the connection.
     Linked(usize),
-    /// A piece of the bytes that the server of a link sends, of at most 512 bytes.
+    /// A piece of the bytes that the server of a link sends, of at most [`PIECE_MAX`](nut_words::PIECE_MAX) bytes.
     LinkBytes(usize, &'a [u8]),
-    /// A link is lost.
+    /// A link was lost.
     LinkLost(usize),
-    /// The server of a link took so many of the bytes that wait for it.
+    /// The server of a link took this many of the bytes that wait for it.
     LinkTook(usize, usize),
 }

@@ -1,12 +1,12 @@
-//! What the words of a status say.
+//! The flags that the words of a status set.
 ghost use Rattle.std.specs.Prelude.{◌≡◌, []};
-ghost use Rattle.nut_decision.specs.Query.{flags_of, parted};
-ghost use Rattle.nut_monitor.specs.Sound.{with_word};
+ghost use Rattle.nut_monitor_spec.specs.Query.{flags_of, parted};
+ghost use Rattle.nut_monitor.specs.inside.Sound.{with_word};
 
-use nut_decision::StatusFlags;
+use nut_monitor_spec::StatusFlags;
 use nut_words::cut;
 
-/// What no words say.
+/// Returns no flags.
 pub fn no_flags() -> StatusFlags
     ensures { result ≡ flags_of [] }
 {
@@ -20,7 +20,7 @@ pub fn no_flags() -> StatusFlags
     }
 }
 
-/// What one word more says.
+/// Returns the flags with the one that a further word sets, if it sets one.
 fn add(flags: StatusFlags, word: &[u8]) -> StatusFlags
     ensures { result ≡ with_word word.now flags }
 {
@@ -34,7 +34,7 @@ fn add(flags: StatusFlags, word: &[u8]) -> StatusFlags
     }
 }
 
-/// Reads the value of `ups.status` (RFC 9271, section 5.1), words with blanks between them.
+/// Reads the value of `ups.status` (RFC 9271, section 5.1): words separated by blanks.
 pub fn read_flags(value: &[u8]) -> StatusFlags
     ensures { result ≡ flags_of (parted value.now) }
 {

@@ -1,4 +1,5 @@
-//! A monitor of UPSes (upsmon(8)): what it is told, one event at a time, and what it asks, tells and decides.
+//! A monitor of UPSes (upsmon(8)): it is told one event at a time, and decides what it asks, which notices it gives,
+//! and when its machine shuts down.
 #![tactic(auto)]
 
 mod answer;
@@ -13,6 +14,7 @@ mod shutdown;
 mod state;
 mod time;
 
-pub use event::{Event, PIECE_MAX};
+pub use event::Event;
 pub use monitor::Monitor;
-pub use nut_decision::{Known, LastQuery, MonitorFault, Notice, Phase, Query, StatusFlags};
+pub use nut_monitor_spec::{Known, LastQuery, MonitorFault, Notice, Phase, Query, StatusFlags};
+pub use shutdown::has_primary;

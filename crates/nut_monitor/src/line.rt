@@ -1,29 +1,29 @@
 //! A MONITOR line: its link, and what is known of its UPS.
 ghost use Rattle.std.specs.Prelude.{◌≡◌, ◌+◌, ◌≤◌, ◌++◌, [], None, Some, if◌then◌else◌, is_some, length};
-ghost use Rattle.nut_client.specs.Link.{LinkValue, is_idle, with_exchange};
-ghost use Rattle.nut_client.specs.Asking.{query_of};
-ghost use Rattle.nut_client.specs.declared.exchange.Stage.TheVariants as stages;
-ghost use Rattle.nut_decision.specs.Query.{request as request_of};
+ghost use Rattle.nut_link.specs.Link.{LinkValue, is_idle, with_exchange};
+ghost use Rattle.nut_link.specs.Asking.{query_of};
+ghost use Rattle.nut_link.specs.declared.exchange.Stage.TheVariants as stages;
+ghost use Rattle.nut_monitor_spec.specs.Query.{request as request_of};
 ghost use Rattle.nut_conf.specs.declared.notice.Notice.TheVariants as kinds;
-ghost use Rattle.nut_decision.specs.Acceptance.{waits_on};
-ghost use Rattle.nut_decision.specs.Configuration.{configuration_of, line_of};
-ghost use Rattle.nut_decision.specs.Decision.{tells_silence, told as told_of, when};
-ghost use Rattle.nut_decision.specs.Machine.{answer_told, asked_next, is_silent, known_after, loss_told, lost, made, silent, took as taken_by};
-ghost use Rattle.nut_monitor.specs.Hearing.{HearsPiece, IsFed};
-ghost use Rattle.nut_monitor.specs.Inside.{to_lose, unwatched};
-ghost use Rattle.nut_monitor.specs.Sound.{IsCountAfter, IsSound};
+ghost use Rattle.nut_monitor_spec.specs.Acceptance.{waits_on};
+ghost use Rattle.nut_monitor_spec.specs.Configuration.{configuration_of, line_of};
+ghost use Rattle.nut_monitor_spec.specs.Decision.{tells_silence, told as told_of, when};
+ghost use Rattle.nut_monitor_spec.specs.machine.Machine.{answer_told, asked_next, is_silent, known_after, loss_told, lost, made, silent, took as taken_by};
+ghost use Rattle.nut_monitor.specs.inside.Hearing.{HearsPiece, IsFed};
+ghost use Rattle.nut_monitor.specs.inside.Inside.{to_lose, unwatched};
+ghost use Rattle.nut_monitor.specs.inside.Sound.{IsCountAfter, IsSound};
 
 use crate::answer::{Scene, disturbed, hear, on_line, tell_disturbed};
 use crate::notices::Notices;
 use crate::query::{next_query, request};
 use crate::time::{is_over, is_past};
-use nut_client::{Link, LinkFault, Outcome};
 use nut_conf::{Monitored, Notice as Kind, UpsmonConf};
-use nut_decision::{Communication, Known, LastQuery, Phase, Query};
+use nut_link::{Link, LinkFault, Outcome};
+use nut_monitor_spec::{Communication, Known, LastQuery, Phase, Query};
 use std::alloc::Global;
 use std::marker::Model;
 
-/// A MONITOR line: its link, while that is there, the query that was put on it last, and what is known of its UPS.
+/// A MONITOR line: its link if that is up, the last query on it, and what is known of its UPS.
 #[derive(Drop)]
 pub struct MonitorLine {
     link: Option<Link>,
@@ -32,8 +32,8 @@ pub struct MonitorLine {
 }
 
 impl Model for MonitorLine {
-    ghost use Rattle.nut_decision.specs.Content.{Watch};
-    ghost use Rattle.nut_monitor.specs.Sound.{IsSound};
+    ghost use Rattle.nut_monitor_spec.specs.Content.{Watch};
+    ghost use Rattle.nut_monitor.specs.inside.Sound.{IsSound};
 
     ghost Value = { Watch };
 
@@ -42,7 +42,7 @@ impl Model for MonitorLine {
     ghost invariant = { λ w. IsSound w.last w.link };
 }
 
-/// Puts a query on a link, unless one is outstanding there. It says whether it was put.
+/// Puts a query on a link unless one is outstanding. Returns whether it was put.
 fn ask_on(link: &mut Link, line: &Monitored, query: Query) -> bool
     requires { link.old.exchange.fault ≡ None }
     ensures put { result ≡ is_idle link.old.exchange.stage }
@@ -51,8 +51,8 @@ fn ask_on(link: &mut Link, line: &Monitored, query: Query) -> bool
     link.ask(&request(line, query)).is_ok()
 }
 
-/// Feeds a link a piece, and takes out the answer that is complete then. A link that failed is let go. It tells how many
-/// lines of the piece were done, and the fault with which the link failed, if it did.
+/// Feeds a piece to a link and takes out the answer if one is complete. Drops a link that failed. Returns how many
+/// lines of the piece were done, the fault if the link failed, and the outcome of the answer.
 fn feed(
     link: &mut Option<Link>,
     last: Option<LastQuery>,
@@ -75,7 +75,7 @@ fn feed(
     (done, heard, outcome)
 }
 
-/// What is known after the answer, if there is one, to the last query, if there is one; and tells what it tells.
+/// Returns what is known after the answer to the last query, if both are there, and queues the notices that it gives.
 fn hear_answer(
     config: &UpsmonConf,
     scene: Scene,
@@ -99,7 +99,7 @@ fn hear_answer(
     }
 }
 
-/// Tells that a UPS is unavailable, and says whether it does.
+/// Queues NOCOMM if the UPS was silent for longer than NOCOMMWARNTIME. Returns whether it did.
 fn tell_silence(
     config: &UpsmonConf,
     clock: u64,
@@ -120,7 +120,7 @@ fn tell_silence(
 }
 
 impl MonitorLine {
-    /// A line without a link, of whose UPS nothing is known.
+    /// Makes a line without a link, of whose UPS nothing is known.
     pub fn new() -> MonitorLine
         ensures { result ≡ unwatched }
     {
@@ -140,14 +140,14 @@ impl MonitorLine {
         }
     }
 
-    /// Whether its link is there.
+    /// Whether its link is up.
     pub fn is_linked(&self) -> bool
         ensures { result ≡ is_some self.now.link }
     {
         self.link.is_some()
     }
 
-    /// The bytes that wait for its server.
+    /// Returns the bytes that wait for its server; none if the link isn't up.
     pub fn waiting(&self) -> &[u8]
         ensures { result.now ≡ waits_on self.now.link }
     {
@@ -157,21 +157,21 @@ impl MonitorLine {
         }
     }
 
-    /// What is known of its UPS.
+    /// Returns what is known of its UPS.
     pub fn known(&self) -> Known
         ensures { result ≡ self.now.known }
     {
         self.known
     }
 
-    /// The query that was put last on its link.
+    /// Returns the last query that was put since its link was made.
     pub fn last_query(&self) -> Option<LastQuery>
         ensures { result ≡ self.now.last }
     {
         self.last
     }
 
-    /// Its link is made.
+    /// Makes its link.
     pub fn link(&mut self, alloc: Global)
         ensures { self.new ≡ made self.old }
     {
@@ -179,7 +179,7 @@ impl MonitorLine {
         self.link = Some(Link::new(alloc));
     }
 
-    /// Its link is lost, which is told.
+    /// Drops its link, and queues COMMBAD if communication wasn't bad before.
     pub fn lose(&mut self, scene: Scene, notices: &mut Notices)
         requires { length notices.old ≤ 120 }
         ensures line { self.new ≡ lost self.old }
@@ -191,7 +191,7 @@ impl MonitorLine {
         self.link = None;
     }
 
-    /// Its server took the first `n` of the bytes that wait.
+    /// Removes the first `n` of the bytes that wait: its server took them.
     pub fn took(&mut self, n: usize)
         ensures { self.new ≡ taken_by n self.old }
     {
@@ -200,8 +200,8 @@ impl MonitorLine {
         }
     }
 
-    /// Its server sent a piece: an answer that it completes is heard, and where the link fails at a line it is lost. It tells
-    /// how many lines of the piece were done, and the fault with which the link failed, if it did.
+    /// Feeds its link a piece. Takes in the answer that the piece completes, and drops the link if it fails. Returns
+    /// how many lines of the piece were done, and the fault if the link failed.
     pub fn hear(
         &mut self,
         config: &UpsmonConf,
@@ -222,7 +222,7 @@ impl MonitorLine {
         (done, heard)
     }
 
-    /// Tells that its UPS is unavailable, where it was silent for so long.
+    /// Queues NOCOMM if its UPS was silent for longer than NOCOMMWARNTIME.
     pub fn tell_silence(
         &mut self,
         config: &UpsmonConf,
@@ -240,7 +240,7 @@ impl MonitorLine {
         }
     }
 
-    /// Puts the next query on its link, where one may be.
+    /// Puts the next query on its link, if one may be put.
     pub fn ask(&mut self, config: &UpsmonConf, clock: u64, phase: Phase, line: &Monitored)
         ensures { self.new ≡ asked_next (configuration_of config.now) clock phase (line_of line.now) self.old }
     {

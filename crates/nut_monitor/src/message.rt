@@ -4,7 +4,7 @@ ghost use Rattle.std.specs.Option.{option_map};
 ghost use Rattle.nut_monitor.specs.Texts.{filled_if, is_mark, place_of, target_for, text_of};
 
 use nut_conf::{Notice as Kind, UpsmonConf};
-use nut_decision::Notice;
+use nut_monitor_spec::Notice;
 use std::alloc::AllocError;
 
 /// Whether a text begins with `%s`.
@@ -17,7 +17,7 @@ fn begins_with_mark(text: &[u8]) -> bool
     }
 }
 
-/// Where the first `%s` stands in a text.
+/// Returns the place of the first `%s` in a text.
 #[tactic(auto, using(crate::proofs::Marks::place_next, crate::proofs::Marks::place_found, crate::proofs::Marks::mark_within, crate::proofs::Marks::place_first, crate::proofs::Marks::place_none))]
 fn mark_place(text: &[u8]) -> Option<usize>
     ensures place { result ≡ place_of text.now }
@@ -31,7 +31,7 @@ fn mark_place(text: &[u8]) -> Option<usize>
     None
 }
 
-/// The target of the line of a notice, which stands for `%s`: none in the text of a shutdown.
+/// Returns what replaces `%s` in the text of a notice: the UPS of its line as upsmon.conf writes it. None for SHUTDOWN.
 fn target(config: &UpsmonConf, notice: Notice) -> Option<&[u8]>
     ensures { option_map (λ t. t.now) result ≡ target_for config.now notice.kind notice.line }
 {
@@ -48,7 +48,7 @@ fn target(config: &UpsmonConf, notice: Notice) -> Option<&[u8]>
     }
 }
 
-/// Appends a text with its first `%s` replaced, if there is a target. At an `Err` a part may have been appended.
+/// Appends a text with its first `%s` replaced, if there is a target. On an error a part of it may have been appended.
 fn put_filled(out: &mut Vec<u8>, text: &[u8], target: Option<&[u8]>) -> Result<(), AllocError>
     ensures ok { OnOk result (out.new.items ≡ out.old.items ++ filled_if (option_map (λ t. t.now) target.entry) text.now) }
     ensures err { OnErr result (take (length out.old.items) out.new.items ≡ out.old.items) }
@@ -65,7 +65,8 @@ fn put_filled(out: &mut Vec<u8>, text: &[u8], target: Option<&[u8]>) -> Result<(
     out.extend_from_slice(&text[at + 2..])
 }
 
-/// Appends the text of a notice. At an `Err`, which comes only where it has no room there, nothing is appended.
+/// Appends the text of a notice. Fails only if `out` has no room for it and memory cannot be allocated; then nothing is
+/// appended.
 pub fn put_text(config: &UpsmonConf, notice: Notice, out: &mut Vec<u8>) -> Result<(), AllocError>
     ensures ok { OnOk result (out.new.items ≡ out.old.items ++ text_of config.now notice) }
     ensures err { OnErr result (out.new.items ≡ out.old.items) }

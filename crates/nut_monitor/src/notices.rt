@@ -1,17 +1,14 @@
-//! Notices that wait.
+//! The notices that wait.
 ghost use Rattle.std.specs.Prelude.{◌≡◌, ◌+◌, ◌<◌, ◌≤◌, ◌==◌, ◌++◌, [], IfOk, drop, length};
-ghost use Rattle.nut_decision.specs.Decision.{when};
-ghost use Rattle.nut_monitor.specs.Sound.{first_of};
+ghost use Rattle.nut_monitor_spec.specs.Decision.{when};
+ghost use Rattle.nut_monitor.specs.inside.Sound.{first_of};
 
-use nut_decision::Notice;
+use nut_monitor_spec::{NOTICES_MAX, Notice};
 use std::alloc::{AllocError, Global};
 use std::collections::VecDeque;
 use std::marker::Model;
 
-/// How many notices may wait.
-const MOST_NOTICES: usize = 128;
-
-/// The notices that wait, the oldest first. There is room for all that may wait.
+/// The notices that wait, the oldest first, with room for all that may wait.
 #[derive(Drop)]
 pub struct Notices {
     queue: VecDeque<Notice>,
@@ -20,35 +17,36 @@ pub struct Notices {
 impl Model for Notices {
     ghost use Rattle.std.specs.Prelude.{◌≤◌, List};
     ghost use Rattle.std.specs.VecDeque.{deque_capacity};
-    ghost use Rattle.nut_decision.specs.declared.Notice.{Notice};
+    ghost use Rattle.nut_monitor_spec.specs.declared.Notice.{Notice};
+    ghost use Rattle.nut_monitor_spec.specs.declared.limits.TheConstants.{NOTICES_MAX};
 
     ghost Value = { List Notice };
 
     ghost view = { λ n. n.queue.items };
 
-    ghost invariant = { λ n. 128 ≤ deque_capacity n.queue };
+    ghost invariant = { λ n. NOTICES_MAX ≤ deque_capacity n.queue };
 }
 
 impl Notices {
-    /// None, with room for as many as may wait.
+    /// Makes an empty queue with room for all notices that may wait.
     pub fn new(alloc: Global) -> Result<Notices, AllocError>
         ensures { IfOk result (λ n. n ≡ []) }
     {
         Ok(Notices {
-            queue: VecDeque::with_capacity(alloc, MOST_NOTICES)?,
+            queue: VecDeque::with_capacity(alloc, NOTICES_MAX)?,
         })
     }
 
-    /// Whether none waits.
+    /// Whether no notice waits.
     pub fn is_empty(&self) -> bool
         ensures { result ≡ (length self.now == 0) }
     {
         self.queue.is_empty()
     }
 
-    /// Tells this behind the others, where the test holds.
+    /// Queues a notice if the test holds.
     pub fn tell_when(&mut self, test: bool, notice: Notice)
-        requires { length self.old < 128 }
+        requires { length self.old < NOTICES_MAX }
         ensures told { self.new ≡ self.old ++ when test notice }
         ensures few { length self.new ≤ length self.old + 1 }
     {
@@ -57,14 +55,14 @@ impl Notices {
         }
     }
 
-    /// The oldest, if one waits.
+    /// Returns the oldest notice, if one waits.
     pub fn first(&self) -> Option<Notice>
         ensures { result ≡ first_of self.now }
     {
         self.queue.front().copied()
     }
 
-    /// Takes the oldest out, if one waits.
+    /// Removes and returns the oldest notice, if one waits.
     pub fn take(&mut self) -> Option<Notice>
         ensures taken { result ≡ first_of self.old }
         ensures left { self.new ≡ drop 1 self.old }

@@ -1,23 +1,23 @@
-//! What a monitor asks on a link, and when.
+//! Which query a monitor puts on a link, and when.
 ghost use Rattle.std.specs.Prelude.{◌≡◌, true};
-ghost use Rattle.nut_client.specs.Asking.{is_writable};
-ghost use Rattle.nut_decision.specs.Configuration.{configuration_of, line_of};
-ghost use Rattle.nut_decision.specs.Decision.{interval as interval_of, is_early as too_early, is_same as same, next_query as next_of, opening as opening_of, wanted as wanted_in};
-ghost use Rattle.nut_decision.specs.Query.{request as request_of};
+ghost use Rattle.nut_link.specs.Asking.{is_writable};
+ghost use Rattle.nut_monitor_spec.specs.Configuration.{configuration_of, line_of};
+ghost use Rattle.nut_monitor_spec.specs.Decision.{interval as interval_of, is_early as too_early, is_same as same, next_query as next_of, opening as opening_of, wanted as wanted_in};
+ghost use Rattle.nut_monitor_spec.specs.Query.{request as request_of};
 
 use crate::time::is_within;
 use nut_conf::{Monitored, Role, UpsmonConf};
-use nut_decision::{LastQuery, Phase, Query};
+use nut_monitor_spec::{LastQuery, Phase, Query};
 use nut_proto::{Request, Word};
 
-/// Whether this machine shuts the UPS of a line down, last of all.
+/// Whether this machine is the primary of a line's UPS, which shuts down last.
 pub fn is_primary(line: &Monitored) -> bool
     ensures { result ≡ (line_of line.now).primary }
 {
     matches!(&line.role, Role::Primary)
 }
 
-/// The query as the client's protocol has it, for the UPS of a MONITOR line.
+/// Returns the request that a query sends for the UPS of a MONITOR line.
 pub fn request(line: &Monitored, query: Query) -> Request<'_>
     ensures value { result ≡ request_of (line_of line.now) query }
     ensures writable { is_writable (request_of (line_of line.now) query) ≡ true }
@@ -48,7 +48,7 @@ pub fn request(line: &Monitored, query: Query) -> Request<'_>
     }
 }
 
-/// How many seconds after its asking a query is put again.
+/// Returns how many seconds must pass before a query is put again.
 fn interval(config: &UpsmonConf, query: Query) -> u64
     ensures { result ≡ interval_of (configuration_of config.now) query }
 {
@@ -59,7 +59,7 @@ fn interval(config: &UpsmonConf, query: Query) -> u64
     }
 }
 
-/// Whether a query is put once more behind the one that was put last.
+/// Whether a query is the same as the last one, and one that is repeated: `Status`, `Fsd` or `NumLogins`.
 fn is_same(last: Query, query: Query) -> bool
     ensures { result ≡ same last query }
 {
@@ -71,7 +71,8 @@ fn is_same(last: Query, query: Query) -> bool
     }
 }
 
-/// What comes next while the opening goes on: USERNAME, PASSWORD, LOGIN, and for a primary line PRIMARY.
+/// Returns the query that opens a link next: USERNAME, PASSWORD, LOGIN, and on a primary line PRIMARY. `None` once
+/// these were put.
 fn opening(line: &Monitored, last: Option<LastQuery>) -> Option<Query>
     ensures { result ≡ opening_of (line_of line.now) last }
 {
@@ -92,7 +93,7 @@ fn opening(line: &Monitored, last: Option<LastQuery>) -> Option<Query>
     }
 }
 
-/// What is asked behind the opening.
+/// Returns what is asked once a link is opened, by the phase.
 fn wanted(phase: Phase, primary: bool, forced: bool) -> Option<Query>
     ensures { result ≡ wanted_in phase primary forced }
 {
@@ -111,7 +112,7 @@ fn wanted(phase: Phase, primary: bool, forced: bool) -> Option<Query>
     }
 }
 
-/// Whether the query was the last one on the link, and its interval isn't over.
+/// Whether the query was the last one on the link, and its interval hasn't passed yet.
 fn is_early(config: &UpsmonConf, clock: u64, query: Query, last: Option<LastQuery>) -> bool
     ensures { result ≡ too_early (configuration_of config.now) clock query last }
 {
@@ -123,7 +124,7 @@ fn is_early(config: &UpsmonConf, clock: u64, query: Query, last: Option<LastQuer
     }
 }
 
-/// The query that is put next on a link on which none is outstanding, if one is.
+/// Returns the query to put on a link without an outstanding query, if there is one.
 pub fn next_query(
     config: &UpsmonConf,
     line: &Monitored,

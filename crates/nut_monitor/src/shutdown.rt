@@ -1,18 +1,18 @@
-//! Whether a shutdown begins and goes on, by what is known of all UPSes.
+//! Whether a shutdown begins and how far it has come, by what is known of all UPSes.
 ghost use Rattle.std.specs.Prelude.{◌≡◌, length, nat_lt};
 ghost use Rattle.std.specs.List.{list_any};
-ghost use Rattle.nut_decision.specs.Configuration.{configuration_of, has_primary as some_primary, line_of};
-ghost use Rattle.nut_decision.specs.Decision.{is_critical as critical, is_over_by, phase_at};
-ghost use Rattle.nut_decision.specs.Machine.{all_alone, supply_of};
-ghost use Rattle.nut_monitor.specs.Inside.{lets_halt, power_of};
+ghost use Rattle.nut_monitor_spec.specs.Configuration.{configuration_of, has_primary as some_primary, line_of};
+ghost use Rattle.nut_monitor_spec.specs.Decision.{is_critical as critical, is_over_by, phase_at};
+ghost use Rattle.nut_monitor_spec.specs.machine.Machine.{all_alone, supply_of};
+ghost use Rattle.nut_monitor.specs.inside.Inside.{lets_halt, power_of};
 
 use crate::line::MonitorLine;
 use crate::query::is_primary;
 use crate::time::{is_past, is_within};
 use nut_conf::{Monitored, UpsmonConf};
-use nut_decision::{Known, Phase};
+use nut_monitor_spec::{Known, Phase};
 
-/// Whether the last status of a line's UPS, if there is one, makes it critical.
+/// Whether the UPS of a line is critical. False if it had no status yet.
 fn is_critical(config: &UpsmonConf, line: &Monitored, clock: u64, known: Known) -> bool
     ensures { result ≡ critical (configuration_of config.now) (line_of line.now) clock known.calm known.polled known.flags }
 {
@@ -25,7 +25,7 @@ fn is_critical(config: &UpsmonConf, line: &Monitored, clock: u64, known: Known) 
     flags.forced_shutdown || (low && waited) || (flags.on_battery && dead)
 }
 
-/// The power that the UPS of a line gives, as far as it isn't critical.
+/// Returns the power value of a line whose UPS isn't critical, else 0.
 fn power(config: &UpsmonConf, line: &Monitored, clock: u64, known: Known) -> u32
     ensures { result ≡ power_of (configuration_of config.now) clock (line_of line.now) known }
 {
@@ -36,7 +36,7 @@ fn power(config: &UpsmonConf, line: &Monitored, clock: u64, known: Known) -> u32
     }
 }
 
-/// Whether the power of the UPSes that aren't critical is less than what is needed.
+/// Whether the sum of these power values is less than MINSUPPLIES.
 pub fn is_short(config: &UpsmonConf, clock: u64, watches: &[MonitorLine]) -> bool
     requires { length watches.now ≡ length (configuration_of config.now).lines }
     ensures { result ≡ nat_lt (supply_of (configuration_of config.now) clock (configuration_of config.now).lines watches.now) (configuration_of config.now).min_supplies }
@@ -50,7 +50,7 @@ pub fn is_short(config: &UpsmonConf, clock: u64, watches: &[MonitorLine]) -> boo
     missing > 0
 }
 
-/// Whether a line doesn't keep this machine from halting: it isn't primary, or by the last answer nobody else is logged in.
+/// Whether a line lets this machine halt: it isn't primary, or by the last answer nobody else is logged in.
 fn is_free(line: &Monitored, known: Known) -> bool
     ensures { result ≡ lets_halt (line_of line.now) known }
 {
@@ -61,7 +61,7 @@ fn is_free(line: &Monitored, known: Known) -> bool
     !is_primary(line) || alone
 }
 
-/// Whether nobody else is logged in where this machine is the primary.
+/// Whether nobody else is logged in to any UPS of which this machine is the primary.
 pub fn is_alone(config: &UpsmonConf, watches: &[MonitorLine]) -> bool
     requires { length watches.now ≡ length (configuration_of config.now).lines }
     ensures { result ≡ all_alone (configuration_of config.now).lines watches.now }
@@ -76,7 +76,7 @@ pub fn is_alone(config: &UpsmonConf, watches: &[MonitorLine]) -> bool
     true
 }
 
-/// Whether Forcing is over.
+/// Whether Forcing is over: nobody else is logged in, or more than HOSTSYNC has passed.
 pub fn is_forced(config: &UpsmonConf, clock: u64, alone: bool, begun: Option<u64>) -> bool
     ensures { result ≡ is_over_by (configuration_of config.now) clock alone begun }
 {
@@ -86,22 +86,22 @@ pub fn is_forced(config: &UpsmonConf, clock: u64, alone: bool, begun: Option<u64
     }
 }
 
-/// Whether a line is primary.
+/// Whether one of the lines is primary.
 fn any_primary(lines: &[Monitored]) -> bool
     ensures { result ≡ list_any (λ m. (line_of m).primary) lines.now }
 {
     lines.iter().any(is_primary)
 }
 
-/// Whether this machine is the primary of a UPS.
-fn has_primary(config: &UpsmonConf) -> bool
+/// Whether this machine is the primary of at least one UPS.
+pub fn has_primary(config: &UpsmonConf) -> bool
     ensures { result ≡ some_primary (configuration_of config.now).lines }
 {
     let monitors = &config.monitors;
     any_primary(monitors.lines.as_slice())
 }
 
-/// The phase, by the moments at which the shutdown began and at which Final did.
+/// Returns the phase, by the moments at which the shutdown and Final began.
 pub fn phase(config: &UpsmonConf, clock: u64, begun: Option<u64>, ended: Option<u64>) -> Phase
     ensures { result ≡ phase_at (configuration_of config.now) clock begun ended }
 {

@@ -1,29 +1,30 @@
-//! What a monitor knows and has decided, and how events move it.
+//! What a monitor knows and has decided, and how events change it.
 ghost use Rattle.std.specs.Prelude.{◌≡◌, ◌≤◌, ◌<◌, ◌+◌, ◌++◌, Some, IfOk, MatchResult, is_none, length, map};
 ghost use Rattle.std.specs.Option.{option_map};
-ghost use Rattle.nut_decision.specs.Acceptance.{is_linked, waiting_on, watch_at};
-ghost use Rattle.nut_decision.specs.Configuration.{Configuration, configuration_of};
-ghost use Rattle.nut_decision.specs.Content.{phase_of};
-ghost use Rattle.nut_decision.specs.Event as E;
-ghost use Rattle.nut_decision.specs.Machine.{all_asked, all_silent, clock_set, phase_moved, settled, shutdown_judged, silences_heard, silences_told};
+ghost use Rattle.nut_monitor_spec.specs.Acceptance.{is_linked, waiting_on, watch_at};
+ghost use Rattle.nut_monitor_spec.specs.Configuration.{Configuration, configuration_of};
+ghost use Rattle.nut_monitor_spec.specs.Content.{phase_of};
+ghost use Rattle.nut_monitor_spec.specs.Event as E;
+ghost use Rattle.nut_monitor_spec.specs.machine.Machine.{all_asked, all_silent, clock_set, phase_moved, settled, shutdown_judged, silences_heard, silences_told};
 ghost use Rattle.nut_monitor.specs.Answers.{beginning};
-ghost use Rattle.nut_monitor.specs.Inside.{IsOrderly, unwatched};
-ghost use Rattle.nut_monitor.specs.Sound.{lacks_memory};
-ghost use Rattle.nut_monitor.specs.Steps.{Steps, checked_fault, content_in};
+ghost use Rattle.nut_monitor.specs.inside.Inside.{IsOrderly, unwatched};
+ghost use Rattle.nut_monitor.specs.inside.Sound.{lacks_memory};
+ghost use Rattle.nut_monitor.specs.inside.Steps.{Steps, checked_fault, content_in};
 ghost use Rattle.nut_monitor.specs.Monitors.{last_on};
 
 use crate::answer::Scene;
-use crate::event::{Event, PIECE_MAX};
+use crate::event::Event;
 use crate::line::MonitorLine;
 use crate::notices::Notices;
 use crate::shutdown::{is_alone, is_forced, is_short, phase};
-use nut_client::LinkFault;
 use nut_conf::{Monitored, Notice as Kind, UpsmonConf};
-use nut_decision::{Known, LastQuery, MonitorFault, Notice, Phase};
+use nut_link::LinkFault;
+use nut_monitor_spec::{Known, LastQuery, MonitorFault, NOTICES_MAX, Notice, Phase};
+use nut_words::PIECE_MAX;
 use std::alloc::{AllocError, Global};
 
-/// What a monitor knows and has decided: the time, the moments at which its shutdown began and at which Final did, the
-/// notices that wait, and each MONITOR line.
+/// What a monitor knows and has decided: the time, the moments at which its shutdown and Final began, the notices that
+/// wait, and each MONITOR line.
 #[derive(Drop)]
 pub struct State {
     pub clock: u64,
@@ -33,7 +34,7 @@ pub struct State {
     pub watches: Vec<MonitorLine>,
 }
 
-/// These lines without links.
+/// Makes a line without a link for each MONITOR line.
 fn unlinked(alloc: Global, lines: &[Monitored]) -> Result<Vec<MonitorLine>, AllocError>
     ensures { IfOk result (λ ws. ws.items ≡ map (λ line. unwatched) lines.now) }
 {
@@ -44,14 +45,14 @@ fn unlinked(alloc: Global, lines: &[Monitored]) -> Result<Vec<MonitorLine>, Allo
     Ok(watches)
 }
 
-/// Whether a link failed for want of memory.
+/// Whether a link failed because memory could not be allocated.
 fn ran_out(heard: Result<(), LinkFault>) -> bool
     ensures { result ≡ lacks_memory heard }
 {
     matches!(heard, Err(LinkFault::Memory))
 }
 
-/// Tells of the lines that were silent for so long.
+/// Queues NOCOMM for each line whose UPS was silent for longer than NOCOMMWARNTIME.
 fn tell_silences(
     config: &UpsmonConf,
     clock: u64,
@@ -81,7 +82,7 @@ fn ask_all(config: &UpsmonConf, clock: u64, phase: Phase, watches: &mut Vec<Moni
 }
 
 impl State {
-    /// That of a monitor that was told nothing.
+    /// Makes the state of a monitor that was told nothing.
     pub fn new(alloc: Global, config: &UpsmonConf) -> Result<State, AllocError>
         ensures { IfOk result (λ s. content_in (configuration_of config.now) s ≡ beginning (configuration_of config.now)) }
     {
@@ -97,14 +98,14 @@ impl State {
         })
     }
 
-    /// The phase.
+    /// Returns the phase.
     pub fn phase(&self, config: &UpsmonConf) -> Phase
         ensures { result ≡ phase_of (content_in (configuration_of config.now) self.now) }
     {
         phase(config, self.clock, self.begun, self.ended)
     }
 
-    /// Where and when an answer on a line is heard.
+    /// Returns the scene in which an answer on a line is heard.
     fn scene(&self, line: usize) -> Scene
         ensures { result ≡ record { line = line; clock = self.now.clock; watching = is_none self.now.begun } }
     {
@@ -115,7 +116,7 @@ impl State {
         }
     }
 
-    /// Begins the shutdown where the power is short.
+    /// Begins the shutdown if power is short and none has begun.
     fn judge_shutdown(&mut self, config: &UpsmonConf)
         requires { length self.old.watches.items ≡ length (configuration_of config.now).lines }
         ensures content { content_in (configuration_of config.now) self.new ≡ shutdown_judged (content_in (configuration_of config.now) self.old) }
@@ -127,10 +128,10 @@ impl State {
         }
     }
 
-    /// Begins Final where Forcing is over.
+    /// Begins Final, and queues SHUTDOWN, if Forcing is over and Final hasn't begun.
     fn move_phase(&mut self, config: &UpsmonConf)
         requires all { length self.old.watches.items ≡ length (configuration_of config.now).lines }
-        requires few { length self.old.notices < 128 }
+        requires few { length self.old.notices < NOTICES_MAX }
         ensures content { content_in (configuration_of config.now) self.new ≡ phase_moved (content_in (configuration_of config.now) self.old) }
         ensures orderly { IsOrderly (content_in (configuration_of config.now) self.old) → IsOrderly (content_in (configuration_of config.now) self.new) }
     {
@@ -148,7 +149,7 @@ impl State {
         }
     }
 
-    /// Ends an event: the shutdown is judged, the phase moves, and the next queries are put.
+    /// Ends an event: judges the shutdown, moves the phase, and puts the next queries.
     fn settle(&mut self, config: &UpsmonConf)
         requires { IsOrderly (content_in (configuration_of config.now) self.old) }
         ensures content { content_in (configuration_of config.now) self.new ≡ settled (content_in (configuration_of config.now) self.old) }
@@ -160,7 +161,7 @@ impl State {
         ask_all(config, self.clock, phase, &mut self.watches);
     }
 
-    /// Whether the link of a line is there.
+    /// Whether the link of a line is up.
     pub fn is_linked(&self, i: usize) -> bool
         ensures { result ≡ is_linked (watch_at i self.now.watches.items) }
     {
@@ -170,7 +171,7 @@ impl State {
         }
     }
 
-    /// The bytes that wait on the link of a line.
+    /// Returns the bytes that wait on the link of a line.
     pub fn waiting(&self, i: usize) -> &[u8]
         ensures { result.now ≡ waiting_on (watch_at i self.now.watches.items) }
     {
@@ -180,7 +181,7 @@ impl State {
         }
     }
 
-    /// What is known of the UPS of a line.
+    /// Returns what is known of the UPS of a line.
     pub fn known(&self, i: usize) -> Option<Known>
         ensures { result ≡ option_map (λ w. w.known) (watch_at i self.now.watches.items) }
     {
@@ -190,7 +191,7 @@ impl State {
         }
     }
 
-    /// The query that was put last on the link of a line.
+    /// Returns the last query since the link of a line was made.
     pub fn last_query(&self, i: usize) -> Option<LastQuery>
         ensures { result ≡ last_on (watch_at i self.now.watches.items) }
     {
@@ -200,7 +201,8 @@ impl State {
         }
     }
 
-    /// Refuses what is told of a link that isn't there, or is in another state.
+    /// Refuses a number that no line has with `NoSuchLink`, and with `WrongLinkState` a line whose link is up though
+    /// `linked` is false, or down though it is true.
     fn check(&self, i: usize, linked: bool) -> Result<(), MonitorFault>
         ensures { MatchResult result (λ _. (i < length self.now.watches.items) × (is_linked (watch_at i self.now.watches.items) ≡ linked))
             (λ fault. checked_fault linked (watch_at i self.now.watches.items) ≡ Some fault) }
@@ -217,7 +219,7 @@ impl State {
         }
     }
 
-    /// The clock shows the greatest moment so far, and lines that were silent are told.
+    /// Sets the clock, which never runs back, and queues NOCOMM for the lines that were silent.
     fn tick(&mut self, config: &UpsmonConf, t: u64)
         requires orderly { IsOrderly (content_in (configuration_of config.now) self.old) }
         requires free { length self.old.notices ≡ 0 }
@@ -231,7 +233,7 @@ impl State {
         tell_silences(config, self.clock, &mut self.watches, &mut self.notices);
     }
 
-    /// So many seconds have passed since the start, or more.
+    /// Takes the event that `t` seconds have passed since the start. The clock never runs back.
     pub fn moment(&mut self, config: &UpsmonConf, t: u64) -> Result<(), MonitorFault>
         requires { IsOrderly (content_in (configuration_of config.now) self.old) }
         ensures step { Steps (configuration_of config.now) self.old (E.Moment t) result self.new }
@@ -244,7 +246,7 @@ impl State {
         Ok(())
     }
 
-    /// The link of a line is made.
+    /// Takes the event that the link of a line was made.
     pub fn link(&mut self, config: &UpsmonConf, alloc: Global, i: usize) -> Result<(), MonitorFault>
         requires { IsOrderly (content_in (configuration_of config.now) self.old) }
         ensures step { Steps (configuration_of config.now) self.old (E.Linked i) result self.new }
@@ -255,7 +257,8 @@ impl State {
         Ok(())
     }
 
-    /// The server of a link sent a piece. Where memory runs out in it, the link is lost.
+    /// Takes a piece that the server of a link sent. The link is lost if memory cannot be allocated at one of its
+    /// lines.
     pub fn link_bytes(
         &mut self,
         config: &UpsmonConf,
@@ -284,7 +287,7 @@ impl State {
         Ok(())
     }
 
-    /// The link of a line is lost.
+    /// Takes the event that the link of a line was lost.
     pub fn link_lost(&mut self, config: &UpsmonConf, i: usize) -> Result<(), MonitorFault>
         requires { IsOrderly (content_in (configuration_of config.now) self.old) }
         ensures step { Steps (configuration_of config.now) self.old (E.LinkLost i) result self.new }
@@ -296,7 +299,7 @@ impl State {
         Ok(())
     }
 
-    /// The server of a link took the first `n` of the bytes that wait.
+    /// Takes the event that the server of a link took the first `n` of the bytes that wait.
     pub fn link_took(&mut self, i: usize, n: usize) -> Result<(), MonitorFault>
         ensures step { (c : Configuration) → IsOrderly (content_in c self.old) → Steps c self.old (E.LinkTook i n) result self.new }
     {

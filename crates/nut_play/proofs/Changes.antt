@@ -1,6 +1,6 @@
--- What stands in a list after one place of it was changed.
+-- A list after one element was changed.
 use Rattle.std.proofs.Common.{◌≡◌, ◌<◌, ℕ, zero, suc, List, [], ◌∷◌, length, map, slice_get, slice_index_or, Some, refl, ap, arith}
-use Rattle.nut_play.specs.Kept.{changed_at}
+use Rattle.nut_play.specs.machine.Kept.{changed_at}
 
 pub get-changed : {A : Type 0} (m : ℕ) (change : A → A) (xs : List A) (x : A) → slice_get xs m ≡ Some x → slice_get (changed_at m change xs) m ≡ Some (change x)
 get-changed m change [] x is = cc
@@ -28,7 +28,7 @@ index-other zero (suc j) change (x ∷ xs) d ne = refl
 index-other (suc i) zero change (x ∷ xs) d ne = refl
 index-other (suc i) (suc j) change (x ∷ xs) d ne = index-other i j change xs d (λ e. ne (ap suc e))
 
--- what the change leaves as it was
+-- what the change leaves unchanged of each element
 pub map-changed : {A B : Type 0} (f : A → B) (m : ℕ) (change : A → A) (xs : List A) → ((x : A) → f (change x) ≡ f x) →
     map f (changed_at m change xs) ≡ map f xs
 map-changed f m change [] same = refl

@@ -1,16 +1,15 @@
--- What a monitor tells, and what it accepts.
-use Rattle.std.proofs.Common.{◌≡◌, ◌<◌, ◌≤◌, ◌++◌, ℕ, zero, suc, true, false, List, [], ◌∷◌, length, map, Option, Some, None, is_some, is_none, refl, sym, ◌∙◌, ap, arith}
+-- The log of what a monitor tells.
+use Rattle.std.proofs.Common.{◌≡◌, ◌++◌, ℕ, List, [], ◌∷◌, map, None, is_none, sym, ◌∙◌, ap}
 use Rattle.std.specs.Prelude.{if◌then◌else◌}
 use Rattle.std.proofs.lemmas.List.{map-append, append_assoc}
-use Rattle.std.proofs.lemmas.Bool.{le-ltb}
-use Rattle.nut_decision.specs.declared.Phase.{Phase}
-use Rattle.nut_decision.specs.Event.{Event, Linked, LinkTook}
-use Rattle.nut_decision.specs.Content.{Watch, Content, phase_of}
-use Rattle.nut_decision.specs.Acceptance.{refusal, linked_refusal, took_refusal, watch_at, waits_on, is_linked, waiting_on}
-use Rattle.nut_decision.specs.Machine.{advance}
+use Rattle.nut_monitor_spec.specs.declared.Phase.{Phase}
+use Rattle.nut_monitor_spec.specs.Event.{Event}
+use Rattle.nut_monitor_spec.specs.Content.{Content, phase_of}
+use Rattle.nut_monitor_spec.specs.Acceptance.{refusal}
+use Rattle.nut_monitor_spec.specs.machine.Machine.{advance}
 use Rattle.nut_fleet.specs.World.{Inform, Skip}
 use Rattle.nut_fleet.specs.Log.{News, Logged, logged, turned, Noticed, Moved}
-use Rattle.nut_play.specs.Kept.{inform_by, told_news, linked_by, waits_by}
+use Rattle.nut_play.specs.machine.Kept.{inform_by, told_news}
 
 logged-append : (k : ℕ) (xs ys : List News) → logged k (xs ++ ys) ≡ logged k xs ++ logged k ys
 logged-append k xs ys = map-append (λ n. let l : Logged = record { step = k; news = n } in l) xs ys
@@ -26,23 +25,3 @@ turned-log m k s e before later first then_log last ok one two was is moved =
     (sym (logged-append k (map (Noticed m) (advance s e).notices) (Moved m later ∷ []))
     ∙ ap (λ x. logged k (map (Noticed m) (advance s e).notices ++ x)) (sym moved ∙ ap (λ p. turned m p later) was ∙ ap (turned m (phase_of s)) is)
     ∙ sym (ap (λ b. logged k (told_news (if b then Inform m e else Skip) s)) (ap is_none ok)))
-
--- a link that isn't there is made, where there is such a line
-pub link-free : (s : Content) (i : ℕ) → i < length s.watches → linked_by s i ≡ false → refusal s (Linked i) ≡ None
-link-free s i lt cut = at s.watches i lt cut
-  where
-    of : (w : Watch) → is_some w.link ≡ false → linked_refusal (Some w) ≡ None
-    of w e = rw e refl
-
-    at : (ws : List Watch) (j : ℕ) → j < length ws → is_linked (watch_at j ws) ≡ false → linked_refusal (watch_at j ws) ≡ None
-    at [] j lt e = absurd (omega arith)
-    at (w ∷ ws) zero lt e = of w e
-    at (w ∷ ws) (suc j) lt e = at ws j (omega arith) e
-
--- the server takes no more than waits on a link that is there
-pub took-fits : (s : Content) (i n : ℕ) → linked_by s i ≡ true → n ≤ length (waits_by s i) → refusal s (LinkTook i n) ≡ None
-took-fits s i n up le = by (watch_at i s.watches) up le
-  where
-    by : (o : Option Watch) → is_linked o ≡ true → n ≤ length (waiting_on o) → took_refusal n o ≡ None
-    by None e lt = cc
-    by (Some w) e lt = rw (e, le-ltb (length (waits_on w.link)) n lt) refl

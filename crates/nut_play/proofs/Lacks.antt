@@ -1,28 +1,28 @@
--- Where memory may be lacking.
+-- At which steps memory may be lacking.
 use Rattle.std.proofs.Common.{◌≡◌, ◌<◌, ◌++◌, ℕ, Bool, true, false, ◌||◌, List, [], ◌∷◌, length, map, Option, Some, None, is_none, Result, Ok, Err, OnErr, is_err, refl, sym, ◌∙◌, ap, arith}
 use Rattle.std.specs.Prelude.{IsTrue, if◌then◌else◌}
-use Rattle.nut_history.specs.declared.Place.{Place}
-use Rattle.nut_history.specs.declared.Place.TheVariants.{Line, Report}
-use Rattle.nut_history.specs.Event as arrivals
-use Rattle.nut_history.specs.Content as server
-use Rattle.nut_history.specs.Outcome as server_outcome
-use Rattle.nut_decision.specs.declared.Notice.{Notice}
-use Rattle.nut_decision.specs.declared.Phase.{Phase}
-use Rattle.nut_decision.specs.Event as events
-use Rattle.nut_decision.specs.Content as knowledge
-use Rattle.nut_decision.specs.Content.{phase_of}
-use Rattle.nut_decision.specs.Acceptance.{refusal}
-use Rattle.nut_decision.specs.Machine.{advance}
-use Rattle.nut_decision.specs.Outcome as monitor_outcome
+use Rattle.nut_server_spec.specs.declared.Place.{Place}
+use Rattle.nut_server_spec.specs.declared.Place.TheVariants.{Line, Report}
+use Rattle.nut_server_spec.specs.Event as arrivals
+use Rattle.nut_server_spec.specs.Content as server
+use Rattle.nut_server_spec.specs.MachineOutcome as server_outcome
+use Rattle.nut_monitor_spec.specs.declared.Notice.{Notice}
+use Rattle.nut_monitor_spec.specs.declared.Phase.{Phase}
+use Rattle.nut_monitor_spec.specs.Event as events
+use Rattle.nut_monitor_spec.specs.Content as knowledge
+use Rattle.nut_monitor_spec.specs.Content.{phase_of}
+use Rattle.nut_monitor_spec.specs.Acceptance.{refusal}
+use Rattle.nut_monitor_spec.specs.machine.Machine.{advance}
+use Rattle.nut_monitor_spec.specs.Outcome as monitor_outcome
 use Rattle.nut_fleet.specs.Schedule.{Step}
 use Rattle.nut_fleet.specs.World.{Inform, Skip}
 use Rattle.nut_fleet.specs.Log.{News, Skipped, Noticed, Moved, turned}
-use Rattle.nut_fleet.specs.Going.{heard_news}
+use Rattle.nut_fleet.specs.machine.Going.{heard_news}
 use Rattle.nut_play.specs.Lack.{is_piece, is_link_piece, is_told, brings_bytes, may_lack}
-use Rattle.nut_play.specs.Kept.{inform_by, told_news}
+use Rattle.nut_play.specs.machine.Kept.{inform_by, told_news}
 use Rattle.nut_play.specs.Play.{told_if}
 
-pub server_lacks : (s : server.Content) (place : Place) (e : arrivals.Event) → server_outcome.MayLack s place e → is_piece e ≡ true
+pub server_lacks : (s : server.Content) (place : Place) (e : arrivals.Event) → server_outcome.Lacks s place e → is_piece e ≡ true
 server_lacks s place (arrivals.Bytes c piece) may = refl
 server_lacks s place (arrivals.DriverBytes u piece) may = refl
 server_lacks s (Line d k) (arrivals.Moment t) may = absurd may

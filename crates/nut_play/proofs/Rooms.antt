@@ -1,4 +1,4 @@
--- What a call of a fleet that is that of a world comes to.
+-- The result of a call of a fleet that is that of a world.
 use Rattle.std.proofs.Common.{◌≡◌, ◌<◌, ◌≤◌, ◌++◌, ◌&&◌, ℕ, zero, suc, Bool, true, false, List, [], ◌∷◌, length, map, take, reverse, slice_get, Some, Result, Ok, Err, IfOk, IfErr, OnOk, refl, sym, ◌∙◌, ap, subst, arith}
 use Rattle.std.specs.Prelude.{not}
 use Rattle.std.proofs.lemmas.Bool.{and_parts}
@@ -6,12 +6,12 @@ use Rattle.std.proofs.lemmas.List.{map-append, length-map, reverse-append}
 use Rattle.nut_fleet.specs.Schedule as S
 use Rattle.nut_fleet.specs.World.{Setup, world}
 use Rattle.nut_fleet.specs.Log.{Logged}
-use Rattle.nut_fleet.specs.Going.{FleetsGoOn}
+use Rattle.nut_fleet.specs.machine.Going.{FleetsGoOn}
 use Rattle.nut_play.specs.declared.types.Step.{Step}
 use Rattle.nut_play.specs.declared.types.FleetFault.{FleetFault}
 use Rattle.nut_play.specs.declared.types.FleetFault.TheVariants.{BadStep, Memory, Failed}
 use Rattle.nut_play.specs.Lack.{may_lack}
-use Rattle.nut_play.specs.Kept.{Kept, fits}
+use Rattle.nut_play.specs.machine.Kept.{Kept, fits}
 use Rattle.nut_play.specs.Steps.{step_of, steps_of}
 use Rattle.nut_play.specs.Play.{firsts, before_all, run, run_log, told_at, IsPlayed, IsStopped, IsLacking, IsLog, IsFault}
 use Rattle.nut_play.specs.Play as machine

@@ -1,21 +1,22 @@
--- A fleet that is that of a world goes on as the world does.
+-- A fleet that is that of a world continues as the world does.
 use Rattle.std.proofs.Common.{◌≡◌, ℕ, zero, suc, Bool, true, false, ◌&&◌, List, [], ◌∷◌, ◌++◌, length, map, slice_get, slice_index_or, refl, sym, ◌∙◌, ap, subst}
-use Rattle.std.specs.Prelude.{nat_lt, nat_le}
+use Rattle.std.specs.Prelude.{nat_lt}
 use Rattle.std.specs.List.{AllByRecursion}
 use Rattle.std.proofs.lemmas.List.{length-map}
+use Rattle.nut_words.specs.declared.limits.TheConstants.{PIECE_MAX}
 use Rattle.nut_conf.specs.declared.upsmon.UpsmonConf.{UpsmonConf}
-use Rattle.nut_history.specs.Configuration.{Configuration as ServerConfiguration}
-use Rattle.nut_history.specs.Content as server
-use Rattle.nut_history.proofs.Waiting.{configuration_stays}
-use Rattle.nut_decision.specs.Configuration.{Configuration, Line, configuration_of}
-use Rattle.nut_decision.specs.Content as knowledge
-use Rattle.nut_decision.specs.Content.{for_each_line}
+use Rattle.nut_server_spec.specs.Configuration.{Configuration as ServerConfiguration}
+use Rattle.nut_server_spec.specs.Content as server
+use Rattle.nut_server_spec.proofs.Waiting.{configuration_stays}
+use Rattle.nut_monitor_spec.specs.Configuration.{Configuration, Line, configuration_of}
+use Rattle.nut_monitor_spec.specs.Content as knowledge
+use Rattle.nut_monitor_spec.specs.Content.{for_each_line}
 use Rattle.nut_fleet.specs.Schedule.{Step, ServerClock, MonitorClock, Up, Driver, Down, Link, Out, Reach, Back, Land, CutServer, CutMonitor}
 use Rattle.nut_fleet.specs.World.{Setup, World, no_monitor, monitor_of, world, nothing, is_fit, has_link, has_ups}
 use Rattle.nut_fleet.specs.Fleet.{IsMonitor, ConfigurationsAreSpoken}
 use Rattle.nut_fleet.specs.Log.{logged, log, news}
-use Rattle.nut_fleet.specs.Going.{KeepsLink, FleetsGoOn}
-use Rattle.nut_play.specs.Kept.{Seat, Kept, fleet_of, no_ends, ends_at, links_in, known_in, known_of, changed_at, next, fits, fits_link, fresh_seat, fresh_fleet, IsFleet, reach_seat, back_seat, out_seat, land_seat, join_seat}
+use Rattle.nut_fleet.specs.machine.Going.{KeepsLink, FleetsGoOn}
+use Rattle.nut_play.specs.machine.Kept.{Seat, Kept, fleet_of, no_ends, ends_at, links_in, known_in, known_of, changed_at, next, fits, fits_link, fresh_seat, fresh_fleet, IsFleet, reach_seat, back_seat, out_seat, land_seat, join_seat}
 use Rattle.nut_play.specs.Play.{told_at, run, run_log, AreFit}
 use Rattle.nut_play.proofs.Changes.{map-changed, length-changed}
 use Rattle.nut_play.proofs.Stepping.{goes, same-keeps}
@@ -70,12 +71,12 @@ module _ (setup : Setup) (w : World) (k : Kept) (is : IsFleet setup w k) where
       ∙ ap (λ n. nat_lt m (length setup.monitors) && nat_lt i (length (monitor_of setup m).lines) && nat_lt i n) (watches m)
       ∙ twice (nat_lt m (length setup.monitors)) (nat_lt i (length (monitor_of setup m).lines))
 
-  -- a fleet plays the steps that may be played in its world
+  -- the same steps fit a fleet and its world
   pub same-fit : (step : Step) → fits k step ≡ is_fit setup step
   same-fit (ServerClock t) = refl
   same-fit (MonitorClock m t) = ap (nat_lt m) seats
   same-fit (Up u) = same-ups u
-  same-fit (Driver u line) = ap (λ b. b && nat_le (length line) 511) (same-ups u)
+  same-fit (Driver u line) = ap (λ b. b && nat_lt (length line) PIECE_MAX) (same-ups u)
   same-fit (Down u) = same-ups u
   same-fit (Link m i) = same-link_there m i
   same-fit (Out m i n) = same-link_there m i
@@ -85,7 +86,7 @@ module _ (setup : Setup) (w : World) (k : Kept) (is : IsFleet setup w k) where
   same-fit (CutServer m i) = same-link_there m i
   same-fit (CutMonitor m i) = same-link_there m i
 
--- ---- what a step leaves as it was
+-- ---- what a step leaves unchanged
 
 abbrev config_of : Seat → Configuration
 config_of seat = configuration_of seat.monitor.config
@@ -163,7 +164,7 @@ module _ (setup : Setup) (before : List Step) (k : Kept) (go : (schedule : List 
 
 -- ---- the monitors of a fleet
 
--- they were read from files, so that the laws hold of them
+-- the monitors were read from files, so the laws hold of them
 pub monitors-fine : ConfigurationsAreSpoken → (seats : List Seat) (monitors : List Configuration) → map config_of seats ≡ monitors → AllByRecursion IsMonitor monitors
 monitors-fine spoken [] monitors is = subst (AllByRecursion IsMonitor) is tt
 monitors-fine spoken (seat ∷ seats) monitors is =

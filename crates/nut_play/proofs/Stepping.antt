@@ -2,17 +2,18 @@
 use Rattle.std.proofs.Common.{◌≡◌, ◌<◌, ◌==◌, ℕ, Bool, true, false, inl, inr, List, [], ◌∷◌, ◌++◌, min, take, length, slice_get, Some, is_none, refl, sym, ◌∙◌, ap, subst}
 use Rattle.std.specs.Prelude.{if◌then◌else◌, not, ◌&&◌}
 use Rattle.std.proofs.lemmas.Bool.{cases_Bool, cases_eq, ltb-true}
-use Rattle.nut_history.specs.Event as arrivals
-use Rattle.nut_history.specs.Acceptance as server_tests
-use Rattle.nut_decision.specs.Event as events
-use Rattle.nut_decision.specs.Content as knowledge
-use Rattle.nut_decision.specs.Acceptance as monitor_tests
+use Rattle.nut_words.specs.declared.limits.TheConstants.{PIECE_MAX}
+use Rattle.nut_server_spec.specs.Event as arrivals
+use Rattle.nut_server_spec.specs.Acceptance as server_tests
+use Rattle.nut_monitor_spec.specs.Event as events
+use Rattle.nut_monitor_spec.specs.Content as knowledge
+use Rattle.nut_monitor_spec.specs.Acceptance as monitor_tests
 use Rattle.nut_fleet.specs.Schedule.{Step, ServerClock, MonitorClock, Up, Driver, Down, Link, Out, Reach, Back, Land, CutServer, CutMonitor}
 use Rattle.nut_fleet.specs.World.{Setup, World, Deed, Skip, Rest, Tell, Inform, Join, carried, counted, moved, address_of, for_monitor}
 use Rattle.nut_fleet.specs.Seen.{Ends, Fleet}
-use Rattle.nut_fleet.specs.Going.{Keeps, KeepsLink, told_on, moved_by, moved_on, news_by, news_seen}
+use Rattle.nut_fleet.specs.machine.Going.{Keeps, KeepsLink, told_on, moved_by, moved_on, news_by, news_seen}
 use Rattle.nut_fleet.proofs.Steps.{for-own, for-other}
-use Rattle.nut_play.specs.Kept.{Seat, Kept, fleet_of, ends_at, links_in, known_in, known_of, link_of, changed_at, is_played, tell_by, told_by, told_to, inform_by, heard_by, told_news, open_by, waits_by, reach_by, back_by, out_by, land_by, link_by, linked_by, reached_by, back_put, out_put, landed_by, made_by, hear_seat, reach_seat, back_seat, out_seat, land_seat, join_seat, with_seat, reach_next, back_next, join_next, next, fits, fits_link}
+use Rattle.nut_play.specs.machine.Kept.{Seat, Kept, fleet_of, ends_at, links_in, known_in, known_of, link_of, changed_at, is_played, tell_by, told_by, told_to, inform_by, heard_by, told_news, open_by, waits_by, reach_by, back_by, out_by, land_by, link_by, linked_by, reached_by, back_put, out_put, landed_by, made_by, hear_seat, reach_seat, back_seat, out_seat, land_seat, join_seat, with_seat, reach_next, back_next, join_next, next, fits, fits_link}
 use Rattle.nut_play.specs.Play.{told_if, told_at}
 use Rattle.nut_play.proofs.Changes.{get-changed, get-other, index-changed, index-other}
 use Rattle.nut_play.proofs.Runs.{some-get}
@@ -41,7 +42,7 @@ same-keeps setup w f g same keeps = record {
   link = λ m i there. subst (λ x. KeepsLink setup m i (w.connection m i) w.server (w.monitor m) x) (sym (same.link m i)) (keeps.link m i there);
 }
 
--- what is put where it was
+-- a function with its own value put back
 same-for : {A : Type 0} (m : ℕ) (f : ℕ → A) (n : ℕ) → for_monitor m (f m) f n ≡ f n
 same-for m f n = elim (cases_eq n m) [
   | inl same ↦ subst (λ x. for_monitor m (f m) f x ≡ f x) (sym same) (for-own m (f m) f)
@@ -125,7 +126,7 @@ module _ (k : Kept) (m : ℕ) (x : Seat) (is : slice_get k.seats m ≡ Some x) w
 abbrev Goes : Kept → Step → Type 0
 Goes k step = IsSame (fleet_of (next k step)) (moved_on (fleet_of k) step) × (told_at k step ≡ news_seen (fleet_of k) step)
 
--- the server alone is told something
+-- only the server is told something
 told-goes : (k : Kept) (step : Step) (event : arrivals.Event) → ((e : arrivals.Event) → moved_by (fleet_of k) (Tell e) step ≡ told_on e (fleet_of k)) →
     IsSame (fleet_of (told_to k event)) (moved_by (fleet_of k) (tell_by k.server event) step)
     × (told_if (is_played (tell_by k.server event)) [] ≡ news_by (fleet_of k) (tell_by k.server event))
@@ -136,7 +137,7 @@ told-goes k step event only =
     (subst (λ g. IsSame (told_on event (fleet_of k)) g) (sym (only event)) (same-self (told_on event (fleet_of k))), refl)
 
 module _ (k : Kept) (m : ℕ) (x : Seat) (is : slice_get k.seats m ≡ Some x) where
-  -- monitor m alone is told something
+  -- only monitor m is told something
   heard-goes : (step : Step) (event : events.Event) →
       (moved_by (fleet_of k) (Inform m event) step ≡ (let g : Fleet = record (fleet_of k) { monitor = for_monitor m (heard_by (Inform m event) ((fleet_of k).monitor m)) (fleet_of k).monitor } in g)) →
       IsSame (fleet_of (with_seat k m (hear_seat m event))) (moved_by (fleet_of k) (inform_by m (known_of k m) event) step)
@@ -164,7 +165,7 @@ module _ (k : Kept) (m : ℕ) (x : Seat) (is : slice_get k.seats m ≡ Some x) w
       )
 
   module _ (i : ℕ) (lt : i < length x.links) where
-    -- bytes reach the server
+    -- bytes arrive at the server
     reach-goes : (n : ℕ) → Goes k (Reach m i n)
     reach-goes n =
         let after : Deed → Fleet = λ d. record (fleet_of k) {
@@ -175,11 +176,11 @@ module _ (k : Kept) (m : ℕ) (x : Seat) (is : slice_get k.seats m ≡ Some x) w
         let P : Deed → Type 0 = λ d. IsSame (after d) (moved_by (fleet_of k) d (Reach m i n)) × (told_if (is_played d) [] ≡ news_by (fleet_of k) d) in
         let still : IsSame (after Skip) (fleet_of k) = record { server = refl; monitor = λ n. refl; link = same-link m i (fleet_of k).link } in
         let goes : P d =
-        when P (open_by k.server (link_of k m i)) (carried (take (min n 512) (link_of k m i).to_server) (λ piece. tell_by k.server (arrivals.Bytes (link_of k m i).connection piece)))
+        when P (open_by k.server (link_of k m i)) (carried (take (min n PIECE_MAX) (link_of k m i).to_server) (λ piece. tell_by k.server (arrivals.Bytes (link_of k m i).connection piece)))
         (still, refl)
-        (when-carried P (take (min n 512) (link_of k m i).to_server) (λ piece. tell_by k.server (arrivals.Bytes (link_of k m i).connection piece)) (still, refl)
-        (when P (is_none (server_tests.refusal k.server (arrivals.Bytes (link_of k m i).connection (take (min n 512) (link_of k m i).to_server))))
-        (Tell (arrivals.Bytes (link_of k m i).connection (take (min n 512) (link_of k m i).to_server)))
+        (when-carried P (take (min n PIECE_MAX) (link_of k m i).to_server) (λ piece. tell_by k.server (arrivals.Bytes (link_of k m i).connection piece)) (still, refl)
+        (when P (is_none (server_tests.refusal k.server (arrivals.Bytes (link_of k m i).connection (take (min n PIECE_MAX) (link_of k m i).to_server))))
+        (Tell (arrivals.Bytes (link_of k m i).connection (take (min n PIECE_MAX) (link_of k m i).to_server)))
         (still, refl) (same-self _, refl))) in (
           same-then (fleet_of (reach_next k m i n)) (after d) (moved_by (fleet_of k) d (Reach m i n))
               (record {
@@ -193,7 +194,7 @@ module _ (k : Kept) (m : ℕ) (x : Seat) (is : slice_get k.seats m ≡ Some x) w
           goes.1,
         )
 
-    -- bytes go from the server into a pipe
+    -- bytes move from the server into a pipe
     back-goes : (n : ℕ) → Goes k (Back m i n)
     back-goes n =
         let up : Bool = linked_by (known_of k m) i in
@@ -225,7 +226,7 @@ module _ (k : Kept) (m : ℕ) (x : Seat) (is : slice_get k.seats m ≡ Some x) w
           goes.1,
         )
 
-    -- bytes go from the monitor into a pipe
+    -- bytes move from the monitor into a pipe
     out-goes : (n : ℕ) → Goes k (Out m i n)
     out-goes n =
         let s : knowledge.Content = known_of k m in
@@ -259,7 +260,7 @@ module _ (k : Kept) (m : ℕ) (x : Seat) (is : slice_get k.seats m ≡ Some x) w
           goes.1,
         )
 
-    -- bytes land at the monitor
+    -- bytes arrive at the monitor
     land-goes : (n : ℕ) → Goes k (Land m i n)
     land-goes n =
         let s : knowledge.Content = known_of k m in
@@ -271,7 +272,7 @@ module _ (k : Kept) (m : ℕ) (x : Seat) (is : slice_get k.seats m ≡ Some x) w
         let d : Deed = land_by m s i ends n in
         let P : Deed → Type 0 = λ d. IsSame (after d) (moved_by (fleet_of k) d (Land m i n)) × (told_if (is_played d) (told_news d s) ≡ news_by (fleet_of k) d) in
         let still : IsSame (after Skip) (fleet_of k) = record { server = refl; monitor = same-for m (fleet_of k).monitor; link = same-link m i (fleet_of k).link } in
-        let piece : List ℕ = take (min n 512) ends.to_monitor in
+        let piece : List ℕ = take (min n PIECE_MAX) ends.to_monitor in
         let goes : P d =
         when P (linked_by s i) (carried piece (λ b. inform_by m s (events.LinkBytes i b)))
         (still, refl)

@@ -4,12 +4,12 @@ use Rattle.std.specs.Option.{option_map}
 use Rattle.std.proofs.Math.Seq.{take-add}
 use Rattle.std.proofs.lemmas.List.{append_assoc}
 use Rattle.std.proofs.lemmas.Bool.{cases_Bool, le-ltb}
-use Rattle.nut_history.specs.Event.{Took}
-use Rattle.nut_history.specs.Content.{Session, Content}
-use Rattle.nut_history.specs.Acceptance.{refusal, took_refusal, session_of, waiting_of, waiting_in}
-use Rattle.nut_history.specs.Machine.{advance, update}
-use Rattle.nut_history.proofs.Sessions.{session_of-update}
-use Rattle.nut_fleet.specs.Going.{put_on}
+use Rattle.nut_server_spec.specs.Event.{Took}
+use Rattle.nut_server_spec.specs.Content.{Session, Content}
+use Rattle.nut_server_spec.specs.Acceptance.{refusal, took_refusal, session_of, waiting_of, waiting_in}
+use Rattle.nut_server_spec.specs.machine.Machine.{advance, update}
+use Rattle.nut_server_spec.proofs.Sessions.{session_of-update}
+use Rattle.nut_fleet.specs.machine.Going.{put_on}
 
 took : ℕ → Session → Session
 took n k = record k { waits = drop n k.waits }
@@ -31,7 +31,7 @@ update-none c (k ∷ ks) = elim (cases_Bool (k.number == c)) [ inl e ↦ rw e re
 pub took-none : (s : Content) (c : ℕ) → advance s (Took c 0) ≡ s
 took-none s c = ap (λ ks. let x : Content = record s { sessions = ks } in x) (update-none c s.sessions)
 
--- an open connection takes no more than waits
+-- an open connection takes at most the bytes that wait
 pub took-ok : (s : Content) (c n : ℕ) → is_some (session_of c s.sessions) ≡ true → n ≤ length (waiting_of c s.sessions) → refusal s (Took c n) ≡ None
 took-ok s c n up le = by (session_of c s.sessions) up le
   where
@@ -46,7 +46,7 @@ still-open s c n = ap is_some (session_of-update c (λ k. record k { waits = dro
     same None = refl
     same (Some k) = refl
 
--- one more piece of what waits
+-- one more piece of the bytes that wait
 pub one-more : (there : Bool) (n k : ℕ) (all pipe : List ℕ) → put_on there (take k (drop n all)) (put_on there (take n all) pipe) ≡ put_on there (take (n + k) all) pipe
 one-more true n k all pipe = append_assoc pipe (take n all) (take k (drop n all)) ∙ ap (λ x. pipe ++ x) (sym (take-add n k all))
 one-more false n k all pipe = refl

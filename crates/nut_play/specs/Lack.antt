@@ -1,11 +1,11 @@
--- Where memory may be lacking at a step.
+-- At which steps memory may be lacking.
 use Rattle.std.specs.Prelude.{Bool, true, false, ◌||◌, List, [], ◌∷◌}
-use Rattle.nut_history.specs.Event as arrivals
-use Rattle.nut_decision.specs.Event as events
+use Rattle.nut_server_spec.specs.Event as arrivals
+use Rattle.nut_monitor_spec.specs.Event as events
 use Rattle.nut_fleet.specs.Schedule.{Step, Driver, Out, Reach, Back, Land}
 use Rattle.nut_fleet.specs.Log.{News}
 
--- Of what a server and a monitor are told, pieces alone may take memory.
+-- Of what a server and a monitor are told, only pieces of bytes may allocate.
 abbrev pub is_piece : arrivals.Event → Bool
 is_piece (arrivals.Bytes c piece) = true
 is_piece (arrivals.DriverBytes u piece) = true
@@ -29,6 +29,6 @@ brings_bytes (Back m i n) = true
 brings_bytes (Land m i n) = true
 brings_bytes step = false
 
--- Memory may be lacking at such a step, and at any other where it tells something.
+-- Memory may be lacking at such a step, and at any other that tells something.
 abbrev pub may_lack : Step → List News → Bool
 may_lack step news = brings_bytes step || is_told news

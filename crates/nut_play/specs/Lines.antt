@@ -3,13 +3,13 @@ use Rattle.std.specs.Prelude.{ℕ, ◌≡◌, Bool, true, false, ◌||◌, List,
 use Rattle.std.specs.Option.{option_and_then, option_map}
 use Rattle.std.specs.Str.{bytes_eq}
 use Rattle.nut_words.specs.declared.words.WordFault.{WordFault}
-use Rattle.nut_words.specs.declared.cutter.TheConstants.{LINE_MAX}
 use Rattle.nut_words.specs.Reader.{spelled, has_backslash}
 use Rattle.nut_state.specs.Number.{natural}
 use Rattle.nut_play.specs.declared.reading.StepFault.{StepFault}
 use Rattle.nut_play.specs.declared.reading.StepFault.TheVariants.{BadStep, Memory}
 use Rattle.nut_play.specs.declared.verb.Verb.{Verb}
 use Rattle.nut_play.specs.declared.verb.Verb.TheVariants as verbs
+use Rattle.nut_play.specs.declared.limits.TheConstants.{STEP_LINE_MAX}
 use Rattle.nut_fleet.specs.Schedule.{Step, ServerClock, MonitorClock, Up, Driver, Down, Link, Out, Reach, Back, Land, CutServer, CutMonitor}
 
 abbrev pub verb_name : Verb → List ℕ
@@ -35,7 +35,7 @@ all_verbs =
 unfoldable pub verb_of : List ℕ → Option Verb
 verb_of word = find (λ verb. bytes_eq word (verb_name verb)) all_verbs
 
--- The numbers behind a verb, where there are just so many words, and each has 1 to 9 digits.
+-- The numbers behind a verb, if there are exactly this many words and each has 1 to 9 digits.
 abbrev pub one_number : List (List ℕ) → Option ℕ
 one_number [] = None
 one_number (verb ∷ []) = None
@@ -58,7 +58,7 @@ three_numbers (verb ∷ a ∷ b ∷ c ∷ []) =
     option_and_then (λ x. option_and_then (λ y. option_map (λ z. (x, y, z)) (natural c)) (natural b)) (natural a)
 three_numbers (verb ∷ a ∷ b ∷ c ∷ d ∷ more) = None
 
--- a number and a word
+-- a number and a word behind a verb
 abbrev pub numbered_word : List (List ℕ) → Option (ℕ × List ℕ)
 numbered_word [] = None
 numbered_word (verb ∷ []) = None
@@ -93,7 +93,7 @@ form verbs.Land = three Land
 form verbs.CutServer = two CutServer
 form verbs.CutMonitor = two CutMonitor
 
--- The step that the words of a line give, if they give one.
+-- The step that the words of a line spell, if they spell one.
 abbrev pub meant : List (List ℕ) → Option Step
 meant words = option_and_then (λ verb. form verb words) (verb_of (slice_index_or words 0 []))
 
@@ -101,11 +101,11 @@ abbrev pub meant_by : Result (List (List ℕ)) WordFault → Option Step
 meant_by (Ok words) = meant words
 meant_by (Err fault) = None
 
--- The step that a line says, if it says one.
+-- The step that a line spells, if it spells one.
 abbrev pub said : List ℕ → Option Step
-said line = if nat_le (length line) LINE_MAX then meant_by (spelled line) else None
+said line = if nat_le (length line) STEP_LINE_MAX then meant_by (spelled line) else None
 
--- Reading a line takes memory for its words where it has a backslash, and for what a driver says.
+-- Reading a line allocates for its words if it has a backslash, and for what a driver says.
 abbrev pub is_of_driver : Option Step → Bool
 is_of_driver (Some (Driver u line)) = true
 is_of_driver step = false
@@ -113,7 +113,7 @@ is_of_driver step = false
 abbrev pub takes_memory : List ℕ → Bool
 takes_memory line = has_backslash line || is_of_driver (said line)
 
--- The outcome of a reading: that of the text, unless memory was refused.
+-- The result of a reading: that of the text, unless memory could not be allocated.
 abbrev pub Gives : {X Y : Type 0} → (X → Y) → Option Y → Result X StepFault → Type 0
 Gives view found (Ok x) = found ≡ Some (view x)
 Gives view found (Err BadStep) = found ≡ None

@@ -7,9 +7,9 @@ use Rattle.nut_fleet.specs.Seen.{deed_by}
 use Rattle.nut_play.specs.declared.types.FleetFault.{FleetFault}
 use Rattle.nut_play.specs.declared.types.FleetFault.TheVariants.{BadStep, Memory, Failed}
 use Rattle.nut_play.specs.Lack.{may_lack}
-use Rattle.nut_play.specs.Kept.{Kept, fleet_of, is_played, next, said, fits}
+use Rattle.nut_play.specs.machine.Kept.{Kept, fleet_of, is_played, next, said, fits}
 
--- what a step tells
+-- what a step tells: these news if it was played, else that it was skipped
 abbrev pub told_if : Bool → List News → List News
 told_if true news = news
 told_if false news = Skipped ∷ []
@@ -17,7 +17,7 @@ told_if false news = Skipped ∷ []
 abbrev pub told_at : Kept → Step → List News
 told_at k step = told_if (is_played (deed_by (fleet_of k) step)) (said k step)
 
--- the first so many of the steps of a call, the newest first
+-- the first n steps of a call, the newest first
 abbrev pub before_all : Option Step → List Step → List Step
 before_all None steps = steps
 before_all (Some step) steps = step ∷ steps
@@ -26,7 +26,7 @@ abbrev pub firsts : ℕ → List Step → List Step
 firsts zero steps = []
 firsts (suc n) steps = before_all (slice_get steps n) (firsts n steps)
 
--- what is kept after these steps, here with the newest first; what they tell; and whether each may be played
+-- what is kept after these steps, here with the newest first; what they tell; and whether each of them fits
 abbrev pub run : Kept → List Step → Kept
 run k [] = k
 run k (step ∷ earlier) = next (run k earlier) step
@@ -43,7 +43,7 @@ abbrev pub is_bad : Kept → Option Step → Bool
 is_bad k None = false
 is_bad k (Some step) = not (fits k step)
 
--- whether this is a step that may be played, and at which memory may be lacking
+-- whether this is a step that fits and at which memory may be lacking
 abbrev pub may_run_out : Kept → Option Step → Bool
 may_run_out k None = false
 may_run_out k (Some step) = fits k step && may_lack step (told_at k step)
@@ -53,21 +53,21 @@ pub record IsPlayed (k : Kept) (steps : List Step) (n : ℕ) (new : Kept) : Type
   pub fit : AreFit k (firsts n steps)
   pub fleet : new ≡ run k (firsts n steps)
 
--- Those before step n + 1, which isn't one that may be played.
+-- The first n steps were played, and step n + 1 doesn't fit.
 pub record IsStopped (k : Kept) (steps : List Step) (n : ℕ) (at : ℕ) (new : Kept) : Type 0 where
   pub number : at ≡ n + 1
   pub within : n < length steps
   pub played : IsPlayed k steps n new
   pub bad : is_bad new (slice_get steps n) ≡ true
 
--- Memory was lacking at step n + 1, behind those that led to what was kept before it.
+-- Memory was lacking at step n + 1, after the first n steps led to `before`.
 pub record IsLacking (k : Kept) (steps : List Step) (n : ℕ) (at : ℕ) (before : Kept) : Type 0 where
   pub number : at ≡ n + 1
   pub within : n < length steps
   pub played : IsPlayed k steps n before
   pub lacks : may_run_out before (slice_get steps n) ≡ true
 
--- Why a call stopped: memory ends the claim.
+-- Why a call stopped. If memory was lacking, nothing is claimed of what is kept but that the fleet has failed.
 abbrev pub IsFault : Kept → List Step → FleetFault → Kept → Type 0
 IsFault k steps (BadStep at) new = (n : ℕ) × IsStopped k steps n at new
 IsFault k steps (Memory at) new = (new.failed ≡ true) × (n : ℕ) × (before : Kept) × IsLacking k steps n at before

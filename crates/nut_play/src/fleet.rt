@@ -2,13 +2,13 @@
 
 ghost use Rattle.std.specs.Prelude.{◌≡◌, ◌++◌, ◌∷◌, ◌<◌, ◌≤◌, ◌||◌, ℕ, true, false, List, [], length, map, IfOk, IfErr, Err, OnOk, OnErr, IsTrue, Some, slice_get};
 ghost use Rattle.std.specs.Option.{option_map};
-ghost use Rattle.nut_decision.specs.Configuration.{configuration_of};
+ghost use Rattle.nut_monitor_spec.specs.Configuration.{configuration_of};
 ghost use Rattle.nut_server.specs.Arrival.{event_of};
 ghost use Rattle.nut_monitor.specs.Events.{event_of as told_as};
 ghost use Rattle.nut_fleet.specs.Log.{logged};
 ghost use Rattle.nut_fleet.specs.Seen.{deed_by};
 ghost use Rattle.nut_play.specs.Lack.{is_piece, is_link_piece, is_told, may_lack};
-ghost use Rattle.nut_play.specs.Kept.{fleet_of, is_played, tell_by, inform_by, reach_by, back_by, out_by, land_by, link_by, told_by, told_news, told_to, with_seat, hear_seat, reach_seat, back_seat, out_seat, land_seat, join_seat, known_of, link_of, fits, fits_link, next, said, reach_next, back_next, join_next, links_in, fresh_seat, fresh_fleet};
+ghost use Rattle.nut_play.specs.machine.Kept.{fleet_of, is_played, tell_by, inform_by, reach_by, back_by, out_by, land_by, link_by, told_by, told_news, told_to, with_seat, hear_seat, reach_seat, back_seat, out_seat, land_seat, join_seat, known_of, link_of, fits, fits_link, next, said, reach_next, back_next, join_next, links_in, fresh_seat, fresh_fleet};
 ghost use Rattle.nut_play.specs.Steps.{step_of, steps_of, logged_of};
 ghost use Rattle.nut_play.specs.Play.{told_at, IsLog, IsFault};
 ghost use Rattle.nut_play.specs.Room.{setup_of, HasPlayed, WerePlayed, IsFaultOf, RoomHolds};
@@ -26,6 +26,7 @@ use nut_conf::UpsmonConf;
 use nut_fleet::{configurations_are_spoken, fleets_go_on};
 use nut_monitor::Event;
 use nut_server::{Arrival, Config, Server};
+use nut_words::PIECE_MAX;
 use std::alloc::Global;
 use std::marker::Model;
 
@@ -39,7 +40,7 @@ pub struct Fleet {
 }
 
 impl Model for Fleet {
-    ghost use Rattle.nut_play.specs.Kept as kept;
+    ghost use Rattle.nut_play.specs.machine.Kept as kept;
 
     ghost Value = { kept.Kept };
 
@@ -47,11 +48,11 @@ impl Model for Fleet {
 }
 
 impl Fleet {
-    /// A fleet of which nothing was played yet.
+    /// Makes a fleet of which no step was played yet.
     ///
     /// # Errors
     ///
-    /// `Memory(0)` where memory was refused.
+    /// `Memory(0)` if memory cannot be allocated.
     pub fn new(
         alloc: Global,
         config: Config,
@@ -75,7 +76,7 @@ impl Fleet {
         })
     }
 
-    /// What a monitor was made with.
+    /// Returns the configuration that a monitor was made with; `None` if there is no such monitor.
     pub fn config(&self, m: usize) -> Option<&UpsmonConf>
         ensures { option_map (λ c. c.now) result ≡ option_map (λ seat. seat.monitor.config) (slice_get self.now.seats m) }
     {
@@ -85,7 +86,7 @@ impl Fleet {
         Some(self.seats[m].monitor.config())
     }
 
-    /// The server is told something.
+    /// Tells the server an event. Returns whether it was accepted.
     fn serve(&mut self, arrival: Arrival<'_>) -> Result<bool, Lack>
         ensures played { IfOk result (λ played. played ≡ is_played (tell_by self.old.server (event_of arrival.entry))) }
         ensures fleet { OnOk result (self.new ≡ told_to self.old (event_of arrival.entry)) }
@@ -94,7 +95,7 @@ impl Fleet {
         tell(&mut self.server, arrival)
     }
 
-    /// A monitor is told something.
+    /// Tells a monitor an event, and logs what it tells. Returns whether it was accepted.
     fn hear(
         &mut self,
         m: usize,
@@ -113,7 +114,7 @@ impl Fleet {
         self.seats[m].hear(m, event, step, log)
     }
 
-    /// Bytes of a link reach the server.
+    /// Moves bytes of a link from its pipe to the server. Returns whether the step was played.
     fn reach(&mut self, m: usize, i: usize, n: usize) -> Result<bool, Lack>
         requires within { m < length self.old.seats }
         requires there { i < length (links_in (slice_get self.old.seats m)) }
@@ -123,7 +124,7 @@ impl Fleet {
         self.seats[m].reach(&mut self.server, i, n)
     }
 
-    /// Bytes go from the server into the pipe of a link.
+    /// Moves bytes from the server into the pipe of a link. Returns whether the step was played.
     fn back(&mut self, m: usize, i: usize, n: usize) -> Result<bool, Lack>
         requires within { m < length self.old.seats }
         requires there { i < length (links_in (slice_get self.old.seats m)) }
@@ -133,7 +134,7 @@ impl Fleet {
         self.seats[m].back(&mut self.server, i, n)
     }
 
-    /// Bytes go from a monitor into the pipe of a link.
+    /// Moves bytes from a monitor into the pipe of a link. Returns whether the step was played.
     fn send(&mut self, place: Place, n: usize, log: &mut Vec<Logged>) -> Result<bool, Lack>
         requires within { place.monitor < length self.old.seats }
         requires there { place.link < length (links_in (slice_get self.old.seats place.monitor)) }
@@ -145,7 +146,7 @@ impl Fleet {
         self.seats[place.monitor].send(&self.server, place, n, log)
     }
 
-    /// Bytes of a link land at a monitor.
+    /// Moves bytes of a link from its pipe to the monitor. Returns whether the step was played.
     fn land(&mut self, place: Place, n: usize, log: &mut Vec<Logged>) -> Result<bool, Lack>
         requires within { place.monitor < length self.old.seats }
         requires there { place.link < length (links_in (slice_get self.old.seats place.monitor)) }
@@ -157,7 +158,7 @@ impl Fleet {
         self.seats[place.monitor].land(place, n, log)
     }
 
-    /// A link is made.
+    /// Makes a link. Returns whether the step was played.
     fn join(&mut self, place: Place, log: &mut Vec<Logged>) -> Result<bool, Lack>
         requires within { place.monitor < length self.old.seats }
         requires there { place.link < length (links_in (slice_get self.old.seats place.monitor)) }
@@ -171,7 +172,7 @@ impl Fleet {
         self.seats[place.monitor].join(&mut self.server, place, log)
     }
 
-    /// The connection of a link.
+    /// Returns the number of a link's last connection, 0 if it was never made.
     fn connection(&self, m: usize, i: usize) -> u64
         requires within { m < length self.now.seats }
         requires there { i < length (links_in (slice_get self.now.seats m)) }
@@ -181,7 +182,7 @@ impl Fleet {
         seat.links[i].connection
     }
 
-    /// Plays one step, and logs what its monitor tells. It says whether the step was played, and else skipped.
+    /// Plays one step, and logs what its monitor tells. Returns whether the step was played; if not, it is skipped.
     #[tactic(auto, using(crate::proofs::Fits::fits_line, crate::proofs::Fits::fits_within, crate::proofs::Fits::fits_there, crate::proofs::Fits::fits_watched))]
     fn step(&mut self, step: &Step, k: usize, log: &mut Vec<Logged>) -> Result<bool, Lack>
         requires fit { fits self.old (step_of step.now) ≡ true }
@@ -223,7 +224,7 @@ impl Fleet {
         i < seat.links.len() && i < seat.monitor.lines()
     }
 
-    /// Whether a step names only what there is, and its line isn't too long.
+    /// Whether what a step names exists, and its line isn't too long.
     fn is_fit(&self, step: &Step) -> bool
         ensures { result ≡ fits self.now (step_of step.now) }
     {
@@ -231,7 +232,7 @@ impl Fleet {
             Step::ServerClock(_) => true,
             Step::MonitorClock(m, _) => *m < self.seats.len(),
             Step::Up(u) | Step::Down(u) => *u < self.server.number_of_upses(),
-            Step::Driver(u, line) => *u < self.server.number_of_upses() && line.len() <= 511,
+            Step::Driver(u, line) => *u < self.server.number_of_upses() && line.len() < PIECE_MAX,
             Step::Link(m, i)
             | Step::Out(m, i, _)
             | Step::Reach(m, i, _)
@@ -242,7 +243,7 @@ impl Fleet {
         }
     }
 
-    /// Plays one step, and logs what it tells.
+    /// Plays one step and logs what it tells, also that it was skipped.
     #[tactic(auto, using(crate::proofs::Lacks::lacks_skipped, crate::proofs::Lacks::lacks_told))]
     fn play_one(&mut self, step: &Step, k: usize, log: &mut Vec<Logged>) -> Result<(), Lack>
         requires fit { fits self.old (step_of step.now) ≡ true }
@@ -256,7 +257,7 @@ impl Fleet {
         note(log, k, News::Skipped)
     }
 
-    /// Plays the steps in their order, up to the first that doesn't fit.
+    /// Plays the steps in order, up to the first that doesn't fit.
     fn run(&mut self, schedule: &[Step]) -> Result<FleetLog, FleetFault>
         ensures failed { self.old.failed ≡ true → (result ≡ Err Failed) × (self.new ≡ self.old) }
         ensures played { self.old.failed ≡ false → IfOk result (λ log. IsLog self.old (map step_of schedule.now) (map logged_of log.items) self.new) }
@@ -278,17 +279,17 @@ impl Fleet {
         Ok(log)
     }
 
-    /// Plays the steps in their order. The log and the numbers of steps are of this call's, from 1 on.
+    /// Plays the steps in order. Returns what they told; there the steps of this call are numbered from 1.
     ///
-    /// Whatever was played before, the fleet then is that of the world to which the whole schedule leads, and what holds of
-    /// every world holds of it: each status that a monitor has was shown by the server; whoever began a shutdown had a cause;
-    /// and a primary that goes on to the end was alone, or has waited.
+    /// Whatever was played before, the fleet is then that of the world to which the whole schedule leads. What holds of
+    /// every world holds of it, see [`rooms_hold`](crate::rooms_hold).
     ///
     /// # Errors
     ///
-    /// `BadStep` where a step isn't one that may be played: those before it stand. `Memory` where memory was refused, at a
-    /// line of a driver, a step that moves bytes, or one that tells something: the fleet has failed, nothing is claimed of
-    /// it, and `Failed` is the answer to every later call.
+    /// `BadStep` if a step names what doesn't exist or has a line that is too long; the steps before it took effect.
+    /// `Memory` if memory cannot be allocated, which can happen at a line of a driver, at a step that moves bytes, and
+    /// at one that tells something. The fleet has then failed: nothing is claimed of it, and every later call returns
+    /// `Failed`.
     pub fn play(&mut self, schedule: &[Step]) -> Result<FleetLog, FleetFault>
         ensures failed { self.old.failed ≡ true → (result ≡ Err Failed) × (self.new ≡ self.old) }
         ensures played { (setup : Setup) (before : List S.Step) → HasPlayed setup before self.old
@@ -305,7 +306,7 @@ impl Fleet {
     }
 }
 
-/// The seats of these monitors, to whom nothing was told.
+/// Makes the seats of these monitors, which were told nothing.
 fn seats_of(alloc: Global, monitors: Vec<UpsmonConf>) -> Result<Vec<Seat>, Lack>
     ensures { IfOk result (λ seats. seats.items ≡ map fresh_seat monitors.items) }
 {
@@ -317,7 +318,7 @@ fn seats_of(alloc: Global, monitors: Vec<UpsmonConf>) -> Result<Vec<Seat>, Lack>
     Ok(seats)
 }
 
-/// One more seat.
+/// Appends a seat.
 fn put_seat(seats: &mut Vec<Seat>, seat: Seat) -> Result<(), Lack>
     ensures { OnOk result (seats.new.items ≡ seats.old.items ++ seat ∷ []) }
 {
@@ -327,7 +328,7 @@ fn put_seat(seats: &mut Vec<Seat>, seat: Seat) -> Result<(), Lack>
     }
 }
 
-/// A link of a monitor at a step.
+/// Returns a link of a monitor at a step.
 fn place(monitor: usize, link: usize, step: usize) -> Place
     ensures { result ≡ record { monitor = monitor; link = link; step = step } }
 {
@@ -338,9 +339,9 @@ fn place(monitor: usize, link: usize, step: usize) -> Place
     }
 }
 
-/// A driver's line with its line feed.
-fn with_feed(line: &[u8]) -> ArrayVec<u8, 512>
-    requires fit { length line.now ≤ 511 }
+/// Returns a driver's line with its line feed.
+fn with_feed(line: &[u8]) -> ArrayVec<u8, PIECE_MAX>
+    requires fit { length line.now < PIECE_MAX }
     ensures { result.items ≡ line.now ++ 10 ∷ [] }
 {
     let mut piece = ArrayVec::new();

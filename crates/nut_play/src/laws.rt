@@ -7,9 +7,10 @@ use nut_fleet::{
     shutdowns_have_causes, statuses_were_shown,
 };
 
-/// Whatever schedule a fleet has played, what holds of every room holds of this one: all that its server and its monitors
-/// were told was accepted, each pipe carries a beginning of what was put into it, each status that a monitor has was shown by
-/// the server, whoever began a shutdown had a cause, and a primary goes last or has waited.
+/// States a law and does nothing when called: whatever schedule a fleet has played, its server and its monitors
+/// accepted every event that they were told; each pipe carries a beginning of what was put into it; each status that a
+/// monitor has was shown by the server; a monitor that began its shutdown had a cause; and one that left Forcing waited
+/// for more than HOSTSYNC, or was alone on the UPSes of which its machine is the primary.
 pub fn rooms_hold()
     ensures { RoomsHold }
 {

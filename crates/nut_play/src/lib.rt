@@ -3,6 +3,7 @@
 
 mod fleet;
 mod laws;
+mod limits;
 mod link;
 mod reading;
 mod seat;
@@ -12,5 +13,6 @@ mod verb;
 
 pub use fleet::Fleet;
 pub use laws::rooms_hold;
+pub use limits::{STEP_LINE_MAX, step_limits};
 pub use reading::{StepFault, read_step};
 pub use types::{FleetFault, FleetLog, Logged, News, Step};

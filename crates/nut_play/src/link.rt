@@ -1,14 +1,14 @@
 //! A link with its pipes.
 
 ghost use Rattle.std.specs.Prelude.{◌≡◌, ◌++◌, ◌+◌, ◌≤◌, ◌<◌, IfOk, OnOk, OnErr, IsTrue, [], ◌∷◌, ℕ, min, map, length, take, drop, is_some, true};
-ghost use Rattle.nut_history.specs.Acceptance.{session_of, waiting_of};
-ghost use Rattle.nut_history.specs.Event.{Took};
-ghost use Rattle.nut_history.specs.Machine.{advance};
+ghost use Rattle.nut_server_spec.specs.Acceptance.{session_of, waiting_of};
+ghost use Rattle.nut_server_spec.specs.Event.{Took};
+ghost use Rattle.nut_server_spec.specs.machine.Machine.{advance};
 ghost use Rattle.nut_fleet.specs.World.{address_of};
 ghost use Rattle.nut_fleet.specs.Log.{logged};
-ghost use Rattle.nut_fleet.specs.Going.{put_on};
+ghost use Rattle.nut_fleet.specs.machine.Going.{put_on};
 ghost use Rattle.nut_play.specs.Lack.{is_told};
-ghost use Rattle.nut_play.specs.Kept.{is_played, reach_by, back_by, out_by, land_by, link_by, told_by, heard_by, told_news, reached_by, landed_by, back_put, out_put, made_by, open_by, waits_by, no_ends};
+ghost use Rattle.nut_play.specs.machine.Kept.{is_played, reach_by, back_by, out_by, land_by, link_by, told_by, heard_by, told_news, reached_by, landed_by, back_put, out_put, made_by, open_by, waits_by, no_ends};
 ghost use Rattle.nut_play.specs.Steps.{logged_of};
 
 use crate::telling::{inform, is_open, tell};
@@ -17,11 +17,13 @@ use arrayvec::ArrayVec;
 use bytes::BytesMut;
 use itoa::Buffer;
 use nut_monitor::{Event, Monitor};
-use nut_server::{Arrival, PIECE_MAX, Server};
+use nut_server::{Arrival, Server};
+use nut_server_spec::ADDRESS_MAX;
+use nut_words::PIECE_MAX;
 use std::alloc::Global;
 use std::marker::Model;
 
-/// A link of a monitor at a step: their numbers.
+/// The numbers of a monitor, a link of it, and a step.
 #[derive(Clone, Copy)]
 pub struct Place {
     pub monitor: usize,
@@ -29,7 +31,7 @@ pub struct Place {
     pub step: usize,
 }
 
-/// A link: the connection that it was given last, 0 where it was never made, and its pipes.
+/// A link: the number of its last connection, 0 if it was never made, and its pipes.
 #[derive(Drop)]
 pub struct Link {
     pub connection: u64,
@@ -45,17 +47,17 @@ impl Model for Link {
     ghost view = { λ l. record { connection = l.connection; to_server = l.to_server.items; to_monitor = l.to_monitor.items } };
 }
 
-/// How many bytes a step moves that may move `n`, where so many are there.
+/// Returns how many bytes a step moves that may move `n`, if `there` are there: at most 512.
 pub fn count_of(n: usize, there: usize) -> usize
-    ensures value { result ≡ min (min n 512) there }
-    ensures most { result ≤ 512 }
+    ensures value { result ≡ min (min n PIECE_MAX) there }
+    ensures most { result ≤ PIECE_MAX }
     ensures within { result ≤ there }
 {
     n.min(PIECE_MAX).min(there)
 }
 
 impl Link {
-    /// A link that was never made.
+    /// Makes a link that was never connected.
     pub fn new(alloc: Global) -> Link
         ensures { result ≡ no_ends }
     {
@@ -66,7 +68,7 @@ impl Link {
         }
     }
 
-    /// The link is made: its pipes are empty.
+    /// Connects the link, with empty pipes.
     pub fn make(&mut self, connection: u64)
         ensures { self.new ≡ record { connection = connection; to_server = []; to_monitor = [] } }
     {
@@ -75,7 +77,7 @@ impl Link {
         self.to_monitor.clear();
     }
 
-    /// Bytes reach the server. It says whether the step was played.
+    /// Moves bytes from the pipe to the server. Returns whether the step was played.
     pub fn reach(&mut self, server: &mut Server, n: usize) -> Result<bool, Lack>
         ensures played { IfOk result (λ played. played ≡ is_played (reach_by server.old self.old n)) }
         ensures server { OnOk result (server.new ≡ told_by (reach_by server.old self.old n) 0 server.old) }
@@ -98,7 +100,7 @@ impl Link {
         Ok(true)
     }
 
-    /// Bytes land at monitor `m`, on its link `i`. It says whether the step was played.
+    /// Moves bytes from the pipe to monitor `m`, on its link `i`. Returns whether the step was played.
     pub fn land(
         &mut self,
         monitor: &mut Monitor,
@@ -130,7 +132,7 @@ impl Link {
         Ok(true)
     }
 
-    /// Bytes go from monitor `m` into the pipe of its link `i`. It says whether the step was played.
+    /// Moves bytes from monitor `m` into the pipe of its link `i`. Returns whether the step was played.
     pub fn send(
         &mut self,
         server: &Server,
@@ -164,8 +166,8 @@ impl Link {
         inform(monitor, event, place.monitor, place.step, log)
     }
 
-    /// Bytes go from the server into the pipe of a link, which is there at its monitor, or isn't. It says whether the step
-    /// was played.
+    /// Moves bytes from the server into the pipe of a link. They are lost if the link isn't up at its monitor. Returns
+    /// whether the step was played.
     pub fn back(&mut self, server: &mut Server, linked: bool, n: usize) -> Result<bool, Lack>
         ensures played { IfOk result (λ played. played ≡ is_played (back_by server.old self.old n)) }
         ensures server { OnOk result (server.new ≡ told_by (back_by server.old self.old n) 0 server.old) }
@@ -182,7 +184,7 @@ impl Link {
         Ok(true)
     }
 
-    /// The link is made. It says whether the step was played.
+    /// Makes the link. Returns whether the step was played.
     pub fn join(
         &mut self,
         server: &mut Server,
@@ -220,7 +222,7 @@ impl Link {
     }
 }
 
-/// Bytes go into a pipe.
+/// Appends bytes to a pipe.
 fn put(pipe: &mut BytesMut<Global>, bytes: &[u8]) -> Result<(), Lack>
     ensures { OnOk result (pipe.new.items ≡ pipe.old.items ++ bytes.now) }
 {
@@ -230,7 +232,7 @@ fn put(pipe: &mut BytesMut<Global>, bytes: &[u8]) -> Result<(), Lack>
     }
 }
 
-/// The connection takes so many of the bytes that wait for it, and they go into the pipe, where the link is there.
+/// Takes this many of the bytes that wait for a connection, and puts them into the pipe if the link is up.
 fn take_some(
     server: &mut Server,
     c: u64,
@@ -250,8 +252,8 @@ fn take_some(
     Ok(())
 }
 
-/// The connection takes a front part of what waits for it, of at most so many bytes, and that goes into the pipe, where the
-/// link is there. It says how many these are.
+/// Takes the first bytes that wait for a connection, at most `most` of them, and puts them into the pipe if the link is
+/// up. Returns how many they are.
 fn take_front(
     server: &mut Server,
     c: u64,
@@ -276,8 +278,8 @@ fn take_front(
     Ok(count)
 }
 
-/// The address of the links of a monitor.
-fn address_of(m: usize) -> ArrayVec<u8, 64>
+/// Returns the address from which a monitor makes its links.
+fn address_of(m: usize) -> ArrayVec<u8, ADDRESS_MAX>
     ensures { result.items ≡ address_of m }
 {
     let mut address = ArrayVec::new();

@@ -1,4 +1,4 @@
-//! Steps as the lines of a schedule spell them.
+//! The steps that the lines of a schedule spell.
 
 ghost use Rattle.std.specs.Prelude.{◌≡◌, Err, IsTrue};
 ghost use Rattle.nut_state.specs.Number.{natural};
@@ -6,33 +6,35 @@ ghost use Rattle.nut_play.specs.declared.reading.StepFault.{StepFault};
 ghost use Rattle.nut_play.specs.Lines.{Gives, form, is_of_driver, meant, one_number, said, said_by_driver, takes_memory, three_numbers, two_numbers};
 ghost use Rattle.nut_play.specs.Steps.{step_of};
 
+use crate::limits::STEP_LINE_MAX;
 use crate::types::Step;
 use crate::verb::Verb;
 use nut_state::natural;
-use nut_words::{LINE_MAX, WordFault, Words, split};
+use nut_words::{WordFault, Words, split};
 use std::alloc::Global;
 use thiserror::Error;
 
-/// Why a line of a schedule gives no step.
+/// Why a line of a schedule isn't a step.
 #[derive(Clone, Copy, Debug, PartialEq, Eq, Error)]
 pub enum StepFault {
-    /// The line is no step: it has more than 512 bytes, spells no words or none at all, or its words are none of the forms.
+    /// The line is no step: it has more than [`STEP_LINE_MAX`] bytes, spells no words or none at all, or its words are none
+    /// of the forms.
     #[error("BadStep")]
     BadStep,
-    /// Memory was refused.
+    /// Memory could not be allocated.
     #[error("out of memory")]
     Memory,
 }
 
-/// Reads a line of a schedule, without its line feed, as a step. Words and comments are those of the configuration files. A
-/// number has 1 to 9 digits.
+/// Reads a line of a schedule, without its line feed, as a step. Words and comments are those of the configuration
+/// files. A number has 1 to 9 digits.
 ///
 /// ```text
 /// server T          the server's clock shows T seconds
 /// monitor M T       the clock of monitor M shows T seconds
 /// up U              the driver of UPS U connects
 /// driver U LINE     the driver of UPS U says a line, which is one word here
-/// down U            the driver of UPS U is gone
+/// down U            the driver of UPS U disconnects
 /// link M I          monitor M makes link I
 /// out M I N         up to N bytes go from the monitor into the link's pipe
 /// reach M I N       up to N bytes reach the server
@@ -44,13 +46,13 @@ pub enum StepFault {
 ///
 /// # Errors
 ///
-/// `BadStep` where the line is none of these, and `Memory` where memory was refused: a line without a backslash takes none,
-/// unless it is a `driver` line.
+/// `BadStep` if the line is none of these. `Memory` if memory cannot be allocated; a line allocates only if it has a
+/// backslash or is a `driver` line.
 pub fn read_step(alloc: Global, line: &[u8]) -> Result<Step, StepFault>
     ensures step { Gives step_of (said line.now) result }
     ensures memory { result ≡ Err StepFault.Memory → IsTrue (takes_memory line.now) }
 {
-    if line.len() > LINE_MAX {
+    if line.len() > STEP_LINE_MAX {
         return Err(StepFault::BadStep);
     }
     match split(alloc, line) {
@@ -60,7 +62,7 @@ pub fn read_step(alloc: Global, line: &[u8]) -> Result<Step, StepFault>
     }
 }
 
-/// The step that the words of a line give.
+/// Returns the step that the words of a line spell.
 fn meant(alloc: Global, words: &Words<'_>) -> Result<Step, StepFault>
     ensures step { Gives step_of (meant words.now) result }
     ensures memory { result ≡ Err StepFault.Memory → IsTrue (is_of_driver (meant words.now)) }
@@ -71,7 +73,7 @@ fn meant(alloc: Global, words: &Words<'_>) -> Result<Step, StepFault>
     }
 }
 
-/// The step that a verb and the words behind it give.
+/// Returns the step that a verb and the words behind it spell.
 fn form(alloc: Global, verb: Verb, words: &Words<'_>) -> Result<Step, StepFault>
     ensures step { Gives step_of (form verb words.now) result }
     ensures memory { result ≡ Err StepFault.Memory → IsTrue (is_of_driver (form verb words.now)) }
@@ -116,7 +118,7 @@ fn form(alloc: Global, verb: Verb, words: &Words<'_>) -> Result<Step, StepFault>
     }
 }
 
-/// What the driver of a UPS says.
+/// Returns the step of a `driver` line.
 fn said_by_driver(alloc: Global, words: &Words<'_>) -> Result<Step, StepFault>
     ensures step { Gives step_of (said_by_driver words.now) result }
     ensures memory { result ≡ Err StepFault.Memory → IsTrue (is_of_driver (said_by_driver words.now)) }
@@ -132,7 +134,7 @@ fn said_by_driver(alloc: Global, words: &Words<'_>) -> Result<Step, StepFault>
     Ok(Step::Driver(ups, line))
 }
 
-/// A number of 1 to 9 digits.
+/// Reads a number of 1 to 9 digits.
 fn number(word: &[u8]) -> Result<usize, StepFault>
     ensures number { Gives (λ n. n) (natural word.now) result }
     ensures memory { result ≡ Err StepFault.Memory → ⊥ }
@@ -143,7 +145,7 @@ fn number(word: &[u8]) -> Result<usize, StepFault>
     }
 }
 
-/// The number behind a verb, where there is just one.
+/// Reads the number behind a verb, if there is exactly one.
 fn one_number(words: &Words<'_>) -> Result<usize, StepFault>
     ensures number { Gives (λ n. n) (one_number words.now) result }
     ensures memory { result ≡ Err StepFault.Memory → ⊥ }
@@ -154,7 +156,7 @@ fn one_number(words: &Words<'_>) -> Result<usize, StepFault>
     number(words.get(1))
 }
 
-/// The numbers behind a verb, where there are just two.
+/// Reads the numbers behind a verb, if there are exactly two.
 fn two_numbers(words: &Words<'_>) -> Result<(usize, usize), StepFault>
     ensures numbers { Gives (λ n. n) (two_numbers words.now) result }
     ensures memory { result ≡ Err StepFault.Memory → ⊥ }
@@ -165,7 +167,7 @@ fn two_numbers(words: &Words<'_>) -> Result<(usize, usize), StepFault>
     Ok((number(words.get(1))?, number(words.get(2))?))
 }
 
-/// The numbers behind a verb, where there are just three.
+/// Reads the numbers behind a verb, if there are exactly three.
 fn three_numbers(words: &Words<'_>) -> Result<(usize, usize, usize), StepFault>
     ensures numbers { Gives (λ n. n) (three_numbers words.now) result }
     ensures memory { result ≡ Err StepFault.Memory → ⊥ }

@@ -4,7 +4,7 @@ ghost use Rattle.std.specs.Prelude.{◌≡◌, ◌++◌, ◌<◌, ◌||◌, IfOk
 ghost use Rattle.nut_fleet.specs.Log.{logged};
 ghost use Rattle.nut_monitor.specs.Events.{event_of as told_as};
 ghost use Rattle.nut_play.specs.Lack.{is_link_piece, is_told};
-ghost use Rattle.nut_play.specs.Kept.{is_played, inform_by, reach_by, back_by, out_by, land_by, link_by, told_by, told_news, ends_at, hear_seat, reach_seat, back_seat, out_seat, land_seat, join_seat, no_ends, fresh_seat};
+ghost use Rattle.nut_play.specs.machine.Kept.{is_played, inform_by, reach_by, back_by, out_by, land_by, link_by, told_by, told_news, ends_at, hear_seat, reach_seat, back_seat, out_seat, land_seat, join_seat, no_ends, fresh_seat};
 ghost use Rattle.nut_play.specs.Steps.{logged_of};
 
 use crate::link::{Link, Place};
@@ -24,14 +24,14 @@ pub struct Seat {
 }
 
 impl Model for Seat {
-    ghost use Rattle.nut_play.specs.Kept as kept;
+    ghost use Rattle.nut_play.specs.machine.Kept as kept;
 
     ghost Value = { kept.Seat };
 
     ghost view = { λ s. record { monitor = s.monitor; links = s.links.items } };
 }
 
-/// Links that were never made, one for each line.
+/// Makes a link that was never connected for each line.
 fn unmade(alloc: Global, lines: &[Monitored]) -> Result<Vec<Link>, AllocError>
     ensures { IfOk result (λ links. links.items ≡ map (λ line. no_ends) lines.now) }
 {
@@ -43,7 +43,7 @@ fn unmade(alloc: Global, lines: &[Monitored]) -> Result<Vec<Link>, AllocError>
 }
 
 impl Seat {
-    /// A monitor to which nothing was told, and whose links were never made.
+    /// Makes a monitor that was told nothing, with links that were never connected.
     pub fn new(alloc: Global, config: UpsmonConf) -> Result<Seat, Lack>
         ensures { IfOk result (λ seat. seat ≡ fresh_seat config) }
     {
@@ -57,7 +57,7 @@ impl Seat {
         Ok(Seat { monitor, links })
     }
 
-    /// The monitor is told something.
+    /// Tells the monitor an event, and logs what it tells. Returns whether it was accepted.
     pub fn hear(
         &mut self,
         m: usize,
@@ -75,7 +75,7 @@ impl Seat {
         inform(&mut self.monitor, event, m, step, log)
     }
 
-    /// Bytes of a link reach the server.
+    /// Moves bytes of a link from its pipe to the server. Returns whether the step was played.
     pub fn reach(&mut self, server: &mut Server, i: usize, n: usize) -> Result<bool, Lack>
         requires within { i < length self.old.links }
         ensures played { IfOk result (λ played. played ≡ is_played (reach_by server.old (ends_at self.old.links i) n)) }
@@ -85,7 +85,7 @@ impl Seat {
         self.links[i].reach(server, n)
     }
 
-    /// Bytes go from the server into the pipe of a link.
+    /// Moves bytes from the server into the pipe of a link. Returns whether the step was played.
     pub fn back(&mut self, server: &mut Server, i: usize, n: usize) -> Result<bool, Lack>
         requires within { i < length self.old.links }
         ensures played { IfOk result (λ played. played ≡ is_played (back_by server.old (ends_at self.old.links i) n)) }
@@ -96,7 +96,7 @@ impl Seat {
         self.links[i].back(server, linked, n)
     }
 
-    /// Bytes go from the monitor into the pipe of a link.
+    /// Moves bytes from the monitor into the pipe of a link. Returns whether the step was played.
     pub fn send(
         &mut self,
         server: &Server,
@@ -113,7 +113,7 @@ impl Seat {
         self.links[place.link].send(server, &mut self.monitor, place, n, log)
     }
 
-    /// Bytes of a link land at the monitor.
+    /// Moves bytes of a link from its pipe to the monitor. Returns whether the step was played.
     pub fn land(&mut self, place: Place, n: usize, log: &mut Vec<Logged>) -> Result<bool, Lack>
         requires within { place.link < length self.old.links }
         ensures played { IfOk result (λ played. played ≡ is_played (land_by place.monitor self.old.monitor.content place.link (ends_at self.old.links place.link) n)) }
@@ -124,7 +124,7 @@ impl Seat {
         self.links[place.link].land(&mut self.monitor, place, n, log)
     }
 
-    /// A link is made.
+    /// Makes a link. Returns whether the step was played.
     pub fn join(
         &mut self,
         server: &mut Server,

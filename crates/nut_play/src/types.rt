@@ -1,32 +1,33 @@
-//! Steps of a schedule, what they tell, and why they can't be played.
+//! The steps of a schedule, what they tell, and why they cannot be played.
 
 use nut_monitor::{Notice, Phase};
 use thiserror::Error;
 
 /// One step of a schedule. Monitors are counted from 0, UPSes by their places in ups.conf, and the links of a monitor by the
 /// places of its MONITOR lines. A step that moves bytes moves as many as are there, but no more than its last number and no
-/// more than 512.
+/// more than [`PIECE_MAX`](nut_words::PIECE_MAX).
 #[derive(Debug, Drop)]
 pub enum Step {
-    /// The server's clock shows so many seconds since the start.
+    /// The server's clock shows this many seconds since the start.
     ServerClock(u64),
-    /// The clock of a monitor shows so many seconds since the start.
+    /// The clock of a monitor shows this many seconds since the start.
     MonitorClock(usize, u64),
     /// The driver of a UPS connects to the server.
     Up(usize),
-    /// The driver of a UPS says a line, which stands here without its line feed and has at most 511 bytes.
+    /// The driver of a UPS says a line, which stands here without its line feed and with it has at most
+    /// [`PIECE_MAX`](nut_words::PIECE_MAX) bytes.
     Driver(usize, Vec<u8>),
-    /// The driver of a UPS is gone.
+    /// The driver of a UPS disconnects.
     Down(usize),
     /// A monitor makes one of its links.
     Link(usize, usize),
-    /// A monitor puts bytes into the pipe of a link that leads to the server.
+    /// A monitor puts bytes into the pipe of a link to the server.
     Out(usize, usize, usize),
-    /// Bytes in the pipe to the server reach it.
+    /// Bytes arrive at the server from the pipe to it.
     Reach(usize, usize, usize),
-    /// The server puts bytes into the pipe of a link that leads to the monitor.
+    /// The server puts bytes into the pipe of a link to the monitor.
     Back(usize, usize, usize),
-    /// Bytes in the pipe to a monitor land there.
+    /// Bytes arrive at a monitor from the pipe to it.
     Land(usize, usize, usize),
     /// The server's end of a link is cut.
     CutServer(usize, usize),
@@ -37,15 +38,15 @@ pub enum Step {
 /// What a step tells.
 #[derive(Clone, Copy, Debug, PartialEq, Eq)]
 pub enum News {
-    /// The step was in the wrong state, and changed nothing.
+    /// The step was not possible in this state, and changed nothing.
     Skipped,
     /// A monitor gave a notice.
     Notice(usize, Notice),
-    /// A monitor is in another phase than before the step.
+    /// A monitor has entered this phase.
     Phase(usize, Phase),
 }
 
-/// One thing that a step tells.
+/// Something that a step tells.
 #[derive(Clone, Copy, Debug, PartialEq, Eq)]
 pub struct Logged {
     /// The number of the step, counted from 1.
@@ -54,24 +55,25 @@ pub struct Logged {
     pub news: News,
 }
 
-/// What the steps of a call tell, in their order.
+/// What the steps of a call tell, in order.
 pub type FleetLog = Vec<Logged>;
 
-/// Why a fleet can't be made, or can't go on.
+/// Why a fleet cannot be made, or a schedule not be played.
 #[derive(Clone, Copy, Debug, PartialEq, Eq, Error)]
 pub enum FleetFault {
-    /// The step with this number, counted from 1, names a monitor, a link or a UPS that isn't there, or its line is longer
-    /// than 511 bytes. The steps before it stand.
+    /// The step with this number, counted from 1, names a monitor, a link or a UPS that isn't there, or its line is
+    /// longer than a piece may be. The steps before it stand.
     #[error("bad step {0}")]
     BadStep(usize),
-    /// At the step with this number, or at 0 when the fleet was made, memory was refused. The fleet has failed.
+    /// Memory could not be allocated at the step with this number, or at 0 when the fleet was made. The fleet has
+    /// failed.
     #[error("out of memory")]
     Memory(usize),
-    /// The fleet has failed at an earlier call.
+    /// The fleet has failed in an earlier call.
     #[error("the fleet has failed")]
     Failed,
 }
 
-/// Memory was refused.
+/// Memory could not be allocated.
 #[derive(Clone, Copy, Debug, PartialEq, Eq)]
 pub(crate) struct Lack;

@@ -35,7 +35,7 @@ const VERBS: [Verb; 12] = [
 ];
 
 impl Verb {
-    /// The verb that a word is, if it is one.
+    /// Returns the verb that a word is, if it is one.
     #[tactic(auto, unfolding(crate::specs::Lines::verb_of))]
     pub fn of(word: &[u8]) -> Option<Verb>
         ensures { result ≡ verb_of word.now }

@@ -1,4 +1,4 @@
--- Going through the words one after the other amounts to the table of forms.
+-- Taking the words one after the other gives what the table of forms gives.
 use Rattle.std.proofs.Common.{◌≡◌, ℕ, List, [], ◌∷◌, Option, Some, None, Err, ap, refl}
 use Rattle.std.specs.Option.{option_or, ok_or}
 use Rattle.nut_proto.specs.declared.refusal.Refusal.TheVariants.{InvalidArgument, UnknownCommand}
@@ -9,13 +9,13 @@ use Rattle.nut_proto.specs.declared.keyword.Subject.{Subject}
 use Rattle.nut_proto.specs.declared.keyword.Subject.TheVariants as subjects
 use Rattle.nut_proto.specs.Keywords.{command_of, subject_of}
 use Rattle.nut_proto.specs.Forms.{first_fit, forms, meaning}
-use Rattle.nut_proto.specs.Steps.{get_about, list_about, set_about, request_of}
+use Rattle.nut_proto.specs.inside.Steps.{get_about, list_about, set_about, request_of}
 
 alone : (request : Option Request) → request ≡ option_or request None
 alone (Some request) = refl
 alone None = refl
 
--- The word behind GET, LIST or SET is s, and asks about k.
+-- The word after GET, LIST or SET is s, and names the subject k.
 get_agrees : (k : Option Subject) (s : List ℕ) (words : List (List ℕ)) → subject_of s ≡ k → get_about k words ≡ first_fit forms commands.Get (s ∷ words)
 get_agrees (Some subjects.NumLogins) s words e = rw e (alone _)
 get_agrees (Some subjects.UpsDesc) s words e = rw e (alone _)
@@ -58,7 +58,7 @@ fits commands.NetVer words = alone _
 fits commands.Help words = alone _
 fits commands.StartTls words = alone _
 
--- What words mean: none, those behind an unknown first word, and those behind a command.
+-- What words mean if there are none, if the first is no command, and if the first is a command.
 pub none_mean : (all : List (List ℕ)) → all ≡ [] → Err InvalidArgument ≡ meaning all
 unfolding meaning
 none_mean all e = rw e refl

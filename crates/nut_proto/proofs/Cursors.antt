@@ -1,4 +1,4 @@
--- The words that are left, as the next word and the ones after it.
+-- The words that are left: the next word and the ones after it.
 use Rattle.std.proofs.Common.{◌≡◌, ℕ, ◌+◌, ◌<◌, List, [], ◌∷◌, length, drop, slice_index_or}
 use Rattle.std.proofs.lemmas.List.{drop_more}
 

@@ -1,4 +1,4 @@
--- A number's digits, the last one by itself.
+-- The digits of a number: those before the last, and the last.
 use Rattle.std.proofs.Common.{◌≡◌, ℕ, ◌+◌, ◌<◌, ◌≤◌, ◌^◌, ◌/◌, ◌%◌, List, [], ◌∷◌, ◌++◌, length, decimal, arith, sym, ap, ◌∙◌, append_assoc, length-append}
 use Rattle.std.proofs.lemmas.Fmt.{decimal_digit, decimal_step, length-decimal-le}
 

@@ -3,6 +3,7 @@ use Rattle.std.proofs.Common.{◌≡◌, ℕ, ◌+◌, ◌*◌, ◌≤◌, Bool,
 use Rattle.std.specs.Prelude.{◌==◌, ◌||◌}
 use Rattle.std.specs.List.{flat_map, AllByRecursion}
 use Rattle.nut_words.specs.Quoting.{escaped, quoted, stands_bare, word_text}
+use Rattle.nut_words.specs.declared.limits.TheConstants.{NAME_MAX, UPS_NAME_MAX}
 use Rattle.nut_proto.specs.declared.part.Part.{Part}
 use Rattle.nut_proto.specs.declared.part.Part.TheVariants.{Word, Quoted}
 use Rattle.nut_proto.specs.declared.reply.Reply.TheVariants as replies
@@ -10,9 +11,9 @@ use Rattle.nut_proto.specs.declared.request.ListQuery.TheVariants as queries
 use Rattle.nut_proto.specs.Lines.{line, part_text}
 use Rattle.nut_proto.specs.Requests.{begin_line, end_line}
 use Rattle.nut_proto.specs.Replies.{reply_line}
-use Rattle.nut_proto.specs.Bounds.{IsName, IsVariable, variable_rows, variable_list, RowsAreBounded, ListsAreBounded, ForcedListsAreBounded}
+use Rattle.nut_proto.specs.laws.Bounds.{IsName, IsVariable, variable_rows, variable_list, RowsAreBounded, ListsAreBounded, ForcedListsAreBounded}
 
--- the bytes of parts, each with a blank before it
+-- the number of bytes of parts with a space before each
 abbrev width : List Part → ℕ
 width [] = 0
 width (part ∷ parts) = 1 + length (part_text part) + width parts
@@ -46,8 +47,8 @@ length-bare name false e h = cc
 length-name : (most : ℕ) (name : List ℕ) → IsName most name → length (word_text name) ≤ most
 length-name most name h = omega (arith, length-bare name (stands_bare name) refl h.0, h.1)
 
--- a row by the length of its value
-length-row : (ups name value : List ℕ) → IsName 32 ups → IsName 64 name → length (reply_line (replies.Var ups name value)) ≤ 103 + length (quoted value)
+-- the length of a row, by the length of its quoted value
+length-row : (ups name value : List ℕ) → IsName UPS_NAME_MAX ups → IsName NAME_MAX name → length (reply_line (replies.Var ups name value)) ≤ 103 + length (quoted value)
 unfolding reply_line
 length-row ups name value u n =
     omega (arith, length-line (Word (codes "VAR")) (Word ups ∷ Word name ∷ Quoted value ∷ []), length-name 32 ups u, length-name 64 name n)
@@ -55,22 +56,22 @@ length-row ups name value u n =
 pub rows_are_bounded : RowsAreBounded
 rows_are_bounded ups name value u v = omega (arith, length-row ups name value u v.0, length-quoted value, v.1)
 
-length-begin : (ups : List ℕ) → IsName 32 ups → length (begin_line (queries.Var ups)) ≤ 48
+length-begin : (ups : List ℕ) → IsName UPS_NAME_MAX ups → length (begin_line (queries.Var ups)) ≤ 48
 unfolding begin_line
 length-begin ups u =
     omega (arith, length-line (Word (codes "BEGIN")) (Word (codes "LIST") ∷ Word (codes "VAR") ∷ Word ups ∷ []), length-name 32 ups u)
 
-length-end : (ups : List ℕ) → IsName 32 ups → length (end_line (queries.Var ups)) ≤ 46
+length-end : (ups : List ℕ) → IsName UPS_NAME_MAX ups → length (end_line (queries.Var ups)) ≤ 46
 unfolding end_line
 length-end ups u =
     omega (arith, length-line (Word (codes "END")) (Word (codes "LIST") ∷ Word (codes "VAR") ∷ Word ups ∷ []), length-name 32 ups u)
 
-length-rows : (ups : List ℕ) (rows : List (List ℕ × List ℕ)) → IsName 32 ups → AllByRecursion IsVariable rows → length (variable_rows ups rows) ≤ 361 * length rows
+length-rows : (ups : List ℕ) (rows : List (List ℕ × List ℕ)) → IsName UPS_NAME_MAX ups → AllByRecursion IsVariable rows → length (variable_rows ups rows) ≤ 361 * length rows
 length-rows ups [] u h = omega arith
 length-rows ups (row ∷ rows) u h =
     omega (arith, length-append (reply_line (replies.Var ups row.0 row.1)) (variable_rows ups rows), rows_are_bounded ups row.0 row.1 u h.0, length-rows ups rows u h.1)
 
-length-list : (ups : List ℕ) (rows : List (List ℕ × List ℕ)) → IsName 32 ups → length (variable_list ups rows) ≤ 94 + length (variable_rows ups rows)
+length-list : (ups : List ℕ) (rows : List (List ℕ × List ℕ)) → IsName UPS_NAME_MAX ups → length (variable_list ups rows) ≤ 94 + length (variable_rows ups rows)
 length-list ups rows u =
     omega (
       arith,
@@ -83,8 +84,8 @@ length-list ups rows u =
 pub lists_are_bounded : ListsAreBounded
 lists_are_bounded ups rows u h most = omega (arith, length-list ups rows u, length-rows ups rows u h)
 
--- the rows with one that is longer by the mark
-length-forced_rows : (ups name value : List ℕ) (before after : List (List ℕ × List ℕ)) → IsName 32 ups → AllByRecursion IsVariable before → IsVariable (name, value) → AllByRecursion IsVariable after →
+-- the length of the rows, if one value has `FSD ` before it
+length-forced_rows : (ups name value : List ℕ) (before after : List (List ℕ × List ℕ)) → IsName UPS_NAME_MAX ups → AllByRecursion IsVariable before → IsVariable (name, value) → AllByRecursion IsVariable after →
     length (variable_rows ups (before ++ (name, codes "FSD " ++ value) ∷ after)) ≤ 361 * (length before + length after) + 365
 length-forced_rows ups name value [] after u h v k =
     omega (

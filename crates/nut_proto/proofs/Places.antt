@@ -1,4 +1,4 @@
--- A word behind the first ones is a word of the whole.
+-- A word of the last words is a word of the whole line.
 use Rattle.std.proofs.Common.{◌≡◌, ℕ, ◌+◌, ◌-◌, ◌≤◌, List, [], length, drop, arith}
 use Rattle.std.proofs.lemmas.List.{get_or-drop, get_or_past, length-drop}
 use Rattle.nut_proto.specs.Positions.{word_at}

@@ -1,4 +1,4 @@
--- The words that a message is written in are read as what was meant.
+-- The words in which a message is written are read as what was meant.
 use Rattle.std.proofs.Common.{◌≡◌, ℕ, ◌≤◌, Bool, true, false, List, length, IsTrue, refl, ◌∙◌, cond, ap, arith, Some, None, Ok, codes}
 use Rattle.std.specs.Option.{option_map, option_or, ok_or}
 use Rattle.nut_words.specs.Quoting.{IsPrintable}
@@ -20,7 +20,7 @@ use Rattle.nut_proto.specs.Requests.{request_parts, query_parts, begin_parts, en
 use Rattle.nut_proto.specs.Replies.{reply_parts}
 use Rattle.nut_proto.specs.DriverAsks.{ask_parts, ask_of}
 use Rattle.nut_proto.specs.Answers.{answer_of, answer_for}
-use Rattle.nut_proto.specs.ReadBack.{IsReadable, RequestsAreRead, RepliesAreRead, ListsAreRead, AsksAreRead, answer_to}
+use Rattle.nut_proto.specs.laws.ReadBack.{IsReadable, RequestsAreRead, RepliesAreRead, ListsAreRead, AsksAreRead, answer_to}
 use Rattle.nut_proto.proofs.Spelling.{message_spelled}
 
 accepted : (b : Bool) (x : List ℕ) (request : List ℕ → Request) (refusal : Refusal) → IsTrue b → ok_or (option_or (option_map (λ y. request y) (cond b (Some x) None)) None) refusal ≡ Ok (request x)

@@ -14,6 +14,7 @@ use Rattle.nut_words.specs.Quoting.{IsPrintable}
 use Rattle.nut_words.specs.Reader.{spelled}
 use Rattle.nut_words.proofs.WrittenSpells.{Writes, part_of, item_of, part_writes, quoted_writes}
 use Rattle.nut_words.proofs.Answered.{same_words}
+use Rattle.nut_words.specs.declared.limits.TheConstants.{WORDS_MAX}
 use Rattle.nut_proto.specs.declared.part.Part.{Part}
 use Rattle.nut_proto.specs.declared.part.Part.TheVariants.{Word, Quoted, Number, QuotedNumber, StringOf}
 use Rattle.nut_proto.specs.Lines.{part_text, part_word, IsWritable, AreWritable, message, message_words}
@@ -39,7 +40,7 @@ signed_printable (negsuc n) h = (refl, decimal_printable (suc n) (omega arith))
 limit_printable : (n : ℕ) → n < 2 ^ 32 → IsPrintable (codes "STRING:" ++ decimal n)
 limit_printable n h = (refl, (refl, (refl, (refl, (refl, (refl, (refl, decimal_printable n (omega arith))))))))
 
--- how a part stands in a line
+-- the part of a line that a part of a message is written as
 abbrev spelling_of : Part → spelling.Part
 spelling_of (Word word) = part_of word
 spelling_of (Quoted text) = spelling.Quoted (map item_of text)
@@ -54,7 +55,7 @@ writes (Number n) h = part_writes (decimal n) (decimal_printable n (omega arith)
 writes (QuotedNumber z) h = quoted_writes (signed_decimal z) (signed_printable z h)
 writes (StringOf n) h = part_writes (codes "STRING:" ++ decimal n) (limit_printable n h)
 
--- the parts with a blank before each
+-- the parts with a space before each
 abbrev behind : List Part → List spelling.Part
 behind [] = []
 behind (part ∷ parts) = spelling.Blank 32 ∷ spelling_of part ∷ behind parts
@@ -77,7 +78,7 @@ behind_words (part ∷ parts) h =
     ap (λ words. part_word part ∷ words) (behind_words parts h.1)
     ∙ ap (λ words. words ++ flat_map part_words (behind parts)) (sym (writes part h.0).meant)
 
-message_spells : (parts : List Part) → AreWritable parts → length parts ≤ 32 → Spells (message parts) (message_words parts)
+message_spells : (parts : List Part) → AreWritable parts → length parts ≤ WORDS_MAX → Spells (message parts) (message_words parts)
 message_spells [] h fits = record { parts = []; layout = tt; spelled = refl; meant = refl; count = omega arith }
 message_spells (part ∷ parts) h fits =
     let first : Writes (spelling_of part) (part_text part) (part_word part) = writes part h.0 in
@@ -92,5 +93,5 @@ message_spells (part ∷ parts) h fits =
       count = omega (arith, fits, length-map (part ∷ parts) part_word);
     }
 
-pub message_spelled : (parts : List Part) → AreWritable parts → length parts ≤ 32 → spelled (message parts) ≡ Ok (message_words parts)
+pub message_spelled : (parts : List Part) → AreWritable parts → length parts ≤ WORDS_MAX → spelled (message parts) ≡ Ok (message_words parts)
 message_spelled parts h fits = (same_words (message parts) (message_words parts)).1 (message_spells parts h fits)

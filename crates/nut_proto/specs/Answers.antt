@@ -1,4 +1,4 @@
--- What a line of the server's is to a client, by its first words (RFC 9271).
+-- What a line of the server means to a client, by its first words (RFC 9271).
 use Rattle.std.specs.Prelude.{ℕ, Bool, ◌&&◌, List, [], ◌∷◌, length, drop, nat_lt, Result, Ok, Err, codes, if◌then◌else◌}
 use Rattle.std.specs.Str.{bytes_eq}
 use Rattle.nut_words.specs.declared.words.WordFault.{WordFault}
@@ -9,11 +9,12 @@ use Rattle.nut_proto.specs.declared.answer.AnswerFault.{AnswerFault}
 use Rattle.nut_proto.specs.declared.answer.AnswerFault.TheVariants as faults
 use Rattle.nut_proto.specs.Positions.{word_at}
 
--- Words of an answer are compared byte for byte.
+-- Whether the word at place `index` is `word`. Words of an answer are compared byte for byte.
 abbrev pub is_at : List (List ℕ) → ℕ → List ℕ → Bool
 is_at words index word = bytes_eq (word_at words index) word
 
--- What words are: a success with the words behind `OK`, a refusal by the word behind `ERR`, the beginning or the end of a list, or a row.
+-- What the words mean: a success, with the words after `OK`; a refusal, with the word after `ERR`; the beginning or the
+-- end of a list, with the words after `LIST`; or a row, with all words.
 unfoldable pub answer_of : List (List ℕ) → Answer
 answer_of words =
     if is_at words 0 (codes "OK") then answers.Ok (drop 1 words) else
@@ -22,11 +23,12 @@ answer_of words =
     if is_at words 0 (codes "END") && is_at words 1 (codes "LIST") then answers.End (drop 2 words) else
     answers.Row words
 
+-- The answer of these words, `Empty` if there are none, or `Unreadable` if the line doesn't read as words.
 abbrev pub answer_for : Result (List (List ℕ)) WordFault → Result Answer AnswerFault
 answer_for (Ok []) = Err faults.Empty
 answer_for (Ok (word ∷ words)) = Ok (answer_of (word ∷ words))
 answer_for (Err fault) = Err faults.Unreadable
 
--- The answer that a line is by the words that it spells, or why it is none.
+-- The answer that a line is, by the words that it spells, or why it is none.
 abbrev pub answer_in : List ℕ → Result Answer AnswerFault
 answer_in line = answer_for (spelled line)

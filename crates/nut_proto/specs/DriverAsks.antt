@@ -1,4 +1,4 @@
--- What the server asks of a driver, line by line (NUT developer guide, driver and server on one machine).
+-- The requests of the server to a driver, as lines (NUT developer guide, driver and server on one machine).
 use Rattle.std.specs.Prelude.{ℕ, List, [], ◌∷◌, Option, None, codes, if◌then◌else◌}
 use Rattle.nut_proto.specs.declared.driver_ask.DriverAsk.{DriverAsk}
 use Rattle.nut_proto.specs.declared.driver_ask.DriverAsk.TheVariants as asks
@@ -14,11 +14,11 @@ ask_parts asks.DumpAll = Word (codes "DUMPALL") ∷ []
 ask_parts (asks.Set variable value) = Word (codes "SET") ∷ Word variable ∷ Quoted value ∷ []
 ask_parts (asks.InstCmd command) = Word (codes "INSTCMD") ∷ Word command ∷ []
 
--- the line of what is asked
+-- the line of a request
 unfoldable pub ask_line : DriverAsk → List ℕ
 ask_line ask = line (ask_parts ask)
 
--- what the words of a line ask of a driver, if anything; the number of words is exact
+-- the request to a driver that the words of a line make, if they make one; the number of words must match exactly
 unfoldable pub ask_of : List (List ℕ) → Option DriverAsk
 ask_of [] = None
 ask_of (word ∷ words) =

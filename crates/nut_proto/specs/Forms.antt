@@ -1,4 +1,4 @@
--- What the words of a client's line mean: the table of forms (RFC 9271).
+-- What the words of a client's line mean: a table of forms (RFC 9271).
 use Rattle.std.specs.Prelude.{ℕ, List, [], ◌∷◌, Option, Some, None, Result, Err, if◌then◌else◌}
 use Rattle.std.specs.Option.{option_or, ok_or}
 use Rattle.nut_proto.specs.declared.refusal.Refusal.{Refusal}
@@ -13,7 +13,7 @@ use Rattle.nut_proto.specs.declared.keyword.Subject.TheVariants as subjects
 use Rattle.nut_proto.specs.Keywords.{command_of, subject_of, is_command, is_subject}
 use Rattle.nut_proto.specs.Rules.{none, one, two, three, credential}
 
--- what the words behind a command word make, if anything
+-- the request that the words after a command word make, if they make one
 abbrev pub Rule : Type 0
 Rule = List (List ℕ) → Option Request
 
@@ -25,7 +25,7 @@ pub record Form : Type 0 where
 abbrev pub form : Command → Rule → Form
 form command rule = record { command = command; rule = rule }
 
--- the rule for the words behind a second command word
+-- a rule for words the first of which names this subject: the others are read by `rule`
 abbrev pub about : Subject → Rule → Rule
 about subject rule [] = None
 about subject rule (word ∷ words) = if is_subject subject (subject_of word) then rule words else None
@@ -59,16 +59,17 @@ forms =
     form commands.StartTls (none requests.StartTls) ∷
     []
 
--- the request of the first form with this command word that the words behind it fit
+-- the request of the first form that has this command and that the words after it fit
 abbrev pub first_fit : List Form → Command → Rule
 first_fit [] command words = None
 first_fit (f ∷ fs) command words = option_or (if is_command f.command command then f.rule words else None) (first_fit fs command words)
 
--- the request, or why there is none: an unknown first word, or words behind a known one that fit none of its forms
+-- the request, or why there is none: the first word is no command, or the words after a command fit none of its forms
 abbrev pub meaning_by : Option Command → List (List ℕ) → Result Request Refusal
 meaning_by None words = Err UnknownCommand
 meaning_by (Some command) words = ok_or (first_fit forms command words) InvalidArgument
 
+-- the request that the words of a line make, or the refusal; without words it is `InvalidArgument`
 unfoldable pub meaning : List (List ℕ) → Result Request Refusal
 meaning [] = Err InvalidArgument
 meaning (word ∷ words) = meaning_by (command_of word) words

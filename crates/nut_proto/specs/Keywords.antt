@@ -46,19 +46,19 @@ all_subjects =
     subjects.NumLogins ∷ subjects.UpsDesc ∷ subjects.Ups ∷ subjects.Var ∷ subjects.Type ∷ subjects.Desc ∷ subjects.CmdDesc ∷
     subjects.Rw ∷ subjects.Cmd ∷ subjects.Enum ∷ subjects.Range ∷ subjects.Client ∷ []
 
--- Command words are compared without ASCII case.
+-- Whether the word is `name`. Command words are compared without regard to ASCII case.
 abbrev pub is_named : List ℕ → List ℕ → Bool
 is_named word name = str_eq_ignore_ascii_case word name
 
--- the command that a line's first word is, if any
+-- the command that the first word of a line names, if it names one
 unfoldable pub command_of : List ℕ → Option Command
 command_of word = find (λ command. is_named word (command_name command)) all_commands
 
--- what the word behind GET, LIST or SET asks about, if anything
+-- the subject that the word after GET, LIST or SET names, if it names one
 unfoldable pub subject_of : List ℕ → Option Subject
 subject_of word = find (λ subject. is_named word (subject_name subject)) all_subjects
 
--- Two commands, or two subjects, are the same where their names are.
+-- Two commands, or two subjects, are the same if their names are.
 abbrev pub is_command : Command → Command → Bool
 is_command command other = bytes_eq (command_name command) (command_name other)
 

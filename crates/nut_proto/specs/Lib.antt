@@ -2,7 +2,6 @@ pub mod Keywords
 pub mod Refusals
 pub mod Rules
 pub mod Forms
-pub mod Steps
 pub mod Lines
 pub mod Requests
 pub mod Replies
@@ -10,5 +9,5 @@ pub mod DriverAsks
 pub mod Descriptions
 pub mod Positions
 pub mod Answers
-pub mod ReadBack
-pub mod Bounds
+pub mod laws
+pub mod inside

@@ -1,4 +1,4 @@
--- A message is a line of parts with a blank between them.
+-- A message is a line of parts with a space between two.
 use Rattle.std.specs.Prelude.{ℕ, ◌<◌, ◌^◌, List, [], ◌∷◌, ◌++◌, codes, decimal, map}
 use Rattle.std.specs.Fmt.{signed_decimal}
 use Rattle.std.specs.Int.Signed.{mag}
@@ -7,7 +7,7 @@ use Rattle.nut_words.specs.Quoting.{IsPrintable, word_text, quoted}
 use Rattle.nut_proto.specs.declared.part.Part.{Part}
 use Rattle.nut_proto.specs.declared.part.Part.TheVariants.{Word, Quoted, Number, QuotedNumber, StringOf}
 
--- the word as which a part is read
+-- the word that a part is read as
 abbrev pub part_word : Part → List ℕ
 part_word (Word word) = word
 part_word (Quoted text) = text
@@ -15,7 +15,7 @@ part_word (Number n) = decimal n
 part_word (QuotedNumber z) = signed_decimal z
 part_word (StringOf n) = codes "STRING:" ++ decimal n
 
--- how a part is written: bare where its word can stand bare, or in quotes whatever it holds
+-- how a part is written: `Quoted` and `QuotedNumber` always in quotes, the others bare if they can be
 abbrev pub part_text : Part → List ℕ
 part_text (Word word) = word_text word
 part_text (Quoted text) = quoted text
@@ -27,7 +27,7 @@ part_text (StringOf n) = word_text (codes "STRING:" ++ decimal n)
 abbrev pub message_words : List Part → List (List ℕ)
 message_words parts = map part_word parts
 
--- the parts with blanks between them
+-- the parts with a space between two
 abbrev pub message : List Part → List ℕ
 message parts = join_by part_text (32 ∷ []) parts
 
@@ -35,7 +35,7 @@ message parts = join_by part_text (32 ∷ []) parts
 unfoldable pub line : List Part → List ℕ
 line parts = message parts ++ 10 ∷ []
 
--- A part has printing bytes, or a number of 32 bits.
+-- The bytes of the part are 0x20 to 0x7E, or its number is one of 32 bits.
 abbrev pub IsWritable : Part → Type 0
 IsWritable (Word word) = IsPrintable word
 IsWritable (Quoted text) = IsPrintable text

@@ -1,34 +1,32 @@
--- What the server answers, line by line (RFC 9271).
-use Rattle.std.specs.Prelude.{ℕ, Bool, List, [], ◌∷◌, codes, if◌then◌else◌}
+-- The answers of the server, as lines (RFC 9271).
+use Rattle.std.specs.Prelude.{ℕ, Bool, List, [], ◌∷◌, codes, map, if◌then◌else◌}
 use Rattle.nut_proto.specs.declared.reply.Reply.{Reply}
 use Rattle.nut_proto.specs.declared.reply.Reply.TheVariants as replies
 use Rattle.nut_proto.specs.declared.reply.VariableKind.{VariableKind}
 use Rattle.nut_proto.specs.declared.reply.VariableKind.TheVariants as kinds
 use Rattle.nut_proto.specs.declared.part.Part.{Part}
 use Rattle.nut_proto.specs.declared.part.Part.TheVariants.{Word, Quoted, Number, QuotedNumber, StringOf}
+use Rattle.nut_proto.specs.Keywords.{all_commands, command_name}
 use Rattle.nut_proto.specs.Lines.{line}
 use Rattle.nut_proto.specs.Refusals.{refusal_name}
 
--- to VER
+-- the answer to VER
 abbrev pub version_parts : List Part
 version_parts =
     Word (codes "Network") ∷ Word (codes "UPS") ∷ Word (codes "Tools") ∷ Word (codes "upsd") ∷ Word (codes "profile") ∷ Word (codes "1.2") ∷ []
 
--- to HELP
+-- the answer to HELP
 abbrev pub commands_parts : List Part
-commands_parts =
-    Word (codes "Commands:") ∷ Word (codes "GET") ∷ Word (codes "LIST") ∷ Word (codes "SET") ∷ Word (codes "INSTCMD") ∷
-    Word (codes "USERNAME") ∷ Word (codes "PASSWORD") ∷ Word (codes "LOGIN") ∷ Word (codes "PRIMARY") ∷ Word (codes "FSD") ∷
-    Word (codes "LOGOUT") ∷ Word (codes "VER") ∷ Word (codes "NETVER") ∷ Word (codes "HELP") ∷ Word (codes "STARTTLS") ∷ []
+commands_parts = Word (codes "Commands:") ∷ map (λ command. Word (command_name command)) all_commands
 
--- of GET TYPE
+-- the kind of values of a variable, as GET TYPE reports it
 abbrev pub kind_part : VariableKind → Part
 kind_part kinds.Enum = Word (codes "ENUM")
 kind_part kinds.Range = Word (codes "RANGE")
 kind_part (kinds.String limit) = StringOf limit
 kind_part kinds.Number = Word (codes "NUMBER")
 
--- the kind, behind RW where the variable may be set
+-- the answer to GET TYPE: it holds `RW` if the variable may be set
 abbrev pub type_parts : List ℕ → List ℕ → Bool → VariableKind → List Part
 type_parts ups variable writable kind =
     if writable
@@ -56,6 +54,6 @@ reply_parts (replies.Enum ups variable value) = Word (codes "ENUM") ∷ Word ups
 reply_parts (replies.Range ups variable min max) = Word (codes "RANGE") ∷ Word ups ∷ Word variable ∷ QuotedNumber min ∷ QuotedNumber max ∷ []
 reply_parts (replies.Client ups address) = Word (codes "CLIENT") ∷ Word ups ∷ Word address ∷ []
 
--- a reply's line
+-- the line of a reply
 unfoldable pub reply_line : Reply → List ℕ
 reply_line reply = line (reply_parts reply)

@@ -1,4 +1,4 @@
--- How requests, and the lines round a list, are written (RFC 9271).
+-- How requests are written, and the lines before and after the rows of a list (RFC 9271).
 use Rattle.std.specs.Prelude.{ℕ, List, [], ◌∷◌, codes}
 use Rattle.nut_proto.specs.declared.request.Request.{Request}
 use Rattle.nut_proto.specs.declared.request.Request.TheVariants as requests
@@ -8,7 +8,7 @@ use Rattle.nut_proto.specs.declared.part.Part.{Part}
 use Rattle.nut_proto.specs.declared.part.Part.TheVariants.{Word, Quoted}
 use Rattle.nut_proto.specs.Lines.{line}
 
--- what stands after LIST
+-- the words after LIST
 abbrev pub query_parts : ListQuery → List Part
 query_parts queries.Ups = Word (codes "UPS") ∷ []
 query_parts (queries.Var ups) = Word (codes "VAR") ∷ Word ups ∷ []
@@ -18,7 +18,7 @@ query_parts (queries.Enum ups variable) = Word (codes "ENUM") ∷ Word ups ∷ W
 query_parts (queries.Range ups variable) = Word (codes "RANGE") ∷ Word ups ∷ Word variable ∷ []
 query_parts (queries.Client ups) = Word (codes "CLIENT") ∷ Word ups ∷ []
 
--- every word bare where it may be, but the value of SET quoted
+-- the parts of a request: only the value of SET is always quoted
 abbrev pub request_parts : Request → List Part
 request_parts (requests.GetNumLogins ups) = Word (codes "GET") ∷ Word (codes "NUMLOGINS") ∷ Word ups ∷ []
 request_parts (requests.GetUpsDesc ups) = Word (codes "GET") ∷ Word (codes "UPSDESC") ∷ Word ups ∷ []
@@ -40,14 +40,15 @@ request_parts requests.NetVer = Word (codes "NETVER") ∷ []
 request_parts requests.Help = Word (codes "HELP") ∷ []
 request_parts requests.StartTls = Word (codes "STARTTLS") ∷ []
 
--- a request's line
+-- the line of a request
 unfoldable pub request_line : Request → List ℕ
 request_line request = line (request_parts request)
 
--- the lines before and after the rows of a list
+-- the line before the rows of a list
 abbrev pub begin_parts : ListQuery → List Part
 begin_parts query = Word (codes "BEGIN") ∷ Word (codes "LIST") ∷ query_parts query
 
+-- the line after the rows of a list
 abbrev pub end_parts : ListQuery → List Part
 end_parts query = Word (codes "END") ∷ Word (codes "LIST") ∷ query_parts query
 
@@ -56,10 +57,3 @@ begin_line query = line (begin_parts query)
 
 unfoldable pub end_line : ListQuery → List ℕ
 end_line query = line (end_parts query)
-
--- a query's line, and its words behind a mark as BEGIN
-unfoldable pub list_line : ListQuery → List ℕ
-list_line query = line (Word (codes "LIST") ∷ query_parts query)
-
-unfoldable pub mark_line : List ℕ → ListQuery → List ℕ
-mark_line mark query = line (Word mark ∷ Word (codes "LIST") ∷ query_parts query)

@@ -1,8 +1,9 @@
--- How many words stand behind the command words of a form, and what they make.
+-- How many words follow the command words of a form, and what they make.
 use Rattle.std.specs.Prelude.{ℕ, Bool, ◌&&◌, List, [], ◌∷◌, length, Option, Some, None, nat_le, if◌then◌else◌}
 use Rattle.std.specs.Option.{option_and, option_and_then, option_map}
+use Rattle.nut_words.specs.declared.limits.TheConstants.{CREDENTIAL_MAX}
 
--- The number of words is exact.
+-- The words, if there are exactly none, one, two or three of them; else `None`.
 abbrev pub no_word : List (List ℕ) → Option (Unit {0})
 no_word [] = Some tt
 no_word (x ∷ xs) = None
@@ -25,14 +26,15 @@ three_words (x ∷ y ∷ []) = None
 three_words (x ∷ y ∷ z ∷ []) = Some (x, y, z)
 three_words (x ∷ y ∷ z ∷ w ∷ ws) = None
 
--- A user name or a password has 1 to 128 bytes.
+-- A user name or a password has 1 to CREDENTIAL_MAX bytes.
 abbrev pub is_credential : List ℕ → Bool
-is_credential x = nat_le 1 (length x) && nat_le (length x) 128
+is_credential x = nat_le 1 (length x) && nat_le (length x) CREDENTIAL_MAX
 
+-- the one word, if it may be a user name or a password
 abbrev pub credential_word : List (List ℕ) → Option (List ℕ)
 credential_word words = option_and_then (λ x. if is_credential x then Some x else None) (one_word words)
 
--- What no word, one word, two or three words, or one user name or password make.
+-- What the words make, if there are exactly none, one, two or three of them, or one user name or password; else `None`.
 abbrev pub none : {A : Type 0} → A → List (List ℕ) → Option A
 none made words = option_and (no_word words) (Some made)
 

@@ -1,4 +1,4 @@
-//! What a client makes of the server's lines.
+//! Reads the lines of the server for a client.
 ghost use Rattle.std.specs.Prelude.{◌≡◌, ◌≢◌, ◌==◌, Ok, Err, IsTrue, length};
 ghost use Rattle.nut_words.specs.Reader.{has_backslash};
 ghost use Rattle.nut_proto.specs.Answers.{answer_for, answer_in, answer_of, is_at};
@@ -9,32 +9,32 @@ use std::alloc::Global;
 use std::marker::Model;
 use thiserror::Error;
 
-/// Why a line is no answer.
+/// Why a line of the server can't be read as an answer.
 #[derive(Clone, Copy, Debug, PartialEq, Eq, Error)]
 pub enum AnswerFault {
-    /// It spells no words.
+    /// The line doesn't read as words.
     #[error("the line does not read as words")]
     Unreadable,
-    /// It has no words.
+    /// The line has no words.
     #[error("the line has no words")]
     Empty,
-    /// Memory was refused, for a word with a backslash.
+    /// Memory cannot be allocated for a word with a backslash.
     #[error("out of memory")]
     Memory,
 }
 
-/// A line of the server's, by its first words, which are compared byte for byte.
+/// A line of the server, classified by its first words, which are compared byte for byte.
 #[derive(Drop)]
 pub enum Answer<'a> {
-    /// What follows `OK`.
+    /// A success: the words after `OK`.
     Ok(Rest<'a>),
-    /// The name that follows `ERR`. A bare `ERR` is a row.
+    /// A refusal: the name after `ERR`. An `ERR` without a name is a row.
     Err(ErrorName<'a>),
-    /// What follows `BEGIN LIST`.
+    /// The first line of a list: the words after `BEGIN LIST`.
     Begin(Rest<'a>),
-    /// What follows `END LIST`.
+    /// The last line of a list: the words after `END LIST`.
     End(Rest<'a>),
-    /// All words of any other line.
+    /// Any other line: all its words.
     Row(Rest<'a>),
 }
 
@@ -54,21 +54,21 @@ impl<'a> Model for Rest<'a> {
 }
 
 impl Rest<'_> {
-    /// How many words there are.
+    /// Returns how many words there are.
     pub fn len(&self) -> usize
         ensures { result ≡ length self.now }
     {
         self.words.len().saturating_sub(self.start)
     }
 
-    /// Whether there are none.
+    /// Whether there are no words.
     pub fn is_empty(&self) -> bool
         ensures { result ≡ (length self.now == 0) }
     {
         self.len() == 0
     }
 
-    /// The word with this number, counted from 0, or an empty slice.
+    /// Returns the word at place `index`, counted from 0, or an empty slice past the last word.
     #[tactic(auto, using(crate::proofs::Places::word_after, crate::proofs::Places::word_past))]
     pub fn get(&self, index: usize) -> &[u8]
         ensures { result.now ≡ word_at self.now index }
@@ -81,7 +81,7 @@ impl Rest<'_> {
     }
 }
 
-/// The name of an error, the second word of its line.
+/// The name of an error: the second word of its line.
 #[derive(Drop)]
 pub struct ErrorName<'a> {
     words: Words<'a>,
@@ -97,7 +97,7 @@ impl<'a> Model for ErrorName<'a> {
 }
 
 impl ErrorName<'_> {
-    /// Its bytes.
+    /// Returns the bytes of the name.
     pub fn as_bytes(&self) -> &[u8]
         ensures { result.now ≡ self.now }
     {
@@ -105,9 +105,15 @@ impl ErrorName<'_> {
     }
 }
 
-/// The answer that a line is, without its line feed. Memory is taken only for a word with a backslash.
+/// Reads a line of the server, given without its line feed. Allocates memory only for a word with a backslash.
 ///
-/// The first words decide, byte for byte. Words behind the name of an error are dropped.
+/// The first words decide what the line is; they are compared byte for byte. Words after the name of an error are
+/// dropped.
+///
+/// # Errors
+///
+/// [`AnswerFault::Unreadable`] if the line doesn't read as words, [`AnswerFault::Empty`] if it has none, and
+/// [`AnswerFault::Memory`] if memory cannot be allocated, which can happen only if the line has a backslash.
 pub fn read_answer<'a>(alloc: Global, line: &'a [u8]) -> Result<Answer<'a>, AnswerFault>
     ensures answer { result ≢ Err AnswerFault.Memory → result ≡ answer_in line.now }
     ensures memory { result ≡ Err AnswerFault.Memory → IsTrue (has_backslash line.now) }
@@ -147,7 +153,7 @@ fn answer_of(words: Words<'_>) -> Answer<'_>
     Answer::Row(Rest { words, start: 0 })
 }
 
-/// Whether the word with this number is this one, byte for byte.
+/// Whether the word at place `index` is `word`, byte for byte.
 fn is_at(words: &Words<'_>, index: usize, word: &[u8]) -> bool
     ensures { result ≡ is_at words.now index word.now }
 {

@@ -1,12 +1,12 @@
-//! Taking the words of a line one after the other.
+//! Takes the words of a line one after the other.
 ghost use Rattle.std.specs.Prelude.{◌≡◌, ◌≤◌, List, ℕ, [], ◌∷◌, length, drop, MatchOption};
 ghost use Rattle.nut_proto.specs.Rules.{no_word, one_word, two_words, three_words, credential_word};
 
 use crate::word::Word;
-use nut_words::Words;
+use nut_words::{CREDENTIAL_MAX, Words};
 use std::marker::Model;
 
-/// The words of a line that are not read yet.
+/// The words of a line that haven't been taken.
 #[derive(Drop)]
 pub struct Cursor<'a, 'l> {
     words: &'a Words<'l>,
@@ -22,13 +22,14 @@ impl<'a, 'l> Model for Cursor<'a, 'l> {
 }
 
 impl<'a, 'l> Cursor<'a, 'l> {
+    /// Returns a cursor before the first word.
     pub fn new(words: &'a Words<'l>) -> Cursor<'a, 'l>
         ensures { result ≡ words.now }
     {
         Cursor { words, next: 0 }
     }
 
-    /// The next word, if there is one.
+    /// Takes the next word, if there is one.
     #[tactic(auto, using(crate::proofs::Cursors::next_word))]
     pub fn next(&mut self) -> Option<Word<'a>>
         ensures { MatchOption result ((self.old ≡ []) × (self.new ≡ [])) (λ word. self.old ≡ word ∷ self.new) }
@@ -41,7 +42,7 @@ impl<'a, 'l> Cursor<'a, 'l> {
         Some(word)
     }
 
-    /// `Some` where nothing is left.
+    /// Returns `Some` if no word is left.
     pub fn end(mut self) -> Option<()>
         ensures { result ≡ no_word self.entry }
     {
@@ -51,7 +52,7 @@ impl<'a, 'l> Cursor<'a, 'l> {
         }
     }
 
-    /// The last word, where exactly one is left.
+    /// Returns the word that is left, if exactly one is.
     pub fn one(mut self) -> Option<Word<'a>>
         ensures { result ≡ one_word self.entry }
     {
@@ -60,7 +61,7 @@ impl<'a, 'l> Cursor<'a, 'l> {
         Some(word)
     }
 
-    /// The last two words, where exactly two are left.
+    /// Returns the words that are left, if exactly two are.
     pub fn two(mut self) -> Option<(Word<'a>, Word<'a>)>
         ensures { result ≡ two_words self.entry }
     {
@@ -69,7 +70,7 @@ impl<'a, 'l> Cursor<'a, 'l> {
         Some((first, second))
     }
 
-    /// The last three words, where exactly three are left.
+    /// Returns the words that are left, if exactly three are.
     pub fn three(mut self) -> Option<(Word<'a>, Word<'a>, Word<'a>)>
         ensures { result ≡ three_words self.entry }
     {
@@ -78,13 +79,13 @@ impl<'a, 'l> Cursor<'a, 'l> {
         Some((first, second, third))
     }
 
-    /// The last word, where exactly one is left, of 1 to 128 bytes.
+    /// The last word, where exactly one is left, of 1 to [`CREDENTIAL_MAX`] bytes.
     pub fn credential(self) -> Option<Word<'a>>
         ensures { result ≡ credential_word self.entry }
     {
         let word = self.one()?;
         let len = word.as_bytes().len();
-        if 1 <= len && len <= 128 {
+        if 1 <= len && len <= CREDENTIAL_MAX {
             Some(word)
         } else {
             None

@@ -1,34 +1,31 @@
-//! What the server asks of a driver.
-ghost use Rattle.std.specs.Prelude.{◌≡◌, ◌+◌, ◌≤◌, ◌↔◌, ◌++◌, length, IsTrue, OnOk, OnErr};
-ghost use Rattle.std.specs.Bool.{OnTrue, OnFalse};
-ghost use Rattle.arrayvec.specs.ArrayVec.{array_vec_len};
+//! The requests that the server sends to a driver.
+ghost use Rattle.std.specs.Prelude.{◌≡◌, ◌++◌, length, OnOk, OnErr};
+ghost use Rattle.nut_words.specs.Out.{Fits, Exceeds};
 ghost use Rattle.nut_proto.specs.DriverAsks.{ask_line, ask_of};
 
 use crate::cursor::Cursor;
 use crate::keyword::is_named;
-use crate::part::{put_line, put_line_in, quoted, text, word};
+use crate::part::{put_line, quoted, text, word};
 use crate::word::Word;
-use arrayvec::ArrayVec;
-use nut_words::Words;
-use std::alloc::AllocError;
+use nut_words::{Out, Words};
 
-/// What the server asks of a driver (NUT developer guide, socket protocol). It borrows its words.
+/// A request of the server to a driver (NUT developer guide, socket protocol). It borrows its words.
 #[derive(Drop)]
 pub enum DriverAsk<'a> {
-    /// To answer `PONG`.
+    /// Asks the driver to answer `PONG`.
     Ping,
-    /// To tell all that the driver knows.
+    /// Asks the driver to report all that it knows.
     DumpAll,
-    /// To give a variable a new value.
+    /// Asks the driver to set a variable.
     Set { variable: Word<'a>, value: Word<'a> },
-    /// To do a command.
+    /// Asks the driver to run a command.
     InstCmd { command: Word<'a> },
 }
 
 impl<'a> DriverAsk<'a> {
-    /// What the words of the server's line ask, or `None` where they ask nothing that a driver knows. Takes no memory.
+    /// Reads the words of a line of the server. Returns `None` if they are no request to a driver. Allocates no memory.
     ///
-    /// The first word is compared without ASCII case, and the number of words is exact.
+    /// The first word is compared without regard to ASCII case, and the number of words must match exactly.
     #[tactic(auto, unfolding(crate::specs::DriverAsks::ask_of))]
     pub fn read(words: &'a Words<'_>) -> Option<DriverAsk<'a>>
         ensures { result ≡ ask_of words.now }
@@ -54,11 +51,17 @@ impl<'a> DriverAsk<'a> {
         None
     }
 
-    /// Appends the line, its line feed included. An `Err` is for want of memory, and leaves `out` as before.
+    /// Appends the line with its line feed.
+    ///
+    /// # Errors
+    ///
+    /// If memory cannot be allocated, or if the whole doesn't fit into a buffer of fixed size. `out` is then as it was.
     #[tactic(auto, unfolding(crate::specs::DriverAsks::ask_line))]
-    pub fn put(&self, out: &mut Vec<u8>) -> Result<(), AllocError>
-        ensures ok { OnOk result (out.new.items ≡ out.old.items ++ ask_line self.now) }
-        ensures err { OnErr result (out.new.items ≡ out.old.items) }
+    pub fn put<O: Out>(&self, out: &mut O) -> Result<(), O::Fault>
+        ensures ok { OnOk result (O.held out.new ≡ O.held out.old ++ ask_line self.now) }
+        ensures err { OnErr result (O.held out.new ≡ O.held out.old) }
+        ensures fits { OnOk result (Fits O.most (length (O.held out.old ++ ask_line self.now))) }
+        ensures full { OnErr result (Exceeds O.most (length (O.held out.old ++ ask_line self.now))) }
     {
         match self {
             DriverAsk::Ping => put_line(out, &[text(b"PING")]),
@@ -68,25 +71,6 @@ impl<'a> DriverAsk<'a> {
                 &[text(b"SET"), word(variable), quoted(value)],
             ),
             DriverAsk::InstCmd { command } => put_line(out, &[text(b"INSTCMD"), word(command)]),
-        }
-    }
-
-    /// Appends the line, its line feed included, where there is room, and says whether there was.
-    /// Else `out` is as before. Takes no memory.
-    #[tactic(auto, unfolding(crate::specs::DriverAsks::ask_line))]
-    pub fn put_in<const N: usize>(&self, out: &mut ArrayVec<u8, N>) -> bool
-        ensures room { IsTrue result ↔ (array_vec_len out.old + length (ask_line self.now) ≤ N) }
-        ensures put { OnTrue result (out.new.items ≡ out.old.items ++ ask_line self.now) }
-        ensures full { OnFalse result (out.new.items ≡ out.old.items) }
-    {
-        match self {
-            DriverAsk::Ping => put_line_in(out, &[text(b"PING")]),
-            DriverAsk::DumpAll => put_line_in(out, &[text(b"DUMPALL")]),
-            DriverAsk::Set { variable, value } => put_line_in(
-                out,
-                &[text(b"SET"), word(variable), quoted(value)],
-            ),
-            DriverAsk::InstCmd { command } => put_line_in(out, &[text(b"INSTCMD"), word(command)]),
         }
     }
 }

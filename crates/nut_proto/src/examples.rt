@@ -1,4 +1,4 @@
-//! Worked examples. The check computes them over the definitions, so that a reader can see what these mean.
+//! Worked examples. The prover computes them from the definitions, so they show what the definitions mean.
 ghost use Rattle.std.specs.Prelude.{◌≡◌, [], ◌∷◌, Ok, Err, Some, None, codes, true};
 ghost use Rattle.nut_proto.specs.Answers.{answer_in};
 ghost use Rattle.nut_proto.specs.DriverAsks.{ask_line, ask_of};
@@ -14,9 +14,9 @@ ghost use Rattle.nut_proto.specs.declared.reply.VariableKind.TheVariants as kind
 ghost use Rattle.nut_proto.specs.declared.request.ListQuery.TheVariants as queries;
 ghost use Rattle.nut_proto.specs.declared.request.Request.TheVariants as requests;
 
-/// What some lines mean, and how some are written.
+/// States worked examples and does nothing when called: what some lines mean, and how some messages are written.
 pub fn worked_examples()
-    // Command words have no case, names have.
+    // The case of command words doesn't matter; the case of names does.
     ensures mixed_case { meaning (codes "Get" ∷ codes "var" ∷ codes "Su700" ∷ codes "ups.Status" ∷ [])
         ≡ Ok (requests.GetVar (codes "Su700") (codes "ups.Status")) }
     ensures too_short { meaning (codes "GET" ∷ codes "VAR" ∷ codes "su700" ∷ []) ≡ Err refusals.InvalidArgument }

@@ -2,7 +2,7 @@
 ghost use Rattle.std.specs.Prelude.{◌≡◌};
 ghost use Rattle.nut_proto.specs.Keywords.{command_name, command_of, is_named, subject_name, subject_of};
 
-/// The first word of a request.
+/// The command that the first word of a request names.
 #[derive(Clone, Copy)]
 pub enum Command {
     Get,
@@ -21,7 +21,7 @@ pub enum Command {
     StartTls,
 }
 
-/// The word behind GET, LIST or SET.
+/// The word after GET, LIST or SET.
 #[derive(Clone, Copy)]
 pub enum Subject {
     NumLogins,
@@ -70,7 +70,7 @@ const SUBJECTS: [Subject; 12] = [
     Subject::Client,
 ];
 
-/// Whether a word is this one, whatever the case of its letters.
+/// Whether the word is `name`, without regard to ASCII case.
 pub fn is_named(word: &[u8], name: &[u8]) -> bool
     ensures { result ≡ is_named word.now name.now }
 {
@@ -78,7 +78,7 @@ pub fn is_named(word: &[u8], name: &[u8]) -> bool
 }
 
 impl Command {
-    /// The command that a word is, if any.
+    /// Returns the command that the word names, if it names one.
     #[tactic(auto, unfolding(crate::specs::Keywords::command_of))]
     pub fn of(word: &[u8]) -> Option<Command>
         ensures { result ≡ command_of word.now }
@@ -112,7 +112,7 @@ impl Command {
 }
 
 impl Subject {
-    /// What a word behind GET, LIST or SET asks about, if anything.
+    /// Returns the subject that the word after GET, LIST or SET names, if it names one.
     #[tactic(auto, unfolding(crate::specs::Keywords::subject_of))]
     pub fn of(word: &[u8]) -> Option<Subject>
         ensures { result ≡ subject_of word.now }

@@ -1,10 +1,10 @@
 //! Laws over all messages: what is written is read back, and how long it is.
-ghost use Rattle.nut_proto.specs.Bounds.{RowsAreBounded, ListsAreBounded, ForcedListsAreBounded};
-ghost use Rattle.nut_proto.specs.ReadBack.{MessagesSpell, RequestsAreRead, RepliesAreRead, ListsAreRead, AsksAreRead};
+ghost use Rattle.nut_proto.specs.laws.Bounds.{RowsAreBounded, ListsAreBounded, ForcedListsAreBounded};
+ghost use Rattle.nut_proto.specs.laws.ReadBack.{MessagesSpell, RequestsAreRead, RepliesAreRead, ListsAreRead, AsksAreRead};
 
-/// Each line that a side writes is read by the other as what was meant.
+/// States a law and does nothing when called: each line that one side writes is read by the other as what was meant.
 ///
-/// Lines are meant here without their line feeds, as a cutter of lines hands them out.
+/// A line here is without its line feed, as a cutter of lines hands it out.
 pub fn messages_are_read()
     ensures messages { MessagesSpell }
     ensures requests { RequestsAreRead }
@@ -13,7 +13,7 @@ pub fn messages_are_read()
     ensures asks { AsksAreRead }
 {}
 
-/// How long the longest replies are, those to LIST VAR.
+/// States a law and does nothing when called: how long the rows and the whole of a reply to LIST VAR can be.
 pub fn replies_are_bounded()
     ensures rows { RowsAreBounded }
     ensures lists { ListsAreBounded }

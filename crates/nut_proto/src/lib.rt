@@ -1,7 +1,8 @@
-//! The messages of the network protocol (RFC 9271), and what the server asks of drivers.
+//! The messages of the network protocol (RFC 9271), and the requests of a server to its drivers.
 //!
-//! The server reads requests with `read` and writes replies with `put`; a client writes requests with `put_in` and reads
-//! answers with `read_answer`. Each message is one line. What one side writes the other reads as it was meant: `messages_are_read`.
+//! The server reads requests with `read` and writes replies with `put`. A client writes requests with `put` and reads
+//! answers with `read_answer`. Each message is one line. The law `messages_are_read` says that what one side
+//! writes, the other reads as it was meant.
 #![tactic(auto)]
 
 mod answer;
@@ -11,6 +12,7 @@ mod driver_ask;
 mod examples;
 mod keyword;
 mod laws;
+mod limits;
 mod number;
 mod part;
 mod reading;
@@ -24,6 +26,7 @@ pub use description::{command_description, variable_description};
 pub use driver_ask::DriverAsk;
 pub use examples::worked_examples;
 pub use laws::{messages_are_read, replies_are_bounded};
+pub use limits::{ROWS_MAX, list_limits};
 pub use reading::read;
 pub use refusal::Refusal;
 pub use reply::{Reply, VariableKind};

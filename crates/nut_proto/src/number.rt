@@ -1,11 +1,11 @@
-//! Numbers in decimal, without memory.
+//! Writes numbers in decimal, without allocating.
 ghost use Rattle.std.specs.Prelude.{◌≡◌, ◌+◌, ◌≤◌, ◌++◌, length, decimal};
 ghost use Rattle.std.specs.Fmt.{signed_decimal};
 ghost use Rattle.arrayvec.specs.ArrayVec.{array_vec_len};
 
 use arrayvec::ArrayVec;
 
-/// Appends the digits of a number.
+/// Appends the decimal digits of a number.
 #[tactic(auto, using(crate::proofs::Digits::last_digit, crate::proofs::Digits::one_digit, crate::proofs::Digits::length_step, crate::proofs::Digits::length_digit))]
 fn push_digits(out: &mut ArrayVec<u8, 11>, number: u32)
     requires room { array_vec_len out.old + length (decimal number) ≤ 11 }
@@ -20,7 +20,7 @@ fn push_digits(out: &mut ArrayVec<u8, 11>, number: u32)
     out.push(b'0' + (number % 10) as u8);
 }
 
-/// The digits of a number.
+/// Returns the decimal digits of a number.
 #[tactic(auto, using(crate::proofs::Digits::fits_ten))]
 pub fn decimal(number: u32) -> ArrayVec<u8, 11>
     ensures { result.items ≡ decimal number }
@@ -30,7 +30,7 @@ pub fn decimal(number: u32) -> ArrayVec<u8, 11>
     out
 }
 
-/// The digits of a number, behind its sign where it is negative.
+/// Returns the decimal digits of a number, after a `-` if it is negative.
 pub fn signed_decimal(number: i32) -> ArrayVec<u8, 11>
     ensures { result.items ≡ signed_decimal number }
 {

@@ -1,43 +1,44 @@
-//! Writing the parts of a message.
-ghost use Rattle.std.specs.Prelude.{◌≡◌, ◌+◌, ◌<◌, ◌≤◌, ◌↔◌, ◌∷◌, [], ◌++◌, length, take, IsTrue, OnOk, OnErr, vec_len, codes, decimal};
-ghost use Rattle.std.specs.Bool.{OnTrue, OnFalse};
+//! Writes the parts of a message.
+ghost use Rattle.std.specs.Prelude.{◌≡◌, ◌∷◌, [], ◌++◌, length, take, OnOk, OnErr, codes, decimal};
 ghost use Rattle.std.specs.List.{flat_map};
-ghost use Rattle.arrayvec.specs.ArrayVec.{array_vec_len};
-ghost use Rattle.nut_proto.specs.Lines.{part_text, line};
+ghost use Rattle.nut_words.specs.Out.{Fits, Exceeds};
+ghost use Rattle.nut_proto.specs.Lines.{part_text, line, message};
 
 use crate::number::{decimal, signed_decimal};
 use crate::word::Word;
 use arrayvec::ArrayVec;
-use nut_words::{put_quoted, put_quoted_in, put_word, put_word_in};
-use std::alloc::AllocError;
+use nut_words::{Out, put_quoted, put_word};
 
-/// A word of a message, by the way it is written.
+/// A part of a message, and the way it is written.
 #[derive(Drop)]
 pub enum Part<'a> {
-    /// Bare where it may stand bare, else quoted.
+    /// A word: bare if it can be, else quoted.
     Word(Word<'a>),
-    /// Always quoted.
+    /// A word that is always quoted.
     Quoted(Word<'a>),
-    /// In decimal.
+    /// A number in decimal.
     Number(u32),
-    /// In decimal, quoted.
+    /// A number in decimal, quoted.
     QuotedNumber(i32),
-    /// `STRING:` and the number.
+    /// `STRING:` and a number in decimal.
     StringOf(u32),
 }
 
+/// Returns the part for a word of the protocol: bare if it can be, else quoted.
 pub fn text(bytes: &[u8]) -> Part<'_>
     ensures { result ≡ Part.Word bytes.now }
 {
     Part::Word(Word::new(bytes))
 }
 
+/// Returns the part for a name: bare if it can be, else quoted.
 pub fn word<'a>(word: &Word<'a>) -> Part<'a>
     ensures { result ≡ Part.Word word.now }
 {
     Part::Word(Word::new(word.as_bytes()))
 }
 
+/// Returns the part for a value or a description, which is always quoted.
 pub fn quoted<'a>(word: &Word<'a>) -> Part<'a>
     ensures { result ≡ Part.Quoted word.now }
 {
@@ -45,9 +46,10 @@ pub fn quoted<'a>(word: &Word<'a>) -> Part<'a>
 }
 
 impl Part<'_> {
-    fn put(&self, out: &mut Vec<u8>) -> Result<(), AllocError>
-        ensures ok { OnOk result (out.new.items ≡ out.old.items ++ part_text self.now) }
-        ensures err { OnErr result (out.new.items ≡ out.old.items) }
+    fn put<O: Out>(&self, out: &mut O) -> Result<(), O::Fault>
+        ensures ok { OnOk result (O.held out.new ≡ O.held out.old ++ part_text self.now) }
+        ensures err { OnErr result (O.held out.new ≡ O.held out.old) }
+        ensures full { OnErr result (Exceeds O.most (length (O.held out.old ++ part_text self.now))) }
     {
         match self {
             Part::Word(word) => put_word(out, word.as_bytes()),
@@ -58,39 +60,18 @@ impl Part<'_> {
         }
     }
 
-    fn put_in<const N: usize>(&self, out: &mut ArrayVec<u8, N>) -> bool
-        ensures room { IsTrue result ↔ (array_vec_len out.old + length (part_text self.now) ≤ N) }
-        ensures put { OnTrue result (out.new.items ≡ out.old.items ++ part_text self.now) }
-        ensures full { OnFalse result (out.new.items ≡ out.old.items) }
-    {
-        match self {
-            Part::Word(word) => put_word_in(out, word.as_bytes()),
-            Part::Quoted(text) => put_quoted_in(out, text.as_bytes()),
-            Part::Number(number) => put_word_in(out, decimal(*number).as_slice()),
-            Part::QuotedNumber(number) => put_quoted_in(out, signed_decimal(*number).as_slice()),
-            Part::StringOf(limit) => put_word_in(out, string_of(*limit).as_slice()),
-        }
-    }
-
-    /// Appends a blank and the part. On an error the buffer still begins with what it had.
-    fn put_behind(&self, out: &mut Vec<u8>) -> Result<(), AllocError>
-        ensures ok { OnOk result (out.new.items ≡ out.old.items ++ 32 ∷ part_text self.now) }
-        ensures err { OnErr result (take (vec_len out.old) out.new.items ≡ out.old.items) }
+    /// Appends a space and the part. If that fails, `out` still begins with what it held.
+    fn put_behind<O: Out>(&self, out: &mut O) -> Result<(), O::Fault>
+        ensures ok { OnOk result (O.held out.new ≡ O.held out.old ++ 32 ∷ part_text self.now) }
+        ensures err { OnErr result (take (length (O.held out.old)) (O.held out.new) ≡ O.held out.old) }
+        ensures full { OnErr result (Exceeds O.most (length (O.held out.old ++ 32 ∷ part_text self.now))) }
     {
         out.push(b' ')?;
         self.put(out)
     }
-
-    fn put_behind_in<const N: usize>(&self, out: &mut ArrayVec<u8, N>) -> bool
-        ensures put { OnTrue result (out.new.items ≡ out.old.items ++ 32 ∷ part_text self.now) }
-        ensures full { OnFalse result (N < array_vec_len out.old + length (32 ∷ part_text self.now)) }
-        ensures kept { OnFalse result (take (array_vec_len out.old) out.new.items ≡ out.old.items) }
-    {
-        out.try_push(b' ').is_ok() && self.put_in(out)
-    }
 }
 
-/// `STRING:` and the limit.
+/// Returns `STRING:` and the limit in decimal.
 fn string_of(limit: u32) -> ArrayVec<u8, 18>
     ensures { result.items ≡ codes "STRING:" ++ decimal limit }
 {
@@ -101,12 +82,32 @@ fn string_of(limit: u32) -> ArrayVec<u8, 18>
 }
 
 /// Appends the line of these parts.
-pub fn put_line(out: &mut Vec<u8>, parts: &[Part<'_>]) -> Result<(), AllocError>
-    ensures ok { OnOk result (out.new.items ≡ out.old.items ++ line parts.now) }
-    ensures err { OnErr result (out.new.items ≡ out.old.items) }
+///
+/// # Errors
+///
+/// If memory cannot be allocated, or if the whole doesn't fit into a buffer of fixed size. `out` is then as it was.
+pub fn put_line<O: Out>(out: &mut O, parts: &[Part<'_>]) -> Result<(), O::Fault>
+    ensures ok { OnOk result (O.held out.new ≡ O.held out.old ++ line parts.now) }
+    ensures err { OnErr result (O.held out.new ≡ O.held out.old) }
+    ensures fits { OnOk result (Fits O.most (length (O.held out.old ++ line parts.now))) }
+    ensures full { OnErr result (Exceeds O.most (length (O.held out.old ++ line parts.now))) }
+{
+    put_marked_line(out, &[], parts)
+}
+
+/// Appends the line of these marks and, behind them, these parts. It fails as [`put_line`] does.
+pub fn put_marked_line<O: Out>(
+    out: &mut O,
+    marks: &[Part<'_>],
+    parts: &[Part<'_>],
+) -> Result<(), O::Fault>
+    ensures ok { OnOk result (O.held out.new ≡ O.held out.old ++ line (marks.now ++ parts.now)) }
+    ensures err { OnErr result (O.held out.new ≡ O.held out.old) }
+    ensures fits { OnOk result (Fits O.most (length (O.held out.old ++ line (marks.now ++ parts.now)))) }
+    ensures full { OnErr result (Exceeds O.most (length (O.held out.old ++ line (marks.now ++ parts.now)))) }
 {
     let before = out.len();
-    let outcome = append_line(out, parts);
+    let outcome = append_line(out, marks, parts);
     if outcome.is_err() {
         out.truncate(before);
     }
@@ -114,66 +115,57 @@ pub fn put_line(out: &mut Vec<u8>, parts: &[Part<'_>]) -> Result<(), AllocError>
 }
 
 #[tactic(auto, unfolding(crate::specs::Lines::line))]
-fn append_line(out: &mut Vec<u8>, parts: &[Part<'_>]) -> Result<(), AllocError>
-    ensures ok { OnOk result (out.new.items ≡ out.old.items ++ line parts.now) }
-    ensures err { OnErr result (take (vec_len out.old) out.new.items ≡ out.old.items) }
+fn append_line<O: Out>(
+    out: &mut O,
+    marks: &[Part<'_>],
+    parts: &[Part<'_>],
+) -> Result<(), O::Fault>
+    ensures ok { OnOk result (O.held out.new ≡ O.held out.old ++ line (marks.now ++ parts.now)) }
+    ensures err { OnErr result (take (length (O.held out.old)) (O.held out.new) ≡ O.held out.old) }
+    ensures fits { OnOk result (Fits O.most (length (O.held out.old ++ line (marks.now ++ parts.now)))) }
+    ensures full { OnErr result (Exceeds O.most (length (O.held out.old ++ line (marks.now ++ parts.now)))) }
+{
+    append_message(out, marks, parts)?;
+    out.push(b'\n')?;
+    Ok(())
+}
+
+fn append_message<O: Out>(
+    out: &mut O,
+    marks: &[Part<'_>],
+    parts: &[Part<'_>],
+) -> Result<(), O::Fault>
+    ensures ok { OnOk result (O.held out.new ≡ O.held out.old ++ message (marks.now ++ parts.now)) }
+    ensures err { OnErr result (take (length (O.held out.old)) (O.held out.new) ≡ O.held out.old) }
+    ensures full { OnErr result (Exceeds O.most (length (O.held out.old ++ message (marks.now ++ parts.now)))) }
+{
+    if marks.is_empty() {
+        return append_parts(out, parts);
+    }
+    append_parts(out, marks)?;
+    append_others(out, parts)?;
+    Ok(())
+}
+
+fn append_parts<O: Out>(out: &mut O, parts: &[Part<'_>]) -> Result<(), O::Fault>
+    ensures ok { OnOk result (O.held out.new ≡ O.held out.old ++ message parts.now) }
+    ensures err { OnErr result (take (length (O.held out.old)) (O.held out.new) ≡ O.held out.old) }
+    ensures full { OnErr result (Exceeds O.most (length (O.held out.old ++ message parts.now))) }
 {
     if let [first, others @ ..] = parts {
         first.put(out)?;
         append_others(out, others)?;
     }
-    out.push(b'\n')?;
     Ok(())
 }
 
-fn append_others(out: &mut Vec<u8>, parts: &[Part<'_>]) -> Result<(), AllocError>
-    ensures ok { OnOk result (out.new.items ≡ out.old.items ++ flat_map (λ part. 32 ∷ part_text part) parts.now) }
-    ensures err { OnErr result (take (vec_len out.old) out.new.items ≡ out.old.items) }
+fn append_others<O: Out>(out: &mut O, parts: &[Part<'_>]) -> Result<(), O::Fault>
+    ensures ok { OnOk result (O.held out.new ≡ O.held out.old ++ flat_map (λ part. 32 ∷ part_text part) parts.now) }
+    ensures err { OnErr result (take (length (O.held out.old)) (O.held out.new) ≡ O.held out.old) }
+    ensures full { OnErr result (Exceeds O.most (length (O.held out.old ++ flat_map (λ part. 32 ∷ part_text part) parts.now))) }
 {
     for part in parts {
         part.put_behind(out)?;
     }
     Ok(())
-}
-
-/// Appends the line of these parts, where there is room.
-pub fn put_line_in<const N: usize>(out: &mut ArrayVec<u8, N>, parts: &[Part<'_>]) -> bool
-    ensures room { IsTrue result ↔ (array_vec_len out.old + length (line parts.now) ≤ N) }
-    ensures put { OnTrue result (out.new.items ≡ out.old.items ++ line parts.now) }
-    ensures full { OnFalse result (out.new.items ≡ out.old.items) }
-{
-    let before = out.len();
-    let fits = append_line_in(out, parts);
-    if !fits {
-        out.truncate(before);
-    }
-    fits
-}
-
-#[tactic(auto, unfolding(crate::specs::Lines::line))]
-fn append_line_in<const N: usize>(out: &mut ArrayVec<u8, N>, parts: &[Part<'_>]) -> bool
-    ensures room { OnTrue result (array_vec_len out.old + length (line parts.now) ≤ N) }
-    ensures put { OnTrue result (out.new.items ≡ out.old.items ++ line parts.now) }
-    ensures full { OnFalse result (N < array_vec_len out.old + length (line parts.now)) }
-    ensures kept { OnFalse result (take (array_vec_len out.old) out.new.items ≡ out.old.items) }
-{
-    if let [first, others @ ..] = parts {
-        if !first.put_in(out) || !append_others_in(out, others) {
-            return false;
-        }
-    }
-    out.try_push(b'\n').is_ok()
-}
-
-fn append_others_in<const N: usize>(out: &mut ArrayVec<u8, N>, parts: &[Part<'_>]) -> bool
-    ensures put { OnTrue result (out.new.items ≡ out.old.items ++ flat_map (λ part. 32 ∷ part_text part) parts.now) }
-    ensures full { OnFalse result (N < array_vec_len out.old + length (flat_map (λ part. 32 ∷ part_text part) parts.now)) }
-    ensures kept { OnFalse result (take (array_vec_len out.old) out.new.items ≡ out.old.items) }
-{
-    for part in parts {
-        if !part.put_behind_in(out) {
-            return false;
-        }
-    }
-    true
 }

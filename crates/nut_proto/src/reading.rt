@@ -1,7 +1,7 @@
-//! What a client's line asks for.
+//! Reads what a client's line asks for.
 ghost use Rattle.std.specs.Prelude.{◌≡◌};
 ghost use Rattle.nut_proto.specs.Forms.{meaning};
-ghost use Rattle.nut_proto.specs.Steps.{get_about, get_request, list_about, list_request, request_of, set_request};
+ghost use Rattle.nut_proto.specs.inside.Steps.{get_about, get_request, list_about, list_request, request_of, set_request};
 
 use crate::cursor::Cursor;
 use crate::keyword::{Command, Subject};
@@ -9,11 +9,15 @@ use crate::refusal::Refusal;
 use crate::request::{ListQuery, Request};
 use nut_words::Words;
 
-/// The request that the words of a client's line make (RFC 9271). Takes no memory.
+/// Reads the request that the words of a client's line make (RFC 9271). Allocates no memory.
 ///
-/// Command words are compared without ASCII case, and the number of words is exact.
-/// `UnknownCommand` is for a first word that is no command, `InvalidArgument` for every other line that is no request,
-/// one without words included. A name that nothing bears is no fault here.
+/// Command words are compared without regard to ASCII case, and the number of words must match exactly. Names of UPSes,
+/// variables and commands are not looked up here.
+///
+/// # Errors
+///
+/// [`Refusal::UnknownCommand`] if the first word is no command, and [`Refusal::InvalidArgument`] if the words are no
+/// request for any other reason: for one, if there are none.
 pub fn read<'a>(words: &'a Words<'_>) -> Result<Request<'a>, Refusal>
     ensures { result ≡ meaning words.now }
 {
@@ -27,7 +31,7 @@ pub fn read<'a>(words: &'a Words<'_>) -> Result<Request<'a>, Refusal>
     request_of(command, rest).ok_or(Refusal::InvalidArgument)
 }
 
-/// The request of a command and the words behind it.
+/// Returns the request that a command and the words after it make, if they make one.
 fn request_of<'a>(command: Command, rest: Cursor<'a, '_>) -> Option<Request<'a>>
     ensures { result ≡ request_of command rest.entry }
 {

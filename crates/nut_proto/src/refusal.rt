@@ -1,52 +1,52 @@
-//! Why requests are refused.
+//! Why the server refuses a request.
 ghost use Rattle.std.specs.Prelude.{◌≡◌};
 ghost use Rattle.nut_proto.specs.Refusals.{refusal_name};
 
 /// Why the server refuses a request (RFC 9271).
 #[derive(Clone, Copy, Debug, PartialEq, Eq)]
 pub enum Refusal {
-    /// The user, password or right does not suffice.
+    /// There is no such user, the password is wrong, or the user lacks the right.
     AccessDenied,
-    /// No UPS bears the name.
+    /// No UPS has the name.
     UnknownUps,
-    /// The UPS has no variable of this name.
+    /// The UPS has no variable with this name.
     VarNotSupported,
-    /// The UPS has no command of this name.
+    /// The UPS has no command with this name.
     CmdNotSupported,
-    /// The line is no request: it does not read, or its words fit no form.
+    /// The line is no request: it can't be read as words, or its words fit no form.
     InvalidArgument,
-    /// The driver cannot be asked for the command now.
+    /// The driver can't be asked to run the command now.
     InstCmdFailed,
-    /// The driver cannot be asked for the setting now.
+    /// The driver can't be asked to set the variable now.
     SetFailed,
-    /// The variable may not be set.
+    /// Clients may not set the variable.
     ReadOnly,
-    /// The value is longer than the variable takes.
+    /// The value is longer than the variable allows.
     TooLong,
-    /// The value is none that the variable takes.
+    /// The variable doesn't allow the value.
     InvalidValue,
-    /// The server does without this feature.
+    /// The server doesn't have this feature.
     FeatureNotConfigured,
     /// No driver of the UPS is connected.
     DriverNotConnected,
-    /// The driver is connected, but its data are not fresh.
+    /// The driver is connected, but its data aren't current.
     DataStale,
-    /// The connection is logged in to a UPS.
+    /// The connection is already logged in to a UPS.
     AlreadyLoggedIn,
-    /// The connection has given its password.
+    /// The connection has already given a password.
     AlreadySetPassword,
-    /// The connection has given its user name.
+    /// The connection has already given a user name.
     AlreadySetUsername,
-    /// The request needs a user name first.
+    /// The request needs a user name, and none was given.
     UsernameRequired,
-    /// The request needs a password first.
+    /// The request needs a password, and none was given.
     PasswordRequired,
     /// The first word is no command.
     UnknownCommand,
 }
 
 impl Refusal {
-    /// The name on the wire, behind `ERR`.
+    /// Returns the name that follows `ERR` on the wire.
     #[tactic(auto, unfolding(crate::specs::Refusals::refusal_name))]
     pub fn name(self) -> &'static [u8]
         ensures { result.now ≡ refusal_name self }

@@ -1,4 +1,4 @@
-//! What the server answers, and how it is written.
+//! The lines that the server answers with, and how they are written.
 ghost use Rattle.std.specs.Prelude.{◌≡◌, ◌++◌, OnOk, OnErr};
 ghost use Rattle.nut_proto.specs.Lines.{line};
 ghost use Rattle.nut_proto.specs.Replies.{reply_line, version_parts, commands_parts, type_parts, kind_part};
@@ -6,70 +6,70 @@ ghost use Rattle.nut_proto.specs.Replies.{reply_line, version_parts, commands_pa
 use crate::part::{Part, put_line, quoted, text, word};
 use crate::refusal::Refusal;
 use crate::word::Word;
-use std::alloc::AllocError;
+use nut_words::Out;
 
-/// What values a variable takes, as `GET TYPE` tells it.
+/// The kind of values that a variable allows, as `GET TYPE` reports it.
 #[derive(Clone, Copy, Debug, PartialEq, Eq)]
 pub enum VariableKind {
-    /// One of the values that are listed.
+    /// One of the values that `LIST ENUM` lists.
     Enum,
-    /// A whole number in one of the ranges that are listed.
+    /// A whole number in one of the ranges that `LIST RANGE` lists.
     Range,
-    /// A text of at most so many bytes.
+    /// A text of at most this many bytes.
     String(u32),
     /// A number, or any other value.
     Number,
 }
 
-/// A line of the server's (RFC 9271). It borrows its words.
+/// A line of the server (RFC 9271). It borrows its words.
 ///
-/// The reply to a LIST is its query's `put_begin`, a row for each entry, and its query's `put_end`.
+/// The reply to a LIST consists of the query's `put_begin`, a row for each entry, and the query's `put_end`.
 #[derive(Drop)]
 pub enum Reply<'a> {
-    /// `OK`, to SET, INSTCMD, USERNAME, PASSWORD, LOGIN and PRIMARY.
+    /// `OK`: the answer to SET, INSTCMD, USERNAME, PASSWORD, LOGIN and PRIMARY.
     Accepted,
-    /// `OK FSD-SET`, to FSD.
+    /// `OK FSD-SET`: the answer to FSD.
     FsdSet,
-    /// `OK Goodbye`, to LOGOUT.
+    /// `OK Goodbye`: the answer to LOGOUT.
     Goodbye,
-    /// `ERR` and the refusal's name, to any request.
+    /// `ERR` and the name of the refusal: an answer to any request.
     Refused(Refusal),
-    /// The server's name and version, to VER.
+    /// The answer to VER: the server's name and version.
     Version,
-    /// The version of the protocol, to NETVER.
+    /// The answer to NETVER: the version of the protocol.
     NetworkVersion,
-    /// The commands that the server knows, to HELP.
+    /// The answer to HELP: the commands that the server knows.
     Commands,
-    /// To GET NUMLOGINS.
+    /// The answer to GET NUMLOGINS.
     NumLogins {
         ups: Word<'a>,
         count: u32,
     },
-    /// To GET UPSDESC.
+    /// The answer to GET UPSDESC.
     UpsDesc {
         ups: Word<'a>,
         description: Word<'a>,
     },
-    /// To GET TYPE.
+    /// The answer to GET TYPE.
     Type {
         ups: Word<'a>,
         variable: Word<'a>,
         writable: bool,
         kind: VariableKind,
     },
-    /// To GET DESC.
+    /// The answer to GET DESC.
     Desc {
         ups: Word<'a>,
         variable: Word<'a>,
         description: Word<'a>,
     },
-    /// To GET CMDDESC.
+    /// The answer to GET CMDDESC.
     CmdDesc {
         ups: Word<'a>,
         command: Word<'a>,
         description: Word<'a>,
     },
-    /// To GET VAR, and a row of LIST VAR.
+    /// The answer to GET VAR, and a row of LIST VAR.
     Var {
         ups: Word<'a>,
         variable: Word<'a>,
@@ -97,7 +97,7 @@ pub enum Reply<'a> {
         variable: Word<'a>,
         value: Word<'a>,
     },
-    /// A row of LIST RANGE, both ends included.
+    /// A row of LIST RANGE. Both ends belong to the range.
     Range {
         ups: Word<'a>,
         variable: Word<'a>,
@@ -112,13 +112,18 @@ pub enum Reply<'a> {
 }
 
 impl Reply<'_> {
-    /// Appends the line, its line feed included. An `Err` is for want of memory, and leaves `out` as before.
+    /// Appends the line with its line feed.
     ///
-    /// Names stand bare where they can, values and descriptions in quotes. Words of bytes 0x20 to 0x7E read back as they are.
+    /// Names are written bare if they can be, values and descriptions always in quotes. Words of bytes 0x20 to 0x7E are
+    /// read back as they were.
+    ///
+    /// # Errors
+    ///
+    /// If memory cannot be allocated, or if the whole doesn't fit into a buffer of fixed size. `out` is then as it was.
     #[tactic(auto, unfolding(crate::specs::Replies::reply_line))]
-    pub fn put(&self, out: &mut Vec<u8>) -> Result<(), AllocError>
-        ensures ok { OnOk result (out.new.items ≡ out.old.items ++ reply_line self.now) }
-        ensures err { OnErr result (out.new.items ≡ out.old.items) }
+    pub fn put<O: Out>(&self, out: &mut O) -> Result<(), O::Fault>
+        ensures ok { OnOk result (O.held out.new ≡ O.held out.old ++ reply_line self.now) }
+        ensures err { OnErr result (O.held out.new ≡ O.held out.old) }
     {
         match self {
             Reply::Accepted => put_line(out, &[text(b"OK")]),
@@ -221,32 +226,32 @@ impl Reply<'_> {
 }
 
 #[tactic(auto, unfolding(crate::specs::Lines::line))]
-fn put_version(out: &mut Vec<u8>) -> Result<(), AllocError>
-    ensures ok { OnOk result (out.new.items ≡ out.old.items ++ line version_parts) }
-    ensures err { OnErr result (out.new.items ≡ out.old.items) }
+fn put_version<O: Out>(out: &mut O) -> Result<(), O::Fault>
+    ensures ok { OnOk result (O.held out.new ≡ O.held out.old ++ line version_parts) }
+    ensures err { OnErr result (O.held out.new ≡ O.held out.old) }
 {
-    out.extend_from_slice(b"Network UPS Tools upsd profile 1.2\n")
+    out.append(b"Network UPS Tools upsd profile 1.2\n")
 }
 
 #[tactic(auto, unfolding(crate::specs::Lines::line))]
-fn put_commands(out: &mut Vec<u8>) -> Result<(), AllocError>
-    ensures ok { OnOk result (out.new.items ≡ out.old.items ++ line commands_parts) }
-    ensures err { OnErr result (out.new.items ≡ out.old.items) }
+fn put_commands<O: Out>(out: &mut O) -> Result<(), O::Fault>
+    ensures ok { OnOk result (O.held out.new ≡ O.held out.old ++ line commands_parts) }
+    ensures err { OnErr result (O.held out.new ≡ O.held out.old) }
 {
-    out.extend_from_slice(
+    out.append(
         b"Commands: GET LIST SET INSTCMD USERNAME PASSWORD LOGIN PRIMARY FSD LOGOUT VER NETVER HELP STARTTLS\n",
     )
 }
 
-fn put_type<'a>(
-    out: &mut Vec<u8>,
+fn put_type<'a, O: Out>(
+    out: &mut O,
     ups: &Word<'a>,
     variable: &Word<'a>,
     writable: bool,
     kind: VariableKind,
-) -> Result<(), AllocError>
-    ensures ok { OnOk result (out.new.items ≡ out.old.items ++ line (type_parts ups.now variable.now writable kind)) }
-    ensures err { OnErr result (out.new.items ≡ out.old.items) }
+) -> Result<(), O::Fault>
+    ensures ok { OnOk result (O.held out.new ≡ O.held out.old ++ line (type_parts ups.now variable.now writable kind)) }
+    ensures err { OnErr result (O.held out.new ≡ O.held out.old) }
 {
     if writable {
         put_line(

@@ -1,89 +1,89 @@
-//! What a client asks, and how it is written.
-ghost use Rattle.std.specs.Prelude.{◌≡◌, ◌+◌, ◌≤◌, ◌↔◌, ◌++◌, length, IsTrue, OnOk, OnErr};
-ghost use Rattle.std.specs.Bool.{OnTrue, OnFalse};
-ghost use Rattle.arrayvec.specs.ArrayVec.{array_vec_len};
-ghost use Rattle.nut_proto.specs.Requests.{request_line, list_line, mark_line, begin_line, end_line};
+//! The requests of a client, and how they are written.
+ghost use Rattle.std.specs.Prelude.{◌≡◌, ◌++◌, length, OnOk, OnErr};
+ghost use Rattle.nut_words.specs.Out.{Fits, Exceeds};
+ghost use Rattle.nut_proto.specs.Lines.{line};
+ghost use Rattle.nut_proto.specs.Requests.{request_line, query_parts, begin_line, end_line};
 
-use crate::part::{put_line, put_line_in, quoted, text, word};
+use crate::part::{Part, put_line, put_marked_line, quoted, text, word};
 use crate::word::Word;
-use arrayvec::ArrayVec;
-use std::alloc::AllocError;
+use nut_words::Out;
 
-/// What a client asks of the server (RFC 9271). It borrows its words.
+/// A request of a client to the server (RFC 9271). It borrows its words.
 ///
-/// Names and values are the client's, of any bytes: nothing says that a UPS, a variable or a command bears them.
+/// Names and values are as the client gave them and may hold any bytes. They need not name a UPS, a variable or a
+/// command that exists.
 #[derive(Drop)]
 pub enum Request<'a> {
-    /// `GET NUMLOGINS`: how many connections are logged in to the UPS.
+    /// `GET NUMLOGINS`: asks how many connections are logged in to the UPS.
     GetNumLogins {
         ups: Word<'a>,
     },
-    /// `GET UPSDESC`: the configured description of the UPS.
+    /// `GET UPSDESC`: asks for the configured description of the UPS.
     GetUpsDesc {
         ups: Word<'a>,
     },
-    /// `GET VAR`: the value of a variable.
+    /// `GET VAR`: asks for the value of a variable.
     GetVar {
         ups: Word<'a>,
         variable: Word<'a>,
     },
-    /// `GET TYPE`: whether a variable may be set, and what values it takes.
+    /// `GET TYPE`: asks whether a variable may be set, and which values it allows.
     GetType {
         ups: Word<'a>,
         variable: Word<'a>,
     },
-    /// `GET DESC`: what a variable tells.
+    /// `GET DESC`: asks for the description of a variable.
     GetDesc {
         ups: Word<'a>,
         variable: Word<'a>,
     },
-    /// `GET CMDDESC`: what a command does.
+    /// `GET CMDDESC`: asks for the description of a command.
     GetCmdDesc {
         ups: Word<'a>,
         command: Word<'a>,
     },
-    /// `LIST`: several rows between a first and a last line.
+    /// `LIST`: asks for several rows between a first and a last line.
     List(ListQuery<'a>),
-    /// `SET VAR`: a new value for a variable.
+    /// `SET VAR`: asks to set a variable.
     SetVar {
         ups: Word<'a>,
         variable: Word<'a>,
         value: Word<'a>,
     },
-    /// `INSTCMD`: a command for the UPS to do at once.
+    /// `INSTCMD`: asks the UPS to run a command at once.
     InstCmd {
         ups: Word<'a>,
         command: Word<'a>,
     },
-    /// `USERNAME`, of 1 to 128 bytes where it was read.
+    /// `USERNAME`, of 1 to [`CREDENTIAL_MAX`](nut_words::CREDENTIAL_MAX) bytes where it was read.
     Username {
         name: Word<'a>,
     },
-    /// `PASSWORD`, of 1 to 128 bytes where it was read.
+    /// `PASSWORD`, of 1 to [`CREDENTIAL_MAX`](nut_words::CREDENTIAL_MAX) bytes where it was read.
     Password {
         password: Word<'a>,
     },
-    /// `LOGIN`: the client draws power from the UPS.
+    /// `LOGIN`: says that the client draws power from the UPS.
     Login {
         ups: Word<'a>,
     },
-    /// `PRIMARY`: the client wants to shut the UPS down.
+    /// `PRIMARY`: asks whether the client may be the primary, which shuts the UPS down.
     Primary {
         ups: Word<'a>,
     },
-    /// `FSD`: the forced shutdown of all who draw power from the UPS.
+    /// `FSD`: forces the shutdown of all who draw power from the UPS.
     Fsd {
         ups: Word<'a>,
     },
-    /// `LOGOUT`: the end of the connection.
+    /// `LOGOUT`: ends the connection.
     Logout,
-    /// `VER`: the server's name and version.
+    /// `VER`: asks for the server's name and version.
     Ver,
-    /// `NETVER`: the version of the protocol.
+    /// `NETVER`: asks for the version of the protocol.
     NetVer,
-    /// `HELP`: the commands that the server knows.
+    /// `HELP`: asks for the commands that the server knows.
     Help,
-    /// `STARTTLS`: to go on in TLS.
+    /// `STARTTLS`: asks to continue in TLS.
     StartTls,
 }
 
@@ -94,60 +94,65 @@ pub enum ListQuery<'a> {
     Ups,
     /// The variables of a UPS.
     Var { ups: Word<'a> },
-    /// The variables of a UPS that may be set.
+    /// The variables of a UPS that clients may set.
     Rw { ups: Word<'a> },
     /// The commands of a UPS.
     Cmd { ups: Word<'a> },
-    /// The values that a variable takes.
+    /// The enum values of a variable.
     Enum { ups: Word<'a>, variable: Word<'a> },
-    /// The ranges of numbers that a variable takes.
+    /// The ranges of a variable.
     Range { ups: Word<'a>, variable: Word<'a> },
     /// The clients that are logged in to a UPS.
     Client { ups: Word<'a> },
 }
 
 impl Request<'_> {
-    /// Appends the request's line, its line feed included, where there is room, and says whether there was.
-    /// Else `out` is as before. Takes no memory.
+    /// Appends the request's line with its line feed.
     ///
-    /// Words stand bare where they can, the value of SET always in quotes. Words of bytes 0x20 to 0x7E read back as they are.
-    #[tactic(auto, unfolding(crate::specs::Requests::request_line, crate::specs::Requests::list_line))]
-    pub fn put_in<const N: usize>(&self, out: &mut ArrayVec<u8, N>) -> bool
-        ensures room { IsTrue result ↔ (array_vec_len out.old + length (request_line self.now) ≤ N) }
-        ensures put { OnTrue result (out.new.items ≡ out.old.items ++ request_line self.now) }
-        ensures full { OnFalse result (out.new.items ≡ out.old.items) }
+    /// Words are written bare if they can be, the value of SET always in quotes. Words of bytes 0x20 to 0x7E are read
+    /// back as they were.
+    ///
+    /// # Errors
+    ///
+    /// If memory cannot be allocated, or if the whole doesn't fit into a buffer of fixed size. `out` is then as it was.
+    #[tactic(auto, unfolding(crate::specs::Requests::request_line))]
+    pub fn put<O: Out>(&self, out: &mut O) -> Result<(), O::Fault>
+        ensures ok { OnOk result (O.held out.new ≡ O.held out.old ++ request_line self.now) }
+        ensures err { OnErr result (O.held out.new ≡ O.held out.old) }
+        ensures fits { OnOk result (Fits O.most (length (O.held out.old ++ request_line self.now))) }
+        ensures full { OnErr result (Exceeds O.most (length (O.held out.old ++ request_line self.now))) }
     {
         match self {
-            Request::GetNumLogins { ups } => put_line_in(
+            Request::GetNumLogins { ups } => put_line(
                 out,
                 &[text(b"GET"), text(b"NUMLOGINS"), word(ups)],
             ),
-            Request::GetUpsDesc { ups } => put_line_in(
+            Request::GetUpsDesc { ups } => put_line(
                 out,
                 &[text(b"GET"), text(b"UPSDESC"), word(ups)],
             ),
-            Request::GetVar { ups, variable } => put_line_in(
+            Request::GetVar { ups, variable } => put_line(
                 out,
                 &[text(b"GET"), text(b"VAR"), word(ups), word(variable)],
             ),
-            Request::GetType { ups, variable } => put_line_in(
+            Request::GetType { ups, variable } => put_line(
                 out,
                 &[text(b"GET"), text(b"TYPE"), word(ups), word(variable)],
             ),
-            Request::GetDesc { ups, variable } => put_line_in(
+            Request::GetDesc { ups, variable } => put_line(
                 out,
                 &[text(b"GET"), text(b"DESC"), word(ups), word(variable)],
             ),
-            Request::GetCmdDesc { ups, command } => put_line_in(
+            Request::GetCmdDesc { ups, command } => put_line(
                 out,
                 &[text(b"GET"), text(b"CMDDESC"), word(ups), word(command)],
             ),
-            Request::List(query) => query.put_in(out),
+            Request::List(query) => query.put_marked(out, &[text(b"LIST")]),
             Request::SetVar {
                 ups,
                 variable,
                 value,
-            } => put_line_in(
+            } => put_line(
                 out,
                 &[
                     text(b"SET"),
@@ -157,115 +162,78 @@ impl Request<'_> {
                     quoted(value),
                 ],
             ),
-            Request::InstCmd { ups, command } => put_line_in(
+            Request::InstCmd { ups, command } => put_line(
                 out,
                 &[text(b"INSTCMD"), word(ups), word(command)],
             ),
-            Request::Username { name } => put_line_in(out, &[text(b"USERNAME"), word(name)]),
-            Request::Password { password } => put_line_in(
+            Request::Username { name } => put_line(out, &[text(b"USERNAME"), word(name)]),
+            Request::Password { password } => put_line(
                 out,
                 &[text(b"PASSWORD"), word(password)],
             ),
-            Request::Login { ups } => put_line_in(out, &[text(b"LOGIN"), word(ups)]),
-            Request::Primary { ups } => put_line_in(out, &[text(b"PRIMARY"), word(ups)]),
-            Request::Fsd { ups } => put_line_in(out, &[text(b"FSD"), word(ups)]),
-            Request::Logout => put_line_in(out, &[text(b"LOGOUT")]),
-            Request::Ver => put_line_in(out, &[text(b"VER")]),
-            Request::NetVer => put_line_in(out, &[text(b"NETVER")]),
-            Request::Help => put_line_in(out, &[text(b"HELP")]),
-            Request::StartTls => put_line_in(out, &[text(b"STARTTLS")]),
+            Request::Login { ups } => put_line(out, &[text(b"LOGIN"), word(ups)]),
+            Request::Primary { ups } => put_line(out, &[text(b"PRIMARY"), word(ups)]),
+            Request::Fsd { ups } => put_line(out, &[text(b"FSD"), word(ups)]),
+            Request::Logout => put_line(out, &[text(b"LOGOUT")]),
+            Request::Ver => put_line(out, &[text(b"VER")]),
+            Request::NetVer => put_line(out, &[text(b"NETVER")]),
+            Request::Help => put_line(out, &[text(b"HELP")]),
+            Request::StartTls => put_line(out, &[text(b"STARTTLS")]),
         }
     }
 }
 
 impl ListQuery<'_> {
-    #[tactic(auto, unfolding(crate::specs::Requests::list_line))]
-    fn put_in<const N: usize>(&self, out: &mut ArrayVec<u8, N>) -> bool
-        ensures room { IsTrue result ↔ (array_vec_len out.old + length (list_line self.now) ≤ N) }
-        ensures put { OnTrue result (out.new.items ≡ out.old.items ++ list_line self.now) }
-        ensures full { OnFalse result (out.new.items ≡ out.old.items) }
+    /// Appends the line of these marks, such as `LIST`, and behind them what is asked for. It fails as
+    /// [`Request::put`] does.
+    fn put_marked<O: Out>(&self, out: &mut O, marks: &[Part<'_>]) -> Result<(), O::Fault>
+        ensures ok { OnOk result (O.held out.new ≡ O.held out.old ++ line (marks.now ++ query_parts self.now)) }
+        ensures err { OnErr result (O.held out.new ≡ O.held out.old) }
+        ensures fits { OnOk result (Fits O.most (length (O.held out.old ++ line (marks.now ++ query_parts self.now)))) }
+        ensures full { OnErr result (Exceeds O.most (length (O.held out.old ++ line (marks.now ++ query_parts self.now)))) }
     {
         match self {
-            ListQuery::Ups => put_line_in(out, &[text(b"LIST"), text(b"UPS")]),
-            ListQuery::Var { ups } => put_line_in(out, &[text(b"LIST"), text(b"VAR"), word(ups)]),
-            ListQuery::Rw { ups } => put_line_in(out, &[text(b"LIST"), text(b"RW"), word(ups)]),
-            ListQuery::Cmd { ups } => put_line_in(out, &[text(b"LIST"), text(b"CMD"), word(ups)]),
-            ListQuery::Enum { ups, variable } => put_line_in(
+            ListQuery::Ups => put_marked_line(out, marks, &[text(b"UPS")]),
+            ListQuery::Var { ups } => put_marked_line(out, marks, &[text(b"VAR"), word(ups)]),
+            ListQuery::Rw { ups } => put_marked_line(out, marks, &[text(b"RW"), word(ups)]),
+            ListQuery::Cmd { ups } => put_marked_line(out, marks, &[text(b"CMD"), word(ups)]),
+            ListQuery::Enum { ups, variable } => put_marked_line(
                 out,
-                &[text(b"LIST"), text(b"ENUM"), word(ups), word(variable)],
+                marks,
+                &[text(b"ENUM"), word(ups), word(variable)],
             ),
-            ListQuery::Range { ups, variable } => put_line_in(
+            ListQuery::Range { ups, variable } => put_marked_line(
                 out,
-                &[text(b"LIST"), text(b"RANGE"), word(ups), word(variable)],
+                marks,
+                &[text(b"RANGE"), word(ups), word(variable)],
             ),
-            ListQuery::Client { ups } => put_line_in(
-                out,
-                &[text(b"LIST"), text(b"CLIENT"), word(ups)],
-            ),
+            ListQuery::Client { ups } => put_marked_line(out, marks, &[text(b"CLIENT"), word(ups)]),
         }
     }
 
-    /// Appends the line before the rows of the list, `BEGIN LIST` and the query. An `Err` leaves `out` as before.
-    #[tactic(auto, unfolding(crate::specs::Requests::begin_line, crate::specs::Requests::mark_line))]
-    pub fn put_begin(&self, out: &mut Vec<u8>) -> Result<(), AllocError>
-        ensures ok { OnOk result (out.new.items ≡ out.old.items ++ begin_line self.now) }
-        ensures err { OnErr result (out.new.items ≡ out.old.items) }
+    /// Appends the line before the rows of the list: `BEGIN LIST` and the query.
+    ///
+    /// # Errors
+    ///
+    /// If memory cannot be allocated, or if the whole doesn't fit into a buffer of fixed size. `out` is then as it was.
+    #[tactic(auto, unfolding(crate::specs::Requests::begin_line))]
+    pub fn put_begin<O: Out>(&self, out: &mut O) -> Result<(), O::Fault>
+        ensures ok { OnOk result (O.held out.new ≡ O.held out.old ++ begin_line self.now) }
+        ensures err { OnErr result (O.held out.new ≡ O.held out.old) }
     {
-        self.put_after(out, b"BEGIN")
+        self.put_marked(out, &[text(b"BEGIN"), text(b"LIST")])
     }
 
-    /// Appends the line behind the rows of the list, `END LIST` and the query. An `Err` leaves `out` as before.
-    #[tactic(auto, unfolding(crate::specs::Requests::end_line, crate::specs::Requests::mark_line))]
-    pub fn put_end(&self, out: &mut Vec<u8>) -> Result<(), AllocError>
-        ensures ok { OnOk result (out.new.items ≡ out.old.items ++ end_line self.now) }
-        ensures err { OnErr result (out.new.items ≡ out.old.items) }
+    /// Appends the line after the rows of the list: `END LIST` and the query.
+    ///
+    /// # Errors
+    ///
+    /// If memory cannot be allocated, or if the whole doesn't fit into a buffer of fixed size. `out` is then as it was.
+    #[tactic(auto, unfolding(crate::specs::Requests::end_line))]
+    pub fn put_end<O: Out>(&self, out: &mut O) -> Result<(), O::Fault>
+        ensures ok { OnOk result (O.held out.new ≡ O.held out.old ++ end_line self.now) }
+        ensures err { OnErr result (O.held out.new ≡ O.held out.old) }
     {
-        self.put_after(out, b"END")
-    }
-
-    #[tactic(auto, unfolding(crate::specs::Requests::mark_line))]
-    fn put_after(&self, out: &mut Vec<u8>, mark: &[u8]) -> Result<(), AllocError>
-        ensures ok { OnOk result (out.new.items ≡ out.old.items ++ mark_line mark.now self.now) }
-        ensures err { OnErr result (out.new.items ≡ out.old.items) }
-    {
-        match self {
-            ListQuery::Ups => put_line(out, &[text(mark), text(b"LIST"), text(b"UPS")]),
-            ListQuery::Var { ups } => put_line(
-                out,
-                &[text(mark), text(b"LIST"), text(b"VAR"), word(ups)],
-            ),
-            ListQuery::Rw { ups } => put_line(
-                out,
-                &[text(mark), text(b"LIST"), text(b"RW"), word(ups)],
-            ),
-            ListQuery::Cmd { ups } => put_line(
-                out,
-                &[text(mark), text(b"LIST"), text(b"CMD"), word(ups)],
-            ),
-            ListQuery::Enum { ups, variable } => put_line(
-                out,
-                &[
-                    text(mark),
-                    text(b"LIST"),
-                    text(b"ENUM"),
-                    word(ups),
-                    word(variable),
-                ],
-            ),
-            ListQuery::Range { ups, variable } => put_line(
-                out,
-                &[
-                    text(mark),
-                    text(b"LIST"),
-                    text(b"RANGE"),
-                    word(ups),
-                    word(variable),
-                ],
-            ),
-            ListQuery::Client { ups } => put_line(
-                out,
-                &[text(mark), text(b"LIST"), text(b"CLIENT"), word(ups)],
-            ),
-        }
+        self.put_marked(out, &[text(b"END"), text(b"LIST")])
     }
 }

@@ -1,9 +1,9 @@
-//! A borrowed word, which contracts see as a list of bytes.
+//! A borrowed word, whose value in contracts is a list of bytes.
 ghost use Rattle.std.specs.Prelude.{◌≡◌, List, ℕ};
 
 use std::marker::Model;
 
-/// The bytes of one word, borrowed. Any bytes may stand in it.
+/// A borrowed word. It may hold any bytes.
 #[derive(Debug, Drop)]
 pub struct Word<'a> {
     bytes: &'a [u8],
@@ -16,14 +16,14 @@ impl<'a> Model for Word<'a> {
 }
 
 impl<'a> Word<'a> {
-    /// The word of these bytes.
+    /// Returns the word of these bytes.
     pub fn new(bytes: &'a [u8]) -> Word<'a>
         ensures { result ≡ bytes.now }
     {
         Word { bytes }
     }
 
-    /// Its bytes.
+    /// Returns the bytes of the word.
     pub fn as_bytes(&self) -> &'a [u8]
         ensures { result.now ≡ self.now }
     {

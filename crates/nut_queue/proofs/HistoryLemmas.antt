@@ -1,4 +1,4 @@
--- A queue that holds what looking back says still does after one call more.
+-- If a queue holds what its past calls lead to, it still does after one call more.
 use Rattle.std.proofs.Common.{◌≡◌, ℕ, ◌≤◌, List, [], ◌∷◌, ◌++◌, Result, Ok, Err, OnOk, drop, length, sym, ap, ◌∙◌, arith, length-append, length-drop}
 use Rattle.std.proofs.lemmas.List.{drop-append-le, drop-drop}
 use Rattle.nut_queue.specs.History.{Call, Pushed, Taken, Cleared, Holds, pushed, taken}
@@ -21,7 +21,7 @@ holds_taken old new n waited gone past h = record {
 pub holds_cleared : (new : List ℕ) → new ≡ [] → (past : List Call) → Holds new (Cleared ∷ past)
 holds_cleared new none past = record { within = omega arith; left = none }
 
--- what follows from a success follows where there was one
+-- What follows from a success holds if there was one.
 pub where_ok : {T E P Q : Type 0} → (r : Result T E) → (P → Q) → OnOk r P → OnOk r Q
 where_ok (Ok x) f p = f p
 where_ok (Err e) f p = tt

@@ -1,11 +1,11 @@
--- What a command does to a UPS.
+-- How a command changes a UPS.
 use Rattle.std.proofs.Common.{◌≡◌, ℕ, zero, suc, ◌<◌, true, List, [], ◌∷◌, ◌++◌, length, refl, sym, ◌∙◌, ap, arith, inl, inr, Option, Some, None, slice_set, slice_index_or}
 use Rattle.std.specs.Prelude.{map}
 use Rattle.std.proofs.lemmas.Bool.{cases_Bool}
-use Rattle.nut_history.specs.Content.{Supply}
-use Rattle.nut_history.specs.Device.{Device, absent}
-use Rattle.nut_history.specs.Machine.{act_on, requested, update_at}
-use Rattle.nut_server.specs.Effects.{requesting}
+use Rattle.nut_server_spec.specs.Content.{Supply}
+use Rattle.nut_server_spec.specs.Device.{Device, absent}
+use Rattle.nut_server_spec.specs.machine.Machine.{act_on, requested, update_at}
+use Rattle.nut_server.specs.inside.Effects.{requesting}
 
 pub requested_none : (d : Device) → requested None d ≡ d.waits
 requested_none d = elim (cases_Bool d.connected) [ inl e ↦ rw e refl | inr e ↦ rw e refl ]
@@ -20,22 +20,22 @@ update_at_idle u f [] same = refl
 update_at_idle zero f (d ∷ ds) same = ap (λ x. x ∷ ds) (same d)
 update_at_idle (suc u) f (d ∷ ds) same = ap (λ x. d ∷ x) (update_at_idle u f ds same)
 
--- a change that does nothing
+-- A change that does nothing leaves the UPSes as they are.
 pub act_idle : (o : Option ℕ) (f : Supply → Supply) (ds : List Supply) → ((d : Supply) → f d ≡ d) → act_on o f ds ≡ ds
 act_idle None f ds same = refl
 act_idle (Some u) f ds same = update_at_idle u f ds same
 
--- what is read at a place and written back there is the update
+-- Writing a changed UPS back to its place is the update.
 pub update_at_written : (u : ℕ) (change : Supply → Supply) (ds : List Supply) (d d' : Supply) → u < length ds → d ≡ slice_index_or ds u d → d' ≡ change d → slice_set ds u d' ≡ update_at u change ds
 update_at_written u change [] d d' lt is new' = absurd (omega arith)
 update_at_written zero change (x ∷ ds) d d' lt is new' = ap (λ y. y ∷ ds) (new' ∙ ap change is)
 update_at_written (suc u) change (x ∷ ds) d d' lt is new' = ap (λ ys. x ∷ ys) (update_at_written u change ds d d' (omega arith) is new')
 
--- the change at a place of the one that stands there
+-- Writing the changed UPS back to its place is what the command does.
 pub act_written : (o : Option ℕ) (u : ℕ) (change : Supply → Supply) (ds : List Supply) (d d' : Supply) → Some u ≡ o → u < length ds → d ≡ slice_index_or ds u d → d' ≡ change d → slice_set ds u d' ≡ act_on o change ds
 act_written o u change ds d d' at lt is new' = update_at_written u change ds d d' lt is new' ∙ ap (λ o. act_on o change ds) at
 
--- what the scene knows of a UPS
+-- What the scene knows of a UPS.
 pub device_there : (ds : List Supply) (u : ℕ) (d : Supply) → u < length ds → d ≡ slice_index_or ds u d → slice_index_or (map (λ d. d.device) ds) u absent ≡ d.device
 device_there [] u d lt is = absurd (omega arith)
 device_there (x ∷ ds) zero d lt is = ap (λ d. d.device) (sym is)

@@ -1,25 +1,29 @@
--- What an arrival comes to.
+-- What an arrival changes.
 use Rattle.std.proofs.Common.{◌≡◌, ℕ, zero, suc, ◌+◌, ◌<◌, ◌≤◌, List, [], ◌∷◌, map, length, length-append, refl, sym, ◌∙◌, ap, subst, inl, inr, eqb, Option, Some, None, IfSome, Result, Ok, Err, slice_set, slice_index_or, arith}
 use Rattle.std.specs.Prelude.{IsTrue}
 use Rattle.std.specs.Option.{option_map_or}
 use Rattle.nut_conf.specs.declared.text.Number.{Number}
-use Rattle.nut_history.specs.Trace.{below}
+use Rattle.nut_conf.specs.declared.limits.TheConstants.{CONNECTIONS_MAX}
+use Rattle.nut_server_spec.specs.Trace.{below}
 use Rattle.std.proofs.lemmas.Bool.{cases_Bool, eqb-true, false≢true, le-ltb}
-use Rattle.nut_history.specs.declared.Refused.{Refused}
-use Rattle.nut_history.specs.declared.Refused.TheVariants.{NoSuchConnection, NotConnected, PieceTooLong, Busy, TooMuchTaken, BadAddress, Full, Memory}
-use Rattle.nut_history.specs.Configuration.{Configuration}
-use Rattle.nut_history.specs.Event.{Event}
-use Rattle.nut_history.specs.Content.{Session, Supply, Content}
-use Rattle.nut_history.specs.Acceptance.{Tells, refusal, session_of, bytes_refusal, took_refusal, close_refusal, asks_of}
-use Rattle.nut_history.specs.Machine.{without, down, update_at}
-use Rattle.nut_history.specs.Laws.{IsUpTo}
-use Rattle.nut_history.specs.Outcome.{IsAnswer, after, content_after}
-use Rattle.nut_history.proofs.Tells.{tells-after}
-use Rattle.nut_server.specs.Inside.{numbers_of}
+use Rattle.nut_words.specs.declared.limits.TheConstants.{PIECE_MAX}
+use Rattle.nut_server_spec.specs.declared.Refused.{Refused}
+use Rattle.nut_server_spec.specs.declared.Refused.TheVariants.{NoSuchConnection, NotConnected, PieceTooLong, Busy, TooMuchTaken, BadAddress, Full, Memory}
+use Rattle.nut_server_spec.specs.Configuration.{Configuration}
+use Rattle.nut_server_spec.specs.Event.{Event}
+use Rattle.nut_server_spec.specs.Content.{Session, Supply, Content}
+use Rattle.nut_server_spec.specs.Acceptance.{Tells, refusal, session_of, bytes_refusal, took_refusal, close_refusal, asks_of}
+use Rattle.nut_server_spec.specs.machine.Machine.{without, down, update_at}
+use Rattle.nut_server_spec.specs.laws.Laws.{IsUpTo}
+use Rattle.nut_server_spec.specs.Outcome.{IsAnswer, after}
+use Rattle.nut_server_spec.specs.MachineOutcome.{Answers, content_after}
+use Rattle.nut_server_spec.proofs.Tells.{answers-told, tells-after}
+use Rattle.nut_server_spec.specs.declared.limits.TheConstants.{OPENED_MAX}
+use Rattle.nut_server.specs.inside.Inside.{numbers_of}
 use Rattle.nut_server.specs.Settling.{is_unsettled, IsNextUnsettled}
 
-pub bytes_ok : (c : ℕ) (piece : List ℕ) (ks : List Session) (k : Session) → session_of c ks ≡ Some k → length piece ≤ 512 → length k.waits ≤ 0 → bytes_refusal piece (session_of c ks) ≡ None
-bytes_ok c piece ks k is short none = ap (bytes_refusal piece) is ∙ rw (le-ltb 512 (length piece) short, le-ltb 0 (length k.waits) none) refl
+pub bytes_ok : (c : ℕ) (piece : List ℕ) (ks : List Session) (k : Session) → session_of c ks ≡ Some k → length piece ≤ PIECE_MAX → length k.waits ≤ 0 → bytes_refusal piece (session_of c ks) ≡ None
+bytes_ok c piece ks k is short none = ap (bytes_refusal piece) is ∙ rw (le-ltb PIECE_MAX (length piece) short, le-ltb 0 (length k.waits) none) refl
 
 pub took_ok : (c n : ℕ) (ks : List Session) (k : Session) → session_of c ks ≡ Some k → n ≤ length k.waits → took_refusal n (session_of c ks) ≡ None
 took_ok c n ks k is le = ap (took_refusal n) is ∙ rw (le-ltb (length k.waits) n le) refl
@@ -35,7 +39,7 @@ pub fewer : (c : ℕ) (ks : List Session) → length (without c ks) ≤ length k
 fewer c [] = omega arith
 fewer c (k ∷ ks) = elim (cases_Bool (eqb k.number c)) [ inl e ↦ rw e (omega (arith, fewer c ks)) | inr e ↦ rw e (omega (arith, fewer c ks)) ]
 
--- the first n of a list changed
+-- the list with its first n elements changed
 abbrev pub front_mapped : (Supply → Supply) → ℕ → List Supply → List Supply
 front_mapped f zero ds = ds
 front_mapped f (suc n) [] = []
@@ -59,21 +63,25 @@ length-front f zero ds = refl
 length-front f (suc n) [] = refl
 length-front f (suc n) (d ∷ ds) = ap suc (length-front f n ds)
 
--- a UPS is changed and its driver then gone
+-- a UPS that is changed, and whose driver is then disconnected
 pub gone_after : (u : ℕ) (change : Supply → Supply) (ds : List Supply) (d d' : Supply) → u < length ds → d ≡ slice_index_or ds u d → d' ≡ down (change d) → slice_set ds u d' ≡ update_at u down (update_at u change ds)
 gone_after u change [] d d' lt is new = absurd (omega arith)
 gone_after zero change (x ∷ ds) d d' lt is new = ap (λ y. y ∷ ds) (new ∙ ap (λ y. down (change y)) is)
 gone_after (suc u) change (x ∷ ds) d d' lt is new = ap (λ ys. x ∷ ys) (gone_after u change ds d d' (omega arith) is new)
 
--- the history goes on by the answer
-pub stands_after : (old new : Content) (e : Event) (r : Result (Unit {0}) Refused) → IsAnswer old e r → new ≡ content_after r old e
+-- The history after the answer is that of the new content.
+pub stands_after : (old new : Content) (e : Event) (r : Result (Unit {0}) Refused) → Answers old e r → new ≡ content_after r old e
     → (first : Configuration) (h : List Event) → Tells first h old → Tells first (after r e h) new
 stands_after old new e r answered is first h told =
     let P : Content → Type 0 = Tells first (after r e h) in
     subst P (sym is) (tells-after first h old e r told answered)
 
--- a refused event changes nothing
-pub refused_is : (old new : Content) (e : Event) (r : Result (Unit {0}) Refused) → IsAnswer old e r → new ≡ content_after r old e
+-- the machine's answer is one that the history allows
+pub answer_told : (old : Content) (e : Event) (r : Result (Unit {0}) Refused) → Answers old e r → (first : Configuration) (h : List Event) → Tells first h old → IsAnswer first h e r
+answer_told old e r answered first h told = answers-told first h old e r told answered
+
+-- A refused event changes nothing.
+pub refused_is : (old new : Content) (e : Event) (r : Result (Unit {0}) Refused) → Answers old e r → new ≡ content_after r old e
     → (x : Refused) → refusal old e ≡ Some x → (r ≡ Err x) × (new ≡ old)
 refused_is old new e (Ok u) answered is x refused = absurd (cc)
 refused_is old new e (Err (Memory place)) answered is x refused = absurd (let none = answered.0 in cc)
@@ -85,7 +93,7 @@ refused_is old new e (Err TooMuchTaken) answered is x refused = let same : TooMu
 refused_is old new e (Err BadAddress) answered is x refused = let same : BadAddress ≡ x = cc in (ap Err same, is)
 refused_is old new e (Err Full) answered is x refused = let same : Full ≡ x = cc in (ap Err same, is)
 
--- an unsettled connection has a number that was given out
+-- An unsettled connection has a number that was given out.
 pub unsettled_up_to : (n c : ℕ) (ks : List Session) → IsUpTo n (numbers_of ks) → IsTrue (is_unsettled (session_of c ks)) → c ≤ n
 unsettled_up_to n c [] up unsettled = absurd (false≢true unsettled)
 unsettled_up_to n c (k ∷ ks) up unsettled =
@@ -94,7 +102,7 @@ unsettled_up_to n c (k ∷ ks) up unsettled =
       | inr e ↦ unsettled_up_to n c ks up.1 (rw e at unsettled)
     ]
 
--- what waits for the driver of a UPS that is read
+-- what waits for the driver of a UPS that is at a place
 pub asks_read : (ds : List Supply) (u : ℕ) (d : Supply) → u < length ds → d ≡ slice_index_or ds u d → asks_of u ds ≡ d.device.waits
 asks_read [] u d lt is = absurd (omega arith)
 asks_read (x ∷ ds) zero d lt is = ap (λ y. y.device.waits) (sym is)
@@ -109,8 +117,8 @@ pub none_waits : (xs : List ℕ) → length xs ≤ 0 → xs ≡ []
 none_waits [] le = refl
 none_waits (x ∷ xs) le = absurd (omega arith)
 
--- a number of a connection fits
-pub fits_of : (n least : ℕ) (ks : List Session) (o : Option ℕ) → IsUpTo n (numbers_of ks) → n ≤ 4294967295 → IsNextUnsettled ks least o → IfSome o (λ c. c < 18446744073709551615)
+-- The number of a connection fits into 64 bits, and isn't the greatest.
+pub fits_of : (n least : ℕ) (ks : List Session) (o : Option ℕ) → IsUpTo n (numbers_of ks) → n ≤ OPENED_MAX → IsNextUnsettled ks least o → IfSome o (λ c. c < 18446744073709551615)
 fits_of n least ks None up few next = tt
 fits_of n least ks (Some c) up few next = omega (arith, unsettled_up_to n c ks up next.1, few)
 
@@ -118,7 +126,7 @@ pub length-below : (n : ℕ) → length (below n) ≡ n
 length-below zero = refl
 length-below (suc n) = omega (arith, length-append (below n) (n ∷ []), length-below n)
 
--- MAXCONN is at most 256
-pub most_few : (o : Option (Number 1 256)) → option_map_or (λ n. n.value) o 256 ≤ 256
+-- MAXCONN is at most CONNECTIONS_MAX
+pub most_few : (o : Option (Number 1 CONNECTIONS_MAX)) → option_map_or (λ n. n.value) o CONNECTIONS_MAX ≤ CONNECTIONS_MAX
 most_few None = omega arith
 most_few (Some n) = n.most

@@ -1,4 +1,4 @@
--- The requests to a driver that are always the same.
+-- The requests to a driver that never vary.
 use Rattle.std.proofs.Common.{◌≡◌, refl}
 use Rattle.std.specs.Prelude.{codes}
 use Rattle.nut_proto.specs.declared.driver_ask.DriverAsk.TheVariants.{Ping, DumpAll}

@@ -1,24 +1,24 @@
--- What is decided on a request is what its answer says.
+-- The decision on a request is what its answer requires.
 use Rattle.std.proofs.Common.{◌≡◌, ℕ, ◌<◌, suc, zero, true, false, List, [], ◌∷◌, refl, sym, ◌∙◌, ap, arith, length, Result, Ok, Err, None, inl, inr, slice_index_or, Some}
 use Rattle.std.specs.Prelude.{MatchResult, map}
 use Rattle.std.proofs.lemmas.Bool.{cases_Bool}
 use Rattle.nut_proto.specs.declared.refusal.Refusal.{Refusal}
 use Rattle.nut_proto.specs.declared.reply.Reply.{Reply}
-use Rattle.nut_history.specs.Answer.{Answer, Scene, Caller, Line, refused, device_at, on_data, unless}
-use Rattle.nut_history.specs.Command.{Command, Blank, Asks}
-use Rattle.nut_history.specs.Content.{Supply}
+use Rattle.nut_server_spec.specs.Answer.{Answer, Scene, Caller, Line, refused, device_at, on_data, unless}
+use Rattle.nut_server_spec.specs.Command.{Command, Blank, Asks}
+use Rattle.nut_server_spec.specs.Content.{Supply}
 use Rattle.nut_proto.specs.declared.refusal.Refusal.TheVariants.{DriverNotConnected}
 use Rattle.nut_proto.specs.declared.reply.Reply.TheVariants as replies
 use Rattle.nut_proto.specs.declared.request.Request.TheVariants as requests
 use Rattle.nut_proto.specs.declared.driver_ask.DriverAsk.TheVariants as asks
 use Rattle.nut_proto.specs.DriverAsks.{ask_line}
-use Rattle.nut_history.specs.Configuration.{Configuration, number_of_ups}
-use Rattle.nut_history.specs.Effect.{target}
-use Rattle.nut_history.specs.Device.{Device, absent, trouble}
-use Rattle.nut_history.specs.Machine.{acted, requested}
-use Rattle.nut_server.specs.Answers.{given}
-use Rattle.nut_server.specs.Decisions.{Answers, Decides, Grants}
-use Rattle.nut_server.specs.Effects.{Does, forced}
+use Rattle.nut_server_spec.specs.Configuration.{Configuration, number_of_ups}
+use Rattle.nut_server_spec.specs.Effect.{target}
+use Rattle.nut_server_spec.specs.Device.{Device, absent, trouble}
+use Rattle.nut_server_spec.specs.machine.Machine.{acted, requested}
+use Rattle.nut_server.specs.inside.Answers.{given}
+use Rattle.nut_server.specs.inside.Decisions.{Answers, Decides, Grants}
+use Rattle.nut_server.specs.inside.Effects.{Does, forced}
 use Rattle.nut_server.specs.declared.decision.Decision.{Decision}
 use Rattle.nut_server.specs.declared.effect.Effect.{Effect}
 use Rattle.nut_server.specs.declared.effect.Effect.TheVariants as effects
@@ -29,7 +29,7 @@ use Rattle.nut_server.proofs.Quiet.{IsQuiet}
 pub tells : (s : Scene) (d : Decision) (reply : Answer) (line : List ℕ) → given d.answer ≡ reply → d.effect ≡ effects.Nothing → IsQuiet reply → Answers s Blank reply d line
 tells s d reply line is none quiet = (is, rw none (λ k. rw (quiet.0 k.logged_out, quiet.1 s.configuration k.login) refl, λ supplies. refl), rw none tt)
 
--- a request that does nothing where it is refused
+-- A request that changes nothing if it is refused.
 abbrev pub IsRefusable : Configuration → Command → Type 0
 IsRefusable configuration command = (r : Refusal) (line : List ℕ) → Does configuration command (refused r) effects.Nothing line
 
@@ -40,7 +40,7 @@ pub grants : (s : Scene) (k : Caller) (command : Command) (reply : Reply) (outco
 grants s k command reply (Ok effect) d line made refusable granted = (made.0 ∙ sym granted.0, rw (made.1, granted.0) granted.1, rw made.1 granted.2)
 grants s k command reply (Err r) d line made refusable is = (made.0 ∙ sym is, rw (made.1, is) (refusable r line), rw made.1 tt)
 
--- a UPS stays as it is where nothing is forced and nothing asked
+-- A UPS stays as it is if nothing is forced and nothing asked.
 pub at_rest : (d : Supply) → record d { device = record d.device { waits = requested None d.device } } ≡ d
 at_rest d = ap (λ w. record d { device = record d.device { waits = w } }) (requested_none d.device)
 
@@ -77,18 +77,18 @@ forces configuration ups u line number = (
       (λ d. ap (λ w. record d { device = record d.device { forced = true; waits = w } }) (sym (requested_none d.device)))),
 )
 
--- what is asked of a UPS that can be relied on
+-- the answer about a UPS whose data can be relied on
 pub on_told : (s : Scene) (u : ℕ) (d : Device) (next : Device → Answer) (reply : Answer) → device_at s u ≡ d → trouble s.configuration.max_age s.clock (device_at s u) ≡ None → next d ≡ reply
     → on_data s u next ≡ reply
 on_told s u d next reply there none is = ap (λ t. unless t (next (device_at s u))) none ∙ ap next there ∙ is
 
--- a driver whose UPS has no trouble is connected
+-- If there is no trouble with a UPS, its driver is connected.
 pub connected : (max_age clock : ℕ) (d : Device) → trouble max_age clock d ≡ None → d.connected ≡ true
 connected max_age clock d none = elim (cases_Bool d.connected) [ inl e ↦ e | inr e ↦ absurd (gone e) ] where
   gone : d.connected ≡ false → ⊥
   gone e = let some : trouble max_age clock d ≡ Some DriverNotConnected = rw e refl in let both : Some DriverNotConnected ≡ None = sym some ∙ none in cc
 
--- a UPS whose driver is connected is there
+-- If the driver of a UPS is connected, the UPS exists.
 pub is_there : (ds : List Supply) (u : ℕ) → (slice_index_or (map (λ d. d.device) ds) u absent).connected ≡ true → u < length ds
 is_there [] u is = absurd (cc)
 is_there (d ∷ ds) zero is = omega arith

@@ -7,21 +7,22 @@ use Rattle.std.proofs.lemmas.List.Edits.{length-remove}
 use Rattle.std.proofs.lemmas.Option.{slice_get_read, slice_get_within, get_or_from_slice_get}
 use Rattle.std.proofs.lemmas.List.{length-set, set-get_or}
 use Rattle.std.proofs.lemmas.List.Sums.{get_or-le-sum_by, sum_by-cons, sum_by_push, sum_by-remove, sum_by-set}
+use Rattle.nut_conf.specs.declared.limits.TheConstants.{CONNECTIONS_MAX}
 use Rattle.slab.specs.Slab.{Slab, get, ContainsKey, slab_len, with_value, Updates}
 use Rattle.slab.proofs.SlabLemmas.{Updates-with_value, ContainsKey-within}
-use Rattle.nut_history.specs.Content.{Session}
-use Rattle.nut_history.specs.Acceptance.{session_of}
-use Rattle.nut_history.specs.Laws.{IsBelow, IsRising, IsUpTo}
-use Rattle.nut_history.specs.Machine.{without}
+use Rattle.nut_server_spec.specs.Content.{Session}
+use Rattle.nut_server_spec.specs.Acceptance.{session_of}
+use Rattle.nut_server_spec.specs.laws.Laws.{IsBelow, IsRising, IsUpTo}
+use Rattle.nut_server_spec.specs.machine.Machine.{without}
 use Rattle.nut_server.specs.declared.connections.Key.{Key}
 use Rattle.nut_server.specs.declared.connections.Connections.TheInside.{Inside}
-use Rattle.nut_server.specs.Inside.{numbers_of}
-use Rattle.nut_server.specs.Place.{IsPlace, Stands}
-use Rattle.nut_server.specs.Entries.{sessions_of, key_numbers, AreNamed, AreMarked, AreEntries}
+use Rattle.nut_server.specs.inside.Inside.{numbers_of}
+use Rattle.nut_server.specs.inside.Place.{IsPlace, Stands}
+use Rattle.nut_server.specs.inside.Entries.{sessions_of, key_numbers, AreNamed, AreMarked, AreEntries}
 use Rattle.nut_server.specs.Settling.{is_unsettled, settles}
 use Rattle.nut_server.proofs.Orderly.{IsRising-without, IsRising-push, none_below}
 
--- the connection k stands in the slot of this key
+-- The slot of this key holds the connection k.
 abbrev pub IsNamed : Slab Session → Key → Type 0
 IsNamed slots key = (k : Session) × (get slots key.slot ≡ Some k) × (k.number ≡ key.number)
 
@@ -36,7 +37,7 @@ pub length-sessions : (slots : Slab Session) (order : List Key) → AreNamed slo
 length-sessions slots [] named = refl
 length-sessions slots (key ∷ order) named = rw named.0.1 (ap suc (length-sessions slots order named.1))
 
--- what stands at a place of the order
+-- the key at a place, and the connection in its slot
 pub named_at : (slots : Slab Session) (order : List Key) (at : ℕ) (key : Key) → AreNamed slots order → slice_get order at ≡ Some key → IsNamed slots key
 named_at slots [] at key named there = absurd (cc)
 named_at slots (x ∷ order) zero key named there = let same : x ≡ key = cc in subst (IsNamed slots) same named.0
@@ -65,12 +66,12 @@ below_at n (x ∷ order) zero key below there = let same : x.number ≡ key.numb
   number_or n (Some key) = key.number
 below_at n (x ∷ order) (suc at) key below there = below_at n order at key below.1 there
 
--- none of these keys has the slot
+-- None of these keys has this slot.
 abbrev pub LeaveOut : ℕ → List Key → Type 0
 LeaveOut slot [] = Unit {0}
 LeaveOut slot (key ∷ order) = (key.slot ≢ slot) × LeaveOut slot order
 
--- connections of different numbers stand in different slots
+-- Connections with different numbers are in different slots.
 apart : (slots : Slab Session) (key : Key) (slot : ℕ) (k : Session) → IsNamed slots key → get slots slot ≡ Some k → k.number ≢ key.number → key.slot ≢ slot
 apart slots key slot k named there differs same =
     let one : Some named.0 ≡ Some k = sym named.1 ∙ ap (get slots) same ∙ there in
@@ -86,7 +87,7 @@ free slots [] slot named none = tt
 free slots (x ∷ order) slot named none =
     (λ same. let bad : Some named.0.0 ≡ None = sym named.0.1 ∙ ap (get slots) same ∙ none in cc, free slots order slot named.1 none)
 
--- what is done to another slot doesn't touch them
+-- A change of another slot leaves them as they are.
 module _ (old now' : Slab Session) (slot : ℕ) (o : Option Session) (updates : Updates old now' slot o) where
   sessions_stay : (order : List Key) → LeaveOut slot order → sessions_of now' order ≡ sessions_of old order
   sessions_stay [] out = refl
@@ -100,11 +101,11 @@ module _ (old now' : Slab Session) (slot : ℕ) (o : Option Session) (updates : 
   marked_stay [] out marked = tt
   marked_stay (x ∷ order) out marked = (marked.0 ∙ ap is_unsettled (sym (updates.others x.slot out.0)), marked_stay order out.1 marked.1)
 
--- this key, with a mark for a connection
+-- this key, marked as the connection is
 abbrev pub marked_for : Session → Key → Key
 marked_for k key = record key { unsettled = is_unsettled (Some k) }
 
--- one of them is changed, and keeps its number
+-- one of them is changed and keeps its number
 pub changed : (old now' : Slab Session) (order : List Key) (at : ℕ) (key : Key) (k k' : Session) → IsRising (key_numbers order) → AreNamed old order → AreMarked old order
     → slice_get order at ≡ Some key → get old key.slot ≡ Some k → k'.number ≡ k.number → Updates old now' key.slot (Some k')
     → (sessions_of now' order ≡ slice_set (sessions_of old order) at k') × AreNamed now' order × AreMarked now' (slice_set order at (marked_for k' key))
@@ -147,7 +148,7 @@ remarked slots (x ∷ order) (suc at) key k named there =
     let rest = remarked slots order at key k named.1 there in
     (rw (named.0.1, rest.0) refl, ap (λ ns. x.number ∷ ns) rest.1, (named.0, rest.2))
 
--- without a number that none of them has they are the same
+-- Without a number that none of them has, they are the same.
 pub without_none : (c : ℕ) (ks : List Session) → session_of c ks ≡ None → without c ks ≡ ks
 without_none c [] none = refl
 without_none c (k ∷ ks) none = elim (cases_Bool (eqb k.number c)) [
@@ -155,7 +156,7 @@ without_none c (k ∷ ks) none = elim (cases_Bool (eqb k.number c)) [
   | inr e ↦ rw e (ap (λ ks. k ∷ ks) (without_none c ks (rw e at none)))
 ]
 
--- one of them is gone
+-- one of them is removed
 pub removed : (old now' : Slab Session) (order : List Key) (at : ℕ) (key : Key) → IsRising (key_numbers order) → AreNamed old order → AreMarked old order
     → slice_get order at ≡ Some key → Updates old now' key.slot None
     → (sessions_of now' (remove order at) ≡ without key.number (sessions_of old order)) × AreNamed now' (remove order at) × AreMarked now' (remove order at)
@@ -184,7 +185,7 @@ removed old now' (x ∷ order) (suc at) key rising named marked there updates =
       (marked.0 ∙ ap is_unsettled (sym head), rest.2),
     )
 
--- one more stands behind them
+-- one more is added at the end
 pub added : (old now' : Slab Session) (order : List Key) (key : Key) (k : Session) → AreNamed old order → AreMarked old order → get old key.slot ≡ None → k.number ≡ key.number
     → key.unsettled ≡ is_unsettled (Some k) → Updates old now' key.slot (Some k)
     → (sessions_of now' (order ++ key ∷ []) ≡ sessions_of old order ++ k ∷ []) × AreNamed now' (order ++ key ∷ []) × AreMarked now' (order ++ key ∷ [])
@@ -200,24 +201,24 @@ added old now' order key k named marked none number mark updates = behind order 
         (marked.0 ∙ ap is_unsettled (sym head), rest.2),
       )
 
--- the numbers rise after each of these
+-- The numbers rise after each of these.
 pub rising_of : (slots : Slab Session) (order : List Key) (ks : List Session) → AreNamed slots order → sessions_of slots order ≡ ks → IsRising (numbers_of ks) → IsRising (key_numbers order)
 rising_of slots order ks named is rising = subst IsRising (ap numbers_of (sym is) ∙ numbers-sessions slots order named) rising
 
 pub sessions_rise : (slots : Slab Session) (order : List Key) → AreNamed slots order → IsRising (key_numbers order) → IsRising (numbers_of (sessions_of slots order))
 sessions_rise slots order named rising = subst IsRising (sym (numbers-sessions slots order named)) rising
 
--- there are as many keys as connections
+-- There are as many keys as connections.
 pub as_many : (slots : Slab Session) (order : List Key) (ks : List Session) → AreNamed slots order → sessions_of slots order ≡ ks → length order ≡ length ks
 as_many slots order ks named is = sym (length-sessions slots order named) ∙ ap length is
 
--- how many values a slab has after one was written over
+-- the number of values of a slab after one was replaced
 len_written : (slots : Slab Session) (slot : ℕ) (k k' : Session) → get slots slot ≡ Some k → ContainsKey slots slot → slab_len (with_value slots slot k') ≡ slab_len slots
 len_written slots slot k k' is contains =
     let filled : Option Session → ℕ = λ o. cond (is_some o) 1 0 in
     omega (arith, sum_by-set filled slots.slots slot (Some k') None (ContainsKey-within slots slot contains), ap filled is)
 
--- the key that is read at a place, and the connection in its slot
+-- The key at a place, and the connection in its slot.
 pub record IsRead (e : Inside) (at : ℕ) (key : Key) : Type 0 where
   pub there : slice_get e.order.items at ≡ Some key
   pub named : IsNamed e.slots key
@@ -229,13 +230,13 @@ entry_read e ks at key are view within read =
     let named = named_at e.slots e.order.items at key are.named there in
     record { there = there; named = named; found = let P : Option Session → Type 0 = λ o. IsSome o in subst P (sym named.1) refl }
 
--- the connection k at a place is changed to k'
+-- The connection k at a place is changed to k'.
 pub record IsChanged (e e' : Inside) (at : ℕ) (k k' : Session) : Type 0 where
   pub entries : AreEntries e'
   pub written : sessions_of e'.slots e'.order.items ≡ slice_set (sessions_of e.slots e.order.items) at k'
   pub read : k ≡ slice_index_or (sessions_of e.slots e.order.items) at k
 
--- what is done to the slab and the keys where the connection of the key at a place is changed to k'
+-- The slab and the keys after the connection of the key at a place is changed to k'.
 pub record IsWritten (e e' : Inside) (at : ℕ) (key : Key) (k' : Session) : Type 0 where
   pub slots : e'.slots ≡ with_value e.slots key.slot k'
   pub keys : e'.order.items ≡ slice_set e.order.items at (marked_for k' key)
@@ -264,14 +265,14 @@ entry_changed e e' at key k k' are read is same done =
       read = sym (get_or_from_slice_get (sessions_of e.slots e.order.items) at k k (session_at e.slots e.order.items at key are.named read.there ∙ is));
     }
 
--- what marking the key at a place anew makes of them
+-- The change of a connection is complete when the key at its place is marked anew.
 pub marked_so : (e e' : Inside) (at : ℕ) (key : Key) (k' : Session) (mark : Bool) → IsRead e at key → e'.slots ≡ with_value e.slots key.slot k' → mark ≡ is_unsettled (Some k')
     → ((key : Key) → slice_get e.order.items at ≡ Some key → e'.order.items ≡ slice_set e.order.items at (record key { unsettled = mark }))
     → e'.unsettled ≡ count_by (λ key. key.unsettled) e'.order.items → vec_capacity e'.order ≡ vec_capacity e.order → IsWritten e e' at key k'
 marked_so e e' at key k' mark read slots is keys unsettled room =
     record { slots = slots; keys = keys key read.there ∙ ap (λ m. slice_set e.order.items at (record key { unsettled = m })) is; unsettled = unsettled; room = room }
 
--- the same of a change after which it is unsettled where it was: its mark stays
+-- No key needs to be marked if the connection is unsettled after the change just if it was before.
 pub entry_kept : (e : Inside) (at : ℕ) (key : Key) (k k' : Session) → AreEntries e → IsRead e at key → get e.slots key.slot ≡ Some k → k'.number ≡ k.number
     → is_unsettled (Some k) ≡ is_unsettled (Some k') → IsChanged e (record { slots = with_value e.slots key.slot k'; order = e.order; unsettled = e.unsettled }) at k k'
 entry_kept e at key k k' are read is same stays =
@@ -287,7 +288,7 @@ entry_kept e at key k k' are read is same stays =
       Key_with : Bool → Key
       Key_with m = record key { unsettled = m }
 
--- the connection in the slot of the key at a place stands at that place
+-- The connection in the slot of the key at a place has that place.
 pub session_there : (e : Inside) (ks : List Session) (at : ℕ) (key : Key) (k : Session) → AreEntries e → sessions_of e.slots e.order.items ≡ ks → IsRead e at key
     → get e.slots key.slot ≡ Some k → slice_get ks at ≡ Some k
 session_there e ks at key k are view read is =
@@ -299,7 +300,7 @@ numbers-set [] at k k' is same = refl
 numbers-set (x ∷ ks) zero k k' is same = ap (λ n. n ∷ numbers_of ks) (same ∙ ap (λ k. k.number) is)
 numbers-set (x ∷ ks) (suc at) k k' is same = ap (λ ns. x.number ∷ ns) (numbers-set ks at k k' is same)
 
--- what is done to the slab and the keys where the connection k is added under a key
+-- The slab and the keys after the connection k is added with a key.
 pub record IsAdded (e e' : Inside) (key : Key) (k : Session) : Type 0 where
   pub vacant : get e.slots key.slot ≡ None
   pub updates : Updates e.slots e'.slots key.slot (Some k)
@@ -310,21 +311,21 @@ pub record IsAdded (e e' : Inside) (key : Key) (k : Session) : Type 0 where
   pub unsettled : e'.unsettled ≡ count_by (λ key. key.unsettled) e'.order.items
   pub room : vec_capacity e'.order ≡ vec_capacity e.order
 
--- the count with the one that came
+-- the count after one was added
 pub one_more : (e e' : Inside) (key : Key) → AreEntries e → e'.order.items ≡ e.order.items ++ key ∷ [] → e'.unsettled ≡ e.unsettled + cond key.unsettled 1 0
     → e'.unsettled ≡ count_by (λ key. key.unsettled) e'.order.items
 one_more e e' key are keys more =
     let pushed : count_by (λ (key : Key). key.unsettled) (e.order.items ++ key ∷ []) ≡ count_by (λ (key : Key). key.unsettled) e.order.items + cond key.unsettled 1 0 = sum_by_push (λ (key : Key). cond key.unsettled 1 0) e.order.items key in
     rw keys (omega (arith, more, are.unsettled, pushed))
 
--- a key is counted, if it is marked
+-- A key is counted if it is marked.
 pub counted_in : (e : Inside) (at : ℕ) (key : Key) → AreEntries e → IsRead e at key → cond key.unsettled 1 0 ≤ e.unsettled
 counted_in e at key are read =
     let marked : Key → ℕ = λ key. cond key.unsettled 1 0 in
     let within : marked (get_or e.order.items at key) ≤ count_by (λ (key : Key). key.unsettled) e.order.items = get_or-le-sum_by marked e.order.items at key (slice_get_within e.order.items at key read.there) in
     omega (arith, are.unsettled, within, ap marked (get_or_from_slice_get e.order.items at key key read.there))
 
--- the count without the one that is gone
+-- the count after one was removed
 pub one_less : (e e' : Inside) (at : ℕ) (key : Key) → AreEntries e → IsRead e at key → e'.order.items ≡ remove e.order.items at → e'.unsettled + cond key.unsettled 1 0 ≡ e.unsettled
     → e'.unsettled ≡ count_by (λ key. key.unsettled) e'.order.items
 one_less e e' at key are read keys less =
@@ -332,12 +333,12 @@ one_less e e' at key are read keys less =
     let gone : count_by (λ (key : Key). key.unsettled) (remove e.order.items at) + cond (get_or e.order.items at key).unsettled 1 0 ≡ count_by (λ (key : Key). key.unsettled) e.order.items = sum_by-remove marked e.order.items at key (slice_get_within e.order.items at key read.there) in
     rw keys (omega (arith, less, are.unsettled, gone, ap marked (get_or_from_slice_get e.order.items at key key read.there)))
 
--- it still is in order, and these are the connections then
+-- They are in order, and hold these connections.
 pub record Are (e : Inside) (ks : List Session) : Type 0 where
   pub entries : AreEntries e
   pub sessions : sessions_of e.slots e.order.items ≡ ks
 
-pub entry_added : (e e' : Inside) (ks : List Session) (key : Key) (k : Session) → AreEntries e → sessions_of e.slots e.order.items ≡ ks → length ks < 256
+pub entry_added : (e e' : Inside) (ks : List Session) (key : Key) (k : Session) → AreEntries e → sessions_of e.slots e.order.items ≡ ks → length ks < CONNECTIONS_MAX
     → (n : ℕ) × IsUpTo n (numbers_of ks) × (n < k.number) → k.number ≡ key.number → IsAdded e e' key k → Are e' (ks ++ k ∷ [])
 entry_added e e' ks key k are view few above number done =
     let both = added e.slots e'.slots e.order.items key k are.named are.marked done.vacant number done.mark done.updates in
@@ -361,7 +362,7 @@ entry_added e e' ks key k are view few above number done =
       sessions = sessions;
     }
 
--- what is done to them where the connection of the key at a place is removed
+-- The slab and the keys after the connection of the key at a place is removed.
 pub record IsRemoved (e e' : Inside) (at : ℕ) (key : Key) : Type 0 where
   pub updates : Updates e.slots e'.slots key.slot None
   pub len : slab_len e'.slots + 1 ≡ slab_len e.slots
@@ -399,7 +400,7 @@ entry_removed e e' ks at key c are view stands read done =
       sessions = sessions;
     }
 
--- the connection of the key at a place, and that the key says whether it settles
+-- The key at a place says whether its connection is unsettled, with a number of at least `least`.
 pub record Tells (ks : List Session) (least at : ℕ) (key : Key) : Type 0 where
   pub k : Session
   pub there : slice_get ks at ≡ Some k
@@ -419,7 +420,7 @@ key_tells e ks least at key are view within is =
       settles = ap (λ n. nat_le least n && is_unsettled (Some k)) read.named.2 ∙ ap (λ m. nat_le least key.number && m) mark;
     }
 
--- where no key is marked, nothing is found
+-- If no key is marked, nothing is found.
 none_marked : (slots : Slab Session) (order : List Key) (least : ℕ) → AreNamed slots order → AreMarked slots order → count_by (λ key. key.unsettled) order ≡ 0
     → find (settles least) (sessions_of slots order) ≡ None
 none_marked slots [] least named marked none = refl

@@ -1,4 +1,4 @@
--- The fronts of a piece through its line feeds, and the line that a cutter hands out.
+-- The fronts of a piece up to its line feeds, and the line that a cutter hands out.
 use Rattle.std.proofs.Common.{◌≡◌, ℕ, zero, suc, ◌+◌, ◌<◌, ◌≤◌, eqb, List, [], ◌∷◌, ◌++◌, length, take, drop, refl, sym, ◌∙◌, ap, arith, inl, inr}
 use Rattle.std.specs.Prelude.{◌==◌, if◌then◌else◌, nat_le, Option, Some, None, IfNone, OnSome}
 use Rattle.std.proofs.lemmas.Bool.{cases_Bool, eqb-true, false≢true}
@@ -6,12 +6,13 @@ use Rattle.std.proofs.lemmas.List.{append-nil, append_assoc, append_cancel_left,
 use Rattle.nut_words.specs.Lines.{LineText, Text, TooLong, as_line, last_of, parts, lines, rest, joined, lines_after}
 use Rattle.nut_words.proofs.LineLemmas.{joined-as_line}
 use Rattle.nut_words.proofs.StreamGrowth.{lines-append, lines_at_line_feed, rest_at_line_feed, lines_within, rest_within}
-use Rattle.nut_history.specs.Acceptance.{front, line_feeds}
-use Rattle.nut_history.proofs.Hearing.{until_feed, first_line}
+use Rattle.nut_words.specs.declared.limits.TheConstants.{LINE_MAX}
+use Rattle.nut_server_spec.specs.Acceptance.{front, line_feeds}
+use Rattle.nut_server_spec.proofs.Hearing.{until_feed, first_line}
 
 -- ---- fronts
 
--- the rest of a piece behind its k-th line feed
+-- the rest of a piece after its k-th line feed
 abbrev pub behind : ℕ → List ℕ → List ℕ
 behind zero piece = piece
 behind (suc k) [] = []
@@ -40,7 +41,7 @@ behind_next zero p = refl
 behind_next (suc k) [] = refl
 behind_next (suc k) (b ∷ p) = elim (cases_Bool (eqb b 10)) [ inl e ↦ rw e (behind_next k p) | inr e ↦ rw e (behind_next (suc k) p) ]
 
--- as many line feeds stand behind k of them as there are more
+-- If there is a line feed after the first k, there are more than k.
 pub line_feeds_behind : (k : ℕ) (p : List ℕ) → 0 < line_feeds (behind k p) → k < line_feeds p
 line_feeds_behind zero p more = more
 line_feeds_behind (suc k) [] more = absurd (omega arith)
@@ -60,7 +61,7 @@ pub line_feeds-length : (x : List ℕ) → line_feeds x ≤ length x
 line_feeds-length [] = omega arith
 line_feeds-length (b ∷ x) = elim (cases_Bool (eqb b 10)) [ inl e ↦ rw e (omega (arith, line_feeds-length x)) | inr e ↦ rw e (omega (arith, line_feeds-length x)) ]
 
--- a piece brings a line for each of its line feeds
+-- A piece completes a line for each of its line feeds.
 pub lines_brought : (b x : List ℕ) → length (lines (b ++ x)) ≡ length (lines b) + line_feeds x
 lines_brought b [] = omega (arith, ap (λ b. length (lines b)) (append-nil b))
 lines_brought b (c ∷ x) =
@@ -75,17 +76,17 @@ lines_brought b (c ∷ x) =
           rw e (omega (arith, later, same))
     ]
 
--- an unfinished line with nothing behind it
+-- an unfinished line with no byte added
 pub joined_rest : (b : List ℕ) → joined (rest b) [] ≡ rest b
 joined_rest b = let t = last_of (parts b) in joined-as_line t [] ∙ ap as_line (append-nil t)
 
--- an unfinished line grows byte by byte
+-- an unfinished line with bytes added one by one
 pub joined_next : (b : List ℕ) (c : ℕ) (u : List ℕ) → joined (joined (rest b) (c ∷ [])) u ≡ joined (rest b) (c ∷ u)
 joined_next b c u = grows (last_of (parts b)) where
   grows : (t : List ℕ) → joined (joined (as_line t) (c ∷ [])) u ≡ joined (as_line t) (c ∷ u)
   grows t = ap (λ r. joined r u) (joined-as_line t (c ∷ [])) ∙ joined-as_line (t ++ c ∷ []) u ∙ ap as_line (append_assoc t (c ∷ []) u) ∙ sym (joined-as_line t (c ∷ u))
 
--- behind the bytes b, the first line of a text with a line feed, what it leaves, and the lines behind it
+-- After the bytes b: the first line that a text with a line feed completes, what it leaves, and the lines after it.
 pub first_of : (b x : List ℕ) → 0 < line_feeds x
     → (lines (b ++ x) ≡ lines b ++ joined (rest b) (until_feed x) ∷ lines_after (Text []) (behind 1 x)) × (rest (b ++ front 1 x) ≡ Text [])
 first_of b [] more = absurd (omega arith)
@@ -114,7 +115,7 @@ first_of b (c ∷ x) more =
           )
     ]
 
--- a text with a line feed, in more of it
+-- a text with a line feed, as the front of a longer one
 pub until_more : (x y : List ℕ) → 0 < line_feeds x → until_feed (x ++ y) ≡ until_feed x
 until_more [] y more = absurd (omega arith)
 until_more (c ∷ x) y more = elim (cases_Bool (eqb c 10)) [ inl e ↦ rw e refl | inr e ↦ rw e (ap (λ u. c ∷ u) (until_more x y (rw e at more))) ]
@@ -131,7 +132,7 @@ pub line_feeds-front : (x : List ℕ) → 0 < line_feeds x → line_feeds (front
 line_feeds-front [] more = absurd (omega arith)
 line_feeds-front (c ∷ x) more = elim (cases_Bool (eqb c 10)) [ inl e ↦ rw e refl | inr e ↦ rw e (line_feeds-front x (rw e at more)) ]
 
--- a text without a line feed behind the bytes b
+-- a text without a line feed, after the bytes b
 pub unbroken_rest : (b y : List ℕ) → line_feeds y ≡ 0 → rest (b ++ y) ≡ joined (rest b) y
 unbroken_rest b [] none = ap rest (append-nil b) ∙ sym (joined_rest b)
 unbroken_rest b (c ∷ y) none =
@@ -144,9 +145,9 @@ unbroken_rest b (c ∷ y) none =
 
 nothing_left : (y : List ℕ) → as_line y ≡ Text [] → y ≡ []
 nothing_left [] is = refl
-nothing_left (c ∷ y) is = elim (cases_Bool (nat_le (length (c ∷ y)) 512)) [ inl e ↦ let t : Text (c ∷ y) ≡ Text [] = rw e at is in cc | inr e ↦ let t : TooLong ≡ Text [] = rw e at is in absurd (cc) ]
+nothing_left (c ∷ y) is = elim (cases_Bool (nat_le (length (c ∷ y)) LINE_MAX)) [ inl e ↦ let t : Text (c ∷ y) ≡ Text [] = rw e at is in cc | inr e ↦ let t : TooLong ≡ Text [] = rw e at is in absurd (cc) ]
 
--- ---- what a cutter that had the rest of b hands out of a piece, of which it used so much
+-- ---- what a cutter that held the rest of b hands out of a piece, after using some of its bytes
 
 pub one_feed : (b x : List ℕ) (line : LineText) → lines (b ++ x) ≡ lines b ++ line ∷ [] → line_feeds x ≡ 1
 one_feed b x line brought = omega (arith, lines_brought b x, ap length brought, length-append (lines b) (line ∷ []))
@@ -154,7 +155,7 @@ one_feed b x line brought = omega (arith, lines_brought b x, ap length brought, 
 pub no_feed : (b x : List ℕ) → lines (b ++ x) ≡ lines b ++ [] → line_feeds x ≡ 0
 no_feed b x brought = omega (arith, lines_brought b x, ap length brought, ap length (append-nil (lines b)))
 
--- a line feed stands in the piece
+-- The piece has a line feed.
 pub has_feed : (b : List ℕ) (used : ℕ) (left : List ℕ) (line : LineText) → lines (b ++ take used left) ≡ lines b ++ line ∷ [] → 0 < line_feeds left
 has_feed b used left line brought =
     omega (arith, one_feed b (take used left) line brought, line_feeds-append (take used left) (drop used left), ap line_feeds (take-append-drop used left))
@@ -169,7 +170,7 @@ handed_is b used left line brought =
     let until : until_feed left ≡ until_feed x = ap until_feed (sym (take-append-drop used left)) ∙ until_more x (drop used left) some in
     sym here ∙ ap (joined (rest b)) (sym until)
 
--- and where nothing is left of a line, the rest of the piece is what stands behind its line feed
+-- If nothing of a line is left, the rest of the piece is what follows its line feed.
 pub left_is : (b : List ℕ) (used : ℕ) (left : List ℕ) (line : LineText) → lines (b ++ take used left) ≡ lines b ++ line ∷ [] → Text [] ≡ rest (b ++ take used left) → drop used left ≡ behind 1 left
 left_is b used left line brought ended =
     let x = take used left in
@@ -182,7 +183,7 @@ left_is b used left line brought ended =
     let empty : y ≡ [] = nothing_left y (sym parted ∙ sym ended) in
     sym (ap (behind 1) (sym (take-append-drop used left)) ∙ behind_more x (drop used left) some ∙ ap (λ y. y ++ drop used left) empty)
 
--- ---- the arms of a feed
+-- ---- the cases of a feed
 
 pub none_of : {A : Type 0} (o : Option A) (P : Type 0) → o ≡ None → IfNone o P → P
 none_of None P is h = h

@@ -1,4 +1,4 @@
--- The UPSes and users that the files set are found in the configuration as they are in the files.
+-- The UPSes and users of the configuration are those of the files.
 use Rattle.std.proofs.Common.{◌≡◌, ℕ, ◌+◌, ◌≤◌, Bool, true, false, not, cond, ◌||◌, List, [], ◌∷◌, length, map, Option, None, Some, nat_lt, refl, sym, ap, ◌∙◌, arith}
 use Rattle.std.specs.List.{find, list_any, position, position_or_len, prefix_len}
 use Rattle.std.specs.Map.{keys_of, values_of, lookup}
@@ -18,9 +18,10 @@ use Rattle.nut_conf.specs.declared.users.User as the_user
 use Rattle.nut_conf.specs.declared.users.Commands.{Commands}
 use Rattle.nut_conf.specs.declared.users.Commands.TheVariants as commands
 use Rattle.nut_words.proofs.CutLemmas.{false-from_not_true}
+use Rattle.nut_words.specs.declared.limits.TheConstants.{UPS_NAME_MAX}
 use Rattle.nut_conf.proofs.NameLookup.{slice_get-names}
 use Rattle.nut_conf.proofs.SlotLemmas.{length-map}
-use Rattle.nut_history.specs.Configuration.{Ups, number_of_ups, user_named, covers}
+use Rattle.nut_server_spec.specs.Configuration.{Ups, number_of_ups, user_named, covers}
 use Rattle.nut_server.specs.Configured.{ups_of, user_of, user_in, command_of}
 
 bytes_eq-symm : (a b : List ℕ) → bytes_eq a b ≡ bytes_eq b a
@@ -31,8 +32,8 @@ bytes_eq-symm a b = by_test (bytes_eq a b) refl where
       let again : bytes_eq a b ≡ true = (bytes_eq-Decides a b).1 (sym ((bytes_eq-Decides b a).0 t)) in
       absurd (cc)))
 
--- the names of the UPSes are those of the file
-pub shown-names : (es : List (Name 32 × the_ups.Ups)) → map (λ u. u.name) (map ups_of (map shown es)) ≡ names_in (keys_of es)
+-- The names of the UPSes are those of the file.
+pub shown-names : (es : List (Name UPS_NAME_MAX × the_ups.Ups)) → map (λ u. u.name) (map ups_of (map shown es)) ≡ names_in (keys_of es)
 shown-names [] = refl
 shown-names (e ∷ es) = ap (λ (ns : List (List ℕ)). e.0.bytes.items ∷ ns) (shown-names es)
 
@@ -43,7 +44,7 @@ prefix-named name (u ∷ us) =
     (elim (bytes_eq name u.name) as (λ t. cond (not t) (1 + prefix_len (λ u. not (bytes_eq u.name name)) us) 0 ≡ cond (not t) (1 + prefix_len (λ b. not (bytes_eq name b)) (map (λ u. u.name) us)) 0)
     [ true ↦ refl | false ↦ ap (λ k. 1 + k) (prefix-named name us) ])
 
--- the number of a UPS is the place of its name among the names
+-- The number of a UPS is the place of its name among the names.
 pub number-names : (name : List ℕ) (us : List Ups) → position (bytes_eq name) (map (λ u. u.name) us) ≡ number_of_ups name us
 number-names name us =
     let place = position_or_len (bytes_eq name) (map (λ u. u.name) us) in
@@ -51,13 +52,13 @@ number-names name us =
     ∙ ap (λ k. cond (nat_lt k (length us)) (Some k) None) (sym (prefix-named name us))
 
 -- the UPS under a name
-pub ups-there : (es : List (Name 32 × the_ups.Ups)) (k : ℕ) (n m driver desc : List ℕ) (v : the_ups.Ups)
+pub ups-there : (es : List (Name UPS_NAME_MAX × the_ups.Ups)) (k : ℕ) (n m driver desc : List ℕ) (v : the_ups.Ups)
     → Some n ≡ slice_get (names_in (keys_of es)) k → Some v ≡ slice_get (values_of es) k → m ≡ n → driver ≡ driver_of v → desc ≡ desc_of v
     → Some (record { name = m; driver = driver; description = desc }) ≡ slice_get (map ups_of (map shown es)) k
 ups-there es k n m driver desc v named valued is_m is_driver is_desc =
     by_entry (slice_get es k) (named ∙ slice_get-names es k) (valued ∙ slice_get-map (λ e. e.1) es k)
     ∙ sym (slice_get-map ups_of (map shown es) k ∙ ap (option_map ups_of) (slice_get-map shown es k)) where
-      by_entry : (o : Option (Name 32 × the_ups.Ups)) → Some n ≡ option_map (λ e. e.0.bytes.items) o → Some v ≡ option_map (λ e. e.1) o
+      by_entry : (o : Option (Name UPS_NAME_MAX × the_ups.Ups)) → Some n ≡ option_map (λ e. e.0.bytes.items) o → Some v ≡ option_map (λ e. e.1) o
           → Some (record { name = m; driver = driver; description = desc }) ≡ option_map ups_of (option_map shown o)
       by_entry None named valued = absurd (cc)
       by_entry (Some e) named valued =
@@ -66,14 +67,14 @@ ups-there es k n m driver desc v named valued is_m is_driver is_desc =
           rw (is_m ∙ is_n, is_driver ∙ ap driver_of is_v, is_desc ∙ ap desc_of is_v) refl
 
 module _ {X : Type 0} (test : X → Bool) (xs : List X) where
-  -- what is found first is what stands at the first place
+  -- The first element that passes the test is the one at the first place that does.
   pub there-found : (k : ℕ) → Some k ≡ position test xs → slice_get xs k ≡ find test xs
   there-found k is = by_test (nat_lt (position_or_len test xs) (length xs)) is ∙ sym (find_at test xs) where
     by_test : (b : Bool) → Some k ≡ cond b (Some (position_or_len test xs)) None → slice_get xs k ≡ slice_get xs (position_or_len test xs)
     by_test true is = let same : k ≡ position_or_len test xs = cc in ap (slice_get xs) same
     by_test false is = absurd (cc)
 
-  -- and where there is no place, none is found
+  -- If there is no such place, no element passes.
   pub none-found : None ≡ position test xs → None ≡ find test xs
   none-found is = sym (find_at test xs ∙ by_test (nat_lt (position_or_len test xs) (length xs)) refl is) where
     by_test : (b : Bool) → nat_lt (position_or_len test xs) (length xs) ≡ b → None ≡ cond b (Some (position_or_len test xs)) None → slice_get xs (position_or_len test xs) ≡ None
@@ -82,18 +83,18 @@ module _ {X : Type 0} (test : X → Bool) (xs : List X) where
       past : (k n : ℕ) → nat_lt k n ≡ false → n ≤ k
       past k n h = grind (arith, nat_tests)
 
-found_first : (name : List ℕ) (e : Name 32 × the_user.User) (es : List (Name 32 × the_user.User)) (t : Bool) → bytes_eq name e.0.bytes.items ≡ t
+found_first : (name : List ℕ) (e : Name UPS_NAME_MAX × the_user.User) (es : List (Name UPS_NAME_MAX × the_user.User)) (t : Bool) → bytes_eq name e.0.bytes.items ≡ t
     → user_named name (map user_in es) ≡ option_map (user_of name) (lookup (is_named name) es)
     → cond t (Some (user_in e)) (user_named name (map user_in es)) ≡ option_map (user_of name) (cond t (Some e.1) (lookup (is_named name) es))
 found_first name e es true h later = ap (λ n. Some (user_of n e.1)) (sym ((bytes_eq-Decides name e.0.bytes.items).0 h))
 found_first name e es false h later = later
 
--- the user of a name is the one under this name
-pub found_user : (name : List ℕ) (es : List (Name 32 × the_user.User)) → user_named name (map user_in es) ≡ option_map (user_of name) (lookup (is_named name) es)
+-- The user with a name is the one under this name in the file.
+pub found_user : (name : List ℕ) (es : List (Name UPS_NAME_MAX × the_user.User)) → user_named name (map user_in es) ≡ option_map (user_of name) (lookup (is_named name) es)
 found_user name [] = refl
 found_user name (e ∷ es) = rw (bytes_eq-symm e.0.bytes.items name) (found_first name e es (bytes_eq name e.0.bytes.items) refl (found_user name es))
 
--- commands that are covered
+-- the commands that a user may give
 pub covered : (name : List ℕ) (cs : List Commands) → list_any (files.covers name) cs ≡ list_any (covers name) (map command_of cs)
 covered name [] = refl
 covered name (commands.All ∷ cs) = refl

@@ -1,4 +1,5 @@
 pub mod FromFiles
+pub mod Described
 pub mod RowTexts
 pub mod Asks
 pub mod Logins

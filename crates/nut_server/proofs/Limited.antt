@@ -1,4 +1,4 @@
--- A configuration that the files set is within their limits, and so is what waits for a client.
+-- A configuration that files set is within their limits, and what waits for a client is bounded.
 use Rattle.std.proofs.Common.{◌≡◌, ℕ, ◌≤◌, Bool, true, false, List, [], ◌∷◌, length, map, refl, sym, subst, ◌∙◌, ap, arith, Option, Some, None}
 use Rattle.std.specs.Prelude.{◌&&◌, nat_le, codes}
 use Rattle.std.specs.Option.{option_map_or}
@@ -6,49 +6,67 @@ use Rattle.std.specs.List.{AllByRecursion, list_all}
 use Rattle.std.proofs.lemmas.Bool.{leb-true}
 use Rattle.std.proofs.lemmas.List.{length-map}
 use Rattle.nut_words.specs.Spelling.{is_printing}
+use Rattle.nut_words.specs.declared.limits.TheConstants.{NAME_MAX, UPS_NAME_MAX}
 use Rattle.nut_conf.specs.Ups.{shown, desc_of}
+use Rattle.nut_conf.specs.Descriptions.{row_of}
+use Rattle.nut_conf.specs.declared.descriptions.Descriptions.{Descriptions}
 use Rattle.nut_conf.specs.declared.text.Name.{Name}
 use Rattle.nut_conf.specs.declared.text.Text.{Text}
 use Rattle.nut_conf.specs.declared.ups.Ups as the_ups
 use Rattle.nut_conf.specs.declared.ups.UpsConf.{UpsConf}
 use Rattle.nut_conf.specs.declared.upsd.UpsdConf.{UpsdConf}
 use Rattle.nut_conf.specs.declared.users.UsersConf.{UsersConf}
-use Rattle.nut_history.specs.Content.{Session, Content, past}
-use Rattle.nut_history.specs.Configuration.{Configuration}
-use Rattle.nut_history.specs.Event.{Event}
-use Rattle.nut_history.specs.Acceptance.{Tells, session_of}
-use Rattle.nut_history.specs.Limits.{IsUpsWithin, IsWithin, WaitsAreBounded, most_waits}
-use Rattle.nut_history.proofs.Waiting.{configuration_stays}
-use Rattle.nut_server.specs.Configured.{configuration_of, ups_of}
+use Rattle.nut_conf.specs.declared.limits.TheConstants.{DESCRIPTION_MAX}
+use Rattle.nut_server_spec.specs.Content.{Session, Content, past}
+use Rattle.nut_server_spec.specs.Configuration.{Configuration}
+use Rattle.nut_server_spec.specs.Event.{Event}
+use Rattle.nut_server_spec.specs.Acceptance.{Tells, session_of}
+use Rattle.nut_server_spec.specs.laws.Limits.{IsTextWithin, IsUpsWithin, IsWithin, WaitsAreBounded, most_waits}
+use Rattle.nut_server_spec.proofs.Waiting.{configuration_stays}
+use Rattle.nut_server.specs.Configured.{command_texts_of, configuration_of, ups_of, variable_texts_of}
 use Rattle.nut_server.proofs.Arrives.{most_few}
 
 both : (a b : Bool) → (a && b) ≡ true → (a ≡ true) × (b ≡ true)
 both true b e = (refl, e)
 both false b e = absurd (cc)
 
-text_short : (t : Text 0 128) → length t.bytes.items ≤ 128
+text_short : (t : Text 0 DESCRIPTION_MAX) → length t.bytes.items ≤ DESCRIPTION_MAX
 text_short t =
-    let sizes = both (nat_le 0 (length t.bytes.items) && nat_le (length t.bytes.items) 128) (list_all is_printing t.bytes.items) t.bounded in
-    leb-true (length t.bytes.items) 128 (both (nat_le 0 (length t.bytes.items)) (nat_le (length t.bytes.items) 128) sizes.0).1
+    let sizes = both (nat_le 0 (length t.bytes.items) && nat_le (length t.bytes.items) DESCRIPTION_MAX) (list_all is_printing t.bytes.items) t.bounded in
+    leb-true (length t.bytes.items) DESCRIPTION_MAX (both (nat_le 0 (length t.bytes.items)) (nat_le (length t.bytes.items) DESCRIPTION_MAX) sizes.0).1
 
-description_short : (u : the_ups.Ups) → length (desc_of u) ≤ 128
+description_short : (u : the_ups.Ups) → length (desc_of u) ≤ DESCRIPTION_MAX
 description_short u = by_text u.desc where
-  by_text : (o : Option (Text 0 128)) → length (option_map_or (λ (t : Text 0 128). t.bytes.items) o (codes "Unavailable")) ≤ 128
+  by_text : (o : Option (Text 0 DESCRIPTION_MAX)) → length (option_map_or (λ (t : Text 0 DESCRIPTION_MAX). t.bytes.items) o (codes "Unavailable")) ≤ DESCRIPTION_MAX
   by_text None = omega arith
   by_text (Some t) = text_short t
 
-each_within : (es : List (Name 32 × the_ups.Ups)) → AllByRecursion IsUpsWithin (map ups_of (map shown es))
+each_within : (es : List (Name UPS_NAME_MAX × the_ups.Ups)) → AllByRecursion IsUpsWithin (map ups_of (map shown es))
 each_within [] = tt
 each_within (e ∷ es) = (record { name = e.0.named; description = description_short e.1 }, each_within es)
 
-pub config_within : (ups : UpsConf) (users : UsersConf) (upsd : UpsdConf) → IsWithin (configuration_of ups users upsd)
-config_within ups users upsd = record {
+texts_within : (es : List (Name NAME_MAX × Text 0 DESCRIPTION_MAX)) → AllByRecursion IsTextWithin (map row_of es)
+texts_within [] = tt
+texts_within (e ∷ es) = (text_short e.1, texts_within es)
+
+variables_within : (o : Option Descriptions) → AllByRecursion IsTextWithin (variable_texts_of o)
+variables_within (Some d) = texts_within d.variables.by_name.entries
+variables_within None = tt
+
+commands_within : (o : Option Descriptions) → AllByRecursion IsTextWithin (command_texts_of o)
+commands_within (Some d) = texts_within d.commands.by_name.entries
+commands_within None = tt
+
+pub config_within : (ups : UpsConf) (users : UsersConf) (upsd : UpsdConf) (descriptions : Option Descriptions) → IsWithin (configuration_of ups users upsd descriptions)
+config_within ups users upsd descriptions = record {
   upses = omega (arith, length-map (map shown ups.ups.by_name.entries) ups_of, length-map ups.ups.by_name.entries shown, ups.ups.few);
   each_ups = each_within ups.ups.by_name.entries;
   connections = most_few upsd.max_conn;
+  variable_texts = variables_within descriptions;
+  command_texts = commands_within descriptions;
 }
 
--- what waits for c in a content that a history has
+-- what waits for c in the content of a history
 pub waiting_few : (s : Content) (c : ℕ) (k : Session) → WaitsAreBounded → IsWithin s.configuration → session_of c s.sessions ≡ Some k
     → (first : Configuration) (h : List Event) → Tells first h s → length k.waits ≤ most_waits
 waiting_few s c k law within there first h tells =

@@ -1,10 +1,10 @@
--- How many connections are logged in, counted one by one.
+-- The number of connections that are logged in, counted one by one.
 use Rattle.std.proofs.Common.{◌≡◌, ℕ, zero, suc, ◌+◌, ◌≤◌, List, [], ◌∷◌, map, length, take, refl, ap, arith, inl, inr, slice_get, Some, subst}
 use Rattle.std.specs.Prelude.{if◌then◌else◌}
 use Rattle.std.proofs.lemmas.Bool.{cases_Bool}
-use Rattle.nut_history.specs.Content.{Session}
-use Rattle.nut_history.specs.Answer.{guests_of, is_logged_in}
-use Rattle.nut_history.specs.Machine.{guest_of}
+use Rattle.nut_server_spec.specs.Content.{Session}
+use Rattle.nut_server_spec.specs.Answer.{guests_of, is_logged_in}
+use Rattle.nut_server_spec.specs.machine.Machine.{guest_of}
 
 abbrev pub logins : ℕ → List Session → ℕ
 logins u ks = length (guests_of u (map guest_of ks))

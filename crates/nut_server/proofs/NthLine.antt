@@ -1,4 +1,4 @@
--- The line with a number of those that a piece completes, and when memory may run out at it.
+-- The k-th line that a piece completes, and when memory may run out at it.
 use Rattle.std.proofs.Common.{◌≡◌, ℕ, zero, suc, ◌<◌, Bool, true, false, cond, eqb, List, [], ◌∷◌, ◌++◌, length, refl, sym, ◌∙◌, ap, subst, arith, inl, inr, Option, Some, None, slice_get, map}
 use Rattle.std.specs.Prelude.{◌==◌, if◌then◌else◌, option_map, IsTrue}
 use Rattle.std.specs.List.{onto_first}
@@ -7,19 +7,20 @@ use Rattle.std.proofs.lemmas.Bool.{cases_Bool}
 use Rattle.std.proofs.lemmas.List.{append_assoc}
 use Rattle.nut_words.specs.Lines.{LineText, Text, TooLong, as_line, all_but_last, completed, joined, lines_after, parts}
 use Rattle.nut_words.proofs.LineLemmas.{is_some_parts, joined-as_line}
-use Rattle.nut_history.specs.Acceptance.{front, line_feeds, session_of}
-use Rattle.nut_history.specs.Content.{Session, Supply, Content}
-use Rattle.nut_history.specs.Machine.{after_answer, answered, answer_in, byte_heard, bytes_heard, byte_reported, bytes_reported, line_heard, reported_by, update, with_rest}
-use Rattle.nut_history.specs.Command.{command_of}
-use Rattle.nut_history.specs.Outcome.{line_takes, report_takes, unfinished_of, MayRunOut, MayRunOutOf}
-use Rattle.nut_history.proofs.Hearing.{first_line, until_feed, with_unfinished}
-use Rattle.nut_history.proofs.Sessions.{session_of-update}
+use Rattle.nut_server_spec.specs.Acceptance.{front, line_feeds, session_of}
+use Rattle.nut_server_spec.specs.Content.{Session, Supply, Content}
+use Rattle.nut_server_spec.specs.machine.Machine.{after_answer, answered, answer_in, byte_heard, bytes_heard, byte_reported, bytes_reported, line_heard, reported_by, update, with_rest}
+use Rattle.nut_server_spec.specs.Command.{command_of}
+use Rattle.nut_server_spec.specs.Outcome.{line_takes, report_takes, unfinished_of}
+use Rattle.nut_server_spec.specs.MachineOutcome.{RunsOut, RunsOutOf}
+use Rattle.nut_server_spec.proofs.Hearing.{first_line, until_feed, with_unfinished}
+use Rattle.nut_server_spec.proofs.Sessions.{session_of-update}
 use Rattle.nut_server.proofs.Feeds.{behind}
 use Rattle.nut_server.proofs.Reports.{with_report}
 
 -- ---- lines
 
--- the unfinished line behind more bytes, byte by byte
+-- the unfinished line after more bytes, one by one
 abbrev pub grown : LineText → List ℕ → LineText
 grown r [] = r
 grown r (b ∷ bytes) = if b == 10 then grown (Text []) bytes else grown (joined r (b ∷ [])) bytes
@@ -28,7 +29,7 @@ joined_step : (r : LineText) (b : ℕ) (q : List ℕ) → joined (joined r (b �
 joined_step TooLong b q = refl
 joined_step (Text t) b q = joined-as_line (t ++ b ∷ []) q ∙ ap as_line (append_assoc t (b ∷ []) q)
 
--- what a line feed, and another byte, complete behind an unfinished line
+-- what a line feed, and another byte, complete after an unfinished line
 completed_feed : (r : LineText) (ps : List (List ℕ)) (q : List ℕ) (qs : List (List ℕ)) → ps ≡ q ∷ qs → completed r ([] ∷ ps) ≡ joined r [] ∷ completed (Text []) ps
 completed_feed r ps q qs is = rw is (of_parts qs) where
   of_parts : (qs : List (List ℕ)) → joined r [] ∷ map as_line (all_but_last (q ∷ qs)) ≡ joined r [] ∷ completed (Text []) (q ∷ qs)
@@ -51,7 +52,7 @@ lines_other r b p e =
     let some = is_some_parts p in
     ap (λ test. completed r (cond test ([] ∷ parts p) (onto_first b (parts p)))) e ∙ completed_within r b (parts p) some.0 some.1 some.2
 
--- The line behind k of those that a piece completes goes on with what these left.
+-- The line at place k of those that a piece completes begins with what the lines before it left.
 pub nth_line : (k : ℕ) (r : LineText) (p : List ℕ) → k < line_feeds p → slice_get (lines_after r p) k ≡ Some (first_line (grown r (front k p)) (behind k p))
 nth_line k r [] few = absurd (omega (arith, few))
 nth_line zero r (b ∷ p) few =
@@ -68,9 +69,9 @@ nth_line (suc k) r (b ∷ p) few =
       | inr e ↦ ap (λ ls. slice_get ls (suc k)) (lines_other r b p e) ∙ rw e (nth_line (suc k) (joined r (b ∷ [])) p (rw e at few))
     ]
 
--- ---- what is unfinished behind a part of a piece
+-- ---- what is unfinished after a part of a piece
 
--- the session of c with the unfinished line r
+-- The session of c has the unfinished line r.
 abbrev Unfinished : ℕ → LineText → Content → Type 0
 Unfinished c r s = (k : Session) × (session_of c s.sessions ≡ Some k) × (k.rest ≡ r)
 
@@ -119,10 +120,10 @@ same_rest o k j one other =
     let same : k ≡ j = cc in
     ap (λ k. k.rest) same
 
--- at a line of a client that may take some
+-- at a line of a client that may allocate memory
 pub may_run_out : (c done : ℕ) (r line : LineText) (piece : List ℕ) (s started : Content) (k first : Session) → session_of c started.sessions ≡ Some first → done < line_feeds piece
     → with_unfinished c r s ≡ bytes_heard c (front done piece) started → session_of c s.sessions ≡ Some k → line ≡ first_line r (behind done piece)
-    → IsTrue (line_takes line (Some k)) → MayRunOut c piece done started
+    → IsTrue (line_takes line (Some k)) → RunsOut c piece done started
 may_run_out c done r line piece s started k first began few is found here takes =
     let h = bytes_heard c (front done piece) started in
     let there : session_of c h.sessions ≡ Some (with_rest r k) =
@@ -135,10 +136,10 @@ may_run_out c done r line piece s started k first began few is found here takes 
     let Q : Option Session → Type 0 = λ before. P (slice_get (lines_after (unfinished_of before) piece) done) (session_of c h.sessions) in
     subst Q (sym began) (subst (P (slice_get (lines_after first.rest piece) done)) (sym there) (subst (λ line. P line (Some (with_rest r k))) nth takes))
 
--- and of a driver
+-- at a line of a driver that may allocate memory
 pub report_may_run_out : (time done : ℕ) (r line : LineText) (piece : List ℕ) (d started : Supply) → done < line_feeds piece
     → with_report r d ≡ bytes_reported time (front done piece) started → line ≡ first_line r (behind done piece)
-    → IsTrue (report_takes line (Some d)) → MayRunOutOf time piece done (Some started)
+    → IsTrue (report_takes line (Some d)) → RunsOutOf time piece done (Some started)
 report_may_run_out time done r line piece d started few is here takes =
     let same : r ≡ grown started.rest (front done piece) = ap (λ (d : Supply). d.rest) is ∙ supply_grown time (front done piece) started in
     let nth : Some line ≡ slice_get (lines_after started.rest piece) done =

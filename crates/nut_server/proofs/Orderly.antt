@@ -3,18 +3,18 @@ use Rattle.std.proofs.Common.{◌≡◌, ℕ, ◌+◌, ◌<◌, ◌≤◌, Bool,
 use Rattle.std.specs.Prelude.{find, option_map, IsTrue}
 use Rattle.std.proofs.lemmas.Bool.{cases_Bool, eqb-true, eq-eqb, ne_eqb, false≢true}
 use Rattle.std.proofs.lemmas.Bool.Decides.{nat_tests}
-use Rattle.nut_history.specs.Content.{Session}
-use Rattle.nut_history.specs.Acceptance.{session_of}
-use Rattle.nut_history.specs.Laws.{IsBelow, IsRising, IsUpTo}
-use Rattle.nut_history.specs.Machine.{update, without}
-use Rattle.nut_server.specs.Inside.{numbers_of}
+use Rattle.nut_server_spec.specs.Content.{Session}
+use Rattle.nut_server_spec.specs.Acceptance.{session_of}
+use Rattle.nut_server_spec.specs.laws.Laws.{IsBelow, IsRising, IsUpTo}
+use Rattle.nut_server_spec.specs.machine.Machine.{update, without}
+use Rattle.nut_server.specs.inside.Inside.{numbers_of}
 use Rattle.nut_server.specs.Settling.{is_unsettled, settles, IsNextUnsettled}
 
--- a change leaves the number
+-- The change keeps the number of a session.
 abbrev pub KeepsNumber : (Session → Session) → Type 0
 KeepsNumber change = (k : Session) → (change k).number ≡ k.number
 
--- the sessions stand by rising number, up to n
+-- The numbers of the sessions rise, up to n.
 pub record IsOrdered (n : ℕ) (ks : List Session) : Type 0 where
   pub rising : IsRising (numbers_of ks)
   pub up_to : IsUpTo n (numbers_of ks)
@@ -52,36 +52,36 @@ pub IsUpTo-push : (n : ℕ) (k : Session) (ks : List Session) → IsUpTo n (numb
 IsUpTo-push n k [] up is = (omega arith, tt)
 IsUpTo-push n k (j ∷ ks) up is = (omega (arith, up.0), IsUpTo-push n k ks up.1 is)
 
--- after a change of one of them
+-- after a change of one session
 pub ordered_changed : (n c : ℕ) (change : Session → Session) (ks ks' : List Session) → KeepsNumber change → IsOrdered n ks → ks' ≡ update c change ks → IsOrdered n ks'
 ordered_changed n c change ks ks' keeps ordered is =
     let same : numbers_of ks ≡ numbers_of ks' = sym (ap numbers_of is ∙ numbers_of-update c change ks keeps) in
     record { rising = subst IsRising same ordered.rising; up_to = let P : List ℕ → Type 0 = IsUpTo n in subst P same ordered.up_to }
 
--- where one of them is gone
+-- after one session is removed
 pub ordered_gone : (n c : ℕ) (ks ks' : List Session) → IsOrdered n ks → ks' ≡ without c ks → IsOrdered n ks'
 ordered_gone n c ks ks' ordered is =
     let P : List Session → Type 0 = IsOrdered n in
     subst P (sym is) (record { rising = IsRising-without c ks ordered.rising; up_to = IsUpTo-without c n ks ordered.up_to })
 
--- after the one or the other
+-- after a change, or a removal if there was an error
 pub ordered_heard : {A E : Type 0} (r : Result A E) (n c : ℕ) (change : Session → Session) (ks ks' : List Session) → KeepsNumber change → IsOrdered n ks
     → OnOk r (ks' ≡ update c change ks) → OnErr r (ks' ≡ without c ks) → IsOrdered n ks'
 ordered_heard (Ok v) n c change ks ks' keeps ordered is gone = ordered_changed n c change ks ks' keeps ordered is
 ordered_heard (Err e) n c change ks ks' keeps ordered is gone = ordered_gone n c ks ks' ordered gone
 
--- with one more
+-- after one session is added
 pub ordered_opened : (n : ℕ) (k : Session) (ks ks' : List Session) → IsOrdered n ks → k.number ≡ n + 1 → ks' ≡ ks ++ k ∷ [] → IsOrdered (n + 1) ks'
 ordered_opened n k ks ks' ordered number is =
     let P : List Session → Type 0 = IsOrdered (n + 1) in
     subst P (sym is) (record { rising = IsRising-push n k ks ordered.rising ordered.up_to (omega arith); up_to = IsUpTo-push n k ks ordered.up_to number })
 
--- no session has a number below all of them
+-- No session has a number less than all of them.
 pub none_below : (d n : ℕ) (ks : List Session) → IsBelow n (numbers_of ks) → d ≤ n → session_of d ks ≡ None
 none_below d n [] below le = refl
 none_below d n (k ∷ ks) below le = let e : eqb k.number d ≡ false = ne_eqb k.number d (λ is. omega (arith, below.0)) in rw e (none_below d n ks below.1 le)
 
--- a session before those that settle doesn't, though its number isn't less
+-- A session that the search passes over, although its number is at least `least`, is settled.
 passed : (least : ℕ) (k : Session) (d : ℕ) → settles least k ≡ false → k.number ≡ d → least ≤ d → is_unsettled (Some k) ≡ false
 passed least k d not_this is le = let test : leb least k.number ≡ true = grind (arith, nat_tests) in rw test at not_this
 
@@ -117,7 +117,7 @@ this least k ks settled below =
       | inr e ↦ absurd (false≢true (rw e at settled))
     ]
 
--- the first session that settles has the least number
+-- The first session that the search finds has the least number.
 pub next_is : (least : ℕ) (ks : List Session) → IsRising (numbers_of ks) → IsNextUnsettled ks least (option_map (λ k. k.number) (find (settles least) ks))
 next_is least [] rising = λ d le. refl
 next_is least (k ∷ ks) rising =
@@ -126,7 +126,7 @@ next_is least (k ∷ ks) rising =
       | inr e ↦ rw e (later least k ks (option_map (λ k. k.number) (find (settles least) ks)) e rising.0 (next_is least ks rising.1))
     ]
 
--- what is found has a number up to n
+-- The session that is found has a number of at most n.
 pub found_up_to : (n : ℕ) (ks : List Session) (p : Session → Bool) (k : Session) → IsUpTo n (numbers_of ks) → Some k ≡ find p ks → k.number ≤ n
 found_up_to n [] p k up found = cc
 found_up_to n (j ∷ ks) p k up found =

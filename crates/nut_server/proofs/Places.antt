@@ -1,9 +1,9 @@
 -- Laws of the place of a connection.
 use Rattle.std.proofs.Common.{◌≡◌, ℕ, zero, suc, ◌<◌, true, eqb, List, [], ◌∷◌, length, refl, sym, ◌∙◌, ap, arith, Some, slice_get, slice_set, slice_index_or}
-use Rattle.nut_history.specs.Content.{Session}
-use Rattle.nut_history.specs.Acceptance.{session_of}
-use Rattle.nut_history.specs.Machine.{update, without}
-use Rattle.nut_server.specs.Place.{IsPlace, Stands}
+use Rattle.nut_server_spec.specs.Content.{Session}
+use Rattle.nut_server_spec.specs.Acceptance.{session_of}
+use Rattle.nut_server_spec.specs.machine.Machine.{update, without}
+use Rattle.nut_server.specs.inside.Place.{IsPlace, Stands}
 
 pub place_within : (c : ℕ) (ks : List Session) (at : ℕ) → IsPlace c ks at → at < length ks
 place_within c [] at place = absurd place
@@ -25,11 +25,11 @@ get_is [] at k lt e = absurd (omega arith)
 get_is (x ∷ ks) zero k lt e = ap (λ y. Some y) (sym e)
 get_is (x ∷ ks) (suc at) k lt e = get_is ks at k (omega arith) e
 
--- a write there is the update
+-- Writing a changed session to its place is the update.
 pub written : (c : ℕ) (change : Session → Session) (ks : List Session) (at : ℕ) (k k' : Session) → Stands c ks at → k ≡ slice_index_or ks at k → k' ≡ change k → slice_set ks at k' ≡ update c change ks
 written c change ks at k k' stands is now' = ap (slice_set ks at) now' ∙ sym (place_update c change ks at k stands.place (get_is ks at k stands.within is))
 
--- a write there that keeps the number is gone with the session
+-- If a session is replaced by one with the same number and then removed, the replacement makes no difference.
 pub without_written : (c : ℕ) (ks : List Session) (at : ℕ) (k k' : Session) → Stands c ks at → k ≡ slice_index_or ks at k → k'.number ≡ k.number → without c (slice_set ks at k') ≡ without c ks
 without_written c ks at k k' stands is same = gone c ks at k k' stands.place (get_is ks at k stands.within is) same where
   gone : (c : ℕ) (ks : List Session) (at : ℕ) (k k' : Session) → IsPlace c ks at → slice_get ks at ≡ Some k → k'.number ≡ k.number → without c (slice_set ks at k') ≡ without c ks
@@ -40,7 +40,7 @@ without_written c ks at k k' stands is same = gone c ks at k k' stands.place (ge
       rw (e, place) refl
   gone c (j ∷ ks) (suc at) k k' place there same = rw place.0 (ap (λ ks. j ∷ ks) (gone c ks at k k' place.1 there same))
 
--- there is a session
+-- There is a session at this place.
 pub found_session : (c : ℕ) (ks : List Session) (at : ℕ) → Stands c ks at → (k : Session) × (session_of c ks ≡ Some k)
 found_session c ks at stands = let there = some_there ks at stands.within in (there.0, stands.session ∙ there.1) where
   some_there : (ks : List Session) (at : ℕ) → at < length ks → (k : Session) × (slice_get ks at ≡ Some k)

@@ -1,4 +1,4 @@
--- No answer but that to a LOGOUT logs a client out.
+-- Only the answer to LOGOUT logs a client out.
 use Rattle.std.proofs.Common.{◌≡◌, ℕ, Bool, true, false, List, refl, Option, Some, None}
 use Rattle.nut_proto.specs.declared.refusal.Refusal.{Refusal}
 use Rattle.nut_proto.specs.declared.request.ListQuery.{ListQuery}
@@ -6,13 +6,13 @@ use Rattle.nut_proto.specs.declared.request.ListQuery.TheVariants as queries
 use Rattle.nut_proto.specs.declared.reply.Reply.TheVariants as replies
 use Rattle.std.specs.Prelude.{map, filter}
 use Rattle.nut_state.specs.Table.{Entry, variable, has_command}
-use Rattle.nut_history.specs.Answer.{Answer, Scene, require, check, unless, on_device, on_ups, on_data, on_variable, on_command, ups_number, device_at, described, list_answer, Listing, var_row, rw_row, guests_of}
-use Rattle.nut_history.specs.Command.{Blank}
-use Rattle.nut_history.specs.Configuration.{Configuration, Ups}
-use Rattle.nut_history.specs.Device.{Device, trouble}
-use Rattle.nut_history.specs.Effect.{login_then, logged_out_then}
+use Rattle.nut_server_spec.specs.Answer.{Answer, Scene, require, check, unless, on_device, on_ups, on_data, on_variable, on_command, ups_number, device_at, described, list_answer, Listing, var_row, rw_row, guests_of}
+use Rattle.nut_server_spec.specs.Command.{Blank}
+use Rattle.nut_server_spec.specs.Configuration.{Configuration, Ups}
+use Rattle.nut_server_spec.specs.Device.{Device, trouble}
+use Rattle.nut_server_spec.specs.Effect.{login_then, logged_out_then}
 
--- the answer leaves its session logged in, and not logged out
+-- The answer changes neither the login of its client nor whether the client has logged out.
 abbrev pub IsQuiet : Answer → Type 0
 IsQuiet reply =
     ((b : Bool) → logged_out_then Blank reply b ≡ b) × ((configuration : Configuration) (b : Option ℕ) → login_then configuration Blank reply b ≡ b)

@@ -1,13 +1,13 @@
--- How a UPS hears its driver's bytes: line by line.
+-- How a UPS changes with its driver's bytes, line by line.
 use Rattle.std.proofs.Common.{◌≡◌, ℕ, suc, ◌<◌, true, false, eqb, List, [], ◌∷◌, ◌++◌, refl, sym, ◌∙◌, ap, arith, inl, inr}
 use Rattle.std.proofs.lemmas.Bool.{cases_Bool, false≢true}
 use Rattle.std.proofs.lemmas.List.{append-nil, append_assoc}
 use Rattle.nut_words.specs.Lines.{LineText, rest, joined}
 use Rattle.nut_words.proofs.StreamGrowth.{rest_within}
-use Rattle.nut_history.specs.Content.{Supply}
-use Rattle.nut_history.specs.Acceptance.{front, line_feeds}
-use Rattle.nut_history.specs.Machine.{reported_by, byte_reported, bytes_reported}
-use Rattle.nut_history.proofs.Hearing.{first_line, until_feed}
+use Rattle.nut_server_spec.specs.Content.{Supply}
+use Rattle.nut_server_spec.specs.Acceptance.{front, line_feeds}
+use Rattle.nut_server_spec.specs.machine.Machine.{reported_by, byte_reported, bytes_reported}
+use Rattle.nut_server_spec.proofs.Hearing.{first_line, until_feed}
 use Rattle.nut_server.proofs.Feeds.{joined_rest, joined_next}
 
 -- a UPS with this unfinished line of its driver
@@ -24,7 +24,7 @@ byte_other time c r d e = rw e refl
 byte_feed : (time c : ℕ) (r : LineText) (d : Supply) → eqb c 10 ≡ true → byte_reported time c (with_report r d) ≡ reported_by time r d
 byte_feed time c r d e = rw e refl
 
--- bytes through their first line feed
+-- bytes up to and with their first line feed
 pub line_reported : (time : ℕ) (b left : List ℕ) (d : Supply) → 0 < line_feeds left
     → bytes_reported time (front 1 left) (with_report (rest b) d) ≡ reported_by time (first_line (rest b) left) d
 line_reported time b [] d more = absurd (omega arith)

@@ -1,4 +1,4 @@
--- What is known of a result, where it is an error and where it isn't.
+-- What is known of a result, if it is an error and if it isn't.
 use Rattle.std.proofs.Common.{◌≡◌, true, false, Result, Bool, Ok, Err, OnOk, OnErr, is_err}
 use Rattle.std.specs.Bool.{OnTrue}
 use Rattle.std.proofs.lemmas.Bool.{false≢true}

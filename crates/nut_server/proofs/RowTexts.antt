@@ -8,25 +8,25 @@ use Rattle.nut_state.specs.Table.{Entry}
 use Rattle.nut_proto.specs.declared.reply.Reply.{Reply}
 use Rattle.nut_proto.specs.declared.reply.Reply.TheVariants as replies
 use Rattle.nut_proto.specs.Replies.{reply_line}
-use Rattle.nut_history.specs.Answer.{Guest, guests_of, is_logged_in, rw_row}
-use Rattle.nut_history.specs.Content.{Session}
-use Rattle.nut_history.specs.Device.{Device}
-use Rattle.nut_history.specs.Machine.{guest_of}
-use Rattle.nut_server.specs.Rows.{writable_text, client_text}
+use Rattle.nut_server_spec.specs.Answer.{Guest, guests_of, is_logged_in, rw_row}
+use Rattle.nut_server_spec.specs.Content.{Session}
+use Rattle.nut_server_spec.specs.Device.{Device}
+use Rattle.nut_server_spec.specs.machine.Machine.{guest_of}
+use Rattle.nut_server.specs.inside.Rows.{writable_text, client_text}
 
--- the text of the first i and the one behind them
+-- the text of the first i rows and the next one
 pub one_more : {X A : Type 0} (f : X → List A) (xs : List X) (i : ℕ) (x : X) → slice_get xs i ≡ Some x →
     flat_map f (take (suc i) xs) ≡ flat_map f (take i xs) ++ f x
 one_more f [] i x is = absurd (cc)
 one_more f (y ∷ xs) zero x is = rw append-nil (ap (λ o. option_map_or f o (f y)) is)
 one_more f (y ∷ xs) (suc i) x is = rw (one_more f xs i x is) (sym (append_assoc (f y) (flat_map f (take i xs)) (f x)))
 
--- the text with the row behind it
+-- the text with the next row appended
 pub row_behind : {X A : Type 0} (f : X → List A) (xs : List X) (i : ℕ) (x : X) (before now after : List A) → slice_get xs i ≡ Some x →
     now ≡ before ++ flat_map f (take i xs) → after ≡ now ++ f x → after ≡ before ++ flat_map f (take (i + 1) xs)
 row_behind f xs i x before now after is text row = rw (row, text, add-one, one_more f xs i x is) (append_assoc before (flat_map f (take i xs)) (f x))
 
--- a row, where the test holds, before others
+-- a row, if the test holds, before others
 row_kept : {X : Type 0} (row : X → Reply) (b : Bool) (x : X) (xs : List X) (text : List ℕ) → text ≡ flat_map reply_line (map row xs) →
     (if b then reply_line (row x) else []) ++ text ≡ flat_map reply_line (map row (if b then x ∷ xs else xs))
 row_kept row true x xs text is = ap (λ t. reply_line (row x) ++ t) is
@@ -52,12 +52,12 @@ client_shown ups u k is = rw is refl
 pub client_hidden : (ups : List ℕ) (u : ℕ) (k : Session) (text : List ℕ) → is_logged_in u k.login ≡ false → text ≡ text ++ client_text ups u k
 client_hidden ups u k text is = rw is (sym (append-nil _))
 
--- there is an element at each place within a list
+-- There is an element at each place within a list.
 pub within_some : {X : Type 0} (xs : List X) (i : ℕ) → i < length xs → slice_get xs i ≡ None → ⊥
 within_some [] i lt is = absurd (omega arith)
 within_some (x ∷ xs) zero lt is = absurd (cc)
 within_some (x ∷ xs) (suc i) lt is = within_some xs i (omega arith) is
 
--- no more are logged in than are connected
+-- At most as many are logged in as are connected.
 pub guests_within : (u : ℕ) (guests : List Guest) → length (guests_of u guests) ≤ length guests
 guests_within u guests = rw (length-filter (λ g. is_logged_in u g.login) guests) (count_by-le-length (λ g. is_logged_in u g.login) guests)

@@ -1,16 +1,16 @@
--- What a content is once a command was answered.
+-- The content after a command was answered.
 use Rattle.std.proofs.Common.{◌≡◌, ℕ, List, [], ◌∷◌, ◌++◌, true, eqb, refl, sym, ap, ◌∙◌, inl, inr}
 use Rattle.std.proofs.lemmas.Bool.{cases_Bool}
 use Rattle.std.proofs.lemmas.List.{append-nil}
 use Rattle.nut_proto.specs.declared.request.Request.TheVariants as requests
-use Rattle.nut_history.specs.Command.{Command, Blank, Asks}
-use Rattle.nut_history.specs.Configuration.{Configuration}
-use Rattle.nut_history.specs.Answer.{Answer, Silence, text_of}
-use Rattle.nut_history.specs.Content.{Session, Supply, Content}
-use Rattle.nut_history.specs.Effect.{target}
-use Rattle.nut_history.specs.Machine.{update, acted, answer_in, answered}
+use Rattle.nut_server_spec.specs.Command.{Command, Blank, Asks}
+use Rattle.nut_server_spec.specs.Configuration.{Configuration}
+use Rattle.nut_server_spec.specs.Answer.{Answer, Silence, text_of}
+use Rattle.nut_server_spec.specs.Content.{Session, Supply, Content}
+use Rattle.nut_server_spec.specs.Effect.{target}
+use Rattle.nut_server_spec.specs.machine.Machine.{update, acted, answer_in, answered}
 use Rattle.nut_server.specs.declared.effect.Effect.{Effect}
-use Rattle.nut_server.specs.Effects.{affected, acting, said, Does, answered_by}
+use Rattle.nut_server.specs.inside.Effects.{affected, acting, said, Does, answered_by}
 use Rattle.nut_server.proofs.Acting.{act_idle}
 use Rattle.nut_server.proofs.Deciding.{at_rest}
 
@@ -24,7 +24,7 @@ update_idle c f [] same = refl
 update_idle c f (k ∷ ks) same =
     elim (cases_Bool (eqb k.number c)) [ inl e ↦ rw e (ap (λ x. x ∷ ks) (same k)) | inr e ↦ rw e (ap (λ xs. k ∷ xs) (update_idle c f ks same)) ]
 
--- a command that is answered by nothing changes nothing
+-- If the answer to a command is silence, the command changes nothing.
 abbrev pub StandsStill : Configuration → Command → Type 0
 StandsStill configuration command =
     ((k : Session) → record (answered configuration command Silence k) { waits = k.waits } ≡ k) × ((d : Supply) → acted command Silence d ≡ d)
@@ -46,7 +46,7 @@ silent c command v =
     ap (λ ks. record v { sessions = ks }) (sym (update_idle c (λ k. answered v.configuration command Silence k) v.sessions each))
     ∙ ap (λ ds. record v { sessions = update c (λ k. answered v.configuration command Silence k) v.sessions; supplies = ds }) (sym (act_idle (target v.configuration command) (acted command Silence) v.supplies still.1))
 
--- The answer is said and what is decided is done: that is what the answer does.
+-- Queueing the answer and applying the effect does what the answer does.
 pub answered_all : (v : Content) (ks : List Session) (ds : List Supply) (c : ℕ) (command : Command) (reply : Answer) (effect : Effect) (line text : List ℕ)
     → text ≡ text_of reply → Does v.configuration command reply effect line
     → ks ≡ update c (λ k. affected effect (said text k)) v.sessions → ds ≡ acting effect line v.supplies

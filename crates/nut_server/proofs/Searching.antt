@@ -8,12 +8,12 @@ use Rattle.std.proofs.lemmas.Bool.Decides.{nat_tests}
 use Rattle.std.proofs.lemmas.Cmp.{ranked}
 use Rattle.std.proofs.lemmas.Option.{slice_get-get_or}
 use Rattle.slab.specs.Slab.{Slab}
-use Rattle.nut_history.specs.Content.{Session}
-use Rattle.nut_history.specs.Acceptance.{session_of}
-use Rattle.nut_history.specs.Laws.{IsBelow, IsRising}
-use Rattle.nut_server.specs.Inside.{numbers_of}
-use Rattle.nut_server.specs.Place.{IsPlace, Stands}
-use Rattle.nut_server.specs.Entries.{AreEntries, AreNamed, key_numbers, sessions_of}
+use Rattle.nut_server_spec.specs.Content.{Session}
+use Rattle.nut_server_spec.specs.Acceptance.{session_of}
+use Rattle.nut_server_spec.specs.laws.Laws.{IsBelow, IsRising}
+use Rattle.nut_server.specs.inside.Inside.{numbers_of}
+use Rattle.nut_server.specs.inside.Place.{IsPlace, Stands}
+use Rattle.nut_server.specs.inside.Entries.{AreEntries, AreNamed, key_numbers, sessions_of}
 use Rattle.nut_server.specs.declared.connections.Key.{Key}
 use Rattle.nut_server.specs.declared.connections.Connections.TheInside.{Inside}
 use Rattle.nut_server.proofs.Places.{place_within, place_session}
@@ -31,11 +31,11 @@ rising_at (x ∷ order) zero (suc j) d rising le lt = omega (arith, below_at x.n
 rising_at (x ∷ order) (suc i) zero d rising le lt = absurd (omega arith)
 rising_at (x ∷ order) (suc i) (suc j) d rising le lt = rising_at order i j d rising.1 (omega arith) (omega arith)
 
--- the comparisons with c rise along the keys
+-- The results of comparing the keys with c rise along the keys.
 comparisons_rise : (order : List Key) (c : ℕ) → IsRising (key_numbers order) → IsNonDecreasingBy (λ (key : Key). ordering_index (nat_cmp key.number c)) order
 comparisons_rise order c rising i j d le lt = let keys = rising_at order i j d rising le lt in grind (arith, nat_tests)
 
--- where no key has the number, no connection has it
+-- If no key has the number, no connection has it.
 none_there : (slots : Slab Session) (order : List Key) (c : ℕ) → AreNamed slots order → ((i : ℕ) (d : Key) → i < length order → (get_or order i d).number ≢ c)
     → session_of c (sessions_of slots order) ≡ None
 none_there slots [] c named differs = refl
@@ -48,7 +48,7 @@ session_below n [] j m below is = absurd (cc)
 session_below n (k ∷ ks) zero m below is = let same : k ≡ m = cc in omega (arith, below.0, ap (λ k. k.number) same)
 session_below n (k ∷ ks) (suc j) m below is = session_below n ks j m below.1 is
 
--- what is found stands there
+-- A session that is found has the place where it was found.
 found_at : (c : ℕ) (ks : List Session) (at : ℕ) (k : Session) → IsRising (numbers_of ks) → slice_get ks at ≡ Some k → k.number ≡ c → Stands c ks at
 found_at c ks at k rising is number = let place = placed ks at rising is in record { place = place; within = place_within c ks at place; session = place_session c ks at place } where
   placed : (ks : List Session) (at : ℕ) → IsRising (numbers_of ks) → slice_get ks at ≡ Some k → IsPlace c ks at
@@ -56,7 +56,7 @@ found_at c ks at k rising is number = let place = placed ks at rising is in reco
   placed (x ∷ ks) zero rising is = let same : x ≡ k = cc in eq-eqb x.number c (ap (λ k. k.number) same ∙ number)
   placed (x ∷ ks) (suc at) rising is = (ne_eqb x.number c (λ e. omega (arith, e, number, session_below x.number ks at k rising.0 is)), placed ks at rising.1 is)
 
--- the key with the number c tells where it stands
+-- The key with the number c gives its place.
 keyed_at : (slots : Slab Session) (order : List Key) (c at : ℕ) (key : Key) → AreNamed slots order → IsRising (key_numbers order) → slice_get order at ≡ Some key → key.number ≡ c
     → Stands c (sessions_of slots order) at
 keyed_at slots order c at key named rising there number =
@@ -69,7 +69,7 @@ stands_by_key e ks c at order key are view is within read number =
     let there : slice_get order at ≡ Some key = slice_get-get_or order at key (ltb-true at (length order) (sym within)) ∙ ap Some (sym read) in
     subst (λ ks. Stands c ks at) view (keyed_at e.slots e.order.items c at key are.named are.rising (ap (λ order. slice_get order at) (sym is) ∙ there) number)
 
--- what is answered of the number c
+-- The result of a search for the number c.
 pub record IsFound (c : ℕ) (ks : List Session) (o : Option ℕ) : Type 0 where
   pub none : IfNone o (session_of c ks ≡ None)
   pub some : IfSome o (Stands c ks)

@@ -1,4 +1,4 @@
--- The first that passes a test, found one by one.
+-- The first element that passes a test, found one by one.
 use Rattle.std.proofs.Common.{◌≡◌, ℕ, zero, suc, ◌+◌, ◌≤◌, Bool, true, false, List, [], ◌∷◌, length, drop, refl, ◌∙◌, ap, arith, Some, None, slice_get}
 use Rattle.std.specs.Prelude.{find}
 use Rattle.std.proofs.lemmas.List.{drop_all}

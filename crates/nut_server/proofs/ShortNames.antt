@@ -1,9 +1,10 @@
--- A user name or a password that a line gives has at most 128 bytes.
+-- A user name or a password that a line gives has at most CREDENTIAL_MAX bytes.
 use Rattle.std.proofs.Common.{◌≡◌, ℕ, ◌≤◌, Bool, true, false, List, [], ◌∷◌, length, inl, inr, Option, Some, None, arith}
 use Rattle.std.specs.Prelude.{nat_le, ◌&&◌, if◌then◌else◌}
 use Rattle.std.specs.Option.{ok_or, option_or}
 use Rattle.std.proofs.lemmas.Bool.{cases_Bool}
 use Rattle.std.proofs.lemmas.Bool.Decides.{nat_tests}
+use Rattle.nut_words.specs.declared.limits.TheConstants.{CREDENTIAL_MAX}
 use Rattle.nut_proto.specs.declared.request.Request.{Request}
 use Rattle.nut_proto.specs.declared.request.Request.TheVariants as requests
 use Rattle.nut_proto.specs.declared.request.ListQuery.TheVariants as queries
@@ -14,8 +15,8 @@ use Rattle.nut_proto.specs.declared.keyword.Subject.TheVariants as subjects
 use Rattle.nut_proto.specs.Keywords.{subject_of, is_subject, is_command, command_of}
 use Rattle.nut_proto.specs.Rules.{none, one, two, three, credential, is_credential}
 use Rattle.nut_proto.specs.Forms.{Rule, Form, about, forms, first_fit, meaning_by, meaning}
-use Rattle.nut_history.specs.Command.{Asks, asked}
-use Rattle.nut_server.specs.Effects.{HasShortNames}
+use Rattle.nut_server_spec.specs.Command.{Asks, asked}
+use Rattle.nut_server.specs.inside.Effects.{HasShortNames}
 
 abbrev IsShort : Option Request → Type 0
 IsShort None = Unit {0}
@@ -50,10 +51,10 @@ of_three made short (x ∷ y ∷ []) = tt
 of_three made short (x ∷ y ∷ z ∷ []) = short x y z
 of_three made short (x ∷ y ∷ z ∷ w ∷ ws) = tt
 
-at_most : (n : ℕ) → (nat_le 1 n && nat_le n 128) ≡ true → n ≤ 128
+at_most : (n : ℕ) → (nat_le 1 n && nat_le n CREDENTIAL_MAX) ≡ true → n ≤ CREDENTIAL_MAX
 at_most n is = grind (arith, nat_tests)
 
-of_credential : (made : List ℕ → Request) → ((x : List ℕ) → length x ≤ 128 → HasShortNames (Asks (made x))) → GivesShort (credential made)
+of_credential : (made : List ℕ → Request) → ((x : List ℕ) → length x ≤ CREDENTIAL_MAX → HasShortNames (Asks (made x))) → GivesShort (credential made)
 of_credential made short [] = tt
 of_credential made short (x ∷ []) = elim (cases_Bool (is_credential x)) [ inl e ↦ rw e (short x (at_most (length x) e)) | inr e ↦ rw e tt ]
 of_credential made short (x ∷ y ∷ ys) = tt

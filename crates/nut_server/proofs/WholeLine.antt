@@ -1,16 +1,17 @@
--- How a piece is heard that is one line, where nothing was kept of a line before it.
+-- How a piece that is one line is handled, if nothing was kept of a line before it.
 use Rattle.std.proofs.Common.{◌≡◌, ℕ, suc, ◌<◌, List, [], ◌∷◌, ◌++◌, length, take, refl, sym, ap, ◌∙◌, arith, eqb, inl, inr, Option, Some}
 use Rattle.std.specs.Prelude.{option_map, IsTrue}
 use Rattle.std.proofs.lemmas.Bool.{cases_Bool}
 use Rattle.nut_words.specs.Lines.{Text, lines}
-use Rattle.nut_history.specs.Acceptance.{front, line_feeds, session_of}
-use Rattle.nut_history.specs.Command.{command_of}
-use Rattle.nut_history.specs.Content.{Session, Content}
-use Rattle.nut_history.specs.Machine.{after_answer, answer_in, answered, bytes_heard}
-use Rattle.nut_history.specs.Outcome.{line_takes, MayRunOut}
-use Rattle.nut_history.proofs.Hearing.{with_unfinished-same, line_heard_front}
-use Rattle.nut_history.proofs.Sessions.{session_of-update}
-use Rattle.nut_server.specs.Effects.{answered_by}
+use Rattle.nut_server_spec.specs.Acceptance.{front, line_feeds, session_of}
+use Rattle.nut_server_spec.specs.Command.{command_of}
+use Rattle.nut_server_spec.specs.Content.{Session, Content}
+use Rattle.nut_server_spec.specs.machine.Machine.{after_answer, answer_in, answered, bytes_heard}
+use Rattle.nut_server_spec.specs.Outcome.{line_takes}
+use Rattle.nut_server_spec.specs.MachineOutcome.{RunsOut}
+use Rattle.nut_server_spec.proofs.Hearing.{with_unfinished-same, line_heard_front}
+use Rattle.nut_server_spec.proofs.Sessions.{session_of-update}
+use Rattle.nut_server.specs.inside.Effects.{answered_by}
 use Rattle.nut_server.proofs.Feeds.{handed_is, has_feed, line_feeds-append, one_feed, take_all}
 use Rattle.nut_server.proofs.Heard.{answered_then}
 use Rattle.nut_server.proofs.NthLine.{may_run_out}
@@ -23,7 +24,7 @@ front_closed (b ∷ x) none =
       | inr e ↦ rw e (ap (λ x. b ∷ x) (front_closed x (rw e at none)))
     ]
 
--- nothing is kept of a line, wherever the connection is looked up
+-- Nothing of a line is kept, however the connection is looked up.
 pub same_start : (looked_up : Option Session) (k j : Session) → looked_up ≡ Some k → looked_up ≡ Some j → k.rest ≡ Text [] → j.rest ≡ Text []
 same_start looked_up k j one other start =
     let both : Some k ≡ Some j = sym one ∙ other in
@@ -43,7 +44,7 @@ module _ (c : ℕ) (text piece : List ℕ) (s : Content) (k : Session) (found : 
       let unbroken : line_feeds text ≡ 0 = omega (arith, one_feed [] piece (Text text) is, ap line_feeds whole, line_feeds-append text (10 ∷ [])) in
       ap (front 1) whole ∙ front_closed text unbroken ∙ sym whole
 
-  -- the answer to the line is what the piece does
+  -- The answer to the line does what the piece does.
   pub whole_heard : answered_by c (command_of (Text text)) (answer_in s (command_of (Text text)) k) s ≡ bytes_heard c piece s
   whole_heard =
       let command = command_of (Text text) in
@@ -58,7 +59,7 @@ module _ (c : ℕ) (text piece : List ℕ) (s : Content) (k : Session) (found : 
       ∙ ap (bytes_heard c (front 1 piece)) (with_unfinished-same c (Text []) s k found start)
       ∙ ap (λ p. bytes_heard c p s) ends_piece
 
-  -- memory may run out at it where the line may take some
-  pub whole_runs_out : IsTrue (line_takes (Text text) (Some k)) → MayRunOut c piece 0 s
+  -- Memory may run out at it if the line may allocate some.
+  pub whole_runs_out : IsTrue (line_takes (Text text) (Some k)) → RunsOut c piece 0 s
   whole_runs_out takes =
       may_run_out c 0 (Text []) (Text text) piece s s k k found has_line (with_unfinished-same c (Text []) s k found start) found (handed_is [] (length piece) piece (Text text) brought) takes

@@ -1,9 +1,9 @@
--- What an arrival tells.
-use Rattle.nut_history.specs.Event as E
+-- The event that an arrival stands for.
+use Rattle.nut_server_spec.specs.Event as E
 use Rattle.nut_server.specs.declared.arrival.Arrival.{Arrival}
 use Rattle.nut_server.specs.declared.arrival.Arrival.TheVariants as arrival
 
--- the event that an arrival tells
+-- the event that an arrival stands for
 abbrev pub event_of : Arrival → E.Event
 event_of (arrival.Moment t) = E.Moment t
 event_of (arrival.Open address) = E.Open address.now

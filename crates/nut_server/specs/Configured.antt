@@ -1,8 +1,11 @@
--- The configuration of a server, as the files ups.conf, upsd.users and upsd.conf set it.
-use Rattle.std.specs.Prelude.{ℕ, List, map, Option, Some, None}
+-- The configuration of a server, as the files ups.conf, upsd.users, upsd.conf and cmdvartab set it.
+use Rattle.std.specs.Prelude.{ℕ, List, [], map, Option, Some, None}
 use Rattle.std.specs.Option.{option_map}
+use Rattle.nut_conf.specs.Descriptions.{rows_of}
+use Rattle.nut_words.specs.declared.limits.TheConstants.{UPS_NAME_MAX}
 use Rattle.nut_conf.specs.Ups.{Shown, shown_in}
 use Rattle.nut_conf.specs.Upsd.{max_age_of, max_conn_of}
+use Rattle.nut_conf.specs.declared.descriptions.Descriptions.{Descriptions}
 use Rattle.nut_conf.specs.declared.text.Name.{Name}
 use Rattle.nut_conf.specs.declared.ups.UpsConf.{UpsConf}
 use Rattle.nut_conf.specs.declared.upsd.UpsdConf.{UpsdConf}
@@ -10,9 +13,9 @@ use Rattle.nut_conf.specs.declared.users.User as files
 use Rattle.nut_conf.specs.declared.users.UsersConf.{UsersConf}
 use Rattle.nut_conf.specs.declared.users.Commands.{Commands}
 use Rattle.nut_conf.specs.declared.users.Commands.TheVariants as commands
-use Rattle.nut_history.specs.Configuration.{Configuration, Ups, User}
+use Rattle.nut_server_spec.specs.Configuration.{Configuration, Ups, User}
 
--- a UPS of ups.conf
+-- a UPS of ups.conf, as the server's configuration has it
 abbrev pub ups_of : Shown → Ups
 ups_of u = record { name = u.name; driver = u.driver; description = u.description }
 
@@ -20,12 +23,12 @@ ups_of u = record { name = u.name; driver = u.driver; description = u.descriptio
 abbrev pub upses_of : UpsConf → List Ups
 upses_of c = map ups_of (shown_in c)
 
--- the commands that a line of upsd.users names: all, or one
+-- the commands that a line of upsd.users allows: all, or one
 abbrev pub command_of : Commands → Option (List ℕ)
 command_of commands.All = None
 command_of (commands.Named n) = Some n.bytes.items
 
--- a user of upsd.users, who has this name
+-- a user of upsd.users with this name, as the server's configuration has it
 abbrev pub user_of : List ℕ → files.User → User
 user_of name u = record {
   name = name;
@@ -35,19 +38,31 @@ user_of name u = record {
   role = u.upsmon;
 }
 
--- the user under a name
-abbrev pub user_in : Name 32 × files.User → User
+-- the user of an entry of upsd.users
+abbrev pub user_in : Name UPS_NAME_MAX × files.User → User
 user_in e = user_of e.0.bytes.items e.1
 
 -- the users of upsd.users, in the order of the file
 abbrev pub users_of : UsersConf → List User
 users_of c = map user_in c.users.by_name.entries
 
--- what the three files set
-abbrev pub configuration_of : UpsConf → UsersConf → UpsdConf → Configuration
-configuration_of ups users upsd = record {
+-- what variables tell, in the order of cmdvartab, if there is that file
+abbrev pub variable_texts_of : Option Descriptions → List (List ℕ × List ℕ)
+variable_texts_of (Some d) = rows_of d.variables
+variable_texts_of None = []
+
+-- what commands do, in the order of cmdvartab, if there is that file
+abbrev pub command_texts_of : Option Descriptions → List (List ℕ × List ℕ)
+command_texts_of (Some d) = rows_of d.commands
+command_texts_of None = []
+
+-- what three files set, and the fourth, if it is there
+abbrev pub configuration_of : UpsConf → UsersConf → UpsdConf → Option Descriptions → Configuration
+configuration_of ups users upsd descriptions = record {
   upses = upses_of ups;
   users = users_of users;
   max_age = max_age_of upsd;
   most_connections = max_conn_of upsd;
+  variable_texts = variable_texts_of descriptions;
+  command_texts = command_texts_of descriptions;
 }

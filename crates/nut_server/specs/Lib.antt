@@ -1,13 +1,4 @@
 pub mod Arrival
 pub mod Settling
-pub mod Login
-pub mod Place
-pub mod Inside
-pub mod Decisions
 pub mod Configured
-pub mod Answers
-pub mod Access
-pub mod Rows
-pub mod Effects
-pub mod Entries
-pub mod Server
+pub mod inside

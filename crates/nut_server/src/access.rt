@@ -1,11 +1,11 @@
-//! Who may do what.
+//! The rights of users, and the tests of a client that uses one.
 
 ghost use Rattle.std.specs.Prelude.{◌≡◌, ◌<◌, ℕ, Some, MatchResult, length};
-ghost use Rattle.nut_history.specs.Answer as definitions;
-ghost use Rattle.nut_history.specs.Answer.{has_right, is_primary, refused, ups_number, with_right};
-ghost use Rattle.nut_history.specs.Configuration.{user_named};
-ghost use Rattle.nut_history.specs.Machine.{caller_of};
-ghost use Rattle.nut_server.specs.Access.{allows};
+ghost use Rattle.nut_server_spec.specs.Answer as definitions;
+ghost use Rattle.nut_server_spec.specs.Answer.{has_right, is_primary, refused, ups_number, with_right};
+ghost use Rattle.nut_server_spec.specs.Configuration.{user_named};
+ghost use Rattle.nut_server_spec.specs.machine.Machine.{caller_of};
+ghost use Rattle.nut_server.specs.inside.Access.{allows};
 
 use crate::config::{Config, User};
 use crate::connection::Connection;
@@ -13,18 +13,18 @@ use crate::scene::Scene;
 use nut_conf::{Action, Role};
 use nut_proto::Refusal;
 
-/// What a request that changes something takes.
+/// A right, which a request needs if it changes something.
 #[derive(Clone, Copy, Drop)]
 pub enum Right<'a> {
-    /// To set variables: `actions = SET`.
+    /// Setting variables: `actions = SET`.
     Set,
-    /// To give the command with this name: `instcmds`.
+    /// Giving the command with this name: `instcmds`.
     Command(&'a [u8]),
-    /// To log in: `upsmon primary` or `upsmon secondary`.
+    /// Logging in: `upsmon primary` or `upsmon secondary`.
     LogIn,
-    /// To be the primary: `upsmon primary`.
+    /// Being primary: `upsmon primary`.
     BePrimary,
-    /// To force a shutdown: `upsmon primary` or `actions = FSD`.
+    /// Forcing a shutdown: `upsmon primary` or `actions = FSD`.
     Force,
 }
 
@@ -37,7 +37,7 @@ fn is_primary(role: Option<Role>) -> bool
     }
 }
 
-/// Whether a user has a right.
+/// Whether the user has the right.
 fn allows(right: Right<'_>, user: &User<'_>) -> bool
     ensures { result ≡ allows right.entry user.now }
 {
@@ -50,7 +50,7 @@ fn allows(right: Right<'_>, user: &User<'_>) -> bool
     }
 }
 
-/// Whether the user of this name has the password and the right.
+/// Whether there is a user with this name, this password and this right.
 fn has_right(config: &Config, name: &[u8], password: &[u8], right: Right<'_>) -> bool
     ensures { result ≡ has_right (allows right.entry) password.now (user_named name.now config.now.users) }
 {
@@ -60,8 +60,13 @@ fn has_right(config: &Config, name: &[u8], password: &[u8], right: Right<'_>) ->
     }
 }
 
-/// The number of the UPS of this name, where the client may use its right on it: it gave a user and a password, there
-/// is such a UPS, and the user has the password and the right.
+/// Returns the number of the UPS with this name, if the client may use the right on it.
+///
+/// # Errors
+///
+/// The first of these that applies: `UsernameRequired` or `PasswordRequired` if the client has given none, `UnknownUps`
+/// if there is no such UPS, `AccessDenied` if there is no such user, the password is wrong, or the user lacks the
+/// right.
 pub fn authorize(
     scene: &Scene<'_>,
     caller: &Connection,

@@ -1,14 +1,15 @@
-//! The addresses of clients.
+//! Addresses of clients.
 
 ghost use Rattle.std.specs.Prelude.{◌≡◌, Some, None, option_map, if◌then◌else◌};
 ghost use Rattle.std.specs.List.{list_all};
 ghost use Rattle.nut_words.specs.Spelling.{is_bare};
-ghost use Rattle.nut_history.specs.Acceptance.{is_address};
+ghost use Rattle.nut_server_spec.specs.Acceptance.{is_address};
 
 use arrayvec::ArrayVec;
+use nut_server_spec::ADDRESS_MAX;
 
-/// The address that a client connects from, without memory of its own.
-pub type Address = ArrayVec<u8, 64>;
+/// The address of a client, stored in place.
+pub type Address = ArrayVec<u8, ADDRESS_MAX>;
 
 /// Whether a byte may stand in a bare word.
 fn is_bare(byte: u8) -> bool
@@ -23,7 +24,7 @@ fn has_bare_bytes(text: &[u8]) -> bool
     text.iter().all(|byte| is_bare(*byte))
 }
 
-/// The address, where it is one: 1 to 64 bytes, each of which may stand in a bare word.
+/// The address, where it is one: 1 to [`ADDRESS_MAX`] bytes, each of which may stand in a bare word.
 pub fn address_of(text: &[u8]) -> Option<Address>
     ensures { option_map (λ address. address.items) result ≡ (if is_address text.now then Some text.now else None) }
 {

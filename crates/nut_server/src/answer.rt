@@ -1,4 +1,4 @@
-//! What a client is answered, before it is written as bytes.
+//! Answers to clients, before they are written as bytes.
 
 use crate::config::Config;
 use crate::connections::Connections;
@@ -6,34 +6,34 @@ use crate::device::Device;
 use nut_proto::{ListQuery, Reply};
 use nut_state::Variable;
 
-/// The rows of a list, by what they tell of. Names are the client's words.
+/// The rows of a list. UPSes and variables are named as the client wrote them.
 #[derive(Drop)]
 pub enum Rows<'a> {
     /// All UPSes.
     Upses(&'a Config),
     /// The variables of the UPS of this name.
     Variables(&'a [u8], &'a Device),
-    /// Those of its variables that may be set.
+    /// The variables of the UPS of this name that clients may set.
     Writable(&'a [u8], &'a Device),
-    /// Its commands.
+    /// The commands of the UPS of this name.
     Commands(&'a [u8], &'a Device),
-    /// The values that its variable of this name takes.
+    /// The enum values of a variable: the names of the UPS and of the variable, and the variable.
     Enums(&'a [u8], &'a [u8], &'a Variable),
-    /// The ranges of numbers that its variable of this name takes.
+    /// The ranges of a variable: the names of the UPS and of the variable, and the variable.
     Ranges(&'a [u8], &'a [u8], &'a Variable),
-    /// The clients that are logged in to the UPS with this number.
+    /// The clients that are logged in to a UPS: its name, its number, and the open connections.
     Clients(&'a [u8], usize, &'a Connections),
 }
 
-/// An answer, which lends what it tells.
+/// An answer. It borrows what it shows.
 #[derive(Drop)]
 pub enum Answer<'a> {
-    /// Nothing.
+    /// No bytes at all.
     Silence,
     /// One line.
     Line(Reply<'a>),
-    /// The value of a variable, as it is shown.
+    /// The line of GET VAR: the name of the UPS, the UPS and the variable.
     Value(&'a [u8], &'a Device, &'a Variable),
-    /// A list.
+    /// A list: its query, and its rows.
     Listing(ListQuery<'a>, Rows<'a>),
 }

@@ -1,30 +1,28 @@
-//! What a server is told.
+//! The arrivals: what a server is told.
 
-/// How many bytes a piece has at most.
-pub const PIECE_MAX: usize = 512;
-
-/// One thing that a server is told. Connections go by the numbers that they are given, from 1 on; UPSes and their
-/// drivers by their places in ups.conf, from 0 on.
+/// One thing that a server is told. Connections are numbered from 1 in the order in which they are opened. The number
+/// of a UPS, and of its driver, is its place in ups.conf, counted from 0.
 #[derive(Clone, Copy, Drop)]
 pub enum Arrival<'a> {
-    /// It is so many seconds since the start.
+    /// This many seconds have passed since the start.
     Moment(u64),
-    /// A client connects from this address, of 1 to 64 bytes that may stand in a bare word.
+    /// A client connects from this address, of 1 to [`ADDRESS_MAX`](nut_server_spec::ADDRESS_MAX) bytes that may stand in a
+    /// bare word.
     Open(&'a [u8]),
-    /// A piece of the bytes that a connection sends, of at most 512 bytes.
+    /// A piece of the bytes that a connection sends, of at most [`PIECE_MAX`](nut_words::PIECE_MAX) bytes.
     Bytes(u64, &'a [u8]),
-    /// A connection took so many of the bytes that wait for it.
+    /// A connection took this many of the bytes that waited for it.
     Took(u64, usize),
-    /// A connection is closed.
+    /// A connection was closed.
     Close(u64),
-    /// A write to a connection failed, which ends it.
+    /// A write to a connection failed, which closes it.
     WriteFailed(u64),
-    /// The driver of a UPS is connected, anew where it was connected before.
+    /// The driver of a UPS was connected, or connected anew.
     DriverUp(usize),
-    /// A piece of the bytes that a driver sends, of at most 512 bytes.
+    /// A piece of the bytes that a driver sends, of at most [`PIECE_MAX`](nut_words::PIECE_MAX) bytes.
     DriverBytes(usize, &'a [u8]),
-    /// A driver took so many of the bytes that wait for it.
+    /// A driver took this many of the bytes that waited for it.
     DriverTook(usize, usize),
-    /// A driver is gone.
+    /// A driver was disconnected.
     DriverDown(usize),
 }

@@ -1,15 +1,15 @@
-//! What the requests do that change something, and why each is refused (RFC 9271).
+//! Requests that change something, and why each is refused (RFC 9271).
 
 ghost use Rattle.std.specs.Prelude.{◌≡◌, ◌≤◌, ℕ, List, length, true, MatchResult, OnOk};
 ghost use Rattle.nut_proto.specs.declared.driver_ask.DriverAsk.TheVariants as asks;
 ghost use Rattle.nut_proto.specs.declared.reply.Reply.TheVariants as replies;
 ghost use Rattle.nut_proto.specs.declared.request.Request.TheVariants as requests;
 ghost use Rattle.nut_proto.specs.DriverAsks.{ask_line};
-ghost use Rattle.nut_history.specs.Answer.{Line, Scene, command_answer, refused, set_answer};
-ghost use Rattle.nut_history.specs.Command.{Asks};
-ghost use Rattle.nut_history.specs.Device.{fits};
-ghost use Rattle.nut_history.specs.Machine.{caller_of};
-ghost use Rattle.nut_server.specs.Decisions.{Grants};
+ghost use Rattle.nut_server_spec.specs.Answer.{Line, Scene, command_answer, refused, set_answer};
+ghost use Rattle.nut_server_spec.specs.Command.{Asks};
+ghost use Rattle.nut_server_spec.specs.Device.{fits};
+ghost use Rattle.nut_server_spec.specs.machine.Machine.{caller_of};
+ghost use Rattle.nut_server.specs.inside.Decisions.{Grants};
 
 use crate::access::{Right, authorize};
 use crate::connection::Connection;
@@ -21,14 +21,16 @@ use crate::scene::Scene;
 use crate::setting::{misfit, put_ask};
 use arrayvec::ArrayVec;
 use nut_proto::{DriverAsk, Refusal, Word};
+use nut_queue::ASKS_MAX;
+use nut_words::CREDENTIAL_MAX;
 
-/// Writes into `line` that the driver is to set a variable, if the variable takes the value and the line fits behind what
-/// waits for the driver.
+/// Writes the request to set a variable into `line`, if the variable allows the value and the line fits behind what
+/// waits for the driver. Otherwise returns the refusal.
 fn ask_to_set(
     device: &Device,
     name: &[u8],
     value: &[u8],
-    line: &mut ArrayVec<u8, 4096>,
+    line: &mut ArrayVec<u8, ASKS_MAX>,
 ) -> Result<(), Refusal>
     ensures answer { MatchResult result
         (λ done. set_answer device.now.device name.now value.now ≡ Line replies.Accepted)
@@ -50,9 +52,9 @@ fn ask_to_set(
     Ok(())
 }
 
-/// Writes into `line` that the driver is to do a command, if it has the command and the line fits behind what waits for
-/// the driver.
-fn ask_to_do(device: &Device, name: &[u8], line: &mut ArrayVec<u8, 4096>) -> Result<(), Refusal>
+/// Writes the request to run a command into `line`, if the UPS has the command and the line fits behind what waits for
+/// the driver. Otherwise returns the refusal.
+fn ask_to_do(device: &Device, name: &[u8], line: &mut ArrayVec<u8, ASKS_MAX>) -> Result<(), Refusal>
     ensures answer { MatchResult result
         (λ done. command_answer device.now.device name.now ≡ Line replies.Accepted)
         (λ refusal. command_answer device.now.device name.now ≡ refused refusal) }
@@ -71,14 +73,21 @@ fn ask_to_do(device: &Device, name: &[u8], line: &mut ArrayVec<u8, 4096>) -> Res
     Ok(())
 }
 
-/// SET VAR asks the driver to set a variable, by a line that is written into `line`.
+/// Decides on SET VAR: the driver is asked to set the variable, by a request that is written into `line`.
+///
+/// # Errors
+///
+/// The errors of [`authorize`](crate::access::authorize); then `DriverNotConnected` or `DataStale` if the data of the
+/// UPS can't be relied on, `VarNotSupported` if it has no such variable, `ReadOnly`, `TooLong` or `InvalidValue` if the
+/// variable can't be set to the value, and `SetFailed` if the request doesn't fit behind those that wait for the
+/// driver.
 pub fn set_variable(
     scene: &Scene<'_>,
     caller: &Connection,
     ups: &[u8],
     name: &[u8],
     value: &[u8],
-    line: &mut ArrayVec<u8, 4096>,
+    line: &mut ArrayVec<u8, ASKS_MAX>,
 ) -> Result<Effect<'static>, Refusal>
     ensures { Grants scene.now (caller_of caller.now) (Asks (requests.SetVar ups.now name.now value.now)) replies.Accepted
         result line.new.items }
@@ -88,13 +97,19 @@ pub fn set_variable(
     Ok(Effect::Ask(u))
 }
 
-/// INSTCMD asks the driver to do a command, by a line that is written into `line`.
+/// Decides on INSTCMD: the driver is asked to run the command, by a request that is written into `line`.
+///
+/// # Errors
+///
+/// The errors of [`authorize`](crate::access::authorize); then `DriverNotConnected` or `DataStale` if the data of the
+/// UPS can't be relied on, `CmdNotSupported` if it has no such command, and `InstCmdFailed` if the request doesn't fit
+/// behind those that wait for the driver.
 pub fn give_command(
     scene: &Scene<'_>,
     caller: &Connection,
     ups: &[u8],
     name: &[u8],
-    line: &mut ArrayVec<u8, 4096>,
+    line: &mut ArrayVec<u8, ASKS_MAX>,
 ) -> Result<Effect<'static>, Refusal>
     ensures { Grants scene.now (caller_of caller.now) (Asks (requests.InstCmd ups.now name.now)) replies.Accepted
         result line.new.items }
@@ -104,9 +119,13 @@ pub fn give_command(
     Ok(Effect::Ask(u))
 }
 
-/// USERNAME gives the user name, once.
+/// Decides on USERNAME: the client may give a user name once.
+///
+/// # Errors
+///
+/// `AlreadySetUsername` if the client has given one.
 pub fn give_user<'l>(caller: &Connection, name: &'l [u8]) -> Result<Effect<'l>, Refusal>
-    requires { length name.now ≤ 128 }
+    requires { length name.now ≤ CREDENTIAL_MAX }
     ensures { (s : Scene) (line : List ℕ) → Grants s (caller_of caller.now) (Asks (requests.Username name.now)) replies.Accepted
         result line }
 {
@@ -116,9 +135,13 @@ pub fn give_user<'l>(caller: &Connection, name: &'l [u8]) -> Result<Effect<'l>, 
     Ok(Effect::User(LentCredential::new(name)))
 }
 
-/// PASSWORD gives the password, once.
+/// Decides on PASSWORD: the client may give a password once.
+///
+/// # Errors
+///
+/// `AlreadySetPassword` if the client has given one.
 pub fn give_password<'l>(caller: &Connection, password: &'l [u8]) -> Result<Effect<'l>, Refusal>
-    requires { length password.now ≤ 128 }
+    requires { length password.now ≤ CREDENTIAL_MAX }
     ensures { (s : Scene) (line : List ℕ) → Grants s (caller_of caller.now) (Asks (requests.Password password.now)) replies.Accepted
         result line }
 {
@@ -128,7 +151,11 @@ pub fn give_password<'l>(caller: &Connection, password: &'l [u8]) -> Result<Effe
     Ok(Effect::Password(LentCredential::new(password)))
 }
 
-/// LOGIN logs the client in to a UPS, once.
+/// Decides on LOGIN: the client may log in to one UPS, once.
+///
+/// # Errors
+///
+/// The errors of [`authorize`](crate::access::authorize); then `AlreadyLoggedIn` if the client is logged in to any UPS.
 pub fn log_in(
     scene: &Scene<'_>,
     caller: &Connection,
@@ -144,7 +171,11 @@ pub fn log_in(
     Ok(Effect::Login(u))
 }
 
-/// PRIMARY asks whether the client may be the primary of a UPS, and changes nothing.
+/// Decides on PRIMARY: whether the client may be primary of the UPS. Nothing changes.
+///
+/// # Errors
+///
+/// The errors of [`authorize`](crate::access::authorize).
 pub fn become_primary(
     scene: &Scene<'_>,
     caller: &Connection,
@@ -157,7 +188,11 @@ pub fn become_primary(
     Ok(Effect::Nothing)
 }
 
-/// FSD forces a shutdown of a UPS.
+/// Decides on FSD: a shutdown of the UPS is forced.
+///
+/// # Errors
+///
+/// The errors of [`authorize`](crate::access::authorize).
 pub fn force(scene: &Scene<'_>, caller: &Connection, ups: &[u8]) -> Result<Effect<'static>, Refusal>
     requires { length scene.now.devices ≡ length scene.now.configuration.upses }
     ensures { (line : List ℕ) → Grants scene.now (caller_of caller.now) (Asks (requests.Fsd ups.now)) replies.FsdSet

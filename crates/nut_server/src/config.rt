@@ -1,32 +1,38 @@
-//! What a server is made with.
+//! The configuration that a server is made with.
 
-ghost use Rattle.std.specs.Prelude.{◌≡◌, ◌<◌, ◌≤◌, IfSome, length, slice_get};
-ghost use Rattle.nut_history.specs.Configuration.{number_of_ups, ups_named, user_named, has_password, may_act, may_command};
+ghost use Rattle.std.specs.Prelude.{◌≡◌, ◌<◌, ◌≤◌, IfSome, None, length, slice_get};
+ghost use Rattle.std.specs.Option.{option_map};
+ghost use Rattle.nut_conf.specs.Descriptions.{rows_of};
+ghost use Rattle.nut_proto.specs.Descriptions.{beside, command_description, told, variable_description};
+ghost use Rattle.nut_server_spec.specs.Configuration.{number_of_ups, ups_named, user_named, has_password, may_act, may_command};
 ghost use Rattle.nut_server.specs.Configured.{configuration_of, upses_of, users_of};
 
-use nut_conf::{Action, Role, UpsConf, UpsdConf, UsersConf};
+use nut_conf::{
+    Action, CONNECTIONS_MAX, Descriptions, Role, UPSES_MAX, USERS_MAX, UpsConf, UpsdConf, UsersConf,
+};
+use nut_proto::{command_description, variable_description};
 use std::marker::Model;
 
-/// A UPS, lent from the configuration.
+/// A UPS, borrowed from the configuration.
 #[derive(Drop)]
 pub struct Ups<'a> {
-    /// The name by which clients ask for it.
+    /// The name by which clients refer to it.
     pub name: &'a [u8],
     /// The program of its driver.
     pub driver: &'a [u8],
-    /// What people call it.
+    /// The description that clients see.
     pub description: &'a [u8],
 }
 
 impl<'a> Model for Ups<'a> {
-    ghost use Rattle.nut_history.specs.Configuration as definitions;
+    ghost use Rattle.nut_server_spec.specs.Configuration as definitions;
 
     ghost Value = { definitions.Ups };
 
     ghost view = { λ u. record { name = u.name.now; driver = u.driver.now; description = u.description.now } };
 }
 
-/// A user, lent from the configuration.
+/// A user, borrowed from the configuration.
 #[derive(Drop)]
 pub struct User<'a> {
     name: &'a [u8],
@@ -34,7 +40,7 @@ pub struct User<'a> {
 }
 
 impl<'a> Model for User<'a> {
-    ghost use Rattle.nut_history.specs.Configuration as definitions;
+    ghost use Rattle.nut_server_spec.specs.Configuration as definitions;
     ghost use Rattle.nut_server.specs.Configured.{user_of};
 
     ghost Value = { definitions.User };
@@ -43,7 +49,7 @@ impl<'a> Model for User<'a> {
 }
 
 impl<'a> User<'a> {
-    /// Whether the user's password is this one. A user without a password has none.
+    /// Whether this is the user's password. If the user has no password, no password is right.
     pub fn has_password(&self, password: &[u8]) -> bool
         ensures { result ≡ has_password password.now self.now }
     {
@@ -64,7 +70,7 @@ impl<'a> User<'a> {
         self.entry.may_command(name)
     }
 
-    /// What the user's monitor is to a UPS, if it may be a monitor.
+    /// Returns the role of the user's monitor, if the user may have one.
     pub fn role(&self) -> Option<Role>
         ensures { result ≡ self.now.role }
     {
@@ -72,57 +78,85 @@ impl<'a> User<'a> {
     }
 }
 
-/// The configuration of a server: ups.conf(5), upsd.users(5) and upsd.conf(5).
+/// The text of a name that has none.
+const UNAVAILABLE: &[u8] = b"Description unavailable";
+
+/// The text of a name that has none of this project's own.
+fn or_unavailable(text: Option<&[u8]>) -> &[u8]
+    ensures { result.now ≡ told None (option_map (λ t. t.now) text.entry) }
+{
+    match text {
+        Some(text) => text,
+        None => UNAVAILABLE,
+    }
+}
+
+/// The configuration of a server: ups.conf(5), upsd.users(5), upsd.conf(5), and cmdvartab where there is that file.
 #[derive(Drop)]
 pub struct Config {
     ups: UpsConf,
     users: UsersConf,
     upsd: UpsdConf,
+    descriptions: Option<Descriptions>,
 }
 
 impl Model for Config {
-    ghost use Rattle.nut_history.specs.Configuration.{Configuration};
+    ghost use Rattle.nut_server_spec.specs.Configuration.{Configuration};
     ghost use Rattle.nut_server.specs.Configured.{configuration_of};
 
     ghost Value = { Configuration };
 
-    ghost view = { λ c. configuration_of c.ups c.users c.upsd };
+    ghost view = { λ c. configuration_of c.ups c.users c.upsd c.descriptions };
 }
 
 impl Config {
-    /// What these three files set.
+    /// What these three files set, without descriptions.
     pub fn new(ups: UpsConf, users: UsersConf, upsd: UpsdConf) -> Config
-        ensures { result ≡ configuration_of ups users upsd }
+        ensures { result ≡ configuration_of ups users upsd None }
     {
-        Config { ups, users, upsd }
+        Config {
+            ups,
+            users,
+            upsd,
+            descriptions: None,
+        }
     }
 
-    /// What ups.conf sets.
+    /// The same with these descriptions, in place of those before.
+    pub fn with_descriptions(self, descriptions: Descriptions) -> Config
+        ensures { result ≡ record self { variable_texts = rows_of descriptions.variables; command_texts = rows_of descriptions.commands } }
+    {
+        let mut config = self;
+        config.descriptions = Some(descriptions);
+        config
+    }
+
+    /// Returns what ups.conf sets.
     pub fn ups(&self) -> &UpsConf
         ensures { upses_of result.now ≡ self.now.upses }
     {
         &self.ups
     }
 
-    /// What upsd.users sets: at most 64 users.
+    /// What upsd.users sets: at most [`USERS_MAX`] users.
     pub fn users(&self) -> &UsersConf
         ensures value { users_of result.now ≡ self.now.users }
-        ensures few { length self.now.users ≤ 64 }
+        ensures few { length self.now.users ≤ USERS_MAX }
     {
         &self.users
     }
 
-    /// How many UPSes there are, at most 32.
+    /// How many UPSes there are, at most [`UPSES_MAX`].
     pub fn number_of_upses(&self) -> usize
         ensures len { result ≡ length self.now.upses }
-        ensures few { result ≤ 32 }
+        ensures few { result ≤ UPSES_MAX }
     {
         self.ups.len()
     }
 
-    /// The number of the first UPS of this name, counted from 0 in the order of the file.
+    /// Returns the number of the first UPS with this name, counted from 0 in the order of the file.
     ///
-    /// Takes no memory, and no longer for many UPSes.
+    /// Allocates no memory. The time it takes doesn't grow with the number of UPSes.
     pub fn find_ups(&self, name: &[u8]) -> Option<usize>
         ensures number { result ≡ number_of_ups name.now self.now.upses }
         ensures within { IfSome result (λ u. u < length self.now.upses) }
@@ -130,7 +164,7 @@ impl Config {
         self.ups.find(name)
     }
 
-    /// The UPS with this number.
+    /// Returns the UPS with this number.
     pub fn ups_at(&self, u: usize) -> Option<Ups<'_>>
         ensures { result ≡ slice_get self.now.upses u }
     {
@@ -147,7 +181,8 @@ impl Config {
         })
     }
 
-    /// The first UPS of this name. Takes no memory, and no longer for many UPSes.
+    /// Returns the first UPS with this name. Allocates no memory. The time it takes doesn't grow with the number of
+    /// UPSes.
     pub fn ups_named(&self, name: &[u8]) -> Option<Ups<'_>>
         ensures { result ≡ ups_named name.now self.now.upses }
     {
@@ -157,7 +192,8 @@ impl Config {
         }
     }
 
-    /// The first user of this name. Takes no memory, and no longer for many users.
+    /// Returns the first user with this name. Allocates no memory. The time it takes doesn't grow with the number of
+    /// users.
     pub fn find_user<'a>(&'a self, name: &'a [u8]) -> Option<User<'a>>
         ensures { result ≡ user_named name.now self.now.users }
     {
@@ -167,8 +203,54 @@ impl Config {
         }
     }
 
-    /// After how many seconds without a word from its driver the data of a UPS is stale, 1 to 86,400 (MAXAGE of
-    /// upsd.conf(5)).
+    /// The text of cmdvartab for a variable, if it has one.
+    fn variable_text(&self, name: &[u8]) -> Option<&[u8]>
+        ensures { option_map (λ t. t.now) result ≡ beside name.now self.now.variable_texts }
+    {
+        match &self.descriptions {
+            Some(others) => others.variables.find(name),
+            None => None,
+        }
+    }
+
+    /// The text of cmdvartab for a command, if it has one.
+    fn command_text(&self, name: &[u8]) -> Option<&[u8]>
+        ensures { option_map (λ t. t.now) result ≡ beside name.now self.now.command_texts }
+    {
+        match &self.descriptions {
+            Some(others) => others.commands.find(name),
+            None => None,
+        }
+    }
+
+    /// What a variable tells, for people to read: this project's own text for its name; where there is none, that of
+    /// cmdvartab; where there is none either, `Description unavailable`.
+    ///
+    /// Takes no memory, and no longer for many descriptions.
+    pub fn describe_variable(&self, name: &[u8]) -> &[u8]
+        ensures { result.now ≡ variable_description self.now.variable_texts name.now }
+    {
+        match variable_description(name) {
+            Some(ours) => ours,
+            None => or_unavailable(self.variable_text(name)),
+        }
+    }
+
+    /// What a command does, for people to read: this project's own text for its name; where there is none, that of
+    /// cmdvartab; where there is none either, `Description unavailable`.
+    ///
+    /// Takes no memory, and no longer for many descriptions.
+    pub fn describe_command(&self, name: &[u8]) -> &[u8]
+        ensures { result.now ≡ command_description self.now.command_texts name.now }
+    {
+        match command_description(name) {
+            Some(own) => own,
+            None => or_unavailable(self.command_text(name)),
+        }
+    }
+
+    /// Returns MAXAGE of upsd.conf(5): after this many seconds without a word from its driver, the data of a UPS are
+    /// stale. It is 1 to 86,400.
     pub fn max_age(&self) -> u32
         ensures value { result ≡ self.now.max_age }
         ensures least { 1 ≤ result }
@@ -177,11 +259,11 @@ impl Config {
         self.upsd.max_age()
     }
 
-    /// How many connections may be open at once, 1 to 256 (MAXCONN of upsd.conf(5)).
+    /// How many connections may be open at once, 1 to [`CONNECTIONS_MAX`] (MAXCONN of upsd.conf(5)).
     pub fn most_connections(&self) -> usize
         ensures value { result ≡ self.now.most_connections }
         ensures least { 1 ≤ result }
-        ensures most { result ≤ 256 }
+        ensures most { result ≤ CONNECTIONS_MAX }
     {
         self.upsd.max_conn() as usize
     }

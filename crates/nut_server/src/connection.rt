@@ -3,25 +3,25 @@
 ghost use Rattle.std.specs.Prelude.{◌≡◌, ◌≢◌, ◌≤◌, ◌++◌, ℕ, List, [], ◌∷◌, true, Some, None, All, IfSome, IsSome, OnSome, drop, length, map, option_map, OnOk, OnErr};
 ghost use Rattle.nut_words.specs.Cutter.{kept_of};
 ghost use Rattle.nut_queue.specs.Front.{IsFrontPart};
-ghost use Rattle.nut_history.specs.Acceptance.{may_read, leaves};
-ghost use Rattle.nut_history.specs.Answer.{is_logged_in};
+ghost use Rattle.nut_server_spec.specs.Acceptance.{may_read, leaves};
+ghost use Rattle.nut_server_spec.specs.Answer.{is_logged_in};
 ghost use Rattle.nut_words.specs.Lines.{Text, lines};
-ghost use Rattle.nut_history.specs.Machine.{fresh, with_rest};
-ghost use Rattle.nut_server.specs.Effects.{affected, said};
-ghost use Rattle.nut_server.specs.Inside.{IsRest};
+ghost use Rattle.nut_server_spec.specs.machine.Machine.{fresh, with_rest};
+ghost use Rattle.nut_server.specs.inside.Effects.{affected, said};
+ghost use Rattle.nut_server.specs.inside.Inside.{IsRest};
 ghost use Rattle.nut_server.specs.Settling.{is_unsettled};
 
 use crate::address::Address;
 use crate::credential::Credential;
 use crate::effect::Effect;
 use nut_queue::Outbox;
-use nut_words::LineCutter;
+use nut_words::{LINE_MAX, LineCutter};
 use std::alloc::{AllocError, Global};
 use std::marker::Model;
 use std::mem;
 
-/// A connection: its number, where it comes from, what the client said of itself, its unfinished line, and the answers
-/// that wait.
+/// A connection: its number and address, what the client said of itself, its unfinished line, and the answers that
+/// wait.
 #[derive(Drop)]
 pub struct Connection {
     number: u64,
@@ -35,8 +35,8 @@ pub struct Connection {
 }
 
 impl Model for Connection {
-    ghost use Rattle.nut_history.specs.Content.{Session};
-    ghost use Rattle.nut_server.specs.Inside.{IsRest};
+    ghost use Rattle.nut_server_spec.specs.Content.{Session};
+    ghost use Rattle.nut_server.specs.inside.Inside.{IsRest};
 
     ghost Value = { Session };
 
@@ -55,7 +55,7 @@ impl Model for Connection {
 }
 
 impl Connection {
-    /// A connection on which nothing was said.
+    /// Returns a new connection: its client has said nothing.
     pub fn new(alloc: Global, number: u64, address: Address) -> Connection
         ensures { result ≡ fresh number address.items }
     {
@@ -71,20 +71,21 @@ impl Connection {
         }
     }
 
+    /// Returns the number of the connection.
     pub fn number(&self) -> u64
         ensures { result ≡ self.now.number }
     {
         self.number
     }
 
-    /// Where the client comes from.
+    /// Returns the address of the client.
     pub fn address(&self) -> &[u8]
         ensures { result.now ≡ self.now.address }
     {
         self.address.as_slice()
     }
 
-    /// The user name that the client gave.
+    /// Returns the user name that the client gave, if it gave one.
     pub fn user(&self) -> Option<&[u8]>
         ensures { option_map (λ text. text.now) result ≡ self.now.user }
     {
@@ -94,7 +95,7 @@ impl Connection {
         }
     }
 
-    /// The password that the client gave.
+    /// Returns the password that the client gave, if it gave one.
     pub fn password(&self) -> Option<&[u8]>
         ensures { option_map (λ text. text.now) result ≡ self.now.password }
     {
@@ -104,7 +105,7 @@ impl Connection {
         }
     }
 
-    /// The UPS that the client is logged in to.
+    /// Returns the number of the UPS that the client is logged in to, if it is.
     pub fn login(&self) -> Option<usize>
         ensures { result ≡ self.now.login }
     {
@@ -128,48 +129,51 @@ impl Connection {
         self.logged_out
     }
 
-    /// How many bytes wait.
+    /// Returns how many bytes wait for the client.
     pub fn waits(&self) -> usize
         ensures { result ≡ length self.now.waits }
     {
         self.outbox.len()
     }
 
-    /// A front part of the bytes that wait, which is empty only where none wait.
+    /// Returns a front part of the bytes that wait for the client. It is empty only if none wait.
     pub fn waiting(&self) -> &[u8]
         ensures { IsFrontPart result.now self.now.waits }
     {
         self.outbox.front()
     }
 
+    /// Whether the connection may be read from: nothing waits for the client, and it hasn't logged out.
     pub fn may_read(&self) -> bool
         ensures { result ≡ may_read (Some self.now) }
     {
         self.waits() == 0 && !self.logged_out
     }
 
+    /// Whether the connection is to be closed: the client has logged out, and nothing waits for it.
     pub fn leaves(&self) -> bool
         ensures { result ≡ leaves (Some self.now) }
     {
         self.waits() == 0 && self.logged_out
     }
 
-    /// Whether it has to be written to or closed.
+    /// Whether bytes wait for the client, or the connection is to be closed.
     pub fn is_unsettled(&self) -> bool
         ensures { result ≡ is_unsettled (Some self.now) }
     {
         self.waits() > 0 || self.leaves()
     }
 
-    /// How many bytes are kept of an unfinished line.
+    /// Returns how many bytes of an unfinished line are kept.
     pub fn kept(&self) -> usize
         ensures value { result ≡ kept_of self.now.rest }
-        ensures within { result ≤ 512 }
+        ensures within { result ≤ LINE_MAX }
     {
         self.cutter.kept()
     }
 
-    /// Puts an answer behind those that wait, and does what its line does to the connection. At an `Err` nothing changed.
+    /// Queues the answer to a line, and changes the connection as the line does. If memory cannot be allocated, nothing
+    /// changes.
     pub fn answer(&mut self, text: &[u8], effect: &Effect<'_>) -> Result<(), AllocError>
         ensures number { self.new.number ≡ self.old.number }
         ensures ok { OnOk result (self.new ≡ affected effect.now (said text.now self.old)) }
@@ -196,19 +200,19 @@ impl Connection {
         }
     }
 
-    /// The line that a piece is, where nothing is kept of a line and the piece ends with its line feed. None where it is
-    /// otherwise, or the line is too long.
+    /// Returns the line, if nothing of a line is kept and the piece is one whole line with its line feed. Returns
+    /// `None` if the piece is anything else, or the line is too long.
     pub fn whole_line<'a>(&self, piece: &'a [u8]) -> Option<&'a [u8]>
         ensures start { OnSome result (self.now.rest ≡ Text []) }
         ensures whole { IfSome result (λ line. piece.now ≡ line.now ++ 10 ∷ []) }
         ensures line { IfSome result (λ line. lines piece.now ≡ Text line.now ∷ []) }
         ensures taken { (text : List ℕ) → self.now.rest ≡ Text [] → piece.now ≡ text ++ 10 ∷ [] → All (λ b. b ≢ 10) text
-            → length text ≤ 512 → IsSome result }
+            → length text ≤ LINE_MAX → IsSome result }
     {
         self.cutter.whole_line(piece)
     }
 
-    /// Takes the cutter of its lines out, which leaves an empty one.
+    /// Takes the cutter out, and leaves an empty one in its place.
     pub fn take_cutter(&mut self) -> LineCutter
         ensures taken { result ≡ self.old.rest }
         ensures rest { IsRest result }
@@ -217,7 +221,7 @@ impl Connection {
         mem::take(&mut self.cutter)
     }
 
-    /// Puts the cutter of its lines back.
+    /// Puts the cutter back.
     pub fn put_cutter(&mut self, cutter: LineCutter)
         requires { IsRest cutter }
         ensures { self.new ≡ with_rest cutter self.old }
@@ -225,7 +229,7 @@ impl Connection {
         self.cutter = cutter;
     }
 
-    /// The client took the first `n` of the bytes that wait.
+    /// Removes the first `n` of the bytes that wait: the client took them.
     pub fn took(&mut self, n: usize)
         requires { n ≤ length self.old.waits }
         ensures { self.new ≡ record self.old { waits = drop n self.old.waits } }

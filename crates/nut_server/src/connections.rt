@@ -1,50 +1,49 @@
 //! The open connections, by rising number.
 //!
-//! They stand in a slab, where none is moved while it is open. Beside it stands the order: the number of each with its
-//! slot, so that one is found by halves, in at most nine steps whatever was opened before. Each key is marked where its
-//! connection is unsettled: those are found without a look into the slots, and where there is none without any look.
+//! They are kept in a slab, in which no open connection moves. A sorted vector of keys holds the number and the slot of
+//! each, so a binary search finds a connection in at most nine steps. A key also says whether its connection is
+//! unsettled, so unsettled connections are found without a look into the slots. If their count is 0, there is no need
+//! to look at the keys either.
 
 ghost use Rattle.std.specs.Prelude.{◌≡◌, ◌<◌, ◌≤◌, ℕ, [], ◌∷◌, ◌++◌, Some, None, IfOk, IfNone, IfSome, OnOk, OnErr, cond, count_by, drop, find, length, map, nat_le, ◌&&◌, option_map, slice_get, slice_set, vec_capacity};
 ghost use Rattle.nut_words.specs.Lines.{Text};
-ghost use Rattle.nut_history.specs.Content.{Session};
-ghost use Rattle.nut_history.specs.Acceptance.{session_of};
-ghost use Rattle.nut_history.specs.Answer.{guests_of};
-ghost use Rattle.nut_history.specs.Laws.{IsRising, IsUpTo};
-ghost use Rattle.nut_history.specs.Machine.{guest_of, update, with_rest, without};
+ghost use Rattle.nut_server_spec.specs.Content.{Session};
+ghost use Rattle.nut_server_spec.specs.Acceptance.{session_of};
+ghost use Rattle.nut_server_spec.specs.Answer.{guests_of};
+ghost use Rattle.nut_server_spec.specs.laws.Laws.{IsRising, IsUpTo};
+ghost use Rattle.nut_server_spec.specs.machine.Machine.{guest_of, update, with_rest, without};
 ghost use Rattle.nut_server.specs.declared.connections.Key.{Key};
-ghost use Rattle.nut_server.specs.Effects.{affected, said};
-ghost use Rattle.nut_server.specs.Inside.{IsRest, numbers_of};
-ghost use Rattle.nut_server.specs.Place.{Stands};
+ghost use Rattle.nut_server.specs.inside.Effects.{affected, said};
+ghost use Rattle.nut_server.specs.inside.Inside.{IsRest, numbers_of};
+ghost use Rattle.nut_server.specs.inside.Place.{Stands};
 ghost use Rattle.nut_server.specs.Settling.{IsNextUnsettled, settles};
 
 use crate::connection::Connection;
 use crate::effect::Effect;
+use nut_conf::CONNECTIONS_MAX;
 use nut_words::LineCutter;
 use slab::Slab;
 use std::alloc::{AllocError, Global};
 use std::marker::Model;
 
-/// How many connections may be open at once: the greatest MAXCONN of upsd.conf(5).
-pub const MOST_OPEN: usize = 256;
-
-/// The number of an open connection, and the slot in which it stands.
+/// The number of an open connection, and the slot that holds it.
 #[derive(Clone, Copy)]
 struct Key {
     number: u64,
     slot: usize,
-    /// Whether bytes wait for the connection, or it leaves.
+    /// Whether bytes wait for the connection, or it is to be closed.
     unsettled: bool,
 }
 
 impl Key {
-    /// Whether its connection is unsettled, and its number isn't less than `least`.
+    /// Whether the connection is unsettled and its number is at least `least`.
     fn is_unsettled_from(&self, least: u64) -> bool
         ensures { result ≡ (nat_le least self.now.number && self.now.unsettled) }
     {
         least <= self.number && self.unsettled
     }
 
-    /// What it adds to the count of the unsettled ones.
+    /// Returns 1 if the connection is unsettled, else 0.
     fn count(&self) -> usize
         ensures { result ≡ cond self.now.unsettled 1 0 }
     {
@@ -52,7 +51,7 @@ impl Key {
     }
 }
 
-/// Marks the key at this place as the connection now is, and keeps the count of those that are unsettled.
+/// Marks the key at this place as unsettled or settled, and updates the count of unsettled connections.
 fn mark(order: &mut Vec<Key>, count: &mut usize, at: usize, unsettled: bool)
     requires within { at < length order.old.items }
     requires counted { count.old ≡ count_by (λ key. key.unsettled) order.old.items }
@@ -70,20 +69,20 @@ fn mark(order: &mut Vec<Key>, count: &mut usize, at: usize, unsettled: bool)
     order[at] = Key { unsettled, ..key };
 }
 
-/// The open connections, by rising number, with room for [`MOST_OPEN`].
+/// The open connections, by rising number, with room for [`CONNECTIONS_MAX`].
 #[derive(Drop)]
 pub struct Connections {
     slots: Slab<Connection>,
-    /// By rising number: the newest stands last.
+    /// The keys, by rising number: the newest is the last.
     order: Vec<Key>,
-    /// How many of them are unsettled.
+    /// How many connections are unsettled.
     unsettled: usize,
 }
 
 impl Model for Connections {
     ghost use Rattle.std.specs.Prelude.{List};
-    ghost use Rattle.nut_history.specs.Content.{Session};
-    ghost use Rattle.nut_server.specs.Entries.{AreEntries, sessions_of};
+    ghost use Rattle.nut_server_spec.specs.Content.{Session};
+    ghost use Rattle.nut_server.specs.inside.Entries.{AreEntries, sessions_of};
 
     ghost Value = { List Session };
 
@@ -93,12 +92,13 @@ impl Model for Connections {
 }
 
 impl Connections {
-    /// No connections, and the room for all that may be open at once.
+    /// Returns an empty list, with room for all connections that may be open at once. Fails if memory cannot be
+    /// allocated.
     pub fn with_room(alloc: Global) -> Result<Connections, AllocError>
         ensures { IfOk result (λ connections. connections ≡ []) }
     {
-        let slots = Slab::with_capacity(alloc, MOST_OPEN)?;
-        let order = Vec::with_capacity(alloc, MOST_OPEN)?;
+        let slots = Slab::with_capacity(alloc, CONNECTIONS_MAX as usize)?;
+        let order = Vec::with_capacity(alloc, CONNECTIONS_MAX as usize)?;
         Ok(Connections {
             slots,
             order,
@@ -106,15 +106,15 @@ impl Connections {
         })
     }
 
-    /// How many are open.
+    /// Returns the number of open connections.
     pub fn len(&self) -> usize
         ensures length { result ≡ length self.now }
-        ensures within { result ≤ MOST_OPEN }
+        ensures within { result ≤ CONNECTIONS_MAX }
     {
         self.order.len()
     }
 
-    /// The connection at this place of the order, counted from 0.
+    /// Returns the connection at this place, counted from 0 by rising number.
     pub fn at(&self, index: usize) -> &Connection
         requires { index < length self.now }
         ensures { slice_get self.now index ≡ Some result.now }
@@ -122,8 +122,8 @@ impl Connections {
         &self.slots[self.order[index].slot]
     }
 
-    /// Where the connection with this number stands, if it stands as far behind the oldest as it was opened after it: so
-    /// does each where none of those between was closed.
+    /// Returns the place of the connection with this number, if its distance from the oldest is the difference of their
+    /// numbers. This is so if none of those between has been closed.
     fn likely_place(&self, c: u64) -> Option<usize>
         ensures { IfSome result (Stands c self.now) }
     {
@@ -136,7 +136,7 @@ impl Connections {
         Some(place)
     }
 
-    /// Where the connection with this number stands.
+    /// Returns the place of the connection with this number, if it is open.
     pub fn place_of(&self, c: u64) -> Option<usize>
         ensures none { IfNone result (session_of c self.now ≡ None) }
         ensures some { IfSome result (Stands c self.now) }
@@ -150,7 +150,7 @@ impl Connections {
             .ok()
     }
 
-    /// The connection with this number.
+    /// Returns the connection with this number, if it is open.
     pub fn get(&self, c: u64) -> Option<&Connection>
         ensures { option_map (λ k. k.now) result ≡ session_of c self.now }
     {
@@ -160,10 +160,10 @@ impl Connections {
         }
     }
 
-    /// How many of them are logged in to a UPS.
+    /// Returns how many connections are logged in to a UPS.
     pub fn logged_in(&self, u: usize) -> usize
         ensures count { result ≡ length (guests_of u (map guest_of self.now)) }
-        ensures within { result ≤ MOST_OPEN }
+        ensures within { result ≤ CONNECTIONS_MAX }
     {
         let mut count = 0;
         for index in 0..self.len() {
@@ -174,7 +174,7 @@ impl Connections {
         count
     }
 
-    /// The number of the first connection, from the number `least` on, for which bytes wait or that leaves.
+    /// Returns the number of the first unsettled connection from the number `least` on, if there is one.
     fn find_unsettled(&self, least: u64) -> Option<u64>
         ensures value { result ≡ option_map (λ k. k.number) (find (settles least) self.now) }
         ensures rising { IsRising (numbers_of self.now) }
@@ -191,16 +191,16 @@ impl Connections {
         None
     }
 
-    /// The least number, from `least` on, of a connection for which bytes wait or that leaves.
+    /// Returns the least number, from `least` on, of a connection for which bytes wait or which is to be closed.
     pub fn first_unsettled(&self, least: u64) -> Option<u64>
         ensures { IsNextUnsettled self.now least result }
     {
         self.find_unsettled(least)
     }
 
-    /// Adds a connection with a number above those of all others, for which there is room.
+    /// Adds a connection whose number is greater than those of all others. There is room for it.
     pub fn add(&mut self, connection: Connection)
-        requires room { length self.old < MOST_OPEN }
+        requires room { length self.old < CONNECTIONS_MAX }
         requires above { (n : ℕ) × IsUpTo n (numbers_of self.old) × (n < connection.number) }
         ensures { self.new ≡ self.old ++ connection ∷ [] }
     {
@@ -216,7 +216,7 @@ impl Connections {
         self.order.push_reserved(key);
     }
 
-    /// Forgets the connection with this number, and keeps the room.
+    /// Removes the connection with this number, if it is open. Keeps the memory.
     pub fn remove(&mut self, c: u64)
         ensures { self.new ≡ without c self.old }
     {
@@ -227,7 +227,8 @@ impl Connections {
         }
     }
 
-    /// The connection at this place is answered, and changes as its line does. At an `Err` nothing changed.
+    /// Queues the answer to a line of the connection at this place, and changes the connection as the line does. If
+    /// memory cannot be allocated, nothing changes.
     pub fn answer(&mut self, at: usize, text: &[u8], effect: &Effect<'_>) -> Result<(), AllocError>
         requires { at < length self.old }
         ensures numbers { numbers_of self.new ≡ numbers_of self.old }
@@ -243,7 +244,7 @@ impl Connections {
         answered
     }
 
-    /// The connection at this place took the first `n` of the bytes that wait for it.
+    /// Removes the first `n` of the bytes that wait for the connection at this place: the client took them.
     pub fn took(&mut self, at: usize, n: usize)
         requires within { at < length self.old }
         requires waits { (k : Session) → slice_get self.old at ≡ Some k → n ≤ length k.waits }
@@ -258,7 +259,7 @@ impl Connections {
         mark(&mut self.order, &mut self.unsettled, at, unsettled);
     }
 
-    /// Takes out the cutter of the connection at this place, which leaves an empty one.
+    /// Takes the cutter of the connection at this place out, and leaves an empty one in its place.
     pub fn take_cutter(&mut self, at: usize) -> LineCutter
         requires { at < length self.old }
         ensures numbers { numbers_of self.new ≡ numbers_of self.old }

@@ -1,14 +1,13 @@
-//! What a client gives of itself: the name of a user, or a password.
+//! User names and passwords that clients give.
 
 ghost use Rattle.std.specs.Prelude.{◌≡◌, ◌≤◌, List, ℕ, length};
+ghost use Rattle.nut_words.specs.declared.limits.TheConstants.{CREDENTIAL_MAX};
 
 use arrayvec::ArrayVec;
+use nut_words::CREDENTIAL_MAX;
 use std::marker::Model;
 
-/// How many bytes a user name or a password has at most.
-pub const CREDENTIAL_MAX: usize = 128;
-
-/// A user name or a password, as a request lends it.
+/// A user name or a password, borrowed from a request.
 #[derive(Drop)]
 pub struct LentCredential<'l> {
     bytes: &'l [u8],
@@ -19,27 +18,27 @@ impl<'l> Model for LentCredential<'l> {
 
     ghost view = { λ c. c.bytes.now };
 
-    ghost invariant = { λ c. length c.bytes.now ≤ 128 };
+    ghost invariant = { λ c. length c.bytes.now ≤ CREDENTIAL_MAX };
 }
 
 impl<'l> LentCredential<'l> {
-    /// These bytes.
+    /// Returns the credential with these bytes.
     pub fn new(bytes: &'l [u8]) -> LentCredential<'l>
-        requires { length bytes.now ≤ 128 }
+        requires { length bytes.now ≤ CREDENTIAL_MAX }
         ensures { result ≡ bytes.now }
     {
         LentCredential { bytes }
     }
 
-    /// Its bytes.
+    /// Returns the bytes.
     fn as_bytes(&self) -> &'l [u8]
         ensures value { result.now ≡ self.now }
-        ensures within { length result.now ≤ 128 }
+        ensures within { length result.now ≤ CREDENTIAL_MAX }
     {
         self.bytes
     }
 
-    /// The same bytes, to keep.
+    /// Returns a copy that can be kept.
     pub fn copied(&self) -> Credential
         ensures { result ≡ self.now }
     {
@@ -49,10 +48,10 @@ impl<'l> LentCredential<'l> {
     }
 }
 
-/// A user name or a password that is kept, without memory of its own.
+/// A user name or a password, stored in place.
 #[derive(Drop)]
 pub struct Credential {
-    bytes: ArrayVec<u8, 128>,
+    bytes: ArrayVec<u8, CREDENTIAL_MAX>,
 }
 
 impl Model for Credential {
@@ -62,7 +61,7 @@ impl Model for Credential {
 }
 
 impl Credential {
-    /// Its bytes.
+    /// Returns the bytes.
     pub fn as_bytes(&self) -> &[u8]
         ensures { result.now ≡ self.now }
     {

@@ -1,14 +1,14 @@
-//! What each request decides: its answer, and what it does.
+//! Decides on requests: the answer to each, and what it changes.
 
 ghost use Rattle.std.specs.Prelude.{◌≡◌, length, MatchResult};
 ghost use Rattle.nut_proto.specs.declared.refusal.Refusal.TheVariants as refusals;
-ghost use Rattle.nut_history.specs.Answer.{refused};
-ghost use Rattle.nut_history.specs.Answer as definitions;
-ghost use Rattle.nut_history.specs.Command.{Asks, asked};
-ghost use Rattle.nut_history.specs.Machine.{caller_of};
-ghost use Rattle.nut_server.specs.Answers.{given, outcome};
-ghost use Rattle.nut_server.specs.Decisions.{Decides};
-ghost use Rattle.nut_server.specs.Effects.{HasShortNames};
+ghost use Rattle.nut_server_spec.specs.Answer.{refused};
+ghost use Rattle.nut_server_spec.specs.Answer as definitions;
+ghost use Rattle.nut_server_spec.specs.Command.{Asks, asked};
+ghost use Rattle.nut_server_spec.specs.machine.Machine.{caller_of};
+ghost use Rattle.nut_server.specs.inside.Answers.{given, outcome};
+ghost use Rattle.nut_server.specs.inside.Decisions.{Decides};
+ghost use Rattle.nut_server.specs.inside.Effects.{HasShortNames};
 ghost use Rattle.nut_server.specs.declared.effect.Effect.TheVariants as effects;
 
 use crate::answer::Answer;
@@ -24,17 +24,18 @@ use crate::queries::{
 use crate::scene::Scene;
 use arrayvec::ArrayVec;
 use nut_proto::{Refusal, Reply, Request};
+use nut_queue::ASKS_MAX;
 
 /// What is decided on a request.
 #[derive(Drop)]
 pub struct Decision<'a, 'l> {
-    /// What it is answered.
+    /// The answer.
     pub answer: Answer<'a>,
-    /// What it does beside.
+    /// What the request changes, apart from the answer.
     pub effect: Effect<'l>,
 }
 
-/// This answer, and nothing beside.
+/// Returns the decision to give this answer and change nothing.
 fn only<'a>(answer: Answer<'a>) -> Decision<'a, 'static>
     ensures answer { given result.answer ≡ given answer.entry }
     ensures effect { result.effect ≡ effects.Nothing }
@@ -45,7 +46,7 @@ fn only<'a>(answer: Answer<'a>) -> Decision<'a, 'static>
     }
 }
 
-/// What was asked for is told, or the request is refused.
+/// Returns the decision on a request that changes nothing: its answer or its refusal.
 fn tell<'a>(told: Result<Answer<'a>, Refusal>) -> Decision<'a, 'static>
     ensures answer { given result.answer ≡ outcome told.entry }
     ensures effect { result.effect ≡ effects.Nothing }
@@ -56,7 +57,8 @@ fn tell<'a>(told: Result<Answer<'a>, Refusal>) -> Decision<'a, 'static>
     }
 }
 
-/// A request is granted by this line and has its effect, or is refused and has none.
+/// Returns the decision on a request that changes something: this line and the effect if it is granted, or the refusal
+/// and no effect.
 fn grant<'a, 'l>(reply: Reply<'a>, granted: Result<Effect<'l>, Refusal>) -> Decision<'a, 'l>
     ensures { MatchResult granted.entry
         (λ effect. (given result.answer ≡ definitions.Line reply.entry) × (result.effect ≡ effect))
@@ -76,7 +78,7 @@ fn decide_request<'a, 'l>(
     scene: &'a Scene<'_>,
     caller: &Connection,
     request: &'a Request<'l>,
-    line: &mut ArrayVec<u8, 4096>,
+    line: &mut ArrayVec<u8, ASKS_MAX>,
 ) -> Decision<'a, 'l>
     requires all { length scene.now.devices ≡ length scene.now.configuration.upses }
     requires short { HasShortNames (Asks request.now) }
@@ -144,12 +146,13 @@ fn decide_request<'a, 'l>(
     }
 }
 
-/// Decides on a request, or on a line that is none. Where a driver is to be asked, `line` then has what it is asked.
+/// Decides on a request, or on a line that isn't one. If a driver is to be asked something, `line` then holds the
+/// request to it.
 pub fn decide<'a, 'l>(
     scene: &'a Scene<'_>,
     caller: &Connection,
     request: &'a Result<Request<'l>, Refusal>,
-    line: &mut ArrayVec<u8, 4096>,
+    line: &mut ArrayVec<u8, ASKS_MAX>,
 ) -> Decision<'a, 'l>
     requires all { length scene.now.devices ≡ length scene.now.configuration.upses }
     requires short { HasShortNames (asked request.now) }

@@ -5,26 +5,27 @@ ghost use Rattle.std.specs.Option.{option_map_or};
 ghost use Rattle.nut_queue.specs.Front.{IsFrontPart};
 ghost use Rattle.nut_words.specs.Lines.{Text};
 ghost use Rattle.nut_words.specs.Cutter.{line_of};
-ghost use Rattle.nut_history.specs.Acceptance.{front, line_feeds};
-ghost use Rattle.nut_history.specs.Device.{absent, fits, is_past, needs_ping, trouble};
-ghost use Rattle.nut_history.specs.Machine.{up, down, drained, ticked, reported_by, bytes_reported};
-ghost use Rattle.nut_history.specs.Outcome.{report_takes, MayRunOutOf};
+ghost use Rattle.nut_server_spec.specs.Acceptance.{front, line_feeds};
+ghost use Rattle.nut_server_spec.specs.Device.{absent, fits, is_past, needs_ping, trouble};
+ghost use Rattle.nut_server_spec.specs.machine.Machine.{up, down, drained, ticked, reported_by, bytes_reported};
+ghost use Rattle.nut_server_spec.specs.Outcome.{report_takes};
+ghost use Rattle.nut_server_spec.specs.MachineOutcome.{RunsOutOf};
 
 use nut_proto::Refusal;
-use nut_queue::AskRing;
+use nut_queue::{ASKS_MAX, AskRing};
 use nut_state::{Heard, StateFault, UpsState};
 use nut_words::{Line, LineCutter};
 use std::alloc::{AllocError, Global};
 use std::marker::Model;
 use std::mem;
 
-/// The line that asks a driver for all that it knows.
+/// The request to a driver for all that it knows.
 const DUMP_ALL: &[u8] = b"DUMPALL\n";
 
-/// The line that asks a driver whether it is there.
+/// The request to a driver to show that it is alive.
 const PING: &[u8] = b"PING\n";
 
-/// A UPS: what its driver told of it, that one's unfinished line, and what the driver still has to take.
+/// A UPS: what its driver has reported, the driver's unfinished line, and the requests that wait for it.
 #[derive(Drop)]
 pub struct Device {
     connected: bool,
@@ -37,8 +38,8 @@ pub struct Device {
 }
 
 impl Model for Device {
-    ghost use Rattle.nut_history.specs.Content.{Supply};
-    ghost use Rattle.nut_server.specs.Inside.{IsRest};
+    ghost use Rattle.nut_server_spec.specs.Content.{Supply};
+    ghost use Rattle.nut_server.specs.inside.Inside.{IsRest};
 
     ghost Value = { Supply };
 
@@ -58,7 +59,8 @@ impl Model for Device {
 }
 
 impl Device {
-    /// A UPS of which nothing was told. It takes the memory of its ring.
+    /// Returns a UPS whose driver was never connected. Allocates the ring for its requests; fails if that memory cannot
+    /// be allocated.
     pub fn new(alloc: Global) -> Result<Device, AllocError>
         ensures { IfOk result (λ d. d ≡ record { device = absent; rest = Text [] }) }
     {
@@ -81,7 +83,7 @@ impl Device {
         self.connected
     }
 
-    /// What the driver told.
+    /// Returns the table that the driver has reported.
     pub fn table(&self) -> &UpsState
         ensures { result.now ≡ self.now.device.table }
     {
@@ -95,36 +97,36 @@ impl Device {
         self.forced
     }
 
-    /// How many bytes wait for the driver.
+    /// Returns how many bytes wait for the driver.
     pub fn waits(&self) -> usize
         ensures length { result ≡ length self.now.device.waits }
-        ensures within { result ≤ 4096 }
+        ensures within { result ≤ ASKS_MAX }
     {
         self.asks.len()
     }
 
-    /// A front part of the bytes that wait for the driver, which is empty only where none wait.
+    /// Returns a front part of the bytes that wait for the driver. It is empty only if none wait.
     pub fn waiting(&self) -> &[u8]
         ensures { IsFrontPart result.now self.now.device.waits }
     {
         self.asks.front()
     }
 
-    /// Whether a request fits behind those that wait.
+    /// Whether a request fits behind those that wait for the driver.
     pub fn fits(&self, line: &[u8]) -> bool
         ensures { result ≡ fits line.now self.now.device }
     {
         line.len() <= self.asks.room()
     }
 
-    /// Whether more than `seconds` have passed at `time` since the last line that was heard.
+    /// Whether, at `time`, more than `seconds` have passed since a line was last heard or the driver was connected.
     fn is_silent_for(&self, seconds: u64, time: u64) -> bool
         ensures { result ≡ is_past seconds time self.now.device.heard_at }
     {
         time.saturating_sub(self.heard_at) > seconds
     }
 
-    /// Why the UPS can't be asked about at this time, if it can't.
+    /// Returns why requests about the UPS's data are refused at this time, if they are.
     pub fn trouble(&self, max_age: u64, time: u64) -> Option<Refusal>
         ensures { result ≡ trouble max_age time self.now.device }
     {
@@ -137,7 +139,7 @@ impl Device {
         None
     }
 
-    /// Whether more than `seconds` have passed at `time` since the last PING, if there was one.
+    /// Whether, at `time`, more than `seconds` have passed since the last PING, or there was none.
     fn is_unpinged_for(&self, seconds: u64, time: u64) -> bool
         ensures { result ≡ option_map_or (is_past seconds time) self.now.device.pinged_at true }
     {
@@ -147,7 +149,7 @@ impl Device {
         }
     }
 
-    /// Whether a request is due at this time that asks the driver whether it is there.
+    /// Whether the driver is to be sent PING at this time.
     #[tactic(auto, using(crate::proofs::Asks::ping_is))]
     fn needs_ping(&self, max_age: u64, time: u64) -> bool
         ensures { result ≡ needs_ping max_age time self.now.device }
@@ -162,7 +164,7 @@ impl Device {
         self.fits(PING)
     }
 
-    /// It is this time: the driver is asked whether it is there, where that is due.
+    /// Sends the driver PING at this time, if it is to be sent.
     #[tactic(auto, using(crate::proofs::Asks::ping_is))]
     pub fn tick(&mut self, max_age: u64, time: u64)
         ensures { self.new ≡ ticked max_age time self.old }
@@ -173,7 +175,7 @@ impl Device {
         }
     }
 
-    /// The driver is connected at this time: what it told before is over, and it is asked for all that it knows.
+    /// Connects the driver at this time: clears what was reported before, and asks for all that the driver knows.
     #[tactic(auto, using(crate::proofs::Asks::dump_all_is))]
     pub fn up(&mut self, time: u64)
         ensures { self.new ≡ up time self.old }
@@ -187,7 +189,7 @@ impl Device {
         self.ask(DUMP_ALL);
     }
 
-    /// The driver is gone.
+    /// Disconnects the driver.
     pub fn down(&mut self)
         ensures { self.new ≡ down self.old }
     {
@@ -196,7 +198,7 @@ impl Device {
         self.cutter = LineCutter::new();
     }
 
-    /// The driver took the first `n` of the bytes that wait.
+    /// Removes the first `n` of the bytes that wait: the driver took them.
     pub fn took(&mut self, n: usize)
         requires { n ≤ length self.old.device.waits }
         ensures { self.new ≡ drained n self.old }
@@ -204,14 +206,14 @@ impl Device {
         self.asks.took(n);
     }
 
-    /// A shutdown was forced.
+    /// Marks the UPS as forced to shut down.
     pub fn force(&mut self)
         ensures { self.new ≡ record self.old { device = record self.old.device { forced = true } } }
     {
         self.forced = true;
     }
 
-    /// The driver is asked this, which fits behind what waits.
+    /// Queues a request to the driver. It fits behind those that wait.
     pub fn ask(&mut self, line: &[u8])
         requires { IsTrue (fits line.now self.old.device) }
         ensures { self.new ≡ record self.old { device = record self.old.device { waits = self.old.device.waits ++ line.now } } }
@@ -219,7 +221,7 @@ impl Device {
         self.asks.push(line);
     }
 
-    /// Takes a line of the driver. At an `Err` it left no trace.
+    /// Handles a line of the driver. If memory cannot be allocated, nothing changes.
     fn hear_line(&mut self, time: u64, line: Line<'_>) -> Result<(), StateFault>
         ensures ok { OnOk result (self.new ≡ reported_by time (line_of line.entry) self.old) }
         ensures err { OnErr result (self.new ≡ self.old) }
@@ -236,13 +238,13 @@ impl Device {
         Ok(())
     }
 
-    /// Takes a piece of what the driver sends, line by line. An `Err` tells how many lines were done when memory ran
-    /// out; the driver then counts as gone.
+    /// Handles a piece of the driver's bytes, line by line. If memory runs out, returns as an error how many lines of
+    /// the piece were done; the driver then counts as disconnected.
     pub fn hear(&mut self, time: u64, piece: &[u8]) -> Result<(), usize>
         ensures ok { OnOk result (self.new ≡ bytes_reported time piece.now self.old) }
         ensures lost { IfErr result (λ done. self.new ≡ down (bytes_reported time (front done piece.now) self.old)) }
         ensures few { IfErr result (λ done. done < line_feeds piece.now) }
-        ensures memory { IfErr result (λ done. MayRunOutOf time piece.now done (Some self.old)) }
+        ensures memory { IfErr result (λ done. RunsOutOf time piece.now done (Some self.old)) }
     {
         let mut cutter = mem::take(&mut self.cutter);
         let mut left = piece;

@@ -1,12 +1,12 @@
-//! What a request does beside being answered.
+//! The effects of requests, apart from their answers.
 
 ghost use Rattle.std.specs.Prelude.{◌≡◌, length, map};
-ghost use Rattle.nut_server.specs.Effects.{acting, IsPossible};
+ghost use Rattle.nut_server.specs.inside.Effects.{acting, IsPossible};
 
 use crate::credential::LentCredential;
 use crate::device::Device;
 
-/// What a request does beside being answered: to the session of its connection, or to a UPS and its driver. It lends the
+/// What a request changes, apart from its answer: its connection, or a UPS and what its driver is asked. It borrows the
 /// request's words.
 #[derive(Drop)]
 pub enum Effect<'l> {
@@ -21,12 +21,12 @@ pub enum Effect<'l> {
     Logout,
     /// The client forced a shutdown of the UPS with this number.
     Force(usize),
-    /// The driver of the UPS with this number is asked something, in a line that stands elsewhere.
+    /// The driver of the UPS with this number is asked something. The request to it is in a line of its own.
     Ask(usize),
 }
 
 impl Effect<'_> {
-    /// Does to the UPSes what it does to one of them, where this line is what a driver is asked.
+    /// Changes the UPSes as the effect does. `line` is the request to the driver, if the effect has one.
     pub fn act(&self, devices: &mut Vec<Device>, line: &[u8])
         requires { IsPossible (map (λ d. d.device) devices.old.items) self.now line.now }
         ensures value { devices.new.items ≡ acting self.now line.now devices.old.items }

@@ -1,4 +1,4 @@
-//! A server of UPSes: what it is told, one arrival at a time, and what it answers.
+//! A server of UPSes: it is told one arrival at a time, and answers its clients and asks its drivers.
 #![tactic(auto)]
 
 mod access;
@@ -13,6 +13,7 @@ mod credential;
 mod decision;
 mod device;
 mod effect;
+mod limits;
 mod lists;
 mod queries;
 mod scene;
@@ -20,7 +21,7 @@ mod server;
 mod setting;
 mod text;
 
-pub use arrival::{Arrival, PIECE_MAX};
+pub use arrival::Arrival;
 pub use config::{Config, Ups, User};
-pub use nut_history::{Place, Refused};
+pub use nut_server_spec::{Place, Refused};
 pub use server::{Server, ServerFault};

@@ -1,16 +1,16 @@
-//! What LIST is answered (RFC 9271).
+//! Answers LIST (RFC 9271).
 
 ghost use Rattle.std.specs.Prelude.{◌≡◌};
 ghost use Rattle.nut_proto.specs.declared.request.ListQuery.TheVariants as queries;
-ghost use Rattle.nut_history.specs.Answer.{list_answer};
-ghost use Rattle.nut_server.specs.Answers.{outcome};
+ghost use Rattle.nut_server_spec.specs.Answer.{list_answer};
+ghost use Rattle.nut_server.specs.inside.Answers.{outcome};
 
 use crate::answer::{Answer, Rows};
 use crate::queries::variable_of;
 use crate::scene::Scene;
 use nut_proto::{ListQuery, Refusal, Word};
 
-/// The variables of a UPS.
+/// Answers `LIST VAR`: the variables of a UPS.
 fn list_variables<'a>(scene: &'a Scene<'_>, ups: &'a [u8]) -> Result<Answer<'a>, Refusal>
     ensures { outcome result ≡ list_answer scene.now (queries.Var ups.now) }
 {
@@ -21,7 +21,7 @@ fn list_variables<'a>(scene: &'a Scene<'_>, ups: &'a [u8]) -> Result<Answer<'a>,
     Ok(Answer::Listing(query, Rows::Variables(ups, device)))
 }
 
-/// Those of its variables that may be set.
+/// Answers `LIST RW`: the variables of a UPS that clients may set.
 fn list_writable<'a>(scene: &'a Scene<'_>, ups: &'a [u8]) -> Result<Answer<'a>, Refusal>
     ensures { outcome result ≡ list_answer scene.now (queries.Rw ups.now) }
 {
@@ -32,7 +32,7 @@ fn list_writable<'a>(scene: &'a Scene<'_>, ups: &'a [u8]) -> Result<Answer<'a>, 
     Ok(Answer::Listing(query, Rows::Writable(ups, device)))
 }
 
-/// Its commands.
+/// Answers `LIST CMD`: the commands of a UPS.
 fn list_commands<'a>(scene: &'a Scene<'_>, ups: &'a [u8]) -> Result<Answer<'a>, Refusal>
     ensures { outcome result ≡ list_answer scene.now (queries.Cmd ups.now) }
 {
@@ -43,7 +43,7 @@ fn list_commands<'a>(scene: &'a Scene<'_>, ups: &'a [u8]) -> Result<Answer<'a>, 
     Ok(Answer::Listing(query, Rows::Commands(ups, device)))
 }
 
-/// The values that a variable takes.
+/// Answers `LIST ENUM`: the enum values of a variable.
 fn list_enums<'a>(
     scene: &'a Scene<'_>,
     ups: &'a [u8],
@@ -60,7 +60,7 @@ fn list_enums<'a>(
     Ok(Answer::Listing(query, Rows::Enums(ups, name, variable)))
 }
 
-/// The ranges of numbers that a variable takes.
+/// Answers `LIST RANGE`: the ranges of a variable.
 fn list_ranges<'a>(
     scene: &'a Scene<'_>,
     ups: &'a [u8],
@@ -77,7 +77,7 @@ fn list_ranges<'a>(
     Ok(Answer::Listing(query, Rows::Ranges(ups, name, variable)))
 }
 
-/// The clients that are logged in to a UPS.
+/// Answers `LIST CLIENT`: the clients that are logged in to a UPS.
 fn list_clients<'a>(scene: &'a Scene<'_>, ups: &'a [u8]) -> Result<Answer<'a>, Refusal>
     ensures { outcome result ≡ list_answer scene.now (queries.Client ups.now) }
 {
@@ -89,7 +89,12 @@ fn list_clients<'a>(scene: &'a Scene<'_>, ups: &'a [u8]) -> Result<Answer<'a>, R
     Ok(Answer::Listing(query, Rows::Clients(ups, u, scene.connections)))
 }
 
-/// What a LIST is answered.
+/// Answers LIST: the rows that the query asks for, or the refusal.
+///
+/// # Errors
+///
+/// `UnknownUps` if there is no such UPS; then `DriverNotConnected` or `DataStale` if its data can't be relied on; then
+/// `VarNotSupported` if it has no such variable. LIST UPS is never refused.
 pub fn list_answer<'a>(
     scene: &'a Scene<'_>,
     query: &'a ListQuery<'_>,

@@ -1,23 +1,23 @@
-//! What GET and LIST are answered (RFC 9271).
+//! Answers GET (RFC 9271).
 
 ghost use Rattle.std.specs.Prelude.{◌≡◌, None, Some, MatchResult, length, map, filter};
 ghost use Rattle.nut_proto.specs.declared.refusal.Refusal.TheVariants as refusals;
 ghost use Rattle.nut_proto.specs.declared.reply.Reply.TheVariants as replies;
 ghost use Rattle.nut_proto.specs.declared.request.ListQuery.TheVariants as queries;
 ghost use Rattle.nut_proto.specs.Descriptions.{variable_description, command_description};
-ghost use Rattle.nut_history.specs.Answer.{Line, Listing, described, guests_of, list_answer, on_command, on_data, on_device, on_ups, on_variable, rw_row, type_reply, var_row};
-ghost use Rattle.nut_history.specs.Configuration.{ups_named};
+ghost use Rattle.nut_server_spec.specs.Answer.{Line, Listing, described, guests_of, list_answer, on_command, on_data, on_device, on_ups, on_variable, rw_row, type_reply, var_row};
+ghost use Rattle.nut_server_spec.specs.Configuration.{ups_named};
 ghost use Rattle.nut_state.specs.Table.{variable};
-ghost use Rattle.nut_server.specs.Answers.{outcome};
+ghost use Rattle.nut_server.specs.inside.Answers.{outcome};
 
 use crate::answer::{Answer, Rows};
 use crate::device::Device;
 use crate::scene::Scene;
 use crate::setting::kind_of;
-use nut_proto::{ListQuery, Refusal, Reply, Word, command_description, variable_description};
+use nut_proto::{ListQuery, Refusal, Reply, Word};
 use nut_state::Variable;
 
-/// The variable of this name, where the UPS has it.
+/// Returns the variable with this name, or `VarNotSupported` if the UPS has none.
 pub fn variable_of<'a>(device: &'a Device, name: &[u8]) -> Result<&'a Variable, Refusal>
     ensures { MatchResult result
         (λ v. variable device.now.device.table name.now ≡ Some v.now)
@@ -29,7 +29,11 @@ pub fn variable_of<'a>(device: &'a Device, name: &[u8]) -> Result<&'a Variable, 
         .ok_or(Refusal::VarNotSupported)
 }
 
-/// How many clients are logged in to a UPS.
+/// Answers `GET NUMLOGINS`: how many clients are logged in to a UPS.
+///
+/// # Errors
+///
+/// `UnknownUps` if there is no such UPS; then `DriverNotConnected` or `DataStale` if its data can't be relied on.
 pub fn count_logins<'a>(scene: &'a Scene<'_>, ups: &'a [u8]) -> Result<Answer<'a>, Refusal>
     ensures { outcome result ≡ on_ups scene.now ups.now (λ u. on_data scene.now u (λ d. Line (replies.NumLogins ups.now (length (guests_of u scene.now.guests))))) }
 {
@@ -41,7 +45,11 @@ pub fn count_logins<'a>(scene: &'a Scene<'_>, ups: &'a [u8]) -> Result<Answer<'a
     }))
 }
 
-/// What people call a UPS.
+/// Answers `GET UPSDESC`: the description in ups.conf.
+///
+/// # Errors
+///
+/// `UnknownUps` if there is no such UPS.
 pub fn describe_ups<'a>(scene: &'a Scene<'_>, ups: &'a [u8]) -> Result<Answer<'a>, Refusal>
     ensures { outcome result ≡ described ups.now (ups_named ups.now scene.now.configuration.upses) }
 {
@@ -54,7 +62,12 @@ pub fn describe_ups<'a>(scene: &'a Scene<'_>, ups: &'a [u8]) -> Result<Answer<'a
     }))
 }
 
-/// The value of a variable.
+/// Answers `GET VAR`: the value of a variable.
+///
+/// # Errors
+///
+/// `UnknownUps` if there is no such UPS; then `DriverNotConnected` or `DataStale` if its data can't be relied on; then
+/// `VarNotSupported` if it has no such variable.
 pub fn show_variable<'a>(
     scene: &'a Scene<'_>,
     ups: &'a [u8],
@@ -67,7 +80,12 @@ pub fn show_variable<'a>(
     Ok(Answer::Value(ups, device, variable))
 }
 
-/// Whether a variable may be set, and what values it takes.
+/// Answers `GET TYPE`: whether a variable may be set, and which values it allows.
+///
+/// # Errors
+///
+/// `UnknownUps` if there is no such UPS; then `DriverNotConnected` or `DataStale` if its data can't be relied on; then
+/// `VarNotSupported` if it has no such variable.
 pub fn show_type<'a>(
     scene: &'a Scene<'_>,
     ups: &'a [u8],
@@ -85,30 +103,40 @@ pub fn show_type<'a>(
     }))
 }
 
-/// What a variable tells.
+/// Answers `GET DESC`: the description of a variable.
+///
+/// # Errors
+///
+/// `UnknownUps` if there is no such UPS; then `DriverNotConnected` or `DataStale` if its data can't be relied on; then
+/// `VarNotSupported` if it has no such variable.
 pub fn describe_variable<'a>(
     scene: &'a Scene<'_>,
     ups: &'a [u8],
     name: &'a [u8],
 ) -> Result<Answer<'a>, Refusal>
-    ensures { outcome result ≡ on_device scene.now ups.now (λ d. on_variable name.now d (λ v. Line (replies.Desc ups.now name.now (variable_description name.now)))) }
+    ensures { outcome result ≡ on_device scene.now ups.now (λ d. on_variable name.now d (λ v. Line (replies.Desc ups.now name.now (variable_description scene.now.configuration.variable_texts name.now)))) }
 {
     let device = scene.data_of(scene.number_of(ups)?)?;
     variable_of(device, name)?;
     Ok(Answer::Line(Reply::Desc {
         ups: Word::new(ups),
         variable: Word::new(name),
-        description: Word::new(variable_description(name)),
+        description: Word::new(scene.config.describe_variable(name)),
     }))
 }
 
-/// What a command does.
+/// Answers `GET CMDDESC`: the description of a command.
+///
+/// # Errors
+///
+/// `UnknownUps` if there is no such UPS; then `DriverNotConnected` or `DataStale` if its data can't be relied on; then
+/// `CmdNotSupported` if it has no such command.
 pub fn describe_command<'a>(
     scene: &'a Scene<'_>,
     ups: &'a [u8],
     name: &'a [u8],
 ) -> Result<Answer<'a>, Refusal>
-    ensures { outcome result ≡ on_device scene.now ups.now (λ d. on_command name.now d (Line (replies.CmdDesc ups.now name.now (command_description name.now)))) }
+    ensures { outcome result ≡ on_device scene.now ups.now (λ d. on_command name.now d (Line (replies.CmdDesc ups.now name.now (command_description scene.now.configuration.command_texts name.now)))) }
 {
     let device = scene.data_of(scene.number_of(ups)?)?;
     if !device.table().has_cmd(name) {
@@ -117,6 +145,6 @@ pub fn describe_command<'a>(
     Ok(Answer::Line(Reply::CmdDesc {
         ups: Word::new(ups),
         command: Word::new(name),
-        description: Word::new(command_description(name)),
+        description: Word::new(scene.config.describe_command(name)),
     }))
 }

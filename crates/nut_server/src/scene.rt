@@ -1,9 +1,9 @@
-//! What is known where a line is answered.
+//! The scene: what the server knows when it answers a line.
 
 ghost use Rattle.std.specs.Prelude.{◌≡◌, ◌<◌, None, Some, MatchResult, length};
 ghost use Rattle.nut_proto.specs.declared.refusal.Refusal.TheVariants as refusals;
-ghost use Rattle.nut_history.specs.Answer.{ups_number, device_at};
-ghost use Rattle.nut_history.specs.Device.{trouble};
+ghost use Rattle.nut_server_spec.specs.Answer.{ups_number, device_at};
+ghost use Rattle.nut_server_spec.specs.Device.{trouble};
 
 use crate::config::Config;
 use crate::connections::Connections;
@@ -11,7 +11,8 @@ use crate::device::Device;
 use nut_proto::Refusal;
 use std::marker::Model;
 
-/// The configuration, the time in seconds since the start, the UPSes by their numbers, and the open connections.
+/// The configuration, the time in seconds since the start, the UPSes in the order of their numbers, and the open
+/// connections.
 #[derive(Drop)]
 pub struct Scene<'a> {
     pub config: &'a Config,
@@ -22,8 +23,8 @@ pub struct Scene<'a> {
 
 impl<'a> Model for Scene<'a> {
     ghost use Rattle.std.specs.Prelude.{map};
-    ghost use Rattle.nut_history.specs.Answer as definitions;
-    ghost use Rattle.nut_history.specs.Machine.{guest_of};
+    ghost use Rattle.nut_server_spec.specs.Answer as definitions;
+    ghost use Rattle.nut_server_spec.specs.machine.Machine.{guest_of};
 
     ghost Value = { definitions.Scene };
 
@@ -36,7 +37,7 @@ impl<'a> Model for Scene<'a> {
 }
 
 impl<'a> Scene<'a> {
-    /// The number of the UPS of this name.
+    /// Returns the number of the UPS with this name, or `UnknownUps` if there is none.
     pub fn number_of(&self, name: &[u8]) -> Result<usize, Refusal>
         ensures { MatchResult result
             (λ u. (ups_number self.now name.now ≡ Some u) × (u < length self.now.configuration.upses))
@@ -45,7 +46,7 @@ impl<'a> Scene<'a> {
         self.config.find_ups(name).ok_or(Refusal::UnknownUps)
     }
 
-    /// The UPS with this number, where it can be asked about.
+    /// Returns the UPS with this number, or `DriverNotConnected` or `DataStale` if its data can't be relied on.
     pub fn data_of(&self, u: usize) -> Result<&'a Device, Refusal>
         ensures { MatchResult result
             (λ d. (device_at self.now u ≡ d.now.device)

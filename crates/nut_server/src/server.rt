@@ -1,18 +1,19 @@
-//! The server.
+//! The server: its state, and what it can be asked.
 
 ghost use Rattle.std.specs.Prelude.{◌≡◌, ◌<◌, ◌≤◌, ℕ, List, [], Some, None, Result, Ok, Err, IfOk, IfSome, map, length};
 ghost use Rattle.nut_queue.specs.Front.{IsFrontPart};
-ghost use Rattle.nut_history.specs.Configuration.{Configuration};
-ghost use Rattle.nut_history.specs.Event.{Event, Moment, Open, Bytes, Took, Close, DriverUp, DriverBytes, DriverTook, DriverDown};
-ghost use Rattle.nut_history.specs.Content.{content};
-ghost use Rattle.nut_history.specs.Trace.{below};
-ghost use Rattle.nut_server.specs.Server.{unheard};
-ghost use Rattle.nut_history.specs.Acceptance.{Tells, refusal, session_of, supply_of, waiting_of, asks_of, may_read, leaves, kept, is_connected};
-ghost use Rattle.nut_history.specs.Laws.{HasFewConnections};
-ghost use Rattle.nut_history.specs.Limits.{IsWithin, most_waits};
-ghost use Rattle.nut_history.specs.Outcome.{IsAnswer, after, content_after};
+ghost use Rattle.nut_server_spec.specs.Configuration.{Configuration};
+ghost use Rattle.nut_server_spec.specs.Event.{Event, Moment, Open, Bytes, Took, Close, DriverUp, DriverBytes, DriverTook, DriverDown};
+ghost use Rattle.nut_server_spec.specs.Content.{content};
+ghost use Rattle.nut_server_spec.specs.Trace.{below};
+ghost use Rattle.nut_server.specs.inside.Server.{unheard};
+ghost use Rattle.nut_server_spec.specs.Acceptance.{Tells, refusal, session_of, supply_of, waiting_of, asks_of, may_read, leaves, kept, is_connected};
+ghost use Rattle.nut_server_spec.specs.laws.Laws.{HasFewConnections};
+ghost use Rattle.nut_server_spec.specs.laws.Limits.{IsWithin, most_waits};
+ghost use Rattle.nut_server_spec.specs.Outcome.{IsAnswer, after};
+ghost use Rattle.nut_server_spec.specs.MachineOutcome.{Answers, content_after};
 ghost use Rattle.nut_server.specs.Arrival.{event_of};
-ghost use Rattle.nut_server.specs.Login.{has_login};
+ghost use Rattle.nut_server.specs.inside.Login.{has_login};
 ghost use Rattle.nut_server.specs.Settling.{IsNextUnsettled, IsNextWaiting};
 
 use crate::address::address_of;
@@ -21,7 +22,10 @@ use crate::config::Config;
 use crate::connections::Connections;
 use crate::device::Device;
 use arrayvec::ArrayVec;
-use nut_history::{Refused, waits_are_bounded};
+use nut_conf::UPSES_MAX;
+use nut_queue::ASKS_MAX;
+use nut_server_spec::{OPENED_MAX, Refused, waits_are_bounded};
+use nut_words::LINE_MAX;
 use std::alloc::{AllocError, Global};
 use std::marker::Model;
 use thiserror::Error;
@@ -29,13 +33,11 @@ use thiserror::Error;
 mod arriving;
 mod hearing;
 
-/// How many connections a server opens in its life.
-pub(crate) const MOST_OPENED: u64 = 4_294_967_295;
-
 /// Why a server can't be made.
 #[derive(Clone, Copy, Debug, PartialEq, Eq, Error)]
 pub enum ServerFault {
-    /// There is no memory for all the connections that may be open at once, or for what waits for the drivers.
+    /// Memory cannot be allocated for all the connections that may be open at once, or for the requests that wait for
+    /// the drivers.
     #[error("out of memory")]
     Memory,
 }
@@ -46,7 +48,7 @@ impl From<AllocError> for ServerFault {
     }
 }
 
-/// A server: its configuration, the time, the UPSes, and the open connections with room for all that may be open.
+/// A server: its configuration, the time, the UPSes, and the open connections, with room for as many as may be open.
 #[derive(Drop)]
 pub struct Server {
     config: Config,
@@ -54,16 +56,16 @@ pub struct Server {
     opened: u64,
     devices: Vec<Device>,
     connections: Connections,
-    /// The answer to a request, while it is heard.
+    /// The answer to a request, while it is being handled.
     scratch: Vec<u8>,
-    /// What a request asks of a driver, while it is heard.
-    line: ArrayVec<u8, 4096>,
+    /// The request to a driver that a client's request leads to, while it is being handled.
+    line: ArrayVec<u8, ASKS_MAX>,
     alloc: Global,
 }
 
 impl Model for Server {
-    ghost use Rattle.nut_history.specs.Content.{Content};
-    ghost use Rattle.nut_server.specs.Server.{IsOrderly};
+    ghost use Rattle.nut_server_spec.specs.Content.{Content};
+    ghost use Rattle.nut_server.specs.inside.Server.{IsOrderly};
 
     ghost Value = { Content };
 
@@ -78,7 +80,7 @@ impl Model for Server {
     ghost invariant = { IsOrderly };
 }
 
-/// So many UPSes of which nothing was told.
+/// Returns `count` UPSes whose drivers were never connected.
 fn untold(alloc: Global, count: usize) -> Result<Vec<Device>, AllocError>
     ensures { IfOk result (λ devices. devices.items ≡ map (λ u. unheard) (below count)) }
 {
@@ -90,12 +92,12 @@ fn untold(alloc: Global, count: usize) -> Result<Vec<Device>, AllocError>
 }
 
 impl Server {
-    /// A server that was told nothing. It takes the memory for as many connections as may be open at once and for what
-    /// waits for the drivers, so that none is lacking when a client or a driver connects.
+    /// Returns a server that has been told nothing. Allocates the memory for as many connections as may be open at once
+    /// and for the requests that wait for the drivers, so none is needed when a client or a driver connects.
     ///
     /// # Errors
     ///
-    /// `Memory` where that memory isn't to be had.
+    /// `Memory` if that memory cannot be allocated.
     pub fn new(alloc: Global, config: Config) -> Result<Server, ServerFault>
         ensures { IfOk result (λ server. server ≡ content config []) }
     {
@@ -113,9 +115,13 @@ impl Server {
         })
     }
 
-    /// Takes one arrival as the machine does.
-    fn step(&mut self, arrival: Arrival<'_>) -> Result<(), Refused>
-        ensures answered { IsAnswer self.old (event_of arrival.entry) result }
+    /// Takes one arrival: `arrive` with its contract in terms of the machine, for proofs that have no history at hand.
+    ///
+    /// # Errors
+    ///
+    /// Those of `arrive`.
+    pub fn step(&mut self, arrival: Arrival<'_>) -> Result<(), Refused>
+        ensures answered { Answers self.old (event_of arrival.entry) result }
         ensures content { self.new ≡ content_after result self.old (event_of arrival.entry) }
     {
         match arrival {
@@ -134,36 +140,38 @@ impl Server {
         }
     }
 
-    /// Takes one arrival. Whatever the history was, it goes on with the arrival as it is answered: with all of it at
-    /// an `Ok`, and with nothing of it where it is refused.
+    /// Handles one arrival. After `Ok` the history includes the arrival. After a refusal it is as it was, except for
+    /// `Memory`.
     ///
-    /// No arrival takes memory but `Bytes` and `DriverBytes`, and of these only a client's line that says something or has
-    /// a backslash, on a connection that hasn't logged out, and a driver's line that adds a variable, an enum value, a
-    /// range or a command, or has a backslash.
+    /// Only `Bytes` and `DriverBytes` can allocate memory. A client's line does so only if it isn't blank or holds a
+    /// backslash, and never after the client has logged out. A driver's line does so only if it adds a variable, an
+    /// enum value, a range or a command, or holds a backslash.
     ///
     /// # Errors
     ///
-    /// The first test that refuses it, in this order. Of `Open`: `BadAddress`, `Full`. Of what connections do:
-    /// `NoSuchConnection`; then of `Bytes` `PieceTooLong` and `Busy`, and of `Took` `TooMuchTaken`. Of what drivers do:
-    /// `NotConnected`, for `DriverUp` only where there is no such UPS; then of `DriverBytes` `PieceTooLong`, and of
-    /// `DriverTook` `TooMuchTaken`. Where memory runs out in a piece: `Memory`. The lines before stand, and the
-    /// connection is closed, or the driver counts as gone.
+    /// The first of these tests that fails. Nothing changes then.
+    ///
+    /// Of `Open`: `BadAddress`, `Full`. Of `Bytes`, `Took`, `Close` and `WriteFailed`: `NoSuchConnection`; then of
+    /// `Bytes` `PieceTooLong` and `Busy`, and of `Took` `TooMuchTaken`. Of the arrivals of drivers: `NotConnected`,
+    /// which `DriverUp` gives only if there is no such UPS; then of `DriverBytes` `PieceTooLong`, and of `DriverTook`
+    /// `TooMuchTaken`.
+    ///
+    /// `Memory` if memory cannot be allocated for a line of a piece. The lines before it stay done, and the connection
+    /// is closed, or the driver counts as disconnected.
     pub fn arrive(&mut self, arrival: Arrival<'_>) -> Result<(), Refused>
-        // The answer is the one of the first test that refuses; memory may be lacking where none does.
-        ensures answered { IsAnswer self.old (event_of arrival.entry) result }
+        // The result is that of the first test that fails. Only if none fails may it be `Memory`.
+        ensures answered { (first : Configuration) (h : List Event) → Tells first h self.old
+            → IsAnswer first h (event_of arrival.entry) result }
 
-        // What stands after it is what the history says, which goes on by the answer.
+        // If the server held what the history says, it holds what the history says after this answer.
         ensures stands { (first : Configuration) (h : List Event) → Tells first h self.old
             → Tells first (after result (event_of arrival.entry) h) self.new }
 
-        // The same as one step from the content before, for proofs that have no history at hand.
-        ensures content { self.new ≡ content_after result self.old (event_of arrival.entry) }
-
-        // A refused arrival changes nothing.
+        // A refusal by a test changes nothing.
         ensures unchanged { (r : Refused) → refusal self.old (event_of arrival.entry) ≡ Some r
             → (result ≡ Err r) × (self.new ≡ self.old) }
 
-        // No more connections are open than MAXCONN, and no more were opened than have numbers, whatever was told.
+        // Whatever the server was told, at most MAXCONN connections are open, and at most 4,294,967,295 were opened.
         ensures few { HasFewConnections self.new }
     {
         let answer = self.step(arrival);
@@ -171,22 +179,22 @@ impl Server {
         answer
     }
 
-    /// Does nothing when it runs. Its contract says how many connections there are at most, whatever the server was told.
+    /// Does nothing when called. Brings into the proof how many connections there can be, whatever the server was told.
     fn has_few_connections(&self)
         ensures { HasFewConnections self.now }
     {
         let _connections = &self.connections;
     }
 
-    /// How many connections were opened: the number of the newest, at most 4,294,967,295.
+    /// How many connections were opened: the number of the newest, at most [`OPENED_MAX`].
     pub fn opened(&self) -> u64
         ensures value { result ≡ self.now.opened }
-        ensures few { result ≤ 4_294_967_295 }
+        ensures few { result ≤ OPENED_MAX }
     {
         self.opened
     }
 
-    /// What the server was made with.
+    /// Returns the configuration that the server was made with.
     pub fn config(&self) -> &Config
         ensures value { result.now ≡ self.now.configuration }
         ensures limits { IsWithin self.now.configuration }
@@ -194,22 +202,22 @@ impl Server {
         &self.config
     }
 
-    /// How many UPSes there are, at most 32.
+    /// How many UPSes there are, at most [`UPSES_MAX`].
     pub fn number_of_upses(&self) -> usize
         ensures len { result ≡ length self.now.configuration.upses }
-        ensures few { result ≤ 32 }
+        ensures few { result ≤ UPSES_MAX }
     {
         self.config.number_of_upses()
     }
 
-    /// How many bytes wait for a connection: 0 where it isn't open, and never more than 47,342,080.
+    /// Returns how many bytes wait for a connection: at most 47,342,080, and 0 if it isn't open.
     pub fn waits(&self, c: u64) -> usize
         ensures value { result ≡ length (waiting_of c self.now.sessions) }
 
-        // The bound holds after every history that the server was told.
+        // The bound holds after every history of accepted arrivals.
         ensures bounded { (first : Configuration) (h : List Event) → Tells first h self.now → result ≤ most_waits }
     {
-        // The law of the bound, which does nothing when it runs.
+        // Brings the bound `WaitsAreBounded` into the proof, and does nothing when called.
         waits_are_bounded();
         match self.connections.get(c) {
             Some(connection) => connection.waits(),
@@ -217,7 +225,7 @@ impl Server {
         }
     }
 
-    /// A front part of the bytes that wait for a connection, which is empty only where none wait.
+    /// Returns a front part of the bytes that wait for a connection. It is empty only if none wait.
     pub fn waiting(&self, c: u64) -> &[u8]
         ensures { IsFrontPart result.now (waiting_of c self.now.sessions) }
     {
@@ -237,7 +245,7 @@ impl Server {
         }
     }
 
-    /// Whether a connection is to be closed: it logged out, and nothing waits for it.
+    /// Whether a connection is to be closed: it has logged out, and nothing waits for it.
     pub fn leaves(&self, c: u64) -> bool
         ensures { result ≡ leaves (session_of c self.now.sessions) }
     {
@@ -247,7 +255,7 @@ impl Server {
         }
     }
 
-    /// Whether the client of a connection is logged in to a UPS: false where the connection isn't open.
+    /// Whether the client of a connection is logged in to a UPS: false if the connection isn't open.
     pub fn is_logged_in(&self, c: u64) -> bool
         ensures { result ≡ has_login (session_of c self.now.sessions) }
     {
@@ -257,10 +265,10 @@ impl Server {
         }
     }
 
-    /// How many bytes are kept of a connection's unfinished line, at most 512.
+    /// How many bytes are kept of a connection's unfinished line, at most [`LINE_MAX`].
     pub fn kept(&self, c: u64) -> usize
         ensures value { result ≡ kept (session_of c self.now.sessions) }
-        ensures within { result ≤ 512 }
+        ensures within { result ≤ LINE_MAX }
     {
         match self.connections.get(c) {
             Some(connection) => connection.kept(),
@@ -278,10 +286,10 @@ impl Server {
         }
     }
 
-    /// How many bytes wait for the driver of a UPS, at most 4,096: 0 where there is no such UPS.
+    /// How many bytes wait for the driver of a UPS, at most [`ASKS_MAX`]: 0 where there is no such UPS.
     pub fn waits_for_driver(&self, u: usize) -> usize
         ensures value { result ≡ length (asks_of u self.now.supplies) }
-        ensures within { result ≤ 4096 }
+        ensures within { result ≤ ASKS_MAX }
     {
         match self.devices.get(u) {
             Some(device) => device.waits(),
@@ -289,7 +297,7 @@ impl Server {
         }
     }
 
-    /// A front part of the bytes that wait for the driver of a UPS, which is empty only where none wait.
+    /// Returns a front part of the bytes that wait for the driver of a UPS. It is empty only if none wait.
     pub fn waiting_for_driver(&self, u: usize) -> &[u8]
         ensures { IsFrontPart result.now (asks_of u self.now.supplies) }
     {
@@ -299,7 +307,7 @@ impl Server {
         }
     }
 
-    /// The least number, from `least` on, of a connection for which bytes wait or that leaves.
+    /// Returns the least number, from `least` on, of a connection for which bytes wait or which is to be closed.
     pub fn next_unsettled(&self, least: u64) -> Option<u64>
         ensures next { IsNextUnsettled self.now.sessions least result }
         ensures fits { IfSome result (λ c. c < u64.MAX) }
@@ -307,7 +315,7 @@ impl Server {
         self.connections.first_unsettled(least)
     }
 
-    /// The least number, from `least` on, of a UPS for whose driver bytes wait.
+    /// Returns the least number, from `least` on, of a UPS for whose driver bytes wait.
     pub fn next_driver_waiting(&self, least: usize) -> Option<usize>
         ensures next { IsNextWaiting self.now.supplies least result }
         ensures fits { IfSome result (λ u. u < usize.MAX) }

@@ -1,19 +1,21 @@
-//! What may be set, and what a driver is asked.
+//! Which values a variable allows, and requests to drivers.
 
 ghost use Rattle.std.specs.Prelude.{◌≡◌};
 ghost use Rattle.std.specs.Bool.{OnTrue};
 ghost use Rattle.std.specs.List.{list_any};
 ghost use Rattle.nut_proto.specs.DriverAsks.{ask_line};
 ghost use Rattle.nut_state.specs.Attribute.{lists_enum};
-ghost use Rattle.nut_history.specs.Answer.{is_in_range, is_in_ranges, kind_of, misfit, misfit_by};
-ghost use Rattle.nut_history.specs.Device.{fits};
+ghost use Rattle.nut_server_spec.specs.Answer.{is_in_range, is_in_ranges, kind_of, misfit, misfit_by};
+ghost use Rattle.nut_server_spec.specs.Device.{fits};
 
 use crate::device::Device;
 use arrayvec::ArrayVec;
 use nut_proto::{DriverAsk, Refusal, VariableKind};
-use nut_state::{Range, Text, VALUE_BYTES, Variable, whole_number};
+use nut_queue::ASKS_MAX;
+use nut_state::{Range, Text, Variable, whole_number};
+use nut_words::VALUE_MAX;
 
-/// The kind of a variable.
+/// Returns the kind of a variable.
 pub fn kind_of(variable: &Variable) -> VariableKind
     ensures { result ≡ kind_of variable.now }
 {
@@ -56,7 +58,7 @@ fn is_in_ranges(number: Option<i32>, ranges: &[Range]) -> bool
     }
 }
 
-/// Why a variable doesn't take a value that isn't too long, by its kind.
+/// Returns why a variable doesn't allow a value that isn't too long, by the kind of the variable.
 fn misfit_by(kind: VariableKind, variable: &Variable, value: &[u8]) -> Option<Refusal>
     ensures { result ≡ misfit_by kind variable.now value.now }
 {
@@ -70,24 +72,26 @@ fn misfit_by(kind: VariableKind, variable: &Variable, value: &[u8]) -> Option<Re
     }
 }
 
-/// Why a variable doesn't take a value: it may not be set, the value is too long, or doesn't fit the variable's kind.
+/// Returns why a variable can't be set to a value: clients may not set it, the value has more than [`VALUE_MAX`]
+/// bytes, or the variable's kind doesn't allow it.
 pub fn misfit(variable: &Variable, value: &[u8]) -> Option<Refusal>
     ensures { result ≡ misfit variable.now value.now }
 {
     if !variable.flags().writable {
         return Some(Refusal::ReadOnly);
     }
-    if value.len() > VALUE_BYTES {
+    if value.len() > VALUE_MAX {
         return Some(Refusal::TooLong);
     }
     misfit_by(kind_of(variable), variable, value)
 }
 
-/// Writes what is asked of a driver into `line`, and says whether it fits behind what waits for the driver. Takes no memory.
-pub fn put_ask(line: &mut ArrayVec<u8, 4096>, ask: &DriverAsk<'_>, device: &Device) -> bool
+/// Writes a request to a driver into `line`. Returns whether it fits behind what waits for the driver. Allocates no
+/// memory.
+pub fn put_ask(line: &mut ArrayVec<u8, ASKS_MAX>, ask: &DriverAsk<'_>, device: &Device) -> bool
     ensures value { result ≡ fits (ask_line ask.now) device.now.device }
     ensures put { OnTrue result (line.new.items ≡ ask_line ask.now) }
 {
     line.clear();
-    ask.put_in(line) && device.fits(line.as_slice())
+    ask.put(line).is_ok() && device.fits(line.as_slice())
 }

@@ -1,22 +1,24 @@
-//! The bytes of answers.
+//! Writes answers as bytes.
 
 ghost use Rattle.std.specs.Prelude.{◌≡◌, ◌≤◌, ◌&&◌, ◌++◌, OnOk, codes, flat_map, length, map, filter};
 ghost use Rattle.std.specs.Str.{bytes_eq};
 ghost use Rattle.nut_proto.specs.declared.reply.Reply.TheVariants as replies;
 ghost use Rattle.nut_proto.specs.Replies.{reply_line};
-ghost use Rattle.nut_history.specs.Answer.{guests_of, rw_row, text_of, var_row};
-ghost use Rattle.nut_history.specs.Machine.{guest_of};
-ghost use Rattle.nut_server.specs.Answers.{given, rows_of};
-ghost use Rattle.nut_server.specs.Rows.{writable_text, client_text};
+ghost use Rattle.nut_server_spec.specs.Answer.{guests_of, rw_row, text_of, var_row};
+ghost use Rattle.nut_server_spec.specs.machine.Machine.{guest_of};
+ghost use Rattle.nut_server.specs.inside.Answers.{given, rows_of};
+ghost use Rattle.nut_server.specs.inside.Rows.{writable_text, client_text};
 
 use crate::answer::{Answer, Rows};
 use crate::config::{Config, Ups};
 use crate::connection::Connection;
 use crate::connections::Connections;
 use crate::device::Device;
+use crate::limits::FORCED_VALUE_MAX;
 use arrayvec::ArrayVec;
 use nut_proto::{Reply, Word};
 use nut_state::{Name, Range, Text, Variable};
+use nut_words::VALUE_MAX;
 use std::alloc::AllocError;
 
 // ---- rows
@@ -27,16 +29,16 @@ fn is_named(variable: &Variable, name: &[u8]) -> bool
     variable.name() == name
 }
 
-/// Whether the value is shown with `FSD ` in front: it is the status of a UPS whose shutdown was forced.
+/// Whether clients see the value with `FSD ` before it: it is the status of a UPS whose shutdown was forced.
 fn shows_forced(device: &Device, variable: &Variable) -> bool
     ensures { result ≡ (device.now.device.forced && bytes_eq variable.now.name (codes "ups.status")) }
 {
     device.is_forced() && is_named(variable, b"ups.status")
 }
 
-/// The value with `FSD ` in front.
-fn forced(value: &[u8]) -> ArrayVec<u8, 132>
-    requires { length value.now ≤ 128 }
+/// Returns the value with `FSD ` before it.
+fn forced(value: &[u8]) -> ArrayVec<u8, FORCED_VALUE_MAX>
+    requires { length value.now ≤ VALUE_MAX }
     ensures { result.items ≡ codes "FSD " ++ value.now }
 {
     let mut shown = ArrayVec::new();
@@ -67,7 +69,7 @@ fn put_rw(out: &mut Vec<u8>, ups: &[u8], name: &[u8], value: &[u8]) -> Result<()
     row.put(out)
 }
 
-/// A variable of a UPS with its value as it is shown.
+/// Appends the row of a variable in LIST VAR, with the value that clients see.
 fn put_variable(
     out: &mut Vec<u8>,
     ups: &[u8],
@@ -83,7 +85,7 @@ fn put_variable(
     put_var(out, ups, variable.name(), variable.value())
 }
 
-/// A variable of a UPS that may be set, with its value as it is shown.
+/// Appends the row of a variable in LIST RW, with the value that clients see.
 fn put_writable(
     out: &mut Vec<u8>,
     ups: &[u8],
@@ -255,8 +257,8 @@ fn put_rows(out: &mut Vec<u8>, rows: &Rows<'_>) -> Result<(), AllocError>
     }
 }
 
-/// Appends the bytes of an answer. An `Err` is for want of memory: then `out` may have a part of them.
-#[tactic(auto, unfolding(nut_history::specs::Answer::text_of))]
+/// Appends the bytes of an answer. If memory cannot be allocated, `out` may hold a part of them.
+#[tactic(auto, unfolding(nut_server_spec::specs::Answer::text_of))]
 pub fn put_answer(out: &mut Vec<u8>, answer: &Answer<'_>) -> Result<(), AllocError>
     ensures { OnOk result (out.new.items ≡ out.old.items ++ text_of (given answer.now)) }
 {

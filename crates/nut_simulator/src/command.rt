@@ -3,7 +3,7 @@
 use clap::{Arg, ArgAction, Command};
 use std::alloc::{AllocError, Global};
 
-/// The command line `nutsim DIR SCHEDULE MONCONF..`.
+/// Returns the command line `nutsim DIR SCHEDULE MONCONF..`.
 pub fn nutsim_command<'a>(alloc: Global) -> Result<Command<'a>, AllocError> {
     let folder = Arg::new(alloc, "folder")
         .value_name("DIR")

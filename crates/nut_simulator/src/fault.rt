@@ -1,16 +1,16 @@
 //! Why a schedule isn't played to its end.
 
-use nut::{Failure, FileFault, OwnFault};
+use nut_program::{Failure, FileFault, OwnFault};
 use std::fmt;
 
-/// What nutsim alone meets.
+/// The faults that only nutsim has.
 #[derive(Debug, Drop)]
 pub enum NutsimFault<'a> {
     /// A configuration file, of the server or of a monitor, gives no configuration.
     File(FileFault<'a>),
-    /// This file can't be read.
+    /// This file cannot be read.
     CannotRead(&'a str),
-    /// This line of a schedule, counted from 1, isn't a step, or not one that may be played in the room.
+    /// This line of a schedule, counted from 1, isn't a step, or names a monitor, a link or a UPS that isn't in the room.
     BadStep(&'a str, u64),
 }
 
@@ -33,7 +33,7 @@ impl<'a> OwnFault for NutsimFault<'a> {
     }
 }
 
-/// Why nutsim ends where a configuration file gives no configuration.
+/// Returns why nutsim ends if a configuration file gives no configuration.
 pub fn file_failure<'a>(fault: FileFault<'a>) -> Failure<NutsimFault<'a>> {
     match fault {
         FileFault::Memory => Failure::Memory,

@@ -1,5 +1,5 @@
-//! What `nutsim` runs: a schedule is read from its file, played on a real server and real monitors, and what its steps tell
-//! is printed.
+//! What `nutsim` runs: it reads a schedule from its file, plays it on a real server and real monitors, and prints what
+//! its steps tell.
 #![tactic(auto)]
 
 mod command;

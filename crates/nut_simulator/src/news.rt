@@ -5,7 +5,7 @@ use nut_play::{Fleet, Logged, News};
 use std::io;
 use std::io::Write;
 
-/// Writes what the step with this number, counted from 1 in its schedule, tells.
+/// Writes what the step with this number tells. Numbers count from 1 in the schedule.
 pub fn write_news<W: Write>(
     out: &mut W,
     fleet: &Fleet,
@@ -30,7 +30,7 @@ pub fn write_news<W: Write>(
     }
 }
 
-/// The target of a MONITOR line, as it is written there. None where no line is named.
+/// Returns the UPS of a MONITOR line as it is written there; `None` if no line is named.
 fn target_of(fleet: &Fleet, monitor: usize, line: Option<usize>) -> Option<&[u8]> {
     let config = fleet.config(monitor)?;
     let monitored = config.monitors.lines.get(line?)?;

@@ -1,41 +1,41 @@
-//! A schedule is played, line by line.
+//! Plays a schedule, line by line.
 
 use crate::fault::NutsimFault;
 use crate::news::write_news;
 use crate::progress::Progress;
-use nut::Failure;
 use nut_play::{Fleet, FleetFault, Step, StepFault, read_step};
+use nut_program::Failure;
 use nut_words::{Line, LineCutter};
 use std::alloc::Global;
 use std::io::{BufRead, BufWriter, IsTerminal, Write};
 use std::slice;
 
-/// Why a schedule isn't played to its end.
+/// Why the playing of a schedule stops before its end.
 #[derive(Clone, Copy)]
 enum Halt {
-    /// The line with this number isn't a step that may be played.
+    /// The line with this number isn't a step that fits the room.
     BadStep(u64),
-    /// Memory was refused.
+    /// Memory could not be allocated.
     Memory,
-    /// The schedule can't be read.
+    /// The schedule cannot be read.
     Input,
-    /// The news can't be written.
+    /// The news cannot be written.
     Output,
 }
 
-/// A room, and where its news go.
+/// A room, and what its news are written to.
 #[derive(Drop)]
 struct Stage<'a, O, E> {
     fleet: &'a mut Fleet,
     alloc: Global,
-    /// How many lines of the schedule were begun.
+    /// The number of lines of the schedule that were begun.
     number: u64,
     out: &'a mut O,
     progress: Progress<'a, E>,
 }
 
-/// Plays the lines of a schedule, and writes what they tell. What the steps before a fault told is written before the fault is
-/// given.
+/// Plays the lines of a schedule, and writes what they tell. Before it returns a fault, it has written what the steps
+/// before that told.
 pub fn play_schedule<'a, R: BufRead, O: Write, E: Write + IsTerminal>(
     alloc: Global,
     fleet: &mut Fleet,
@@ -57,7 +57,7 @@ pub fn play_schedule<'a, R: BufRead, O: Write, E: Write + IsTerminal>(
     }
 }
 
-/// Plays the lines of a schedule on a room.
+/// Plays the lines of a schedule in a room.
 fn play_on<R: BufRead, O: Write, E: Write + IsTerminal>(
     alloc: Global,
     fleet: &mut Fleet,
@@ -78,7 +78,7 @@ fn play_on<R: BufRead, O: Write, E: Write + IsTerminal>(
 }
 
 impl<'a, O: Write, E: Write + IsTerminal> Stage<'a, O, E> {
-    /// Plays all lines of a schedule. A last line without a line feed is a line too.
+    /// Plays all lines of a schedule. Bytes behind the last line feed are a line, too.
     fn play_lines<R: BufRead>(&mut self, schedule: &mut R) -> Result<(), Halt> {
         let mut cutter = LineCutter::new();
         let mut is_line_open = false;
@@ -100,7 +100,7 @@ impl<'a, O: Write, E: Write + IsTerminal> Stage<'a, O, E> {
         Ok(())
     }
 
-    /// Plays the lines that a piece of a schedule completes.
+    /// Plays the lines that a piece of the schedule completes.
     fn play_piece(&mut self, cutter: &mut LineCutter, piece: &[u8]) -> Result<(), Halt> {
         let mut left = piece;
         while !left.is_empty() {
@@ -124,7 +124,7 @@ impl<'a, O: Write, E: Write + IsTerminal> Stage<'a, O, E> {
         Ok(())
     }
 
-    /// The step of a line.
+    /// Reads the step of a line.
     fn read(&self, line: Line<'_>) -> Result<Step, Halt> {
         let Line::Text(text) = line else {
             return Err(Halt::BadStep(self.number));
@@ -136,7 +136,7 @@ impl<'a, O: Write, E: Write + IsTerminal> Stage<'a, O, E> {
         }
     }
 
-    /// Plays a step, and writes what it tells.
+    /// Plays a step and writes what it tells.
     fn play(&mut self, step: &Step) -> Result<(), Halt> {
         let log = match self.fleet.play(slice::from_ref(step)) {
             Ok(log) => log,
@@ -152,7 +152,7 @@ impl<'a, O: Write, E: Write + IsTerminal> Stage<'a, O, E> {
         Ok(())
     }
 
-    /// Tells how far the schedule was played, behind the news so far.
+    /// Writes how far the schedule has been played, after the news so far.
     fn show_progress(&mut self) -> Result<(), Halt> {
         if self.out.flush().is_err() {
             return Err(Halt::Output);

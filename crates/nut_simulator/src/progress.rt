@@ -1,12 +1,12 @@
-//! How far a long schedule has been played, for who waits at a terminal.
+//! How far a long schedule has been played, for a person at a terminal.
 
 use std::io::{IsTerminal, Write};
 
-/// After how many steps the line is written anew. A shorter schedule is played without it.
+/// The number of steps after which the line is written anew. A schedule with fewer steps is played without it.
 const STEPS_BETWEEN: u64 = 100_000;
 
-/// A line on a terminal that tells how far a schedule has been played. Where the stream is no terminal, it tells nothing.
-/// That it can't be written is no fault: it is there for who looks on.
+/// A line on a terminal that says how far a schedule has been played. If the stream isn't a terminal, nothing is
+/// written. A failed write is ignored: the line is only there to be looked at.
 #[derive(Drop)]
 pub struct Progress<'a, E> {
     stream: &'a mut E,
@@ -14,7 +14,7 @@ pub struct Progress<'a, E> {
 }
 
 impl<'a, E: Write + IsTerminal> Progress<'a, E> {
-    /// No line yet.
+    /// Makes a progress that has written no line yet.
     pub fn new(stream: &'a mut E) -> Self {
         Progress {
             stream,
@@ -22,7 +22,7 @@ impl<'a, E: Write + IsTerminal> Progress<'a, E> {
         }
     }
 
-    /// Whether the line is to be written anew after so many steps.
+    /// Whether the line has to be written anew after this many steps.
     pub fn is_due(&self, steps: u64) -> bool {
         steps % STEPS_BETWEEN == 0 && self.stream.is_terminal()
     }
@@ -33,7 +33,7 @@ impl<'a, E: Write + IsTerminal> Progress<'a, E> {
         self.is_shown = true;
     }
 
-    /// Wipes the line, so that other text may stand there.
+    /// Clears the line, so that other text can be written in its place.
     pub fn clear(&mut self) {
         if self.is_shown {
             let _ = self.stream.write_all(b"\r\x1b[K");

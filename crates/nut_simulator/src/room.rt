@@ -1,13 +1,13 @@
-//! What a room is made with: configuration files.
+//! The configuration files of a room.
 
 use crate::fault::{NutsimFault, file_failure};
-use nut::{Failure, FileFault, read_conf, read_conf_at};
 use nut_conf::UpsmonConf;
+use nut_program::{Failure, FileFault, read_conf, read_conf_at};
 use nut_server::Config;
 use std::alloc::Global;
 use std::rt::Files;
 
-/// What ups.conf, upsd.users and upsd.conf in a folder set.
+/// Reads ups.conf, upsd.users and upsd.conf in a folder.
 pub fn read_config(
     files: &impl Files,
     alloc: Global,
@@ -19,7 +19,7 @@ pub fn read_config(
     Ok(Config::new(ups, users, upsd))
 }
 
-/// What the upsmon.conf of each monitor sets, in their order.
+/// Reads the upsmon.conf of each monitor, in order.
 pub fn read_monitors<'a>(
     files: &impl Files,
     alloc: Global,
@@ -32,7 +32,7 @@ pub fn read_monitors<'a>(
     Ok(monitors)
 }
 
-/// What an upsmon.conf sets, whatever the file is called. A fault names it without its folder.
+/// Reads an upsmon.conf, whatever the file is called. A fault names it without its folder.
 fn read_monitor<'a>(
     files: &impl Files,
     alloc: Global,
@@ -44,7 +44,7 @@ fn read_monitor<'a>(
     }
 }
 
-/// A path without its folder.
+/// Returns a path without its folder.
 fn name_of(path: &str) -> &str {
     match path.rsplit_once('/') {
         Some((_, name)) => name,

@@ -4,8 +4,8 @@ use crate::command::nutsim_command;
 use crate::fault::{NutsimFault, file_failure};
 use crate::playing::play_schedule;
 use crate::room::{read_config, read_monitors};
-use nut::Failure;
 use nut_play::Fleet;
+use nut_program::Failure;
 use nut_server::Config;
 use std::alloc::Global;
 use std::convert::AsStr;
@@ -14,24 +14,24 @@ use std::io;
 use std::io::{BufRead, BufReader, ErrorKind, IsTerminal, Write};
 use std::rt::Files;
 
-/// Plays a schedule on one server and its monitors, joined by pipes in memory, and gives the exit status.
+/// Plays a schedule on a server and its monitors, joined by pipes in memory. Returns the exit status.
 ///
-/// The words are those of the command line `nutsim DIR SCHEDULE MONCONF..`, with the program's name first. The server is made
-/// by ups.conf, upsd.users and upsd.conf in the folder DIR, and a monitor by each MONCONF, an upsmon.conf whose hosts don't
-/// count. Each line of the file SCHEDULE is a step (`read_step`). What steps tell is printed on `out`, a line each, with the
-/// number of the step, counted from 1: `K: skipped` where a step was in the wrong state and changed nothing;
-/// `K: monitor M notice TYPE`, with a blank and the target of the MONITOR line where a UPS is named; and then
-/// `K: monitor M phase P` where the phase of a monitor is another than before the step. The status is 0 once all was played.
+/// `words` are those of the command line `nutsim DIR SCHEDULE MONCONF..`, the program's name first. The server is made
+/// from ups.conf, upsd.users and upsd.conf in the folder DIR, and a monitor from each MONCONF, an upsmon.conf whose
+/// hosts are ignored. Each line of the file SCHEDULE is a step (`read_step`). What steps tell is printed on `out`, a
+/// line each, with the number of the step, counted from 1: `K: skipped` if the step was not possible and changed
+/// nothing; `K: monitor M notice TYPE`, followed by a blank and the UPS of the MONITOR line if the notice is about one;
+/// and then `K: monitor M phase P` if the monitor has entered another phase. The status is 0 once all was played.
 ///
-/// It takes no more memory for a longer schedule. Where `err` is a terminal, a line there tells how far a schedule of more
-/// than 100,000 steps has been played.
+/// A longer schedule takes no more memory. If `err` is a terminal, a line there says how far a schedule of at least
+/// 100,000 steps has been played.
 ///
-/// Where the words don't read, clap's text says so on `err`, and the status is 2; the help and the version go to `out`, with
-/// status 0. Files are read in the order of the command line, and the first fault is told on `err`, with status 1:
-/// `nutsim: FILE: cannot read`, or a configuration file's first fault, as `nutsim: ups.conf:2: BadName`, which is named
-/// without its folder. A line that isn't a step, or names a monitor, a link or a UPS that isn't there, is told as
-/// `nutsim: SCHEDULE:K: BadStep`, after what the steps before it told. `nutsim: out of memory` is told where memory was
-/// refused, and `nutsim: I/O failed` where `out` fails.
+/// If clap refuses the words, its text is written to `err`, and the status is 2; the help and the version are written
+/// to `out`, with status 0. Files are read in the order of the command line, and the first fault is written to `err`,
+/// with status 1: `nutsim: FILE: cannot read`, or the first fault of a configuration file, as
+/// `nutsim: ups.conf:2: BadName`, which is named without its folder. For a line that isn't a step, or names a monitor,
+/// a link or a UPS that doesn't exist, `nutsim: SCHEDULE:K: BadStep` is written, after what the steps before it told.
+/// `nutsim: out of memory` is written if memory cannot be allocated, and `nutsim: I/O failed` if `out` fails.
 pub fn run_nutsim<S: AsStr, O: Write, E: Write + IsTerminal>(
     files: &impl Files,
     alloc: Global,
@@ -61,7 +61,7 @@ fn run<'a, S: AsStr, O: Write, E: Write + IsTerminal>(
     play_room(files, alloc, names, out, err)
 }
 
-/// What a command line names: the folder of the server's files, the schedule, and the file of each monitor.
+/// The names on a command line: the folder of the server's files, the schedule, and the file of each monitor.
 #[derive(Clone, Copy)]
 struct Names<'a, 'b> {
     folder: &'a str,
@@ -86,7 +86,7 @@ fn play_room<'a, O: Write, E: Write + IsTerminal>(
     play_schedule(alloc, &mut fleet, names.schedule, &mut schedule, out, err)
 }
 
-/// A room of this server and of the monitors that these files make.
+/// Makes a room of this server and of the monitors that these files configure.
 fn make_fleet<'a>(
     files: &impl Files,
     alloc: Global,
@@ -100,7 +100,7 @@ fn make_fleet<'a>(
     }
 }
 
-/// Opens a schedule, and sees that it can be read.
+/// Opens a schedule, and checks that it can be read.
 fn open_schedule<'a, F: Files>(
     files: &F,
     alloc: Global,

@@ -1,9 +1,10 @@
--- What each change does where a search by name has found its variable or command, or has found none.
+-- What each change does, if a search by name has found its variable or command, and if it has found none.
 use Rattle.std.proofs.Common.{◌≡◌, ℕ, zero, suc, List, [], ◌∷◌, ◌++◌, Bool, true, false, not, ◌&&◌, Some, None, length, refl, sym, ap, ◌∙◌, arith, inl, inr, ◌⊎◌}
 use Rattle.std.specs.Prelude.{filter, is_some, nat_lt, nat_le, unwrap_or, slice_set, slice_index_or}
 use Rattle.std.specs.List.{insert, remove, list_any}
 use Rattle.std.specs.Str.{bytes_eq}
-use Rattle.nut_state.specs.declared.limits.TheConstants.{VALUE_BYTES, MAX_VARIABLES, MAX_COMMANDS}
+use Rattle.nut_words.specs.declared.limits.TheConstants.{VALUE_MAX}
+use Rattle.nut_state.specs.declared.limits.TheConstants.{VARIABLES_MAX, COMMANDS_MAX}
 use Rattle.nut_state.specs.declared.number.Range.{Range}
 use Rattle.nut_state.specs.declared.variable.Flags.{Flags}
 use Rattle.nut_state.specs.Sorted.{IsFound, IsFree}
@@ -20,7 +21,7 @@ name_of v = v.name
 abbrev pub itself : List ℕ → List ℕ
 itself command = command
 
--- ---- the variable stands at i, and is v
+-- ---- the variable is v, at place i
 
 module _ (t : Table) (name : List ℕ) (i : ℕ) (v : Entry) (f : IsFound name_of name t.variables i) (at : v ≡ slice_index_or t.variables i v) where
   pub variable_is : variable t name ≡ Some v
@@ -49,7 +50,7 @@ module _ (t : Table) (name : List ℕ) (i : ℕ) (v : Entry) (f : IsFound name_o
   unfolding accepts changed
   set_flags_found flags new to = by_edit (set_flags name flags) (λ w. record w { flags = flags }) new (ap is_some variable_is) refl to
 
-  pub set_aux_found : (aux : ℕ) (new : Entry) → nat_le aux VALUE_BYTES ≡ true → new ≡ record v { aux = aux }
+  pub set_aux_found : (aux : ℕ) (new : Entry) → nat_le aux VALUE_MAX ≡ true → new ≡ record v { aux = aux }
       → record t { variables = slice_set t.variables i new } ≡ after t (set_aux name (Some aux))
   unfolding accepts changed
   set_aux_found aux new fits to = by_edit (set_aux name (Some aux)) (λ w. record w { aux = aux }) new (rw variable_is fits) refl to
@@ -100,7 +101,7 @@ module _ (t : Table) (name : List ℕ) (i : ℕ) (v : Entry) (f : IsFound name_o
           untouched (del_range name (Some range)) new (rw variable_is none)
           (to ∙ ap (λ xs. record v { ranges = xs }) (keeps_all (λ listed. same_range listed range) v.ranges none))
 
-  pub set_info_found : (value : List ℕ) (new : Entry) → is_name name ≡ true → nat_le (length value) VALUE_BYTES ≡ true → new ≡ with_value value v
+  pub set_info_found : (value : List ℕ) (new : Entry) → is_name name ≡ true → nat_le (length value) VALUE_MAX ≡ true → new ≡ with_value value v
       → record t { variables = slice_set t.variables i new } ≡ after t (set_info name value)
   unfolding accepts changed
   set_info_found value new good fits to =
@@ -174,21 +175,21 @@ and_false a b (inl h) = rw h refl
 and_false true b (inr h) = h
 and_false false b (inr h) = refl
 
-pub set_aux_long : (t : Table) (name : List ℕ) (aux : ℕ) → nat_le aux VALUE_BYTES ≡ false → t ≡ after t (set_aux name (Some aux))
+pub set_aux_long : (t : Table) (name : List ℕ) (aux : ℕ) → nat_le aux VALUE_MAX ≡ false → t ≡ after t (set_aux name (Some aux))
 unfolding accepts
 set_aux_long t name aux long = sym (after_refused t (set_aux name (Some aux)) (and_false (is_some (variable t name)) _ (inr long)))
 
-pub set_info_refused : (t : Table) (name value : List ℕ) → (is_name name && nat_le (length value) VALUE_BYTES) ≡ false → t ≡ after t (set_info name value)
+pub set_info_refused : (t : Table) (name value : List ℕ) → (is_name name && nat_le (length value) VALUE_MAX) ≡ false → t ≡ after t (set_info name value)
 unfolding accepts
 set_info_refused t name value bad = sym (after_refused t (set_info name value) (and_false _ _ (inl bad)))
 
-pub set_info_full : (t : Table) (name value : List ℕ) → variable t name ≡ None → nat_lt (length t.variables) MAX_VARIABLES ≡ false → t ≡ after t (set_info name value)
+pub set_info_full : (t : Table) (name value : List ℕ) → variable t name ≡ None → nat_lt (length t.variables) VARIABLES_MAX ≡ false → t ≡ after t (set_info name value)
 unfolding accepts
 set_info_full t name value gone full =
-    sym (after_refused t (set_info name value) (and_false (is_name name && nat_le (length value) VALUE_BYTES) _ (inr (rw (gone, full) refl))))
+    sym (after_refused t (set_info name value) (and_false (is_name name && nat_le (length value) VALUE_MAX) _ (inr (rw (gone, full) refl))))
 
 module _ (t : Table) (name value : List ℕ) (i : ℕ) (f : IsFree name_of name t.variables i) (good : is_name name ≡ true)
-    (fits : nat_le (length value) VALUE_BYTES ≡ true) (room : nat_lt (length t.variables) MAX_VARIABLES ≡ true) where
+    (fits : nat_le (length value) VALUE_MAX ≡ true) (room : nat_lt (length t.variables) VARIABLES_MAX ≡ true) where
   accepted : accepts t (set_info name value) ≡ true
   unfolding accepts
   accepted = rw (good, fits, f.is, room) refl
@@ -206,17 +207,17 @@ module _ (t : Table) (name value : List ℕ) (i : ℕ) (f : IsFree name_of name 
 
 -- ---- commands
 
-pub add_command_refused : (t : Table) (name : List ℕ) → (is_name name && nat_lt (length t.commands) MAX_COMMANDS) ≡ false → t ≡ after t (add_command name)
+pub add_command_refused : (t : Table) (name : List ℕ) → (is_name name && nat_lt (length t.commands) COMMANDS_MAX) ≡ false → t ≡ after t (add_command name)
 unfolding accepts
 add_command_refused t name bad = sym (after_refused t (add_command name) (and_false _ _ (inl bad)))
 
 pub add_command_listed : (t : Table) (name : List ℕ) (i : ℕ) → IsFound itself name t.commands i → t ≡ after t (add_command name)
 unfolding accepts
 add_command_listed t name i f =
-    sym (after_refused t (add_command name) (and_false (is_name name && nat_lt (length t.commands) MAX_COMMANDS) _ (inr (rw (f.is name) refl))))
+    sym (after_refused t (add_command name) (and_false (is_name name && nat_lt (length t.commands) COMMANDS_MAX) _ (inr (rw (f.is name) refl))))
 
 module _ (t : Table) (name : List ℕ) (i : ℕ) (f : IsFree itself name t.commands i) (good : is_name name ≡ true)
-    (room : nat_lt (length t.commands) MAX_COMMANDS ≡ true) where
+    (room : nat_lt (length t.commands) COMMANDS_MAX ≡ true) where
   command_accepted : accepts t (add_command name) ≡ true
   unfolding accepts
   command_accepted = rw (good, room, f.is) refl

@@ -4,7 +4,7 @@ use Rattle.std.specs.Prelude.{filter, is_some, nat_le, unwrap_or}
 use Rattle.std.specs.Option.{option_or, option_to_list}
 use Rattle.std.specs.Str.{bytes_eq}
 use Rattle.std.proofs.lemmas.Slice.Eq.{bytes_eq-Decides}
-use Rattle.nut_state.specs.declared.limits.TheConstants.{VALUE_BYTES}
+use Rattle.nut_words.specs.declared.limits.TheConstants.{VALUE_MAX}
 use Rattle.nut_state.specs.declared.number.Range.{Range}
 use Rattle.nut_state.specs.Sorted.{named}
 use Rattle.nut_state.specs.Table.{Table, Entry, variable, has_command, value_of, flags_of, aux_of, enums_of, ranges_of}
@@ -15,7 +15,7 @@ use Rattle.nut_state.specs.LookBack.{deletes, value_set, flags_set, aux_set, enu
 use Rattle.nut_state.proofs.PutLemmas.{HasName, named-put_same, named-put_other, name-named}
 use Rattle.nut_state.proofs.TableLemmas.{either, and_left}
 
--- what a change says of a name, of the variable before and after
+-- What a change says of a name, against the variable before and after it.
 pub record FieldEffects (name : List ℕ) (change : Change) (v w : Entry) : Type 0 where
   pub value : Some w.value ≡ option_or (value_set name change) (Some v.value)
   pub flags : w.flags ≡ unwrap_or (flags_set name change) v.flags
@@ -23,7 +23,7 @@ pub record FieldEffects (name : List ℕ) (change : Change) (v w : Entry) : Type
   pub enums : w.enums ≡ filter (λ x. not (removes_enum name x change)) v.enums ++ option_to_list (enum_added name change)
   pub ranges : w.ranges ≡ filter (λ x. not (removes_range name x change)) v.ranges ++ option_to_list (range_added name change)
 
--- the same of what a table says
+-- What a change says of a name, against the table's look-ups before and after it.
 pub record Effects (name : List ℕ) (change : Change) (t u : Table) : Type 0 where
   pub value : value_of u name ≡ option_or (value_set name change) (value_of t name)
   pub flags : flags_of u name ≡ unwrap_or (flags_set name change) (flags_of t name)
@@ -31,7 +31,7 @@ pub record Effects (name : List ℕ) (change : Change) (t u : Table) : Type 0 wh
   pub enums : enums_of u name ≡ filter (λ x. not (removes_enum name x change)) (enums_of t name) ++ option_to_list (enum_added name change)
   pub ranges : ranges_of u name ≡ filter (λ x. not (removes_range name x change)) (ranges_of t name) ++ option_to_list (range_added name change)
 
--- a change that says nothing of a name
+-- A change that says nothing of a name.
 pub record SaysNothing (name : List ℕ) (change : Change) : Type 0 where
   pub value : value_set name change ≡ None
   pub flags : flags_set name change ≡ None
@@ -112,7 +112,7 @@ nothing_said : (name : List ℕ) (change : Change) → value_set name change ≡
     → ((x : Range) → removes_range name x change ≡ false) → SaysNothing name change
 nothing_said name change a b c d e f g = record { value = a; flags = b; aux = c; enum_in = d; enum_out = e; range_in = f; range_out = g }
 
--- a value that is set, for a variable that is there or a new one
+-- A value that is set, for a variable that exists or a new one.
 set_effects : (t : Table) (n name value : List ℕ) → (variable t n ≡ None) ⊎ ((v : Entry) × (variable t n ≡ Some v))
     → ((bytes_eq n name ≡ true) × (n ≡ name)) ⊎ ((bytes_eq n name ≡ false) × (n ≢ name))
     → Effects name (set_info n value) t (with_variable t n (Some (with_value value (unwrap_or (variable t n) (fresh n value)))))
@@ -178,7 +178,7 @@ effects t name (del_range n (Some range)) ok stays =
     (λ b. nothing_said name (del_range n (Some range)) refl refl refl refl (λ _. refl) refl (λ _. rw b refl))
 effects t name (set_aux n None) ok stays = cc
 effects t name (set_aux n (Some aux)) ok stays =
-    by_edit t n name (set_aux n (Some aux)) (λ v. record v { aux = aux }) (λ v. refl) (and_left (is_some (variable t n)) (nat_le aux VALUE_BYTES) ok)
+    by_edit t n name (set_aux n (Some aux)) (λ v. record v { aux = aux }) (λ v. refl) (and_left (is_some (variable t n)) (nat_le aux VALUE_MAX) ok)
     (λ b v. record { value = refl; flags = refl; aux = rw b refl; enums = all_stay (λ _. false) v.enums (λ _. refl); ranges = all_stay (λ _. false) v.ranges (λ _. refl) })
     (λ b. nothing_said name (set_aux n (Some aux)) refl refl (rw b refl) refl (λ _. refl) refl (λ _. refl))
 effects t name (set_flags n flags) ok stays =

@@ -5,12 +5,13 @@ use Rattle.std.specs.List.{list_any}
 use Rattle.std.specs.Option.{option_and_then, option_or, option_map_or, option_to_list}
 use Rattle.std.specs.Result.{result_ok}
 use Rattle.nut_words.specs.Reader.{spelled}
+use Rattle.nut_words.specs.declared.limits.TheConstants.{VALUE_MAX}
 use Rattle.std.proofs.lemmas.List.Elements.{All-nil, filter-append}
 use Rattle.std.proofs.lemmas.List.{reverse-append}
-use Rattle.nut_state.specs.declared.limits.TheConstants.{VALUE_BYTES, MAX_VARIABLES, MAX_COMMANDS}
+use Rattle.nut_state.specs.declared.limits.TheConstants.{VARIABLES_MAX, COMMANDS_MAX}
 use Rattle.nut_state.specs.Attribute.{no_flags, takes_enum, lists_enum, takes_range, lists_range}
 use Rattle.nut_state.specs.Change.{Change, set_info, del_info, add_enum, del_enum, add_range, del_range, set_aux, set_flags, add_command, del_command, dump_done, data_ok, data_stale, pong, asked, heard}
-use Rattle.nut_state.specs.Holds.{FollowsAlike, Holds, IsTable, IsWithinLimits, LooksBack}
+use Rattle.nut_state.specs.laws.Holds.{FollowsAlike, Holds, IsTable, IsWithinLimits, LooksBack}
 use Rattle.nut_state.specs.LookBack.{deletes, value_set, flags_set, aux_set, enum_added, removes_enum, range_added, removes_range, command_set, dumps, data_set, latest, standing, era, is_there, is_command, variable_count, command_count, is_accepted, adds_to, accepted_after, accepted}
 use Rattle.nut_state.specs.Sorted.{named}
 use Rattle.nut_state.specs.Step.{accepts, adds, changed, after, applied, table_of, fresh, with_value, with_variable, revised}
@@ -33,7 +34,7 @@ any-push : {X : Type 0} (p : X → Bool) (xs : List X) (c : X) → list_any p (x
 any-push p [] c = or_false (p c)
 any-push p (x ∷ xs) c = ap (λ b. p x || b) (any-push p xs c) ∙ or_assoc (p x) (list_any p xs) (p c)
 
--- one more change at the end: it removes what it removes, and adds what it adds
+-- One more change at the end: what it removes is gone, and what it adds is there.
 standing-push : {X : Type 0} (added : Change → Option X) (removes : X → Change → Bool) (xs : List Change) (c : Change)
     → standing added removes (xs ++ c ∷ []) ≡ filter (λ x. not (removes x c)) (standing added removes xs) ++ option_to_list (added c)
 standing-push added removes [] c = by (added c)
@@ -156,7 +157,7 @@ module _ (t : Table) (changes : List Change) (table : IsTable t) (h : LooksBack 
   commands_more : (change : Change) → accepts t change ≡ true → length (changed t change).commands ≡ command_count (change ∷ changes)
   unfolding accepts changed
   commands_more (add_command name) ok =
-      let absent : has_command t name ≡ false = not_true _ (and_right (is_name name && nat_lt (length t.commands) MAX_COMMANDS) (not (has_command t name)) ok) in
+      let absent : has_command t name ≡ false = not_true _ (and_right (is_name name && nat_lt (length t.commands) COMMANDS_MAX) (not (has_command t name)) ok) in
       length-put_new (λ c. c) name name t.commands (none_there _ absent) ∙ ap suc h.commands
   commands_more (del_command name) ok = length-put_away (λ c. c) name t.commands table.commands_ascend ok ∙ ap (λ n. n - 1) h.commands
   commands_more (set_info name value) ok = h.commands
@@ -197,7 +198,7 @@ module _ (t : Table) (changes : List Change) (table : IsTable t) (h : LooksBack 
   pub accepts_same : (change : Change) → accepts t change ≡ is_accepted changes change
   unfolding accepts is_accepted
   accepts_same (set_info name value) =
-      λ j. is_name name && nat_le (length value) VALUE_BYTES && (there_is name j || nat_lt (h.variables j) MAX_VARIABLES)
+      λ j. is_name name && nat_le (length value) VALUE_MAX && (there_is name j || nat_lt (h.variables j) VARIABLES_MAX)
   accepts_same (del_info name) = there_is name
   accepts_same (add_enum name value) =
       passes_is (λ v. v.enums) (takes_enum value) (variable t name) ∙ (λ j. there_is name j && takes_enum value (h.enums name j))
@@ -210,9 +211,9 @@ module _ (t : Table) (changes : List Change) (table : IsTable t) (h : LooksBack 
   accepts_same (del_range name (Some range)) =
       passes_is (λ v. v.ranges) (lists_range range) (variable t name) ∙ (λ j. there_is name j && lists_range range (h.ranges name j))
   accepts_same (set_aux name None) = refl
-  accepts_same (set_aux name (Some aux)) = λ j. there_is name j && nat_le aux VALUE_BYTES
+  accepts_same (set_aux name (Some aux)) = λ j. there_is name j && nat_le aux VALUE_MAX
   accepts_same (set_flags name flags) = there_is name
-  accepts_same (add_command name) = λ j. is_name name && nat_lt (h.commands j) MAX_COMMANDS && not (h.command name j)
+  accepts_same (add_command name) = λ j. is_name name && nat_lt (h.commands j) COMMANDS_MAX && not (h.command name j)
   accepts_same (del_command name) = h.command name
   accepts_same dump_done = refl
   accepts_same data_ok = refl
@@ -239,7 +240,7 @@ module _ (t : Table) (changes : List Change) (table : IsTable t) (h : LooksBack 
   follows_alike : FollowsAlike t changes
   follows_alike = record { accepted_alike = accepts_same; added_alike = adds_same }
 
--- an empty table, and no lines
+-- An empty table holds what no lines say.
 nothing : LooksBack empty []
 unfolding named
 nothing = record {
@@ -303,7 +304,7 @@ pub every_table : (lines : List (List ℕ)) → Holds (table_of lines) lines
 every_table [] = empty_holds
 every_table (line ∷ earlier) = applied_holds (table_of earlier) line earlier (every_table earlier)
 
--- a table that followed what a line asks for
+-- A table that did what a line asks for holds what the lines and this one say.
 pub followed_holds : (t new : Table) (line : List ℕ) (words : List (List ℕ)) (change : Change) → spelled line ≡ Ok words → asked words ≡ Some change
     → new ≡ after t change → (lines : List (List ℕ)) → Holds t lines → Holds new (line ∷ lines)
 unfolding heard applied

@@ -6,13 +6,13 @@ use Rattle.std.proofs.lemmas.List.{get_or_default}
 use Rattle.std.specs.declared.cmp.Ordering.TheVariants.{Equal}
 use Rattle.nut_state.specs.Sorted.{name_cmp, named, IsAscending}
 use Rattle.nut_state.specs.Table.{Table, has_command}
-use Rattle.nut_state.specs.Holds.{IsTable, ListsAgree}
+use Rattle.nut_state.specs.laws.Holds.{IsTable, ListsAgree}
 use Rattle.nut_state.proofs.SortedLemmas.{found, name_itself, equal}
 use Rattle.nut_state.proofs.PutLemmas.{name-named}
 use Rattle.nut_state.proofs.TableLemmas.{either}
 
 module _ {X : Type 0} (name_of : X → List ℕ) where
-  -- each one is found by its name
+  -- Each element is found by its name.
   each_found : (xs : List X) → IsAscending (map name_of xs) → All (λ x. named name_of (name_of x) xs ≡ Some x) xs
   each_found xs up k d within =
       let here : (e : X) → name_cmp (name_of (get_or xs k e)) (name_of (get_or xs k d)) ≡ Equal =

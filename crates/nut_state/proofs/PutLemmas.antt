@@ -1,4 +1,4 @@
--- What an edit by name does to look-ups, to the order, to the length and to what holds of each.
+-- What an edit by name does to look-ups, to the order, to the length, and to what holds of each element.
 use Rattle.std.proofs.Common.{◌≡◌, ◌≢◌, ℕ, suc, ◌+◌, ◌-◌, ◌≤◌, List, [], ◌∷◌, ◌++◌, Bool, true, false, cond, Option, Some, None, length, map, refl, sym, ap, subst, ◌∙◌, arith, length-append}
 use Rattle.std.specs.Prelude.{filter, is_some}
 use Rattle.std.specs.List.{find, AllByRecursion, All}
@@ -28,7 +28,7 @@ module _ {X : Type 0} where
   find_first p (x ∷ xs) ys h = ap (λ o. cond (p x) (Some x) o) (find_first p xs ys h)
 
 module _ {X : Type 0} (name_of : X → List ℕ) where
-  -- an entry of this name, or none
+  -- The entry has this name, or there is no entry.
   abbrev pub HasName : List ℕ → Option X → Type 0
   HasName name None = Unit {0}
   HasName name (Some x) = name_of x ≡ name
@@ -61,7 +61,7 @@ module _ {X : Type 0} (name_of : X → List ℕ) where
       by None h = find_dropped (equal name_of name) (higher name_of name) (higher_not name) xs
       by (Some x) h = rw (h, name_itself name) refl
 
-  -- names differ where they do not compare as equal
+  -- Different names do not compare as equal.
   other_name : (a b : List ℕ) → a ≢ b → is_eq (name_cmp a b) ≡ false
   other_name a b n = by (name_cmp a b) refl
     where
@@ -70,7 +70,7 @@ module _ {X : Type 0} (name_of : X → List ℕ) where
       by Equal e = absurd (n (same_name a b e))
       by Greater e = refl
 
-  -- an entry that has another name is not the one looked for
+  -- An entry with another name isn't the one looked for.
   not_found : (other name : List ℕ) (new : Option X) → HasName name new → name ≢ other → find (equal name_of other) (option_to_list new) ≡ None
   not_found other name None h n = refl
   not_found other name (Some x) h n = rw (h, other_name name other n) refl
@@ -150,7 +150,7 @@ module _ {X : Type 0} (name_of : X → List ℕ) where
   after_trans low high [] e h = tt
   after_trans low high (x ∷ xs) e h = (name_trans low high (name_of x) e h.0, after_trans low high xs e h.1)
 
-  -- what stands before a name, then an entry of that name or none, then what stands after it
+  -- the elements before a name, then an entry with that name or none, then the elements after it
   joined : (name : List ℕ) (xs : List X) (new : Option X) (ys : List X) → IsAscending (map name_of xs) → Each name_of Less name xs
       → HasName name new → IsAscending (map name_of ys) → After name ys → IsAscending (map name_of (xs ++ (option_to_list new ++ ys)))
   joined name [] None ys up each h more after = more
@@ -204,14 +204,14 @@ module _ {X : Type 0} (name_of : X → List ℕ) where
         length-append (option_to_list new) (filter (higher name_of name) xs),
       )
 
-  -- a put is no longer than before, where one of this name was there, and else by at most one
+  -- A put makes the list no longer if an element had this name, and at most one longer if none had.
   pub length-put_found : (name : List ℕ) (new : Option X) (xs : List X) → is_some (named name_of name xs) ≡ true → length (put name_of name new xs) ≤ length xs
   unfolding named
   length-put_found name new xs h =
       let one : 1 ≤ length (filter (equal name_of name) xs) = count_found (equal name_of name) xs h in
       omega (arith, length-put_parts name new xs, at_most_one new)
 
-  -- where one of this name was there: as many with another in its place, and one less without it
+  -- If an element had this name: a put of another keeps the length, and a put of none makes it one less.
   pub length-put_again : (name : List ℕ) (x : X) (xs : List X) → IsAscending (map name_of xs) → is_some (named name_of name xs) ≡ true
       → length (put name_of name (Some x) xs) ≡ length xs
   unfolding named
@@ -228,7 +228,7 @@ module _ {X : Type 0} (name_of : X → List ℕ) where
   count_absent p [] h = refl
   count_absent p (x ∷ xs) h = grind (arith, count_absent p xs)
 
-  -- where none of this name was there: one more with one, and as many without
+  -- If no element had this name: a put of one makes the list one longer, and a put of none keeps the length.
   pub length-put_new : (name : List ℕ) (x : X) (xs : List X) → named name_of name xs ≡ None → length (put name_of name (Some x) xs) ≡ suc (length xs)
   unfolding named
   length-put_new name x xs h = omega (arith, length-put_parts name (Some x) xs, count_absent (equal name_of name) xs h)

@@ -40,7 +40,7 @@ module _ {X : Type 0} (name_of : X → List ℕ) where
   abbrev pub equal : List ℕ → X → Bool
   equal name x = is_eq (name_cmp (name_of x) name)
 
-  -- every one compares so
+  -- Each element compares so with the name.
   abbrev pub Each : Ordering → List ℕ → List X → Type 0
   Each o name = AllByRecursion (λ x. name_cmp (name_of x) name ≡ o)
 
@@ -60,7 +60,7 @@ module _ {X : Type 0} (name_of : X → List ℕ) where
   higher_equal name [] h = refl
   higher_equal name (x ∷ xs) h = rw h.0 (higher_equal name xs h.1)
 
-  -- what a search that found nothing tells
+  -- what a search that found nothing says
   pub parts_if_free : (name : List ℕ) (xs : List X) (i : ℕ) → i ≤ length xs
       → ((k : ℕ) (d : X) → k < i → name_cmp (name_of (get_or xs k d)) name ≡ Less)
       → ((k : ℕ) (d : X) → i ≤ k → k < length xs → name_cmp (name_of (get_or xs k d)) name ≡ Greater)
@@ -90,7 +90,7 @@ module _ {X : Type 0} (name_of : X → List ℕ) where
   higher_none name [] h = refl
   higher_none name (x ∷ xs) h = rw h.0 (higher_none name xs h.1)
 
-  -- no name stands twice
+  -- No name comes twice.
   pub one_at_most : (name : List ℕ) (xs : List X) → IsAscending (map name_of xs) → length (filter (equal name) xs) ≤ 1
   one_at_most name [] up = omega arith
   one_at_most name (x ∷ xs) up = by (name_cmp (name_of x) name) refl (one_at_most name xs up.1)
@@ -102,7 +102,7 @@ module _ {X : Type 0} (name_of : X → List ℕ) where
           let each : Each Greater name xs = all_higher name xs (subst (λ n. NamesAfter n xs) (same_name (name_of x) name e) up.0) in
           rw (e, higher_none name xs each) (omega arith)
 
-  -- what a search that found one tells
+  -- what a search that found an element says
   pub parts_if_found : (name : List ℕ) (xs : List X) (i : ℕ) → IsAscending (map name_of xs) → i < length xs
       → ((d : X) → name_cmp (name_of (get_or xs i d)) name ≡ Equal)
       → (filter (lower name) xs ≡ take i xs) × (filter (higher name) xs ≡ drop (suc i) xs) × ((d : X) → find (equal name) xs ≡ Some (get_or xs i d))
@@ -143,7 +143,7 @@ module _ {X : Type 0} (name_of : X → List ℕ) where
       let parts = parts_if_free name xs i le below above in
       record { within = le; is = parts.2; inserted = λ new. λ j. parts.0 j ++ (new ∷ parts.1 j) }
 
-  -- what `binary_search_by` answers at an ascending list
+  -- what `binary_search_by` answers for an ascending list
   adjacent : (xs : List X) → IsAscending (map name_of xs) → (k : ℕ) (d : X) → suc k < length xs
       → name_cmp (name_of (get_or xs k d)) (name_of (get_or xs (suc k) d)) ≡ Less
   adjacent [] up k d l = absurd (omega arith)

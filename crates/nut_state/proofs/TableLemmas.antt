@@ -7,23 +7,24 @@ use Rattle.std.specs.Str.{bytes_eq}
 use Rattle.std.proofs.lemmas.List.Filters.{length-filter_both}
 use Rattle.std.proofs.lemmas.List.Elements.{All-nil, All-cons, All-append, All-filter}
 use Rattle.std.proofs.lemmas.Bool.Decides.{nat_tests}
-use Rattle.nut_state.specs.declared.limits.TheConstants.{VALUE_BYTES, MAX_VARIABLES, MAX_COMMANDS, MAX_ENUMS, MAX_RANGES}
+use Rattle.nut_words.specs.declared.limits.TheConstants.{VALUE_MAX}
+use Rattle.nut_state.specs.declared.limits.TheConstants.{VARIABLES_MAX, COMMANDS_MAX, ENUMS_MAX, RANGES_MAX}
 use Rattle.nut_state.specs.Sorted.{put}
 use Rattle.nut_state.specs.Table.{Table, Entry, variable}
 use Rattle.nut_state.specs.Step.{fresh, with_value, without_enum, without_range, passes, with_variable, with_command, revised, accepts, changed, after}
 use Rattle.nut_state.specs.Attribute.{same_range, takes_enum, takes_range}
 use Rattle.nut_state.specs.Change.{Change, set_info, del_info, add_enum, del_enum, add_range, del_range, set_aux, set_flags, add_command, del_command, dump_done, data_ok, data_stale, pong}
 use Rattle.nut_state.specs.Text.{is_name}
-use Rattle.nut_state.specs.Holds.{IsTable, IsWithinLimits}
+use Rattle.nut_state.specs.laws.Holds.{IsTable, IsWithinLimits}
 use Rattle.nut_state.proofs.PutLemmas.{HasName, ascending-put, length-put, length-put_found, length-put_none, All-put, name-named, All-named}
 
--- a value of an `Option` and the equation that it is that
+-- An option is `None`, or there is a value that it holds.
 pub either : {X : Type 0} (o : Option X) → (o ≡ None) ⊎ ((x : X) × (o ≡ Some x))
 either None = inl refl
 either (Some x) = inr (x, refl)
 
 pub IsTable-with_variable : (t : Table) (name : List ℕ) (new : Option Entry) → HasName (λ v. v.name) name new → All IsWithinLimits (option_to_list new)
-    → length (put (λ v. v.name) name new t.variables) ≤ MAX_VARIABLES → IsTable t → IsTable (with_variable t name new)
+    → length (put (λ v. v.name) name new t.variables) ≤ VARIABLES_MAX → IsTable t → IsTable (with_variable t name new)
 IsTable-with_variable t name new named_so limits short h = record {
   variables_ascend = ascending-put (λ v. v.name) name new t.variables named_so h.variables_ascend;
   variables_within = short;
@@ -34,7 +35,7 @@ IsTable-with_variable t name new named_so limits short h = record {
 }
 
 IsTable-with_command : (t : Table) (name : List ℕ) (new : Option (List ℕ)) → HasName (λ c. c) name new → All (λ c. is_name c ≡ true) (option_to_list new)
-    → length (put (λ c. c) name new t.commands) ≤ MAX_COMMANDS → IsTable t → IsTable (with_command t name new)
+    → length (put (λ c. c) name new t.commands) ≤ COMMANDS_MAX → IsTable t → IsTable (with_command t name new)
 IsTable-with_command t name new named_so good short h = record {
   variables_ascend = h.variables_ascend;
   variables_within = h.variables_within;
@@ -79,7 +80,7 @@ pub and_right : (a b : Bool) → (a && b) ≡ true → b ≡ true
 and_right true b h = h
 and_right false b h = cc
 
--- a test that a variable passes is one that it is there for
+-- the test at the variable that `passes` has found
 passes_at : (t : Table) (name : List ℕ) (test : Entry → Bool) (v : Entry) → variable t name ≡ Some v → passes t name test ≡ true → test v ≡ true
 passes_at t name test v e h = rw e at h
 
@@ -97,22 +98,22 @@ IsTable-changed t (set_info name value) ok h = by (either (variable t name))
     good : is_name name ≡ true
     good = and_left _ _ (and_left _ _ ok)
 
-    short : length value ≤ VALUE_BYTES
-    short = at_most _ _ (and_right (is_name name) (nat_le (length value) VALUE_BYTES) (and_left _ _ ok))
+    short : length value ≤ VALUE_MAX
+    short = at_most _ _ (and_right (is_name name) (nat_le (length value) VALUE_MAX) (and_left _ _ ok))
 
     by : (variable t name ≡ None) ⊎ ((v : Entry) × (variable t name ≡ Some v))
         → IsTable (with_variable t name (Some (with_value value (unwrap_or (variable t name) (fresh name value)))))
     by (inl e) =
-        let test : (is_some (variable t name) || nat_lt (length t.variables) MAX_VARIABLES) ≡ true =
-        and_right (is_name name && nat_le (length value) VALUE_BYTES) (is_some (variable t name) || nat_lt (length t.variables) MAX_VARIABLES) ok in
-        let room : nat_lt (length t.variables) MAX_VARIABLES ≡ true = rw e at test in
+        let test : (is_some (variable t name) || nat_lt (length t.variables) VARIABLES_MAX) ≡ true =
+        and_right (is_name name && nat_le (length value) VALUE_MAX) (is_some (variable t name) || nat_lt (length t.variables) VARIABLES_MAX) ok in
+        let room : nat_lt (length t.variables) VARIABLES_MAX ≡ true = rw e at test in
         rw e (IsTable-with_variable t name (Some (with_value value (fresh name value))) refl
         (All-cons IsWithinLimits _ [] (record {
           name = good;
           value = short;
           aux = omega arith;
           enums = omega arith;
-          each_enum = All-nil (λ text. length text ≤ VALUE_BYTES);
+          each_enum = All-nil (λ text. length text ≤ VALUE_MAX);
           ranges = omega arith;
         }) (All-nil IsWithinLimits))
         (omega (arith, less _ _ room, length-put (λ v. v.name) name (Some (with_value value (fresh name value))) t.variables)) h)
@@ -136,15 +137,15 @@ IsTable-changed t (add_enum name value) ok h =
     (λ v e within.
     let takes : takes_enum value v.enums ≡ true = passes_at t name (λ w. takes_enum value w.enums) v e ok in
     let fits = and_left _ _ takes in
-    let room : nat_lt (length v.enums) MAX_ENUMS ≡ true = and_right (nat_le (length value) VALUE_BYTES) (nat_lt (length v.enums) MAX_ENUMS) fits in
-    let short : nat_le (length value) VALUE_BYTES ≡ true = and_left _ _ fits in
+    let room : nat_lt (length v.enums) ENUMS_MAX ≡ true = and_right (nat_le (length value) VALUE_MAX) (nat_lt (length v.enums) ENUMS_MAX) fits in
+    let short : nat_le (length value) VALUE_MAX ≡ true = and_left _ _ fits in
     record {
       name = within.name;
       value = within.value;
       aux = within.aux;
       enums = omega (arith, less _ _ room, length-append v.enums (value ∷ []));
-      each_enum = All-append (λ text. length text ≤ VALUE_BYTES) v.enums (value ∷ []) within.each_enum
-          (All-cons (λ text. length text ≤ VALUE_BYTES) value [] (at_most _ _ short) (All-nil (λ text. length text ≤ VALUE_BYTES)));
+      each_enum = All-append (λ text. length text ≤ VALUE_MAX) v.enums (value ∷ []) within.each_enum
+          (All-cons (λ text. length text ≤ VALUE_MAX) value [] (at_most _ _ short) (All-nil (λ text. length text ≤ VALUE_MAX)));
       ranges = within.ranges;
     }) h
 IsTable-changed t (del_enum name value) ok h =
@@ -154,7 +155,7 @@ IsTable-changed t (del_enum name value) ok h =
       value = within.value;
       aux = within.aux;
       enums = omega (arith, length-filter_le (λ listed. not (bytes_eq listed value)) v.enums, within.enums);
-      each_enum = All-filter (λ listed. not (bytes_eq listed value)) (λ text. length text ≤ VALUE_BYTES) v.enums within.each_enum;
+      each_enum = All-filter (λ listed. not (bytes_eq listed value)) (λ text. length text ≤ VALUE_MAX) v.enums within.each_enum;
       ranges = within.ranges;
     }) h
 IsTable-changed t (add_range name None) ok h = cc
@@ -162,7 +163,7 @@ IsTable-changed t (add_range name (Some range)) ok h =
     IsTable-revised t name (λ v. record v { ranges = v.ranges ++ range ∷ [] }) (λ v. refl)
     (λ v e within.
     let takes : takes_range range v.ranges ≡ true = passes_at t name (λ w. takes_range range w.ranges) v e ok in
-    let room : nat_lt (length v.ranges) MAX_RANGES ≡ true = and_left _ _ takes in
+    let room : nat_lt (length v.ranges) RANGES_MAX ≡ true = and_left _ _ takes in
     record {
       name = within.name;
       value = within.value;
@@ -188,7 +189,7 @@ IsTable-changed t (set_aux name (Some aux)) ok h =
     (λ v e within. record {
       name = within.name;
       value = within.value;
-      aux = at_most _ _ (and_right (is_some (variable t name)) (nat_le aux VALUE_BYTES) ok);
+      aux = at_most _ _ (and_right (is_some (variable t name)) (nat_le aux VALUE_MAX) ok);
       enums = within.enums;
       each_enum = within.each_enum;
       ranges = within.ranges;
@@ -205,7 +206,7 @@ IsTable-changed t (set_flags name flags) ok h =
     }) h
 IsTable-changed t (add_command name) ok h =
     let fits = and_left _ _ ok in
-    let room : nat_lt (length t.commands) MAX_COMMANDS ≡ true = and_right (is_name name) (nat_lt (length t.commands) MAX_COMMANDS) fits in
+    let room : nat_lt (length t.commands) COMMANDS_MAX ≡ true = and_right (is_name name) (nat_lt (length t.commands) COMMANDS_MAX) fits in
     let good : is_name name ≡ true = and_left _ _ fits in
     IsTable-with_command t name (Some name) refl (All-cons (λ c. is_name c ≡ true) name [] good (All-nil (λ c. is_name c ≡ true)))
     (omega (arith, less _ _ room, length-put (λ c. c) name (Some name) t.commands)) h

@@ -1,4 +1,4 @@
--- What a line of the driver asks for, whether or not the table then follows it.
+-- What a driver's line asks for, whether or not the table then accepts it.
 use Rattle.std.specs.Prelude.{ℕ, List, [], Option, Some, None, if◌then◌else◌, length, codes, drop, slice_index_or}
 use Rattle.std.specs.List.{list_any}
 use Rattle.std.specs.Option.{option_and_then}
@@ -11,7 +11,7 @@ use Rattle.nut_state.specs.declared.verb.Verb.TheVariants.{SetInfo, DelInfo, Add
 use Rattle.nut_state.specs.Number.{range_of, natural}
 use Rattle.nut_state.specs.Verb.{says, verb_of, takes}
 
--- What is asked for; `None` stands for a range or a number that does not read.
+-- A change that a line asks for. `None` stands for a range or a number that can't be read.
 pub data Change : Type 0 where
   set_info : (name value : List ℕ) → Change
   del_info : (name : List ℕ) → Change
@@ -28,11 +28,11 @@ pub data Change : Type 0 where
   data_stale : Change
   pong : Change
 
--- The word at a place, empty where there is none.
+-- The word at a place, or the empty word past the last.
 abbrev pub word : List (List ℕ) → ℕ → List ℕ
 word words place = slice_index_or words place []
 
--- The flags that the words name, letter case aside; other words name none.
+-- The flags that the words name, in upper or lower case. Other words name no flag.
 abbrev pub flags_named : List (List ℕ) → Flags
 flags_named words = record {
   writable = list_any (says (codes "RW")) words;
@@ -57,10 +57,11 @@ asked_by DataOk ws = data_ok
 asked_by DataStale ws = data_stale
 asked_by Pong ws = pong
 
--- What these words ask for: a known first word, letter case aside, and as many words as it takes.
+-- What these words ask for, if the first word is known, in upper or lower case, and there are as many words as it
+-- takes.
 unfoldable pub asked : List (List ℕ) → Option Change
 asked words = option_and_then (λ verb. if takes verb (length words) then Some (asked_by verb words) else None) (verb_of (word words 0))
 
--- What a line asks for, where it reads as words that ask for something: such a line is heard, every other is ignored.
+-- What a line asks for, if it reads as words that ask for something. Such a line is heard; every other line is ignored.
 unfoldable pub heard : List ℕ → Option Change
 heard line = option_and_then asked (result_ok (spelled line))

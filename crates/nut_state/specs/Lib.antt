@@ -1,6 +1,5 @@
 pub mod Attribute
 pub mod Change
-pub mod Holds
 pub mod LookBack
 pub mod Number
 pub mod Sorted
@@ -8,3 +7,4 @@ pub mod Step
 pub mod Table
 pub mod Text
 pub mod Verb
+pub mod laws

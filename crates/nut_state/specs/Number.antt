@@ -5,25 +5,25 @@ use Rattle.nut_state.specs.declared.number.Range.{Range}
 use Rattle.std.specs.List.{list_all}
 use Rattle.std.specs.Char.{is_ascii_digit}
 
--- What decimal digits say, the first one weighing most.
+-- The number that decimal digits say, the most significant digit first.
 abbrev pub digits_value : List ℕ → ℕ
 digits_value text = fold (λ n digit. 10 * n + (digit - 48)) 0 text
 
--- A number has one to nine digits.
+-- Whether the text is a number of one to nine digits.
 abbrev pub is_natural : List ℕ → Bool
 is_natural text = nat_lt 0 (length text) && nat_le (length text) 9 && list_all is_ascii_digit text
 
--- The number that a text is, if it is one.
+-- The number that the text says, if it says one.
 abbrev pub natural : List ℕ → Option ℕ
 natural text = if is_natural text then Some (digits_value text) else None
 
--- The same, perhaps after a minus sign, which is the byte 45.
+-- The number that the text says, if it says one. Its digits may follow a minus sign, the byte 45.
 abbrev pub whole_number : List ℕ → Option ℤ
 whole_number [] = None
 whole_number (byte ∷ rest) =
     if byte == 45 then option_map (λ n. neg_ℤ (pos n)) (natural rest) else option_map pos (natural (byte ∷ rest))
 
--- A range is two whole numbers, the first at most the second.
+-- The range from the first to the second number, if both texts are whole numbers and the first is at most the second.
 abbrev pub range_of : List ℕ → List ℕ → Option Range
 range_of low high =
     option_and_then (λ minimum. option_and_then (λ maximum.

@@ -1,12 +1,13 @@
--- How one line moves the table that the lines before it led to.
+-- How one line changes the table that the lines before it led to.
 --
--- This is the table line by line, as the code keeps it. That `table_of` holds what looking back over the lines tells, and
--- that `accepts` and `adds` say what `is_accepted` and `adds_to` say, is the law `every_table_holds`: who believes
+-- This is the table line by line, as the code keeps it. The law `every_table_holds` says that `table_of` holds what
+-- looking back over the lines says, and that `accepts` and `adds` agree with `is_accepted` and `adds_to`. Who believes
 -- `LookBack` needn't believe this file.
 use Rattle.std.specs.Prelude.{ℕ, ◌&&◌, ◌||◌, Bool, true, false, not, List, [], ◌∷◌, ◌++◌, Option, Some, None, if◌then◌else◌, filter, is_some, length, nat_lt, nat_le, option_map, unwrap_or}
 use Rattle.std.specs.Option.{option_map_or, option_to_list}
 use Rattle.std.specs.Str.{bytes_eq}
-use Rattle.nut_state.specs.declared.limits.TheConstants.{VALUE_BYTES, MAX_VARIABLES, MAX_COMMANDS}
+use Rattle.nut_words.specs.declared.limits.TheConstants.{VALUE_MAX}
+use Rattle.nut_state.specs.declared.limits.TheConstants.{VARIABLES_MAX, COMMANDS_MAX}
 use Rattle.nut_state.specs.declared.number.Range.{Range}
 use Rattle.nut_state.specs.Attribute.{no_flags, same_range, takes_enum, lists_enum, takes_range, lists_range}
 use Rattle.nut_state.specs.Change.{Change, set_info, del_info, add_enum, del_enum, add_range, del_range, set_aux, set_flags, add_command, del_command, dump_done, data_ok, data_stale, pong, heard}
@@ -16,14 +17,14 @@ use Rattle.nut_state.specs.Text.{is_name}
 
 -- ---- when a change is accepted
 
--- Whether the variable is there and passes the test.
+-- Whether there is a variable with this name and it passes the test.
 abbrev pub passes : Table → List ℕ → (Entry → Bool) → Bool
 passes t name test = option_map_or test (variable t name) false
 
--- Whether the table follows a change.
+-- Whether the table accepts a change.
 unfoldable pub accepts : Table → Change → Bool
 accepts t (set_info name value) =
-    is_name name && nat_le (length value) VALUE_BYTES && (is_some (variable t name) || nat_lt (length t.variables) MAX_VARIABLES)
+    is_name name && nat_le (length value) VALUE_MAX && (is_some (variable t name) || nat_lt (length t.variables) VARIABLES_MAX)
 accepts t (del_info name) = is_some (variable t name)
 accepts t (add_enum name value) = passes t name (λ v. takes_enum value v.enums)
 accepts t (del_enum name value) = passes t name (λ v. lists_enum value v.enums)
@@ -31,10 +32,10 @@ accepts t (add_range name (Some range)) = passes t name (λ v. takes_range range
 accepts t (add_range name None) = false
 accepts t (del_range name (Some range)) = passes t name (λ v. lists_range range v.ranges)
 accepts t (del_range name None) = false
-accepts t (set_aux name (Some aux)) = is_some (variable t name) && nat_le aux VALUE_BYTES
+accepts t (set_aux name (Some aux)) = is_some (variable t name) && nat_le aux VALUE_MAX
 accepts t (set_aux name None) = false
 accepts t (set_flags name flags) = is_some (variable t name)
-accepts t (add_command name) = is_name name && nat_lt (length t.commands) MAX_COMMANDS && not (has_command t name)
+accepts t (add_command name) = is_name name && nat_lt (length t.commands) COMMANDS_MAX && not (has_command t name)
 accepts t (del_command name) = has_command t name
 accepts t dump_done = true
 accepts t data_ok = true
@@ -43,7 +44,7 @@ accepts t pong = false
 
 -- ---- what it does
 
--- A new variable has its value alone.
+-- A new variable: a value, no flags, aux 0, no enum values and no ranges.
 abbrev pub fresh : List ℕ → List ℕ → Entry
 fresh name value = record { name = name; value = value; flags = no_flags; aux = 0; enums = []; ranges = [] }
 
@@ -56,19 +57,19 @@ without_enum text entry = record entry { enums = filter (λ listed. not (bytes_e
 abbrev pub without_range : Range → Entry → Entry
 without_range range entry = record entry { ranges = filter (λ listed. not (same_range listed range)) entry.ranges }
 
--- The table with this variable, or none, under the name.
+-- The table with the variable `new`, or with none, under this name.
 abbrev pub with_variable : Table → List ℕ → Option Entry → Table
 with_variable t name new = record t { variables = put (λ v. v.name) name new t.variables }
 
--- The table with this command, or none, under the name.
+-- The table with the command `new`, or with none, under this name.
 abbrev pub with_command : Table → List ℕ → Option (List ℕ) → Table
 with_command t name new = record t { commands = put (λ command. command) name new t.commands }
 
--- The variable of this name edited.
+-- The table with the variable of this name edited, if there is one.
 abbrev pub revised : Table → List ℕ → (Entry → Entry) → Table
 revised t name edit = with_variable t name (option_map edit (variable t name))
 
--- What an accepted change makes of the table.
+-- The table after an accepted change.
 unfoldable pub changed : Table → Change → Table
 changed t (set_info name value) =
     with_variable t name (Some (with_value value (unwrap_or (variable t name) (fresh name value))))
@@ -87,20 +88,20 @@ changed t data_ok = record t { data_ok = true }
 changed t data_stale = record t { data_ok = false }
 changed t pong = t
 
--- The table after a change was asked for.
+-- The table after a change was asked for: changed if it accepts the change, else the same.
 unfoldable pub after : Table → Change → Table
 after t change = if accepts t change then changed t change else t
 
--- The table after a line.
+-- The table after a line: the same if the line asks for nothing.
 unfoldable pub applied : Table → List ℕ → Table
 applied t line = option_map_or (after t) (heard line) t
 
--- The table that lines lead to from an empty one, the newest line first.
+-- The table after these lines, the newest first, if it began empty.
 abbrev pub table_of : List (List ℕ) → Table
 table_of [] = empty
 table_of (line ∷ earlier) = applied (table_of earlier) line
 
--- ---- what may take memory
+-- ---- what may allocate memory
 
 -- Whether a change adds a variable, an enum value, a range or a command.
 unfoldable pub adds : Table → Change → Bool
@@ -110,6 +111,6 @@ adds t (add_range name range) = accepts t (add_range name range)
 adds t (add_command name) = accepts t (add_command name)
 adds t other = false
 
--- Whether a line does.
+-- Whether a line asks for a change that adds a variable, an enum value, a range or a command.
 unfoldable pub line_adds : Table → List ℕ → Bool
 line_adds t line = option_map_or (adds t) (heard line) false

@@ -1,20 +1,20 @@
 //! What the table answers to a line.
 use std::alloc::AllocError;
 
-/// What became of a line of the driver.
+/// The result of a line of the driver: heard or ignored.
 #[derive(Clone, Copy, Debug, PartialEq, Eq)]
 pub enum Heard {
-    /// It reads as words, has a known first word and as many words as that one takes. Whether it changed the table is
-    /// another matter: a driver that sends such lines is alive.
+    /// It reads as words, its first word is known, and it has as many words as that word takes. It may or may not have
+    /// changed the table: in either case the driver is alive.
     Heard,
     /// Any other line. It changes nothing.
     Ignored,
 }
 
-/// Why a line could not be followed. The table is then as it was.
+/// Why a line could not be applied. The table is then as it was.
 #[derive(Debug, Drop, PartialEq, Eq, thiserror::Error)]
 pub enum StateFault {
-    /// Memory was refused: for a word with a backslash, or for what the line would add.
+    /// Memory cannot be allocated for a word with a backslash, or for what the line would add.
     #[error("out of memory")]
     Memory,
 }

@@ -1,20 +1,19 @@
-//! What is true of the table after any lines, and how much it holds.
+//! Laws of the table: what holds after any lines, and how much it holds at most.
 ghost use Rattle.std.specs.Prelude.{◌≡◌};
-ghost use Rattle.nut_state.specs.Holds.{EveryTableHolds};
+ghost use Rattle.nut_state.specs.laws.Holds.{EveryTableHolds};
 
-use crate::limits::{MAX_COMMANDS, MAX_ENUMS, MAX_RANGES, MAX_VARIABLES, NAME_BYTES, VALUE_BYTES};
+use crate::limits::{COMMANDS_MAX, ENUMS_MAX, RANGES_MAX, VARIABLES_MAX};
 
-/// Whatever lines an empty table is given, it then holds what looking back over them tells.
+/// States a law and does nothing when called: after any lines, a table that began empty holds what looking back over
+/// them says.
 pub fn every_table_holds()
     ensures { EveryTableHolds }
 {}
 
-/// A law, with nothing to run: which numbers the limits are that the definitions name.
+/// States a law and does nothing when called: the values of the limits that the definitions name.
 pub fn table_limits()
-    ensures name { NAME_BYTES ≡ 64 }
-    ensures value { VALUE_BYTES ≡ 128 }
-    ensures variables { MAX_VARIABLES ≡ 512 }
-    ensures commands { MAX_COMMANDS ≡ 128 }
-    ensures enums { MAX_ENUMS ≡ 64 }
-    ensures ranges { MAX_RANGES ≡ 16 }
+    ensures variables { VARIABLES_MAX ≡ 512 }
+    ensures commands { COMMANDS_MAX ≡ 128 }
+    ensures enums { ENUMS_MAX ≡ 64 }
+    ensures ranges { RANGES_MAX ≡ 16 }
 {}

@@ -1,14 +1,11 @@
-//! How much a table holds: this project's own limits, all in this one place.
+//! How much a table holds: this project's own limits, all in this one place. How long a name and a value are stands in
+//! `nut_words`.
 
-/// The greatest length of a name of a variable or a command, in bytes.
-pub const NAME_BYTES: usize = 64;
-/// The greatest length of a value or an enum value in bytes, and the greatest number that SETAUX may set.
-pub const VALUE_BYTES: usize = 128;
 /// The greatest number of variables.
-pub const MAX_VARIABLES: usize = 512;
+pub const VARIABLES_MAX: usize = 512;
 /// The greatest number of commands.
-pub const MAX_COMMANDS: usize = 128;
+pub const COMMANDS_MAX: usize = 128;
 /// The greatest number of enum values of a variable.
-pub const MAX_ENUMS: usize = 64;
+pub const ENUMS_MAX: usize = 64;
 /// The greatest number of ranges of a variable.
-pub const MAX_RANGES: usize = 16;
+pub const RANGES_MAX: usize = 16;

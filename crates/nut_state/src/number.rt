@@ -4,7 +4,7 @@ ghost use Rattle.std.specs.List.{list_all};
 ghost use Rattle.std.specs.Char.{is_ascii_digit};
 ghost use Rattle.nut_state.specs.Number.{range_of, is_natural, digits_value, natural, whole_number};
 
-/// The whole numbers from `minimum` to `maximum`, both counted: what ADDRANGE lets a client set.
+/// The whole numbers from `minimum` to `maximum`, both included, that ADDRANGE lets a client set.
 #[derive(Clone, Copy, PartialEq, Eq)]
 pub struct Range {
     /// The least number.
@@ -14,7 +14,7 @@ pub struct Range {
 }
 
 impl Range {
-    /// Two whole numbers, the first at most the second; else None.
+    /// Reads two whole numbers, the first at most the second. Returns `None` for anything else.
     pub(crate) fn read(low: &[u8], high: &[u8]) -> Option<Range>
         ensures { result ≡ range_of low.now high.now }
     {
@@ -52,7 +52,7 @@ fn digits_value(text: &[u8]) -> u32
     value
 }
 
-/// The number that one to nine digits say; None for any other text.
+/// Reads a number of one to nine decimal digits. Returns `None` for any other text.
 pub fn natural(text: &[u8]) -> Option<u32>
     ensures value { result ≡ natural text.now }
     ensures fits { IfSome result (λ n. n < 1000000000) }
@@ -64,7 +64,7 @@ pub fn natural(text: &[u8]) -> Option<u32>
     }
 }
 
-/// The number that one to nine digits say, perhaps after a minus sign; None for any other text.
+/// Reads a number of one to nine decimal digits, which may follow a minus sign. Returns `None` for any other text.
 pub fn whole_number(text: &[u8]) -> Option<i32>
     ensures { result ≡ whole_number text.now }
 {

@@ -3,30 +3,30 @@ ghost use Rattle.std.specs.Prelude.{◌≡◌, ◌≤◌, ◌∷◌, [], List, �
 ghost use Rattle.nut_state.specs.Table.{empty, variable, has_command, value_of, flags_of, aux_of, enums_of, ranges_of};
 ghost use Rattle.nut_state.specs.Step.{after, adds, applied, line_adds};
 ghost use Rattle.nut_state.specs.Change.{set_info, del_info, add_enum, del_enum, add_range, del_range, set_aux, set_flags, add_command, del_command, asked_by, heard};
-ghost use Rattle.nut_state.specs.Holds.{Holds, IsWithinLimits};
+ghost use Rattle.nut_state.specs.laws.Holds.{Holds, IsWithinLimits};
 ghost use Rattle.nut_state.specs.Sorted.{IsAscending};
 ghost use Rattle.nut_state.specs.Text.{is_name};
 ghost use Rattle.std.specs.List.{All};
 ghost use Rattle.nut_words.specs.Reader.{has_backslash};
 
 use crate::heard::{Heard, StateFault};
-use crate::limits::{MAX_COMMANDS, MAX_VARIABLES, VALUE_BYTES};
+use crate::limits::{COMMANDS_MAX, VARIABLES_MAX};
 use crate::number::{Range, natural};
 use crate::sorted::{place_of_command, place_of_variable};
 use crate::text::{Name, Text, is_name};
 use crate::variable::{Flags, Variable};
 use crate::verb::Verb;
-use nut_words::{WordFault, Words, split};
+use nut_words::{VALUE_MAX, WordFault, Words, split};
 use std::alloc::{AllocError, Global};
 use std::marker::Model;
 
-/// The table of one UPS, as the lines of its driver have told it.
+/// The table of one UPS, as the lines of its driver report it.
 #[derive(Drop)]
 pub struct UpsState {
     alloc: Global,
-    /// Ascending by name.
+    /// The variables, ascending by name.
     variables: Vec<Variable>,
-    /// Ascending.
+    /// The commands, ascending.
     commands: Vec<Name>,
     dump_done: bool,
     data_ok: bool,
@@ -34,7 +34,7 @@ pub struct UpsState {
 
 impl Model for UpsState {
     ghost use Rattle.nut_state.specs.Table.{Table};
-    ghost use Rattle.nut_state.specs.Holds.{IsTable};
+    ghost use Rattle.nut_state.specs.laws.Holds.{IsTable};
 
     ghost Value = { Table };
 
@@ -43,20 +43,20 @@ impl Model for UpsState {
     ghost invariant = { λ s. IsTable (record { variables = s.variables.items; commands = s.commands.items; dump_done = s.dump_done; data_ok = s.data_ok }) };
 }
 
-/// Each of these does what one kind of line asks for, where the table accepts it.
+/// Each function here does what one kind of line asks for, if the table accepts it. Otherwise it changes nothing.
 impl UpsState {
-    /// SETINFO: gives a variable a value, and adds the variable where there is none of this name.
+    /// SETINFO: gives a variable a value. Adds the variable if there is none with this name.
     fn set_info(&mut self, name: &[u8], value: &[u8]) -> Result<(), AllocError>
         ensures ok { OnOk result (self.new ≡ after self.old (set_info name.now value.now)) }
         ensures err { OnErr result (self.new ≡ self.old) }
         ensures succeeds { adds self.old (set_info name.now value.now) ≡ false → IsOk result }
     {
-        if !is_name(name) || value.len() > VALUE_BYTES {
+        if !is_name(name) || value.len() > VALUE_MAX {
             return Ok(());
         }
         match place_of_variable(&self.variables, name) {
             Ok(place) => self.variables[place].set_value(value),
-            Err(place) if self.variables.len() < MAX_VARIABLES => {
+            Err(place) if self.variables.len() < VARIABLES_MAX => {
                 self.variables
                     .insert(place, Variable::new(self.alloc, name, value))?;
             }
@@ -65,7 +65,7 @@ impl UpsState {
         Ok(())
     }
 
-    /// DELINFO: forgets a variable, with all that was said of it.
+    /// DELINFO: removes a variable, with its value, flags, aux, enum values and ranges.
     fn delete_info(&mut self, name: &[u8])
         ensures { self.new ≡ after self.old (del_info name.now) }
     {
@@ -132,14 +132,14 @@ impl UpsState {
         }
     }
 
-    /// SETAUX: sets the greatest length of a variable's string value.
+    /// SETAUX: sets the greatest length, in bytes, of a variable's string value.
     fn set_aux(&mut self, name: &[u8], aux: Option<u32>)
         ensures { self.new ≡ after self.old (set_aux name.now aux) }
     {
         let Some(aux) = aux else {
             return;
         };
-        if aux > VALUE_BYTES as u32 {
+        if aux > VALUE_MAX as u32 {
             return;
         }
         if let Ok(place) = place_of_variable(&self.variables, name) {
@@ -162,7 +162,7 @@ impl UpsState {
         ensures err { OnErr result (self.new ≡ self.old) }
         ensures succeeds { adds self.old (add_command name.now) ≡ false → IsOk result }
     {
-        if !is_name(name) || self.commands.len() >= MAX_COMMANDS {
+        if !is_name(name) || self.commands.len() >= COMMANDS_MAX {
             return Ok(());
         }
         if let Err(place) = place_of_command(&self.commands, name) {
@@ -171,7 +171,7 @@ impl UpsState {
         Ok(())
     }
 
-    /// DELCMD: forgets a command.
+    /// DELCMD: removes a command.
     fn delete_command(&mut self, name: &[u8])
         ensures { self.new ≡ after self.old (del_command name.now) }
     {
@@ -181,7 +181,7 @@ impl UpsState {
     }
 
     #[tactic(auto, unfolding(crate::specs::Step::after, crate::specs::Step::accepts, crate::specs::Step::changed))]
-    /// Does what a line with this verb and these words asks for.
+    /// Does what a line with this verb and these words asks for, if the table accepts it.
     fn follow(&mut self, verb: Verb, words: &Words) -> Result<(), AllocError>
         ensures ok { OnOk result (self.new ≡ after self.old (asked_by verb words.now)) }
         ensures err { OnErr result (self.new ≡ self.old) }
@@ -209,7 +209,7 @@ impl UpsState {
 }
 
 impl UpsState {
-    /// An empty table. It takes no memory.
+    /// Returns an empty table. Allocates no memory.
     #[tactic(auto, using(crate::proofs::HistoryLemmas::empty_holds))]
     pub fn new(alloc: Global) -> UpsState
         ensures table { result ≡ empty }
@@ -224,7 +224,7 @@ impl UpsState {
         }
     }
 
-    /// Forgets everything, as when a driver connects anew. It takes no memory.
+    /// Empties the table, as when a driver connects anew. Allocates no memory.
     #[tactic(auto, using(crate::proofs::HistoryLemmas::empty_holds))]
     pub fn clear(&mut self)
         ensures table { self.new ≡ empty }
@@ -236,24 +236,25 @@ impl UpsState {
         self.data_ok = false;
     }
 
-    /// Moves the table as a line of the driver says. The line comes without its line feed.
+    /// Changes the table as a line of the driver says. The line comes without its line feed.
     ///
-    /// A line that adds no variable, enum value, range or command and has no backslash takes no memory and succeeds. One
-    /// that is heard may still change nothing: a value too long, a variable that is not there, a limit that is reached.
+    /// A line without a backslash that adds no variable, enum value, range or command allocates no memory and succeeds.
+    /// A line can be heard and still change nothing: if a value is too long, a variable doesn't exist, or a limit is
+    /// reached.
     ///
     /// # Errors
     ///
-    /// [`StateFault::Memory`] where memory was refused. Then the table is as it was.
+    /// [`StateFault::Memory`] if memory cannot be allocated. The table is then as it was.
     #[tactic(auto, unfolding(crate::specs::Step::applied, crate::specs::Change::heard, crate::specs::Step::line_adds))]
     pub fn apply(&mut self, line: &[u8]) -> Result<Heard, StateFault>
         ensures table { OnOk result (self.new ≡ applied self.old line.now) }
         ensures answer { IfOk result (λ answer. answer ≡ (if is_some (heard line.now) then Heard.Heard else Heard.Ignored)) }
         ensures refused { OnErr result (self.new ≡ self.old) }
 
-        // Whatever lines the table holds, the newest first, it then holds them and this one.
+        // If the table holds what these lines say, the newest first, it then holds what they and this line say.
         ensures looks_back { (lines : List (List ℕ)) → Holds self.old lines → OnOk result (Holds self.new (line.now ∷ lines)) }
 
-        // What takes no memory succeeds. What a line adds is what looking back over the lines says (`Holds`).
+        // A line that allocates no memory succeeds. `Holds` says that `adds` agrees with looking back over the lines.
         ensures succeeds { has_backslash line.now ≡ false → line_adds self.old line.now ≡ false → IsOk result }
     {
         let words = match split(self.alloc, line) {
@@ -268,7 +269,8 @@ impl UpsState {
         Ok(Heard::Heard)
     }
 
-    /// The variable of a name, if it is there. It serves where more than one of the look-ups below would be made.
+    /// Returns the variable with this name, if there is one. It saves searches if more than one of the look-ups below
+    /// is needed: each of them searches anew.
     pub fn variable(&self, name: &[u8]) -> Option<&Variable>
         ensures { MatchOption result (variable self.now name.now ≡ None) (λ v. variable self.now name.now ≡ Some v.now) }
     {
@@ -278,14 +280,14 @@ impl UpsState {
         }
     }
 
-    /// The value of a variable, if it is there.
+    /// Returns the value of a variable, or `None` if there is no such variable.
     pub fn value(&self, name: &[u8]) -> Option<&[u8]>
         ensures { MatchOption result (value_of self.now name.now ≡ None) (λ text. value_of self.now name.now ≡ Some text.now) }
     {
         Some(self.variable(name)?.value())
     }
 
-    /// The flags of a variable; none where it is not there.
+    /// Returns the flags of a variable: none if there is no such variable.
     pub fn flags(&self, name: &[u8]) -> Flags
         ensures { result ≡ flags_of self.now name.now }
     {
@@ -295,7 +297,7 @@ impl UpsState {
         }
     }
 
-    /// The greatest length of a variable's string value in bytes; 0 where none was set.
+    /// Returns the greatest length of a variable's string value in bytes: 0 if none was set.
     pub fn aux(&self, name: &[u8]) -> u16
         ensures { result ≡ aux_of self.now name.now }
     {
@@ -305,7 +307,7 @@ impl UpsState {
         }
     }
 
-    /// The enum values of a variable, in order of addition; none where it is not there.
+    /// Returns the enum values of a variable, in order of addition: none if there is no such variable.
     pub fn enums(&self, name: &[u8]) -> &[Text]
         ensures { result.now ≡ enums_of self.now name.now }
     {
@@ -315,7 +317,7 @@ impl UpsState {
         }
     }
 
-    /// The ranges of a variable, in order of addition; none where it is not there.
+    /// Returns the ranges of a variable, in order of addition: none if there is no such variable.
     pub fn ranges(&self, name: &[u8]) -> &[Range]
         ensures { result.now ≡ ranges_of self.now name.now }
     {
@@ -325,7 +327,7 @@ impl UpsState {
         }
     }
 
-    /// Whether a command is there.
+    /// Whether there is a command with this name.
     pub fn has_cmd(&self, name: &[u8]) -> bool
         ensures { result ≡ has_command self.now name.now }
     {
@@ -335,34 +337,34 @@ impl UpsState {
         }
     }
 
-    /// The variables, ascending by name in byte order: at most [`MAX_VARIABLES`]. A list of the table walks it once.
+    /// The variables, ascending by name in byte order: at most [`VARIABLES_MAX`]. A list of the table walks it once.
     pub fn variables(&self) -> &[Variable]
         ensures value { result.now ≡ self.now.variables }
         ensures ascending { IsAscending (map (λ v. v.name) result.now) }
-        ensures within { length result.now ≤ MAX_VARIABLES }
+        ensures within { length result.now ≤ VARIABLES_MAX }
         ensures each_within { All IsWithinLimits result.now }
     {
         &self.variables
     }
 
-    /// The commands, ascending in byte order: at most [`MAX_COMMANDS`].
+    /// The commands, ascending in byte order: at most [`COMMANDS_MAX`].
     pub fn commands(&self) -> &[Name]
         ensures value { result.now ≡ self.now.commands }
         ensures ascending { IsAscending (map (λ command. command) result.now) }
-        ensures within { length result.now ≤ MAX_COMMANDS }
+        ensures within { length result.now ≤ COMMANDS_MAX }
         ensures each_named { All (λ command. is_name command ≡ true) result.now }
     {
         &self.commands
     }
 
-    /// Whether the driver has told all that it knows: a DUMPDONE came.
+    /// Whether a DUMPDONE came since the table was last empty: the driver has then told all that it knew.
     pub fn dump_done(&self) -> bool
         ensures { result ≡ self.now.dump_done }
     {
         self.dump_done
     }
 
-    /// Whether the driver says that what it told is current: the last of DATAOK and DATASTALE was DATAOK.
+    /// Whether the driver says that its data are current: the last DATAOK or DATASTALE was DATAOK.
     pub fn data_ok(&self) -> bool
         ensures { result ≡ self.now.data_ok }
     {

@@ -1,15 +1,15 @@
-//! Names and values, which stand in place and take no memory of their own.
+//! Names and values. They are stored in place and allocate no memory.
 ghost use Rattle.std.specs.Prelude.{◌≡◌, ◌≤◌, List, ℕ, length};
 ghost use Rattle.nut_state.specs.Text.{is_name};
 
-use crate::limits::{NAME_BYTES, VALUE_BYTES};
 use arrayvec::ArrayVec;
+use nut_words::{NAME_MAX, VALUE_MAX};
 use std::marker::Model;
 
-/// The name of a variable or a command: 1 to [`NAME_BYTES`] letters, digits, `.`, `_` and `-`.
+/// The name of a variable or a command: 1 to [`NAME_MAX`] letters, digits, `.`, `_` and `-`.
 #[derive(Drop)]
 pub struct Name {
-    bytes: ArrayVec<u8, NAME_BYTES>,
+    bytes: ArrayVec<u8, NAME_MAX>,
 }
 
 impl Model for Name {
@@ -20,7 +20,7 @@ impl Model for Name {
 
 impl Name {
     pub(crate) fn new(bytes: &[u8]) -> Name
-        requires { length bytes.now ≤ NAME_BYTES }
+        requires { length bytes.now ≤ NAME_MAX }
         ensures { result ≡ bytes.now }
     {
         let mut name = ArrayVec::new();
@@ -28,19 +28,19 @@ impl Name {
         Name { bytes: name }
     }
 
-    /// The bytes of the name.
+    /// Returns the bytes of the name.
     pub fn as_bytes(&self) -> &[u8]
         ensures value { result.now ≡ self.now }
-        ensures fits { length result.now ≤ NAME_BYTES }
+        ensures fits { length result.now ≤ NAME_MAX }
     {
         self.bytes.as_slice()
     }
 }
 
-/// The value of a variable, or one of its enum values: 0 to [`VALUE_BYTES`] bytes.
+/// The value of a variable, or one of its enum values: 0 to [`VALUE_MAX`] bytes.
 #[derive(Drop)]
 pub struct Text {
-    contents: ArrayVec<u8, VALUE_BYTES>,
+    contents: ArrayVec<u8, VALUE_MAX>,
 }
 
 impl Model for Text {
@@ -51,7 +51,7 @@ impl Model for Text {
 
 impl Text {
     pub(crate) fn new(bytes: &[u8]) -> Text
-        requires { length bytes.now ≤ VALUE_BYTES }
+        requires { length bytes.now ≤ VALUE_MAX }
         ensures { result ≡ bytes.now }
     {
         let mut text = ArrayVec::new();
@@ -59,19 +59,19 @@ impl Text {
         Text { contents: text }
     }
 
-    /// Writes another text in the place of this one.
+    /// Replaces the text by another.
     pub(crate) fn set(&mut self, bytes: &[u8])
-        requires { length bytes.now ≤ VALUE_BYTES }
+        requires { length bytes.now ≤ VALUE_MAX }
         ensures { self.new ≡ bytes.now }
     {
         self.contents.clear();
         self.contents.try_extend_from_slice(bytes).unwrap();
     }
 
-    /// The bytes of the text.
+    /// Returns the bytes of the text.
     pub fn as_bytes(&self) -> &[u8]
         ensures value { result.now ≡ self.now }
-        ensures fits { length result.now ≤ VALUE_BYTES }
+        ensures fits { length result.now ≤ VALUE_MAX }
     {
         self.contents.as_slice()
     }
@@ -81,5 +81,5 @@ impl Text {
 pub(crate) fn is_name(text: &[u8]) -> bool
     ensures { result ≡ is_name text.now }
 {
-    nut_words::is_name(text, NAME_BYTES)
+    nut_words::is_name(text, NAME_MAX)
 }

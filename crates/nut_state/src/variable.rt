@@ -6,34 +6,34 @@ ghost use Rattle.nut_state.specs.Verb.{says};
 ghost use Rattle.nut_state.specs.Change.{flags_named};
 ghost use Rattle.std.specs.List.{list_any};
 
-use crate::limits::{MAX_ENUMS, MAX_RANGES, NAME_BYTES, VALUE_BYTES};
+use crate::limits::{ENUMS_MAX, RANGES_MAX};
 use crate::number::Range;
 use crate::text::{Name, Text};
 use crate::verb::says;
-use nut_words::Words;
+use nut_words::{NAME_MAX, VALUE_MAX, Words};
 use std::alloc::{AllocError, Global};
 use std::marker::Model;
 
-/// What SETFLAGS says of a variable.
+/// The flags that SETFLAGS sets on a variable.
 #[derive(Clone, Copy, PartialEq, Eq)]
 pub struct Flags {
-    /// `RW`: a client may set it.
+    /// `RW`: a client may set the variable.
     pub writable: bool,
-    /// `STRING`: its value is a text of at most `aux` bytes.
+    /// `STRING`: the value is a text of at most `aux` bytes.
     pub string: bool,
-    /// `NUMBER`: its value is a number.
+    /// `NUMBER`: the value is a number.
     pub number: bool,
 }
 
 impl Flags {
-    /// No flags, as a variable has before any SETFLAGS.
+    /// No flags. A variable has none before a SETFLAGS.
     pub const NONE: Flags = Flags {
         writable: false,
         string: false,
         number: false,
     };
 
-    /// The flags that the words past a name say, letter case aside.
+    /// Returns the flags named by the words after the variable's name, in upper or lower case.
     pub(crate) fn read(words: &Words) -> Flags
         ensures { result ≡ flags_named (drop 2 words.now) }
     {
@@ -45,7 +45,7 @@ impl Flags {
     }
 }
 
-/// Whether one of the words past a name is this text.
+/// Whether one of the words after the variable's name is this text, in upper or lower case.
 fn names(words: &Words, text: &[u8]) -> bool
     ensures { result ≡ list_any (says text.now) (drop 2 words.now) }
 {
@@ -78,10 +78,10 @@ impl Model for Variable {
 }
 
 impl Variable {
-    /// A variable without flags and limits.
+    /// Returns a variable with a value, without flags, aux, enum values and ranges.
     pub(crate) fn new(alloc: Global, name: &[u8], value: &[u8]) -> Variable
-        requires name { length name.now ≤ NAME_BYTES }
-        requires value { length value.now ≤ VALUE_BYTES }
+        requires name { length name.now ≤ NAME_MAX }
+        requires value { length value.now ≤ VALUE_MAX }
         ensures { result ≡ fresh name.now value.now }
     {
         Variable {
@@ -94,43 +94,44 @@ impl Variable {
         }
     }
 
-    /// Its name.
+    /// Returns the variable's name.
     pub fn name(&self) -> &[u8]
         ensures { result.now ≡ self.now.name }
     {
         self.name.as_bytes()
     }
 
-    /// Its value: at most [`VALUE_BYTES`] bytes.
+    /// Its value: at most [`VALUE_MAX`] bytes.
     pub fn value(&self) -> &[u8]
         ensures value { result.now ≡ self.now.value }
-        ensures fits { length result.now ≤ VALUE_BYTES }
+        ensures fits { length result.now ≤ VALUE_MAX }
     {
         self.value.as_bytes()
     }
 
-    /// The flags of the last SETFLAGS.
+    /// Returns the flags of the last SETFLAGS.
     pub fn flags(&self) -> Flags
         ensures { result ≡ self.now.flags }
     {
         self.flags
     }
 
-    /// The number of the last SETAUX, which is the greatest length of a string value in bytes; 0 before any.
+    /// Returns the number of the last SETAUX: the greatest length of a string value in bytes. It is 0 before any
+    /// SETAUX.
     pub fn aux(&self) -> u16
         ensures { result ≡ self.now.aux }
     {
         self.aux
     }
 
-    /// The enum values, in order of addition.
+    /// Returns the enum values, in order of addition.
     pub fn enums(&self) -> &[Text]
         ensures { result.now ≡ self.now.enums }
     {
         &self.enums
     }
 
-    /// The ranges, in order of addition.
+    /// Returns the ranges, in order of addition.
     pub fn ranges(&self) -> &[Range]
         ensures { result.now ≡ self.now.ranges }
     {
@@ -138,7 +139,7 @@ impl Variable {
     }
 
     pub(crate) fn set_value(&mut self, value: &[u8])
-        requires { length value.now ≤ VALUE_BYTES }
+        requires { length value.now ≤ VALUE_MAX }
         ensures { self.new ≡ record self.old { value = value.now } }
     {
         self.value.set(value);
@@ -162,15 +163,15 @@ impl Variable {
         self.enums.iter().any(|text| text.as_bytes() == value)
     }
 
-    /// Whether an enum value may be added.
+    /// Whether the enum value may be added: it is short enough, there is room, and it isn't listed.
     pub(crate) fn takes_enum(&self, value: &[u8]) -> bool
         ensures { result ≡ takes_enum value.now self.now.enums }
     {
-        value.len() <= VALUE_BYTES && self.enums.len() < MAX_ENUMS && !self.has_enum(value)
+        value.len() <= VALUE_MAX && self.enums.len() < ENUMS_MAX && !self.has_enum(value)
     }
 
     pub(crate) fn add_enum(&mut self, value: &[u8]) -> Result<(), AllocError>
-        requires { length value.now ≤ VALUE_BYTES }
+        requires { length value.now ≤ VALUE_MAX }
         ensures ok { OnOk result (self.new ≡ record self.old { enums = self.old.enums ++ value.now ∷ [] }) }
         ensures err { OnErr result (self.new ≡ self.old) }
     {
@@ -190,11 +191,11 @@ impl Variable {
         self.ranges.iter().any(|listed| *listed == range)
     }
 
-    /// Whether a range may be added.
+    /// Whether the range may be added: there is room, and it isn't listed.
     pub(crate) fn takes_range(&self, range: Range) -> bool
         ensures { result ≡ takes_range range self.now.ranges }
     {
-        self.ranges.len() < MAX_RANGES && !self.has_range(range)
+        self.ranges.len() < RANGES_MAX && !self.has_range(range)
     }
 
     pub(crate) fn add_range(&mut self, range: Range) -> Result<(), AllocError>

@@ -5,7 +5,7 @@ ghost use Rattle.nut_state.specs.Change.{asked, asked_by};
 
 use nut_words::Words;
 
-/// What a driver's line does, said by its first word.
+/// The kind of a driver's line, which its first word says.
 #[derive(Clone, Copy, PartialEq, Eq)]
 pub(crate) enum Verb {
     SetInfo,
@@ -24,7 +24,7 @@ pub(crate) enum Verb {
     Pong,
 }
 
-/// Whether a word is this text, letter case aside.
+/// Whether a word is this text, in upper or lower case.
 pub(crate) fn says(text: &[u8], word: &[u8]) -> bool
     ensures { result ≡ says text.now word.now }
 {
@@ -70,7 +70,7 @@ impl Verb {
         }
     }
 
-    /// The verb that a first word says.
+    /// Returns the verb that the first word of a line says, if it says one.
     #[tactic(auto, unfolding(crate::specs::Verb::verb_of))]
     pub(crate) fn read(word: &[u8]) -> Option<Verb>
         ensures { result ≡ verb_of word.now }
@@ -78,7 +78,7 @@ impl Verb {
         ALL.iter().copied().find(|verb| says(verb.word(), word))
     }
 
-    /// Whether a line with this verb may have so many words, the verb counted.
+    /// Whether a line with this verb may have `count` words, the verb included.
     pub(crate) fn takes(self, count: usize) -> bool
         ensures { result ≡ takes self count }
     {
@@ -91,7 +91,8 @@ impl Verb {
         }
     }
 
-    /// The verb of a line of these words, if it has one and has as many words as that takes.
+    /// Returns the verb of a line of these words, if the first word is a verb and the line has as many words as that
+    /// verb takes.
     #[tactic(auto, unfolding(crate::specs::Change::asked))]
     pub(crate) fn of_line(words: &Words) -> Option<Verb>
         ensures { MatchOption result (asked words.now ≡ None) (λ verb. asked words.now ≡ Some (asked_by verb words.now)) }

@@ -5,8 +5,9 @@ use Rattle.std.proofs.lemmas.Bool.{eqb-true}
 use Rattle.memchr.specs.Find.{Nowhere, NoneBefore, Passes, is_byte}
 use Rattle.std.specs.List.{onto_first}
 use Rattle.nut_words.specs.Lines.{LineText, Text, as_line, joined, parts, last_of, all_but_last, lines, rest}
+use Rattle.nut_words.specs.declared.limits.TheConstants.{LINE_MAX}
 
--- more bytes behind a text that is as_line already
+-- more bytes after a text that `as_line` has made a line already
 pub joined-as_line : (text more : List ℕ) → joined (as_line text) more ≡ as_line (text ++ more)
 joined-as_line text more = grind (arith, length-append text more)
 
@@ -50,17 +51,17 @@ all_but_last-append [] y ys = refl
 all_but_last-append (x ∷ []) y ys = refl
 all_but_last-append (x ∷ u ∷ us) y ys = ap (λ zs. x ∷ zs) (all_but_last-append (u ∷ us) y ys)
 
--- a byte that is no line feed goes on with the part behind it
+-- A byte that is no line feed belongs to the part that follows it.
 pub goes_on : (b : Bool) (x : ℕ) (xs : List ℕ) (all : List (List ℕ)) → (b ≡ true → ⊥) → all ≡ xs ∷ [] → cond b ([] ∷ all) (onto_first x all) ≡ (x ∷ xs) ∷ []
 goes_on true x xs all never e = absurd (never refl)
 goes_on false x xs all never e = ap (onto_first x) e
 
--- a text without a line feed is one part
+-- A text without a line feed is one part.
 pub parts_of_unbroken : (xs : List ℕ) → ((k : ℕ) → k < length xs → eqb (get_or xs k 0) 10 ≡ true → ⊥) → parts xs ≡ xs ∷ []
 parts_of_unbroken [] h = refl
 parts_of_unbroken (x ∷ xs) h = goes_on (eqb x 10) x xs (parts xs) (h 0 (omega arith)) (parts_of_unbroken xs (λ k l. h (suc k) (omega arith)))
 
--- what a piece without a line feed adds
+-- what a piece without a line feed adds to the stream
 pub rest_of_unbroken : (b p : List ℕ) → parts p ≡ p ∷ [] → rest (b ++ p) ≡ joined (rest b) p
 rest_of_unbroken b p e =
     let whole : parts (b ++ p) ≡ all_but_last (parts b) ++ (last_of (parts b) ++ p) ∷ [] = rw e at (parts-append b p) in
@@ -74,7 +75,7 @@ lines_of_unbroken b p e =
 parts_of_line : (t : List ℕ) → parts t ≡ t ∷ [] → parts (t ++ 10 ∷ []) ≡ t ∷ [] ∷ []
 parts_of_line t e = (rw e at (parts-append t (10 ∷ []))) ∙ ap (λ u. u ∷ [] ∷ []) (append-nil t)
 
--- what a text with a line feed behind it adds
+-- what a text and a line feed add to the stream
 parts_with_line : (b t : List ℕ) → parts t ≡ t ∷ [] → parts (b ++ (t ++ 10 ∷ [])) ≡ all_but_last (parts b) ++ (last_of (parts b) ++ t) ∷ [] ∷ []
 parts_with_line b t e = rw (parts_of_line t e) at (parts-append b (t ++ 10 ∷ []))
 
@@ -88,7 +89,7 @@ lines_of_line b t e =
     ∙ map-append as_line (all_but_last (parts b)) ((last_of (parts b) ++ t) ∷ [])
     ∙ ap (λ x. lines b ++ x ∷ []) (sym (joined-as_line (last_of (parts b)) t))
 
--- The first line feed of p stands at k.
+-- The first line feed of p is at k.
 pub record FeedAt (p : List ℕ) (k : ℕ) : Type 0 where
   pub within : k < length p
   pub front : take (k + 1) p ≡ take k p ++ 10 ∷ []
@@ -120,5 +121,5 @@ lines_ended old line p k at is b e =
     ap (λ q. lines (b ++ q)) at.front ∙ lines_of_line b (take k p) at.unbroken ∙ ap (λ x. lines b ++ x ∷ []) (sym (is ∙ ap (λ x. joined x (take k p)) e))
 
 -- a line that lies in one piece
-pub joined_nothing : (p : List ℕ) (k : ℕ) → FeedAt p k → k ≤ 512 → Text (take k p) ≡ joined (Text []) (take k p)
+pub joined_nothing : (p : List ℕ) (k : ℕ) → FeedAt p k → k ≤ LINE_MAX → Text (take k p) ≡ joined (Text []) (take k p)
 joined_nothing p k at fits = grind (arith, length-take-le k p (omega (arith, at.within)))

@@ -1,4 +1,4 @@
--- How the lines of a stream grow, by any bytes, by a line feed and by another byte.
+-- How the lines of a stream grow with any bytes, with a line feed, and with another byte.
 use Rattle.std.proofs.Common.{◌≡◌, ◌≢◌, ℕ, zero, suc, ◌<◌, true, eqb, List, [], ◌∷◌, ◌++◌, length, map, get_or, refl, sym, ap, ◌∙◌, arith}
 use Rattle.std.proofs.lemmas.List.{append-nil, map-append}
 use Rattle.std.proofs.lemmas.Bool.{eqb-true}
@@ -23,7 +23,7 @@ rest_of_parts : (before after : List (List ℕ)) (p : List ℕ) (ps : List (List
 rest_of_parts before after p ps e =
     rw e (ap as_line (last_of-append (all_but_last before) (last_of before ++ p) ps) ∙ unfinished_behind (last_of before) p ps)
 
--- by any bytes
+-- with any bytes
 pub lines-append : (b more : List ℕ) → lines (b ++ more) ≡ lines b ++ lines_after (rest b) more
 lines-append b more =
     let some = is_some_parts more in
@@ -34,7 +34,7 @@ rest-append b more =
     let some = is_some_parts more in
     ap (λ ps. as_line (last_of ps)) (parts-append b more) ∙ rest_of_parts (parts b) (parts more) some.0 some.1 some.2
 
--- by a line feed
+-- with a line feed
 pub rest_at_line_feed : (b : List ℕ) → rest (b ++ 10 ∷ []) ≡ Text []
 rest_at_line_feed b = rest_of_line b [] refl
 
@@ -43,7 +43,7 @@ lines_at_line_feed b =
     lines_of_line b [] refl
     ∙ ap (λ l. lines b ++ l ∷ []) (joined-as_line (last_of (parts b)) [] ∙ ap as_line (append-nil (last_of (parts b))))
 
--- by a byte within a line
+-- with a byte that is no line feed
 one_part : (c : ℕ) → c ≢ 10 → parts (c ∷ []) ≡ (c ∷ []) ∷ []
 one_part c other = parts_of_unbroken (c ∷ []) no_line_feed where
   no_line_feed : (k : ℕ) → k < length (c ∷ []) → eqb (get_or (c ∷ []) k 0) 10 ≡ true → ⊥

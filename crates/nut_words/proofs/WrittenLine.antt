@@ -43,7 +43,7 @@ pub printable_part : (text : List ℕ) → IsPrintable text → parts text ≡ t
 printable_part [] h = refl
 printable_part (c ∷ cs) h = goes_on (eqb c 10) c cs (parts cs) (no_line_feed c h.0) (printable_part cs h.1)
 
--- a printable text with a line feed behind it ends the line that was unfinished
+-- A printable text and a line feed end the line that was unfinished.
 pub lines_of_printable : (b text : List ℕ) → IsPrintable text → lines (b ++ (text ++ 10 ∷ [])) ≡ lines b ++ joined (rest b) text ∷ []
 lines_of_printable b text h = lines_of_line b text (printable_part text h)
 

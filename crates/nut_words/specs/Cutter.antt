@@ -8,26 +8,26 @@ use Rattle.nut_words.specs.declared.cutter.Line.TheVariants as variants
 use Rattle.nut_words.specs.declared.cutter.LineCutter.{LineCutter}
 use Rattle.nut_words.specs.contracts.cutter.LineCutter.{the_row}
 
--- a line without where it lies in memory
+-- a line, whatever its place in memory
 abbrev pub line_of : Line → LineText
 line_of (variants.Text text) = Text text.now
 line_of variants.TooLong = TooLong
 
--- the line that was handed out, if any
+-- the line that was handed out, or none
 abbrev pub handed_out : Option Line → List LineText
 handed_out None = []
 handed_out (Some line) = line_of line ∷ []
 
--- how many bytes are kept of the unfinished line: none of one that is too long
+-- how many bytes of the unfinished line are kept: its length, or 0 if it is too long
 abbrev pub kept_of : LineText → ℕ
 kept_of (Text text) = length text
 kept_of TooLong = 0
 
--- A cutter that had the rest of the bytes b now has the rest of b with the used front of the piece behind it.
+-- For all bytes b: if `old` is the rest of b, then `new` is the rest of b followed by `used`.
 abbrev pub Follows : LineText → LineText → List ℕ → Type 0
 Follows old new used = (b : List ℕ) → old ≡ rest b → new ≡ rest (b ++ used)
 
--- Once the line that was handed out is let go, the cutter has the rest, which is empty where there was a line: a line
--- is handed out only at its line feed.
+-- When the borrow of the returned line ends, the cutter holds the rest of the stream after the used bytes. If a line
+-- was returned, that rest is the empty line: a line is returned only at its line feed.
 abbrev pub LeavesRest : MutBor LineCutter → List ℕ → Option Line → Fml
 LeavesRest c used line = Rests the_row c (λ new. Follows c.now new used × OnSome line (new ≡ Text []))

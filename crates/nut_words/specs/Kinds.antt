@@ -1,6 +1,6 @@
--- What a byte is to reading.
+-- The kind of a byte: what it means to the reader of words.
 
--- a space; a tab or a carriage return; `"`, `\`, `#` and `=`; another byte of 0x21 to 0x7E; any other byte
+-- In this order: a space; a tab or a carriage return; `"`; `\`; `#`; `=`; another byte of 0x21 to 0x7E; any other byte.
 pub data Kind : Type 0 where
   Space : Kind
   Gap : Kind

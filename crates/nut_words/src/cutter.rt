@@ -1,22 +1,20 @@
-//! Lines out of a stream of bytes that comes in any pieces.
+//! Cuts a stream of bytes, which arrives in pieces of any size, into lines.
 ghost use Rattle.std.specs.Prelude.{◌≡◌, ◌≢◌, ◌≤◌, [], ◌∷◌, ◌++◌, List, ℕ, length, take, IfNone, IfSome, IsSome, OnSome, IsTrue, All, ◌<◌, ◌↔◌};
 ghost use Rattle.std.specs.Borrow.{sem};
 ghost use Rattle.nut_words.specs.Lines.{Text, joined, lines, lines_after, rest, rest_after};
 ghost use Rattle.nut_words.specs.Cutter.{LeavesRest, handed_out, kept_of};
 
+use crate::limits::LINE_MAX;
 use arrayvec::ArrayVec;
 use memchr::memchr;
 use std::marker::Model;
-
-/// How many bytes a line has at most. Its line feed isn't counted, a carriage return is.
-pub const LINE_MAX: usize = 512;
 
 /// A complete line.
 #[derive(Clone, Copy)]
 pub enum Line<'a> {
     /// The bytes before the line feed, at most [`LINE_MAX`].
     Text(&'a [u8]),
-    /// A line past [`LINE_MAX`] bytes, whose bytes are lost.
+    /// A line of more than [`LINE_MAX`] bytes. Its bytes are lost.
     TooLong,
 }
 
@@ -25,19 +23,19 @@ pub enum Line<'a> {
 enum Stage {
     /// The unfinished line.
     Growing,
-    /// The front of an unfinished line that is too long.
+    /// The first bytes of an unfinished line that is too long.
     Overlong,
-    /// A line that was handed out. The next line has no byte yet.
+    /// A line that was handed out. No byte of the next line has arrived.
     HandedOut,
 }
 
-/// Cuts a stream of bytes into lines, however the stream comes in pieces.
+/// Cuts a stream of bytes into lines, whatever pieces the stream arrives in.
 ///
-/// It keeps the bytes of the unfinished line, at most [`LINE_MAX`], in itself, and takes no memory.
-/// Contracts see it as the rest of the bytes fed so far.
+/// It keeps at most [`LINE_MAX`] bytes of the unfinished line, in itself: it allocates no memory. In contracts its
+/// value is the rest of the stream: the unfinished line after the bytes fed so far.
 #[derive(Drop)]
 pub struct LineCutter {
-    kept: ArrayVec<u8, 512>,
+    kept: ArrayVec<u8, LINE_MAX>,
     stage: Stage,
 }
 
@@ -46,13 +44,13 @@ impl Model for LineCutter {
 
     ghost Value = { LineText };
 
-    ghost use Rattle.nut_words.specs.Inside.{rest_inside};
+    ghost use Rattle.nut_words.specs.inside.Inside.{rest_inside};
 
     ghost view = { rest_inside };
 }
 
 impl LineCutter {
-    /// A cutter of a stream of which no byte came yet.
+    /// Returns a cutter of a stream that hasn't begun.
     pub fn new() -> Self
         ensures { result ≡ rest [] }
     {
@@ -62,11 +60,10 @@ impl LineCutter {
         }
     }
 
-    /// How many bytes of the unfinished line are kept: its length in bytes, or 0 once it is past [`LINE_MAX`].
+    /// Returns how many bytes of the unfinished line are kept: its length, or 0 once it is longer than [`LINE_MAX`].
     pub fn kept(&self) -> usize
         ensures value { result ≡ kept_of self.now }
         ensures most { result ≤ LINE_MAX }
-        ensures limit { LINE_MAX ≡ 512 }
     {
         match self.stage {
             Stage::Growing => self.kept.len(),
@@ -85,7 +82,7 @@ impl LineCutter {
         }
     }
 
-    /// Puts bytes without a line feed behind the unfinished line.
+    /// Appends bytes without a line feed to the unfinished line.
     fn keep(&mut self, text: &[u8])
         ensures { self.new ≡ joined self.old text.now }
     {
@@ -107,14 +104,15 @@ impl LineCutter {
         }
     }
 
-    /// The line that a piece of the stream is, where no byte of it came before and the piece ends with it: it then lies in
-    /// the piece, and the cutter stays at the start of a line. None where it is otherwise, or the line is too long.
+    /// Returns the line, if no byte of it came before this piece and the piece ends with its line feed. The line then
+    /// lies in the piece, and the cutter stays at the start of a line. Returns `None` if the piece holds anything else,
+    /// or the line is longer than [`LINE_MAX`].
     pub fn whole_line<'a>(&self, piece: &'a [u8]) -> Option<&'a [u8]>
         ensures start { OnSome result (self.now ≡ Text []) }
         ensures whole { IfSome result (λ line. piece.now ≡ line.now ++ 10 ∷ []) }
         ensures line { IfSome result (λ line. lines piece.now ≡ Text line.now ∷ []) }
         ensures taken { (text : List ℕ) → self.now ≡ Text [] → piece.now ≡ text ++ 10 ∷ [] → All (λ b. b ≢ 10) text
-            → length text ≤ 512 → IsSome result }
+            → length text ≤ LINE_MAX → IsSome result }
     {
         if !self.is_at_start() {
             return None;
@@ -126,11 +124,11 @@ impl LineCutter {
         Some(&piece[..at])
     }
 
-    /// Takes the next piece of the stream up to its first line feed, and gives the line that this completes and how many
-    /// bytes of the piece it used, the line feed counted. The rest of the piece is to be fed next.
+    /// Reads the next piece of the stream up to its first line feed. Returns the line that this completes, and how many
+    /// bytes of the piece were used, the line feed included. Feed the rest of the piece next.
     ///
-    /// A piece without a line feed is kept whole: then the answer is `None` and the piece's length. A piece may have any
-    /// length, and the line lies in the piece or in the cutter. The call can't fail and takes no memory.
+    /// A piece without a line feed is used whole: the result is `None` and the piece's length. A piece may have any
+    /// length, and the line lies in the piece or in the cutter. The call can't fail and allocates no memory.
     pub fn feed<'a>(&'a mut self, piece: &'a [u8]) -> (Option<Line<'a>>, usize)
         ensures* after_borrow { sem 𝓛 (LeavesRest self.entry (take result.1 piece.now) result.0) }
         ensures line { (b : List ℕ) → self.old ≡ rest b
@@ -168,13 +166,13 @@ impl Default for LineCutter {
     }
 }
 
-/// A law, with nothing to run: what comes next in a stream adds to its lines and its rest by the rest alone, so it
-/// doesn't matter how the bytes before were cut into pieces.
+/// States a law and does nothing when called. What more bytes add to the lines and the rest of a stream depends only on
+/// the rest before them. So it doesn't matter how the bytes before were cut into pieces.
 pub fn stream_growth()
     ensures lines { (b more : List ℕ) → lines (b ++ more) ≡ lines b ++ lines_after (rest b) more }
     ensures rest { (b more : List ℕ) → rest (b ++ more) ≡ rest_after (rest b) more }
 
-    // By a line feed, and by any other byte.
+    // What a line feed adds, and what any other byte adds.
     ensures lines_at_line_feed { (b : List ℕ) → lines (b ++ 10 ∷ []) ≡ lines b ++ rest b ∷ [] }
     ensures rest_at_line_feed { (b : List ℕ) → rest (b ++ 10 ∷ []) ≡ Text [] }
     ensures lines_within { (b : List ℕ) (c : ℕ) → c ≢ 10 → lines (b ++ c ∷ []) ≡ lines b }

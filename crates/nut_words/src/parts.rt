@@ -1,11 +1,12 @@
-//! Cutting bytes at the first of a kind.
+//! Cuts bytes at the first separator.
 ghost use Rattle.std.specs.Prelude.{◌≡◌, ◌==◌, ◌<◌, ◌∷◌, [], length, IfSome};
 ghost use Rattle.std.specs.List.{slice_split};
 ghost use Rattle.std.specs.Option.{option_map_or};
 
 use memchr::memchr;
 
-/// What stands before the first such byte, and what follows it; without such a byte all of them, and nothing behind.
+/// Returns the bytes before the first `byte`, and the bytes after it. If there is no such byte, returns all of them and
+/// `None`.
 pub fn cut(byte: u8, bytes: &[u8]) -> (&[u8], Option<&[u8]>)
     ensures parts { slice_split (λ c. c == byte) bytes.now
         ≡ result.0.now ∷ option_map_or (λ rest. slice_split (λ c. c == byte) rest.now) result.1 [] }

@@ -15,12 +15,12 @@ fn main(rt: HostRuntime) -> ExitCode {
             &mut io::writer(&rt),
             &mut err,
         ),
-        Err(error) => nut::refuse_start("nutsim", &error, &mut err),
+        Err(error) => nut_program::refuse_start("nutsim", &error, &mut err),
     };
     ExitCode::from(status)
 }
 
-/// The words of the command line, the program's name first.
+/// Returns the words of the command line, the program's name first.
 fn words(rt: &HostRuntime) -> io::Result<Vec<String>> {
     let words = env::args(rt)?.collect(rt.alloc())?;
     Ok(words)

@@ -1,19 +1,19 @@
-//! Bytes between a server and the driver of its first UPS.
+//! Moves bytes between a server and the driver of its first UPS.
 
 use nut_dummy::{Dummy, DummyFault};
 use nut_server::{Arrival, Refused, Server};
 use std::io;
 use std::io::Write;
 
-/// How many pieces go at most.
-const MOST_PIECES: usize = 100_000;
+/// The largest number of pieces that are moved.
+const PIECES_MAX: usize = 100_000;
 
-/// What became of a piece.
+/// What happened to a piece.
 #[derive(Clone, Copy)]
 enum Carried {
     /// It was taken.
     Piece,
-    /// None waited.
+    /// No bytes waited.
     Nothing,
     /// The server refused it.
     RefusedBy(Refused),
@@ -21,12 +21,12 @@ enum Carried {
     RefusedByDriver(DummyFault),
 }
 
-/// The first bytes of these, at most so many.
+/// Returns the first bytes of these, at most `most`.
 fn front(bytes: &[u8], most: usize) -> &[u8] {
     &bytes[..bytes.len().min(most)]
 }
 
-/// Moves a piece of what the driver tells.
+/// Moves a piece of what the driver tells to the server.
 fn carry_told(server: &mut Server, dummy: &mut Dummy, size: usize) -> Carried {
     let told = front(dummy.waiting(), size);
     if told.is_empty() {
@@ -42,7 +42,7 @@ fn carry_told(server: &mut Server, dummy: &mut Dummy, size: usize) -> Carried {
     }
 }
 
-/// Moves a piece of what the driver is asked.
+/// Moves a piece of what the server asks to the driver.
 fn carry_asked(server: &mut Server, dummy: &mut Dummy, size: usize) -> Carried {
     let asked = front(server.waiting_for_driver(0), size);
     if asked.is_empty() {
@@ -58,7 +58,7 @@ fn carry_asked(server: &mut Server, dummy: &mut Dummy, size: usize) -> Carried {
     }
 }
 
-/// Moves a piece, the driver's first.
+/// Moves a piece, from the driver if bytes of it wait.
 fn carry_piece(server: &mut Server, dummy: &mut Dummy, size: usize) -> Carried {
     match carry_told(server, dummy, size) {
         Carried::Nothing => carry_asked(server, dummy, size),
@@ -66,14 +66,14 @@ fn carry_piece(server: &mut Server, dummy: &mut Dummy, size: usize) -> Carried {
     }
 }
 
-/// Moves pieces until none waits or one is refused, and writes which.
+/// Moves pieces until none waits or one is refused, and writes which it was.
 pub fn carry<W: Write>(
     server: &mut Server,
     dummy: &mut Dummy,
     size: usize,
     out: &mut W,
 ) -> io::Result<()> {
-    for _ in 0..MOST_PIECES {
+    for _ in 0..PIECES_MAX {
         match carry_piece(server, dummy, size) {
             Carried::Piece => {}
             Carried::Nothing => return write!(out, "ok"),

@@ -2,16 +2,16 @@
 //!
 //! ```text
 //! dummy dev TEXT       a new driver that tells this script once, from moment 0 on
-//! dummy seq TEXT       one that goes round in it
-//! dummy link           a new link
-//! dummy moment T       it is T seconds since the start
+//! dummy seq TEXT       a new driver that tells this script round after round
+//! dummy link           makes a new link
+//! dummy moment T       T seconds have passed since the start
 //! dummy bytes TEXT     a piece of the bytes that the server sends
 //! dummy took N         the server took N of the bytes that wait for it
 //! dummy take           the server takes all that waits for it, which is printed
 //! dummy table          which variables have a value?
 //! ```
 //!
-//! A call is answered by `ok` or its fault, and how many bytes wait then.
+//! A call is answered by `ok` or its fault, and then by how many bytes wait.
 
 use crate::failure::Failure;
 use crate::played::Played;
@@ -21,7 +21,7 @@ use std::alloc::Global;
 use std::io;
 use std::io::Write;
 
-/// Plays a step on a driver, and writes how it was answered.
+/// Plays a step on a driver, and writes the answer.
 pub fn play<W: Write>(
     alloc: Global,
     dummy: &mut Option<Dummy>,
@@ -42,7 +42,7 @@ pub fn play<W: Write>(
     Ok(played)
 }
 
-/// Makes a driver, which takes the place of the driver, and writes why none was made.
+/// Replaces the driver by a new one, or writes why none was made.
 fn begin<W: Write>(
     alloc: Global,
     kind: ScriptKind,
@@ -59,7 +59,7 @@ fn begin<W: Write>(
     }
 }
 
-/// Puts a new driver in the place of the driver, or writes why there is none.
+/// Replaces the driver by the new one, or writes why there is none.
 fn put_driver<W: Write>(
     made: Result<Dummy, DummyFault>,
     dummy: &mut Option<Dummy>,
@@ -82,7 +82,7 @@ fn put_in(made: Dummy, dummy: &mut Option<Dummy>) {
     *dummy = Some(made);
 }
 
-/// Plays a step on a driver that is there.
+/// Plays a step on a driver that was made.
 fn play_on<W: Write>(
     dummy: &mut Dummy,
     verb: &str,
@@ -103,7 +103,7 @@ fn play_on<W: Write>(
     Ok(Played::Step)
 }
 
-/// Makes the call that a verb names, if it names one.
+/// Makes the call that a verb names; `None` if it names none.
 fn call(
     dummy: &mut Dummy,
     verb: &str,
@@ -134,7 +134,7 @@ fn show_answer<W: Write>(
     Ok(Played::with_lack(matches!(answer, Err(DummyFault::Memory(_)))))
 }
 
-/// Writes all that waits, which is then taken.
+/// Takes and writes all bytes that wait.
 fn take<W: Write>(dummy: &mut Dummy, out: &mut W) -> io::Result<()> {
     for _ in 0..dummy.waits() {
         let told = dummy.waiting();
@@ -147,7 +147,7 @@ fn take<W: Write>(dummy: &mut Dummy, out: &mut W) -> io::Result<()> {
     Ok(())
 }
 
-/// Writes each variable that has a value, with its value.
+/// Writes the name and the value of each variable that has a value.
 fn show_table<W: Write>(dummy: &Dummy, out: &mut W) -> io::Result<()> {
     write!(out, "=")?;
     for variable in dummy.table() {

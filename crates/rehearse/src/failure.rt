@@ -14,10 +14,10 @@ pub enum Failure {
     /// This line of the script, counted from 1, isn't a step.
     #[error("line {0} isn't a step")]
     Line(u64),
-    /// A configuration file doesn't read.
+    /// A configuration file has this fault.
     #[error("{0}")]
     File(ConfFault),
-    /// A growth of memory was refused, outside of what the engines answer.
+    /// Memory could not be allocated, outside of what the engines answer.
     #[error("out of memory")]
     Memory,
     /// A read or a write failed.
@@ -42,7 +42,7 @@ impl From<ServerFault> for Failure {
 
 impl From<MonitorFault> for Failure {
     fn from(_: MonitorFault) -> Self {
-        // none but memory is wanting where a monitor is made
+        // only memory can be lacking when a monitor is made
         Failure::Memory
     }
 }

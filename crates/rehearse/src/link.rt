@@ -2,26 +2,26 @@
 //!
 //! ```text
 //! link new             a new link
-//! link ask TEXT        it asks the request that this line reads as
+//! link ask TEXT        asks the request that this line spells
 //! link took N          the server took N bytes of the query
-//! link take            it takes all that waits of the query, which is printed
+//! link take            the server takes all that waits of the query, which is printed
 //! link bytes TEXT      a piece of the bytes that the server sends
 //! link answer          takes out the answer
 //! ```
 //!
-//! A call is answered by `ok` or its fault, and how many bytes wait then.
+//! A call is answered by `ok` or its fault, and then by how many bytes wait.
 
 use crate::failure::Failure;
 use crate::played::Played;
 use crate::text::{decode, parted, put};
-use nut_client::{Fields, Link, LinkFault, Outcome, Rows};
+use nut_link::{Fields, Link, LinkFault, Outcome, Rows};
 use nut_proto::read;
 use nut_words::split;
 use std::alloc::Global;
 use std::io;
 use std::io::Write;
 
-/// Plays a step on a link, and writes how it was answered.
+/// Plays a step on a link, and writes the answer.
 pub fn play<W: Write>(
     alloc: Global,
     link: &mut Link,
@@ -44,7 +44,7 @@ pub fn play<W: Write>(
     Ok(Played::Step)
 }
 
-/// Writes what waits of the query, which is then taken.
+/// Takes and writes what waits of the query.
 fn take<W: Write>(link: &mut Link, out: &mut W) -> io::Result<()> {
     let waiting = link.waiting();
     put(waiting, out)?;
@@ -65,7 +65,7 @@ fn show_answer<W: Write>(
     Ok(Played::with_lack(answer == Err(LinkFault::Memory)))
 }
 
-/// Makes the call that a verb names, if it names one.
+/// Makes the call that a verb names; `None` if it names none.
 fn call(
     alloc: Global,
     link: &mut Link,
@@ -85,7 +85,7 @@ fn call(
     }
 }
 
-/// Asks the request that a line reads as, if it reads as one.
+/// Asks the request that a line spells; `None` if it spells none.
 fn ask(alloc: Global, link: &mut Link, line: &[u8]) -> Option<Result<(), LinkFault>> {
     let words = split(alloc, line).ok()?;
     match read(&words) {
@@ -94,7 +94,7 @@ fn ask(alloc: Global, link: &mut Link, line: &[u8]) -> Option<Result<(), LinkFau
     }
 }
 
-/// Takes out the answer, and writes it.
+/// Takes out and writes the answer.
 fn answer<W: Write>(link: &mut Link, out: &mut W) -> io::Result<()> {
     let outcome = link.answer();
     show_outcome(&outcome, out)
@@ -125,7 +125,7 @@ fn show_rows<W: Write>(rows: &Rows, out: &mut W) -> io::Result<()> {
     Ok(())
 }
 
-/// Writes the words, each with a `|` behind it.
+/// Writes the words, each followed by `|`.
 fn show_fields<W: Write>(fields: &Fields, out: &mut W) -> io::Result<()> {
     for word in fields.as_slice() {
         put(word.as_bytes(), out)?;

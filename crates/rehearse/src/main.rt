@@ -1,24 +1,24 @@
-//! Plays a script on a server, dummy drivers, monitors, links and rooms, and prints how each step was answered. It is a tool
-//! of the tests.
+//! Plays a script on a server, dummy drivers, monitors, links and rooms, and prints the answer to each step. It is a
+//! tool of the tests.
 //!
-//! `rehearse` reads steps from standard input, a line each, and writes a line on each. It keeps no record, so a script of
-//! any length takes the same memory.
+//! `rehearse` reads steps from standard input, a line each, and writes a line for each. It keeps no record, so a script
+//! of any length takes the same memory.
 //!
 //! ```text
 //! ups TEXT             the text of ups.conf for the next server
-//! users TEXT           the same of upsd.users
-//! upsd TEXT            the same of upsd.conf
-//! server               a new server, by these texts, takes the place of the server
+//! users TEXT           the text of upsd.users for the next server
+//! upsd TEXT            the text of upsd.conf for the next server
+//! server               replaces the server by a new one with these texts
 //! carry N              server and driver of the first UPS take what waits for them, N bytes at a time, until none waits
 //! ```
 //!
-//! What else a server is told and asked is in `server.rt`. What begins with `dummy`, `monitor`, `watch`, `link`, `room`
-//! or `words` is for a dummy driver, a monitor, the loop of a monitor, a link, a room, or lines and words: see the file of
-//! this name.
+//! `server.rt` lists the other steps of a server. Steps that begin with `dummy`, `monitor`, `watch`, `link`, `room` or
+//! `words` are for a dummy driver, a monitor, the loop of a monitor, a link, a room, or lines and words: see the file
+//! of that name.
 //!
-//! In texts `%XX` is the byte with these two hexadecimal digits; what is printed has it for control characters, `%` and
-//! bytes past ASCII. A line that is empty or begins with `#` is printed as it is. One that begins with `? ` is played only
-//! where memory was refused at the last line without it, and else an empty line is written.
+//! In texts `%XX` is the byte with these two hexadecimal digits; control characters, `%` and bytes past ASCII are
+//! printed so. A line that is empty or begins with `#` is printed as it is. A line that begins with `? ` is played only
+//! if memory was refused at the last line without it; else an empty line is written.
 #![tactic(auto)]
 
 use std::alloc::Global;
@@ -66,7 +66,7 @@ fn rehearse<R: Read + Drop, W: Write + Drop>(
     play_input(rt, alloc, &mut input, output)
 }
 
-/// Plays a script, and writes what comes of it.
+/// Plays a script, and writes the answers.
 fn play_input<R: BufRead, W: Write + Drop>(
     rt: &impl Wait,
     alloc: Global,
@@ -81,7 +81,7 @@ fn play_input<R: BufRead, W: Write + Drop>(
     }
 }
 
-/// Plays a script on a stage of its own.
+/// Plays a script on a new stage.
 fn play<R: BufRead, W: Write>(
     rt: &impl Wait,
     alloc: Global,

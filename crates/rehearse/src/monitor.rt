@@ -1,19 +1,19 @@
 //! Steps of a monitor.
 //!
 //! ```text
-//! monitor new TEXT     a new monitor, by this text of upsmon.conf
-//! monitor moment T     it is T seconds since the start
+//! monitor new TEXT     makes a new monitor with this text of upsmon.conf
+//! monitor moment T     T seconds have passed since the start
 //! monitor linked I     the link of the MONITOR line I is made
 //! monitor bytes I TEXT a piece of the bytes that the server of link I sends
-//! monitor took I N     that server took N of the bytes that wait for it
-//! monitor lost I       the link is lost
-//! monitor waits I      what waits for the server of link I?
-//! monitor show         how does the monitor stand?
-//! monitor notice       takes the oldest notice: its type, its line and its text
+//! monitor took I N     the server of link I took N of the bytes that wait for it
+//! monitor lost I       link I is lost
+//! monitor waits I      prints what waits for the server of link I
+//! monitor show         prints the monitor's phase and links
+//! monitor notice       takes the oldest notice, and prints its type, its line and its text
 //! ```
 //!
-//! An event is answered by `ok` or its fault, how far the shutdown is then, and of each link whether it is there and how
-//! many bytes wait for its server.
+//! An event is answered by `ok` or its fault, then by the phase, and for each link by whether it is up and how many
+//! bytes wait for its server.
 
 use crate::failure::Failure;
 use crate::played::Played;
@@ -24,7 +24,7 @@ use std::alloc::Global;
 use std::io;
 use std::io::Write;
 
-/// Plays a step on a monitor, and writes how it was answered.
+/// Plays a step on a monitor, and writes the answer.
 pub fn play<W: Write>(
     alloc: Global,
     monitor: &mut Option<Monitor>,
@@ -43,7 +43,7 @@ pub fn play<W: Write>(
     }
 }
 
-/// Plays a step on a monitor that is there.
+/// Plays a step on a monitor that was made.
 fn play_on<W: Write>(
     monitor: &mut Monitor,
     verb: &str,
@@ -59,7 +59,7 @@ fn play_on<W: Write>(
     }
 }
 
-/// Makes a monitor by a text of upsmon.conf, which takes the place of the monitor, or writes why there is none.
+/// Replaces the monitor by a new one with a text of upsmon.conf, or writes why there is none.
 fn begin<W: Write>(
     alloc: Global,
     file: &[u8],
@@ -75,7 +75,7 @@ fn begin<W: Write>(
     }
 }
 
-/// Puts a new monitor in the place of the monitor, or writes why there is none.
+/// Replaces the monitor by the new one, or writes why there is none.
 fn put_monitor<W: Write>(
     made: Result<Monitor, MonitorFault>,
     monitor: &mut Option<Monitor>,
@@ -102,7 +102,7 @@ fn put_in(made: Monitor, monitor: &mut Option<Monitor>) {
     *monitor = Some(made);
 }
 
-/// Tells the monitor an event, and writes its answer and what it says of itself then.
+/// Tells the monitor an event, and writes its answer and then its state.
 fn tell<W: Write>(
     monitor: &mut Monitor,
     verb: &str,
@@ -124,7 +124,7 @@ fn tell<W: Write>(
     Ok(Played::with_lack(matches!(answer, Err(fault) if is_lack(fault))))
 }
 
-/// The event that a verb tells, if it tells one.
+/// Returns the event that a verb tells, if it tells one.
 fn event_of<'a>(verb: &str, number: &str, more: &str, piece: &'a [u8]) -> Option<Event<'a>> {
     let event = match verb {
         "moment" => Event::Moment(number.parse().ok()?),
@@ -137,14 +137,14 @@ fn event_of<'a>(verb: &str, number: &str, more: &str, piece: &'a [u8]) -> Option
     Some(event)
 }
 
-/// Writes what the monitor says of itself, as the answer of a step.
+/// Writes the monitor's state, as the answer of a step.
 fn show_all<W: Write>(monitor: &Monitor, out: &mut W) -> Result<Played, Failure> {
     write!(out, "ok")?;
     show(monitor, out)?;
     Ok(Played::Step)
 }
 
-/// Writes what the monitor says of itself.
+/// Writes the monitor's phase and links.
 fn show<W: Write>(monitor: &Monitor, out: &mut W) -> io::Result<()> {
     let phase = monitor.phase();
     write!(out, " {phase:?}")?;
@@ -166,7 +166,7 @@ fn show_waiting<W: Write>(monitor: &Monitor, link: &str, out: &mut W) -> io::Res
     }
 }
 
-/// Takes the oldest notice, and writes it.
+/// Takes and writes the oldest notice.
 fn take_notice<W: Write>(
     monitor: &mut Monitor,
     text: &mut Vec<u8>,
@@ -179,7 +179,7 @@ fn take_notice<W: Write>(
     Ok(Played::Step)
 }
 
-/// Writes a notice's type, its line and its text, which stands in `text` then.
+/// Writes a notice's type, its line and its text, which is put into `text` for that.
 pub fn show_notice<W: Write>(
     monitor: &Monitor,
     notice: Notice,

@@ -1,18 +1,18 @@
-//! What became of a line.
+//! What happened at a line.
 
-/// What became of a line of a script.
+/// What happened at a line of a script.
 #[derive(Clone, Copy, Debug, PartialEq, Eq)]
 pub enum Played {
-    /// It is no step.
+    /// The line isn't a step.
     Nothing,
-    /// It was done, or refused for something else than want of memory.
+    /// The step was done, or was refused for a reason other than memory.
     Step,
-    /// Memory was refused.
+    /// Memory could not be allocated.
     Lack,
 }
 
 impl Played {
-    /// That of a step at which memory was refused, or wasn't.
+    /// Returns `Lack` or `Step`, by whether memory could not be allocated.
     pub fn with_lack(is_lack: bool) -> Self {
         if is_lack { Played::Lack } else { Played::Step }
     }

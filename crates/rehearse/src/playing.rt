@@ -1,4 +1,4 @@
-//! A step of a schedule is played on a server.
+//! Plays a step of a schedule on a server.
 
 ghost use Rattle.std.specs.Prelude.{◌≤◌, IfOk};
 
@@ -8,7 +8,7 @@ use nut_server::{Arrival, Server};
 use std::io;
 use std::io::Write;
 
-/// Plays a step, and writes how it was answered.
+/// Plays a step, and writes the answer.
 pub fn play<W: Write>(step: Step<'_>, server: &mut Server, out: &mut W) -> io::Result<()> {
     match step {
         Step::Tell(arrival) => tell(arrival, server, out)?,
@@ -25,7 +25,7 @@ pub fn play<W: Write>(step: Step<'_>, server: &mut Server, out: &mut W) -> io::R
     Ok(())
 }
 
-/// Tells the server an arrival, and writes its answer and what then waits where the arrival came from.
+/// Tells the server an arrival, and writes its answer and then what waits at the place that the arrival came from.
 fn tell<W: Write>(arrival: Arrival<'_>, server: &mut Server, out: &mut W) -> io::Result<()> {
     match server.arrive(arrival) {
         Ok(()) => write!(out, "ok")?,
@@ -48,7 +48,7 @@ fn tell<W: Write>(arrival: Arrival<'_>, server: &mut Server, out: &mut W) -> io:
     }
 }
 
-/// Writes what the server says of a connection.
+/// Writes the server's state of a connection.
 fn show_connection<W: Write>(c: u64, server: &Server, out: &mut W) -> io::Result<()> {
     let (waits, kept) = (server.waits(c), server.kept(c));
     let (reads, leaves) = (server.may_read(c), server.leaves(c));
@@ -58,13 +58,13 @@ fn show_connection<W: Write>(c: u64, server: &Server, out: &mut W) -> io::Result
     )
 }
 
-/// Writes what the server says of a driver.
+/// Writes the server's state of a driver.
 fn show_driver<W: Write>(u: usize, server: &Server, out: &mut W) -> io::Result<()> {
     let (waits, connected) = (server.waits_for_driver(u), server.is_connected(u));
     write!(out, " waits={waits} connected={connected}")
 }
 
-/// One for whom bytes wait takes them, at most so many, and they are written.
+/// Takes what waits for a peer, at most `most` bytes, and writes it.
 fn take<W: Write>(peer: Peer, most: usize, server: &mut Server, out: &mut W) -> io::Result<()> {
     let mut left = most;
     for _ in 0..u64::MAX {
@@ -77,7 +77,7 @@ fn take<W: Write>(peer: Peer, most: usize, server: &mut Server, out: &mut W) -> 
     Ok(())
 }
 
-/// Takes a front part of what waits for one, and says how many bytes that was.
+/// Takes the first bytes that wait for a peer. Returns how many they were.
 fn take_front<W: Write>(
     peer: Peer,
     most: usize,
@@ -103,7 +103,7 @@ fn take_front<W: Write>(
     Ok(taken)
 }
 
-/// A front part of what waits for one.
+/// Returns the first bytes that wait for a peer.
 fn waiting(server: &Server, peer: Peer) -> &[u8] {
     match peer {
         Peer::Connection(c) => server.waiting(c),

@@ -1,14 +1,14 @@
 //! Steps of a room: a server and its monitors over pipes in memory.
 //!
 //! ```text
-//! room monitor TEXT    the next room has one more monitor, by this text of upsmon.conf
-//! room new             a new room, whose server is made by the texts of its files, takes the place of the room
-//! room step TEXT       this line of a schedule is the next step of the next call
+//! room monitor TEXT    adds a monitor with this text of upsmon.conf to the next room
+//! room new             replaces the room by a new one, whose server has the texts of its files
+//! room step TEXT       adds this line of a schedule to the steps of the next call
 //! room play            plays these steps in one call
 //! ```
 //!
-//! A call writes a line for each thing that its steps tell, with the number of the step in the call, and then `ok` or its
-//! fault.
+//! A call writes a line for each thing that its steps tell, with the number of the step in the call, and then `ok` or
+//! its fault.
 
 use crate::failure::Failure;
 use crate::played::Played;
@@ -21,7 +21,7 @@ use std::alloc::Global;
 use std::io::Write;
 use std::{io, mem};
 
-/// A room, what the next one is made with, and the steps of the next call.
+/// A room, what the next room is made with, and the steps of the next call.
 #[derive(Drop)]
 pub struct Rooms {
     fleet: Option<Fleet>,
@@ -30,7 +30,7 @@ pub struct Rooms {
 }
 
 impl Rooms {
-    /// No room yet.
+    /// Starts without a room, monitors and steps.
     pub fn new(alloc: Global) -> Self {
         Rooms {
             fleet: None,
@@ -39,7 +39,7 @@ impl Rooms {
         }
     }
 
-    /// Plays a step of a script, and writes how it was answered.
+    /// Plays a step of a script, and writes the answer.
     pub fn play<W: Write>(
         &mut self,
         alloc: Global,
@@ -59,7 +59,7 @@ impl Rooms {
         }
     }
 
-    /// The next room has one more monitor.
+    /// Adds a monitor to the next room.
     fn add_monitor<W: Write>(
         &mut self,
         alloc: Global,
@@ -75,7 +75,7 @@ impl Rooms {
         }
     }
 
-    /// Makes a room, which takes the place of the room.
+    /// Replaces the room by a new one.
     fn begin<W: Write>(
         &mut self,
         alloc: Global,
@@ -102,7 +102,7 @@ impl Rooms {
         }
     }
 
-    /// The next call has one more step.
+    /// Adds a step to the next call.
     fn add_step<W: Write>(
         &mut self,
         alloc: Global,
@@ -128,7 +128,7 @@ impl Rooms {
     }
 }
 
-/// A room by the texts of the server's files and by the configurations of its monitors.
+/// Makes a room with the texts of the server's files and the configurations of its monitors.
 fn fresh_fleet(
     alloc: Global,
     texts: &Texts,
@@ -148,7 +148,7 @@ fn push_step(schedule: &mut Vec<Step>, step: Step) -> bool {
     schedule.push(step).is_ok()
 }
 
-/// Writes whether there was memory for one thing more.
+/// Writes whether memory for one more thing could be allocated.
 fn show_growth<W: Write>(has_grown: bool, out: &mut W) -> io::Result<Played> {
     write!(out, "{}", if has_grown { "ok" } else { "Memory" })?;
     Ok(Played::with_lack(!has_grown))
@@ -175,7 +175,7 @@ fn show_log<W: Write>(log: &[Logged], out: &mut W) -> io::Result<Played> {
     Ok(Played::Step)
 }
 
-/// Writes one thing that a step told.
+/// Writes something that a step told.
 fn show_news<W: Write>(logged: &Logged, out: &mut W) -> io::Result<()> {
     let step = logged.step;
     match logged.news {

@@ -1,23 +1,23 @@
 //! Steps of a server.
 //!
 //! ```text
-//! moment T             it is T seconds since the start
+//! moment T             T seconds have passed since the start
 //! open ADDRESS         a client connects
 //! bytes C TEXT         a piece of the bytes that connection C sends
 //! took C N             connection C took N of the bytes that wait for it
 //! close C              connection C is closed
 //! fail C               a write to connection C failed
-//! up U                 the driver of UPS U is connected
-//! driver U TEXT        a piece of the bytes that it sends
-//! driver-took U N      it took N of the bytes that wait for it
-//! down U               it is gone
+//! up U                 the driver of UPS U connects
+//! driver U TEXT        a piece of the bytes that the driver of UPS U sends
+//! driver-took U N      the driver of UPS U took N of the bytes that wait for it
+//! down U               the driver of UPS U disconnects
 //! take C [N]           connection C takes what waits for it, or at most N bytes of it; they are printed
-//! driver-take U [N]    the same of a driver
-//! next C               which connection, from C on, has bytes waiting or leaves?
-//! next-driver U        for which driver, from U on, do bytes wait?
+//! driver-take U [N]    the driver of UPS U takes what waits for it, or at most N bytes of it; they are printed
+//! next C               prints the first connection, from C on, that has bytes waiting or leaves
+//! next-driver U        prints the first UPS, from U on, for whose driver bytes wait
 //! ```
 //!
-//! An arrival is answered by `ok`, or the name of its refusal, and what then waits where it came from.
+//! An arrival is answered by `ok` or the name of its refusal, and then by what waits at the place that it came from.
 
 use crate::failure::Failure;
 use crate::played::Played;
@@ -29,7 +29,7 @@ use nut_server::{Arrival, Config, Server};
 use std::alloc::{AllocError, Global};
 use std::io::Write;
 
-/// One for whom bytes wait.
+/// A peer for which bytes may wait.
 #[derive(Clone, Copy)]
 pub enum Peer {
     /// The connection with this number.
@@ -41,27 +41,27 @@ pub enum Peer {
 /// A step of a schedule.
 #[derive(Clone, Copy, Drop)]
 pub enum Step<'a> {
-    /// The server is told this.
+    /// Tells the server this.
     Tell(Arrival<'a>),
-    /// One takes what waits for it, at most so many bytes.
+    /// The peer takes what waits for it, at most this many bytes.
     Take(Peer, usize),
-    /// The server is asked for the least connection from this number on for which bytes wait or that leaves.
+    /// Asks the server for the least connection from this number on for which bytes wait or that leaves.
     Next(u64),
-    /// The server is asked for the least UPS from this number on for whose driver bytes wait.
+    /// Asks the server for the least UPS from this number on for whose driver bytes wait.
     NextDriver(usize),
 }
 
-/// A server by the texts of the configuration files.
+/// Makes a server with the texts of the configuration files.
 ///
 /// # Errors
 ///
-/// The first fault of a file; `Memory` where memory is refused.
+/// The first fault of a file; `Memory` if memory cannot be allocated.
 pub fn begin(alloc: Global, texts: &Texts) -> Result<Server, Failure> {
     let config = read_config(alloc, texts)?;
     Ok(Server::new(alloc, config)?)
 }
 
-/// What the texts say. What was read is let go in functions of their own: that costs the check much less.
+/// Reads the texts. What was read is dropped in functions of its own, which makes the check much faster.
 ///
 /// # Errors
 ///
@@ -96,7 +96,7 @@ fn let_go(_ups: UpsConf) {}
 
 fn let_users_go(_users: UsersConf) {}
 
-/// Plays a step on a server, and writes how it was answered.
+/// Plays a step on a server, and writes the answer.
 pub fn play<W: Write>(
     server: &mut Option<Server>,
     line: &str,
@@ -110,7 +110,7 @@ pub fn play<W: Write>(
     Ok(Played::Step)
 }
 
-/// Reads a step of a server: None where the line is none. The bytes that it tells of are put into `piece`.
+/// Reads a step of a server; `None` if the line isn't one. The bytes that it tells are put into `piece`.
 fn read_step<'a>(line: &'a str, piece: &'a mut Vec<u8>) -> Result<Option<Step<'a>>, AllocError> {
     let (verb, rest) = parted(line);
     let (number, more) = parted(rest);
@@ -119,7 +119,7 @@ fn read_step<'a>(line: &'a str, piece: &'a mut Vec<u8>) -> Result<Option<Step<'a
     Ok(asked.or(told_arrival(verb, number, more, piece.as_slice()).map(Step::Tell)))
 }
 
-/// The arrival that a verb tells.
+/// Returns the arrival that a verb tells, if it tells one.
 fn told_arrival<'a>(verb: &str, number: &str, more: &str, piece: &'a [u8]) -> Option<Arrival<'a>> {
     let arrival = match verb {
         "moment" => Arrival::Moment(number.parse().ok()?),
@@ -137,7 +137,7 @@ fn told_arrival<'a>(verb: &str, number: &str, more: &str, piece: &'a [u8]) -> Op
     Some(arrival)
 }
 
-/// What a verb asks of the server or of the one for whom bytes wait.
+/// Returns what a verb asks of the server or of a peer, if it asks anything.
 fn asked_step<'a>(verb: &str, number: &str, more: &str) -> Option<Step<'a>> {
     let step = match verb {
         "take" => Step::Take(Peer::Connection(number.parse().ok()?), most(more)?),
@@ -149,7 +149,7 @@ fn asked_step<'a>(verb: &str, number: &str, more: &str) -> Option<Step<'a>> {
     Some(step)
 }
 
-/// How many bytes are taken at most: all, where nothing is said.
+/// Returns how many bytes are taken at most: all, if the text is empty. `None` if it isn't a number.
 fn most(text: &str) -> Option<usize> {
     if text.is_empty() {
         return Some(usize::MAX);

@@ -5,11 +5,11 @@ use crate::played::Played;
 use crate::room::Rooms;
 use crate::text::{decode, parted};
 use crate::{carrying, dummy, link, monitor, server, watching, words};
-use nut_client::Link;
 use nut_dummy::Dummy;
+use nut_link::Link;
 use nut_monitor::Monitor;
+use nut_monitor_loop::Given;
 use nut_server::Server;
-use nut_watch::Given;
 use nut_words::LineCutter;
 use std::alloc::Global;
 use std::io::Write;
@@ -23,12 +23,12 @@ pub struct Texts {
     pub upsd: Vec<u8>,
 }
 
-/// What a script has made so far: one of each engine at most, and a link.
+/// What a script has made so far: at most one of each engine, and a link.
 #[derive(Drop)]
 pub struct Stage {
     alloc: Global,
     texts: Texts,
-    /// The bytes of the step that is played.
+    /// The bytes of the step that is being played.
     piece: Vec<u8>,
     server: Option<Server>,
     dummy: Option<Dummy>,
@@ -36,14 +36,14 @@ pub struct Stage {
     link: Link,
     rooms: Rooms,
     cutter: LineCutter,
-    /// What comes to the next monitor that watches.
+    /// The events for the next monitor that watches.
     events: Vec<Given>,
-    /// Whether memory was refused at the last line without a question mark.
+    /// Whether memory could not be allocated at the last line without a question mark.
     is_lack: bool,
 }
 
 impl Stage {
-    /// A stage on which nothing was made.
+    /// Makes an empty stage.
     pub fn new(alloc: Global) -> Self {
         let texts = Texts {
             ups: Vec::new(alloc),
@@ -65,12 +65,12 @@ impl Stage {
         }
     }
 
-    /// Plays a line of a script, and writes a line on it.
+    /// Plays a line of a script, and writes a line for it.
     ///
     /// # Errors
     ///
-    /// `Line` with this number where it isn't a step; `Memory` where memory is refused outside of what the engines
-    /// answer; `Io` where the output fails.
+    /// `Line` with this number if it isn't a step; `Memory` if memory cannot be allocated outside of what the engines
+    /// answer; `Io` if the output fails.
     pub fn play_line<W: Write>(
         &mut self,
         rt: &impl Wait,
@@ -109,7 +109,7 @@ impl Stage {
         Ok(played)
     }
 
-    /// Plays a step, and writes how it was answered.
+    /// Plays a step, and writes the answer.
     fn play<W: Write>(
         &mut self,
         rt: &impl Wait,
@@ -153,7 +153,7 @@ impl Stage {
         Ok(Played::Step)
     }
 
-    /// A server by the texts of the configuration files.
+    /// Makes a server with the texts of the configuration files.
     fn fresh_server(&self) -> Result<Server, Failure> {
         server::begin(self.alloc, &self.texts)
     }
@@ -162,10 +162,10 @@ impl Stage {
         self.server = Some(server);
     }
 
-    /// Lets all go.
+    /// Drops all engines.
     pub fn close(self) {}
 
-    /// Driver and server take what waits for them, so many bytes at a time.
+    /// Lets driver and server take what waits for them, `size` bytes at a time.
     fn carry<W: Write>(&mut self, size: &str, out: &mut W) -> Result<Played, Failure> {
         let Ok(size) = size.parse() else {
             return Ok(Played::Nothing);

@@ -1,23 +1,23 @@
-//! Texts as they stand in a script and are printed.
+//! The form of texts in scripts and in what is printed.
 
 use percent_encoding::{AsciiSet, CONTROLS, ascii_set, percent_decode, percent_encode};
 use std::alloc::AllocError;
 use std::io;
 use std::io::Write;
 
-/// What stands as `%XX` where it is printed, beside the bytes past ASCII.
+/// The bytes that are printed as `%XX`, beside those past ASCII.
 const ESCAPED: AsciiSet = ascii_set!(CONTROLS.add(b'%'));
 
-/// The first word of a text, and what stands behind the blank after it.
+/// Returns the first word of a text, and the text behind the blank after it.
 pub fn parted(text: &str) -> (&str, &str) {
     text.split_once(' ').unwrap_or((text, ""))
 }
 
-/// Puts the bytes for which a text stands into `bytes`, in place of those that were there.
+/// Replaces `bytes` by the bytes that a text means.
 ///
 /// # Errors
 ///
-/// Where memory for them isn't to be had.
+/// `AllocError` if memory for them cannot be allocated.
 pub fn decode(text: &str, bytes: &mut Vec<u8>) -> Result<(), AllocError> {
     bytes.clear();
     percent_decode(text.as_bytes()).append_to(bytes)

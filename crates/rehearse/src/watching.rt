@@ -1,27 +1,27 @@
 //! The loop of a monitor over a world in memory.
 //!
 //! ```text
-//! watch moment T       this is to come: it is T seconds since the start
-//! watch linked I       the link of the MONITOR line I is made
-//! watch bytes I TEXT   a piece of the bytes that its server sends, of at most 512
-//! watch lost I         it is lost
-//! watch run TEXT       a monitor that is made with this text of upsmon.conf watches what is to come
+//! watch moment T       queues this event: T seconds have passed since the start
+//! watch linked I       queues: the link of the MONITOR line I is made
+//! watch bytes I TEXT   queues: its server sends this piece, of at most 512 bytes
+//! watch lost I         queues: the link is lost
+//! watch run TEXT       a monitor with this text of upsmon.conf watches the queued events
 //! ```
 //!
-//! A run writes a line for each thing that happened, and then how far it led, or `fault` and what waits then: how many
-//! bytes for each link, and the oldest notice.
+//! A run writes a line for each thing that happened, and then the phase, or `fault` and what waits then: how many bytes
+//! for each link, and the oldest notice.
 
 ghost use Rattle.std.specs.Prelude.{◌≡◌, IfOk, []};
-ghost use Rattle.nut_decision.specs.Content.{content};
+ghost use Rattle.nut_monitor_spec.specs.Content.{content};
 
 use crate::failure::Failure;
 use crate::monitor::show_notice;
 use crate::played::Played;
 use crate::text::{decode, parted, put};
 use nut_conf::read_upsmon;
+use nut_io::{Piece, ServeFault};
 use nut_monitor::{Monitor, Phase};
-use nut_serve::{Piece, ServeFault};
-use nut_watch::{Given, MemoryMonWorld, Note, watch_memory};
+use nut_monitor_loop::{Given, MemoryMonWorld, Note, watch_memory};
 use std::alloc::Global;
 use std::io::Write;
 use std::sync::Wait;
@@ -50,7 +50,7 @@ pub fn play<W: Write>(
     }
 }
 
-/// The event that a verb tells, if it tells one.
+/// Returns the event that a verb tells, if it tells one.
 fn given_by(verb: &str, number: &str, bytes: &[u8]) -> Option<Given> {
     let given = match verb {
         "moment" => Given::Moment(number.parse().ok()?),
@@ -62,7 +62,7 @@ fn given_by(verb: &str, number: &str, bytes: &[u8]) -> Option<Given> {
     Some(given)
 }
 
-/// The piece of these bytes, if they are few enough for one.
+/// Returns the piece of these bytes; `None` if there are too many.
 fn piece_of(bytes: &[u8]) -> Option<Piece> {
     let mut piece = Piece::new();
     match piece.try_extend_from_slice(bytes) {
@@ -71,14 +71,14 @@ fn piece_of(bytes: &[u8]) -> Option<Piece> {
     }
 }
 
-/// Notes what is to come.
+/// Queues an event.
 fn push<W: Write>(events: &mut Vec<Given>, event: Given, out: &mut W) -> io::Result<Played> {
     let is_lack = events.push(event).is_err();
     write!(out, "{}", if is_lack { "Memory" } else { "ok" })?;
     Ok(Played::with_lack(is_lack))
 }
 
-/// Has a monitor that is made with this file watch a world, and writes what happened.
+/// Makes a monitor with this file, lets it watch a world, and writes what happened.
 fn run<W: Write>(
     rt: &impl Wait,
     alloc: Global,
@@ -95,7 +95,7 @@ fn run<W: Write>(
     }
 }
 
-/// A monitor that was told nothing.
+/// Makes a monitor that was told nothing.
 fn fresh_monitor(alloc: Global, file: &[u8]) -> Result<Monitor, Failure>
     ensures { IfOk result (λ m. m.content ≡ content m.content.configuration []) }
 {
@@ -104,7 +104,7 @@ fn fresh_monitor(alloc: Global, file: &[u8]) -> Result<Monitor, Failure>
     Ok(monitor)
 }
 
-/// Has a monitor watch a world, and writes what happened. Texts of notices stand in `text` meanwhile.
+/// Lets a monitor watch a world, and writes what happened. `text` is used for the texts of notices.
 fn watch<W: Write>(
     rt: &impl Wait,
     monitor: Monitor,
@@ -126,7 +126,7 @@ fn watch<W: Write>(
 
 fn let_go(_monitor: Monitor, _world: MemoryMonWorld) {}
 
-/// Writes what happened, and how far it led.
+/// Writes what happened, and then the phase or the fault.
 fn show_run<W: Write>(
     monitor: &Monitor,
     notes: &[Note],
@@ -170,7 +170,7 @@ fn show_note<W: Write>(
     Ok(())
 }
 
-/// Writes what came.
+/// Writes an event.
 fn show_given<W: Write>(given: &Given, out: &mut W) -> io::Result<()> {
     match given {
         Given::Moment(t) => write!(out, "> moment {t}"),

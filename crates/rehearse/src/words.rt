@@ -1,12 +1,12 @@
 //! Steps of lines and words.
 //!
 //! ```text
-//! words split TEXT     which words does this line spell?
-//! words feed TEXT      a piece of a stream: which lines does it complete, and how much is kept of the unfinished one?
-//! words new            a new stream
+//! words split TEXT     prints the words that this line spells
+//! words feed TEXT      takes a piece of a stream; prints its complete lines and what is kept of the unfinished one
+//! words new            begins a new stream
 //! ```
 //!
-//! Each word has a `|` behind it, each line stands in brackets, and one that is too long is `[!]`.
+//! Each word is followed by `|`, each line is in brackets, and a line that is too long is `[!]`.
 
 use crate::failure::Failure;
 use crate::played::Played;
@@ -16,7 +16,7 @@ use std::alloc::Global;
 use std::io;
 use std::io::Write;
 
-/// Plays a step on a stream or a line, and writes how it was answered.
+/// Plays a step on a stream or a line, and writes the answer.
 pub fn play<W: Write>(
     alloc: Global,
     cutter: &mut LineCutter,
@@ -57,7 +57,7 @@ fn show_words<W: Write>(words: &Words<'_>, out: &mut W) -> io::Result<Played> {
     Ok(Played::Step)
 }
 
-/// Feeds a piece to its end, and writes its lines.
+/// Feeds a whole piece, and writes its lines.
 fn feed<W: Write>(cutter: &mut LineCutter, piece: &[u8], out: &mut W) -> io::Result<()> {
     let mut left = piece;
     for _ in 0..piece.len() {

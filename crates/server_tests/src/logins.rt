@@ -9,7 +9,7 @@ const UPS: &[u8] = b"[su700]\n";
 
 const USERS: &[u8] = b"[mon]\npassword = m1\nupsmon secondary\n";
 
-/// A server of one UPS and one user.
+/// Makes a server of one UPS and one user.
 fn fresh_server(alloc: Global) -> Result<Server, Fail> {
     let ups = read_ups(alloc, UPS)?;
     let users = match read_users(alloc, USERS) {
@@ -31,7 +31,7 @@ fn fresh_server(alloc: Global) -> Result<Server, Fail> {
     }
 }
 
-// What is large is let go in functions of their own, which costs the check much less than where much else is done.
+// Large values are dropped in functions of their own, which makes the check much faster.
 
 fn let_ups_go(_ups: UpsConf) {}
 
@@ -39,7 +39,7 @@ fn let_conf_go(_ups: UpsConf, _users: UsersConf) {}
 
 fn let_go(_server: Server) {}
 
-/// What a client says, whose replies are taken before its next piece, and whether it is logged in then.
+/// What a client says, and whether it is logged in afterwards. Replies are taken before the next piece.
 static SAID: [(&[u8], bool); 4] = [
     (b"USERNAME mon\nPASSWORD m1\n", false),
     (b"LOGIN other\n", false),
@@ -47,7 +47,7 @@ static SAID: [(&[u8], bool); 4] = [
     (b"LOGOUT\n", false),
 ];
 
-/// Whether the server says what it has to of each piece, and false of a connection that isn't there.
+/// Whether the server says the right thing after each piece, and false of a connection that doesn't exist.
 fn says_who_is_logged_in(server: &mut Server) -> Result<bool, Refused> {
     server.arrive(Arrival::Open(b"::1"))?;
     for (piece, is_logged_in) in SAID {

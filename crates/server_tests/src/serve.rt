@@ -4,7 +4,7 @@ mod broken;
 mod room;
 mod worlds;
 
-/// The rows of one client, and what they are answered.
+/// The lines of a client, and the replies to them.
 const ROWS: &[u8] = b"ver\nGET UPSDESC x\nFOO\n\"a\n\nLOGOUT\nVER\n";
 
 const ROWS_ANSWERED: &[u8] =

@@ -1,4 +1,4 @@
-//! Shows the variables of a UPS, or the UPSes of a server.
+//! Shows the variables of a UPS, the UPSes of a server, or the clients of a UPS.
 #![tactic(auto)]
 
 use nut_client::{Tool, run_tool};

@@ -1,4 +1,4 @@
-//! Lists the commands of a UPS, or has it do one.
+//! Lists the commands of a UPS, or sends it one.
 #![tactic(auto)]
 
 use nut_client::{Tool, run_tool};

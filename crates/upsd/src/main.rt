@@ -1,14 +1,14 @@
 //! The server of UPSes.
 #![tactic(auto)]
 
-use nut::LossyLines;
+use nut_poll::LossyLines;
 use std::io::Stderr;
 use std::process::ExitCode;
 use std::{env, io};
 
 fn main(rt: HostRuntime) -> ExitCode {
     let status = match start(&rt) {
-        Ok((words, mut err)) => nut::run_upsd(
+        Ok((words, mut err)) => nut_upsd::run_upsd(
             &rt,
             rt.alloc(),
             words.as_slice(),
@@ -16,12 +16,12 @@ fn main(rt: HostRuntime) -> ExitCode {
             &mut io::writer(&rt),
             &mut err,
         ),
-        Err(error) => nut::refuse_start("upsd", &error, &mut rt.stderr()),
+        Err(error) => nut_program::refuse_start("upsd", &error, &mut rt.stderr()),
     };
     ExitCode::from(status)
 }
 
-/// The words of the command line, the program's name first, and standard error.
+/// Returns the words of the command line, the program's name first, and standard error.
 fn start(rt: &HostRuntime) -> io::Result<(Vec<String>, LossyLines<Stderr>)> {
     let words = env::args(rt)?.collect(rt.alloc())?;
     let err = LossyLines::new(rt, rt.alloc(), "upsd", rt.stderr())?;

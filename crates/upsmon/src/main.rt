@@ -6,13 +6,19 @@ use std::{env, io};
 
 fn main(rt: HostRuntime) -> ExitCode {
     let status = match words(&rt) {
-        Ok(words) => nut::run_upsmon(&rt, rt.alloc(), words.as_slice(), rt.stdout(), rt.stderr()),
-        Err(error) => nut::refuse_start("upsmon", &error, &mut rt.stderr()),
+        Ok(words) => nut_upsmon::run_upsmon(
+            &rt,
+            rt.alloc(),
+            words.as_slice(),
+            rt.stdout(),
+            rt.stderr(),
+        ),
+        Err(error) => nut_program::refuse_start("upsmon", &error, &mut rt.stderr()),
     };
     ExitCode::from(status)
 }
 
-/// The words of the command line, the program's name first.
+/// Returns the words of the command line, the program's name first.
 fn words(rt: &HostRuntime) -> io::Result<Vec<String>> {
     let words = env::args(rt)?.collect(rt.alloc())?;
     Ok(words)

@@ -1,4 +1,4 @@
-//! Shows the variables of a UPS that may be set, or sets one.
+//! Shows the writable variables of a UPS, or sets one.
 #![tactic(auto)]
 
 use nut_client::{Tool, run_tool};

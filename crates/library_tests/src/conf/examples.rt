@@ -39,7 +39,7 @@ fn is_named(conf: &UpsConf, number: usize, name: &[u8]) -> bool {
     }
 }
 
-/// Whether ups.conf has these UPSes in this order and no others.
+/// Whether ups.conf has exactly these UPSes, in this order.
 fn has_all(conf: &UpsConf, rows: &[UpsRow]) -> bool {
     for (number, row) in rows.iter().enumerate() {
         if !is_named(conf, number, row.0) || !has(conf.get(number), row) {
@@ -49,7 +49,7 @@ fn has_all(conf: &UpsConf, rows: &[UpsRow]) -> bool {
     conf.len() == rows.len() && conf.get(rows.len()).is_none() && conf.name(rows.len()).is_none()
 }
 
-/// Whether ups.conf finds none of these names.
+/// Whether ups.conf has a UPS with none of these names.
 fn lacks(conf: &UpsConf, names: &[&[u8]]) -> bool {
     for name in names {
         if conf.find(name).is_some() {
@@ -84,7 +84,7 @@ fn order_and_defaults_of_ups_conf(rt: HostRuntime) {
     assert!(rt; ups_conf_has(rt.alloc(), file, &rows, &[b"d"]));
 }
 
-/// A user's name, a password and whether it is the user's, the role, whether the user may SET and FSD, a command and
+/// A user's name; a password, and whether it is the user's; the role; whether the user may SET and FSD; a command, and
 /// whether the user may give it.
 type UserRow = (
     &'static [u8],
@@ -161,7 +161,7 @@ fn rights_of_users(rt: HostRuntime) {
     assert!(rt; upsd_users_has(rt.alloc(), file, &RIGHTS));
 }
 
-/// Whether upsd.conf has these endpoints and no others.
+/// Whether upsd.conf has exactly these endpoints.
 fn listens(conf: &UpsdConf, endpoints: &[(&[u8], u16)]) -> bool {
     for (index, (address, port)) in endpoints.iter().enumerate() {
         match conf.endpoint(index) {

@@ -1,4 +1,4 @@
-//! Each fault, and which of two comes first.
+//! Each fault, and which of two is reported.
 
 use super::{File, Outcome, first_wrong};
 use nut_conf::FaultKind::{
@@ -15,7 +15,7 @@ const UPS: [(&[u8], Outcome); 41] = [
     (b"desc = x\n", Some((1, OutsideSection))),
     (b"[a]\ndesc =\n", Some((2, BadForm))),
     (b"[a]\nfoo = x\n", Some((2, UnknownDirective))),
-    // words that don't read
+    // words that cannot be read
     (b"[a] \"", Some((1, Unreadable))),
     (b"[a]\ndesc = x\\", Some((2, Unreadable))),
     (b"[a]\ndesc = \xc3\xa9\n", Some((2, Unreadable))),
@@ -33,7 +33,7 @@ const UPS: [(&[u8], Outcome); 41] = [
     (b"[a]\n[b\n", Some((2, UnknownDirective))),
     (b"[a]\nb]\n", Some((2, UnknownDirective))),
     (b"[a]\n[\n", Some((2, UnknownDirective))),
-    // before the first section nothing else is tested
+    // before the first section only this is tested
     (b"foo\n", Some((1, OutsideSection))),
     (b"desc\n", Some((1, OutsideSection))),
     // directives, byte for byte
@@ -46,7 +46,7 @@ const UPS: [(&[u8], Outcome); 41] = [
     (b"[a]\ndesc == x\n", Some((2, BadForm))),
     (b"[a]\ndesc\n", Some((2, BadForm))),
     (b"[a]\ndesc = =\n", None),
-    // form before values, values before a repetition
+    // form is tested before values, and values before repetition
     (b"[a]\ndriver = a/ b\n", Some((2, BadForm))),
     (b"[a]\ndesc = x\ndesc =\n", Some((3, BadForm))),
     (b"[a]\ndriver = x\ndriver = a/\n", Some((3, BadName))),
@@ -56,7 +56,7 @@ const UPS: [(&[u8], Outcome); 41] = [
         Some((5, Repeated)),
     ),
     (b"[a]\ndesc = x\n\n# c\ndesc = y\n", Some((5, Repeated))),
-    // each section for itself; the first faulty line is named
+    // each section is tested on its own; the first faulty line is reported
     (b"[a]\ndesc = x\n[b]\ndesc = x\n", None),
     (b"[a]\nfoo = x\n[a]\n", Some((2, UnknownDirective))),
     (b"[a]\r\n\r\n \t# c\r\ndesc=x\r\nport=y", None),
@@ -135,7 +135,7 @@ const UPSMON: [(&[u8], Outcome); 56] = [
         b"MINSUPPLIES 2\nMONITOR u@h 1 m p primary\nMONITOR v@h 1 m p secondary\n",
         None,
     ),
-    // a faulty line comes before the sum
+    // a faulty line is reported before the sum
     (b"MINSUPPLIES 2\nFOO\n", Some((2, UnknownDirective))),
     // targets
     (b"MONITOR u 1 m p primary\n", Some((1, BadName))),
@@ -170,7 +170,7 @@ const UPSMON: [(&[u8], Outcome); 56] = [
         b"MONITOR u@h 1 m p primary\nMONITOR U@h 1 m p primary\n",
         None,
     ),
-    // the values from left to right
+    // values are tested from left to right
     (b"MONITOR u 1 m p\n", Some((1, BadForm))),
     (b"MONITOR u@h 1 m p primary x\n", Some((1, BadForm))),
     (b"MONITOR u x m p primary\n", Some((1, BadName))),

@@ -1,4 +1,4 @@
-//! Every limit, at it and past it.
+//! Every limit, at it and just past it.
 
 use super::{File, Outcome, read};
 use nut_conf::FaultKind::{
@@ -6,7 +6,7 @@ use nut_conf::FaultKind::{
 };
 use std::alloc::{AllocError, Global};
 
-/// A file of a front, a part so many times and a back, and how it reads.
+/// A file of a front, a part repeated n times, and a back; and how it is read.
 type Row = (
     File,
     &'static [u8],
@@ -253,7 +253,7 @@ fn joined(alloc: Global, row: &Row) -> Result<Vec<u8>, AllocError> {
     Ok(bytes)
 }
 
-/// The first row whose file doesn't read as the row says.
+/// Returns the first row whose file isn't read as the row says.
 fn first_wrong(alloc: Global, rows: &[Row]) -> Option<usize> {
     for (index, row) in rows.iter().enumerate() {
         match joined(alloc, row) {
@@ -320,7 +320,7 @@ fn upsmon_numbers(rt: HostRuntime) {
     );
 }
 
-/// So many lines with their numbers between a front and a back, then a last line, and how that file reads.
+/// A front, n lines with their numbers between it and a back, a last line; and how that file is read.
 type NumberedRow = (File, &'static str, &'static str, u32, &'static str, Outcome);
 
 const MONITORS: &str = "@h 1000 m p primary\n";

@@ -1,4 +1,4 @@
-//! Targets.
+//! Targets of MONITOR lines and of the tools.
 
 use nut_conf::{NameFault, split_name};
 

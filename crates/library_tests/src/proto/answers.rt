@@ -1,8 +1,8 @@
-//! What a client makes of the server's lines.
+//! How a client reads the server's lines.
 use nut_proto::{Answer, AnswerFault, Rest, read_answer};
 use std::alloc::Global;
 
-/// What a line is, and its words or its name.
+/// The kind of a line, for rows that give its words or its name.
 #[derive(Clone, Copy, PartialEq, Eq)]
 enum Kind {
     Ok,
@@ -37,7 +37,7 @@ fn has(answer: &Answer<'_>, kind: Kind, words: &[&[u8]]) -> bool {
     }
 }
 
-/// The first line that isn't read as an answer of its kind with its words.
+/// Returns the first line that isn't read as an answer of its kind with its words.
 fn first_wrong(alloc: Global, rows: &[(&[u8], Kind, &[&[u8]])]) -> Option<usize> {
     for (index, (line, kind, words)) in rows.iter().enumerate() {
         match read_answer(alloc, line) {

@@ -1,19 +1,19 @@
-//! What a driver is asked, as it is written and read.
+//! Requests to a driver, as they are written and read.
 use super::word;
 use arrayvec::ArrayVec;
 use nut_proto::DriverAsk;
 use nut_words::{WordFault, split};
 use std::alloc::{AllocError, Global};
 
-/// Whether a request is written where it just fits, and not at all where it doesn't.
+/// Whether a request is written if it just fits, and not at all if it doesn't.
 fn fits_exactly(setting: &DriverAsk<'_>) -> bool {
     let mut exact: ArrayVec<u8, 17> = ArrayVec::new();
-    setting.put_in(&mut exact)
+    setting.put(&mut exact).is_ok()
         && exact.as_slice() == b"SET ups.id \"abc\"\n".as_slice()
-        && !DriverAsk::Ping.put_in(&mut exact)
+        && DriverAsk::Ping.put(&mut exact).is_err()
 }
 
-/// Whether each request is written, behind what was there.
+/// Whether each request is appended to what was there.
 fn is_written(alloc: Global, setting: &DriverAsk<'_>) -> Result<bool, AllocError> {
     let mut out = Vec::new(alloc);
     setting.put(&mut out)?;
@@ -37,12 +37,12 @@ fn written(rt: HostRuntime) {
     assert!(rt; is_written(rt.alloc(), &setting) == Ok(true));
 }
 
-/// The line that is written of what a line asks, or nothing.
+/// Returns the line that is written for the request that a line spells, or nothing if it spells none.
 fn rewritten(alloc: Global, line: &[u8]) -> Result<ArrayVec<u8, 64>, WordFault> {
     let words = split(alloc, line)?;
     let mut out = ArrayVec::new();
     if let Some(ask) = DriverAsk::read(&words) {
-        let _ = ask.put_in(&mut out);
+        let _ = ask.put(&mut out);
     }
     Ok(out)
 }

@@ -1,4 +1,4 @@
-//! Each form of a request: right, in mixed case, a word short and a word long.
+//! Each form of a request: as it should be, in mixed case, with a word less and with a word more.
 use arrayvec::ArrayVec;
 use nut_proto::read;
 use nut_words::{WordFault, split};
@@ -69,13 +69,13 @@ const FORMS: [(&[u8], &[u8], &[u8]); 25] = [
     (b"StartTls", b"STARTTLS", b""),
 ];
 
-/// The line that is written of the request that a line reads as, or the name of its refusal.
+/// Returns the line that is written for the request that a line spells, or the name of its refusal.
 fn rewritten(alloc: Global, line: &[u8]) -> Result<ArrayVec<u8, 513>, WordFault> {
     let words = split(alloc, line)?;
     let mut out = ArrayVec::new();
     match read(&words) {
         Ok(request) => {
-            let _ = request.put_in(&mut out);
+            let _ = request.put(&mut out);
         }
         Err(refusal) => {
             let _ = out.try_extend_from_slice(refusal.name());
@@ -92,7 +92,7 @@ fn is_read(alloc: Global, line: &[u8], written: &[u8]) -> bool {
     }
 }
 
-/// Whether a line is refused by this name.
+/// Whether a line is refused with this name.
 fn is_refused(alloc: Global, line: &[u8], name: &[u8]) -> bool {
     match rewritten(alloc, line) {
         Ok(found) => found.as_slice() == name,
@@ -100,7 +100,7 @@ fn is_refused(alloc: Global, line: &[u8], name: &[u8]) -> bool {
     }
 }
 
-/// Whether a line with one word more is an invalid argument.
+/// Whether a line with one more word is an invalid argument.
 fn is_too_long(alloc: Global, line: &[u8]) -> bool {
     let mut long: ArrayVec<u8, 64> = ArrayVec::new();
     long.try_extend_from_slice(line).is_ok()
@@ -108,7 +108,7 @@ fn is_too_long(alloc: Global, line: &[u8]) -> bool {
         && is_refused(alloc, long.as_slice(), b"INVALID-ARGUMENT")
 }
 
-/// The first form that isn't read right and in mixed case, or is read with a word less or more.
+/// Returns the first form that isn't read in mixed case, or is read with a word less or more.
 fn first_wrong(alloc: Global, forms: &[(&[u8], &[u8], &[u8])]) -> Option<usize> {
     for (index, (mixed, written, short)) in forms.iter().enumerate() {
         if !is_read(alloc, mixed, written)
@@ -156,7 +156,7 @@ fn no_form(rt: HostRuntime) {
     assert_eq!(rt; first_other_refusal(rt.alloc(), &NO_FORMS), None);
 }
 
-/// Whether a command with a word of so many bytes is a request.
+/// Whether a command with a word of `len` bytes is a request.
 fn takes(alloc: Global, command: &[u8], len: usize) -> Result<bool, WordFault> {
     let mut line = Vec::from_slice(alloc, command)?;
     line.extend_from_slice(b" \"")?;
@@ -195,12 +195,12 @@ fn lengths_of_user_names_and_passwords(rt: HostRuntime) {
     assert_eq!(rt; first_other_length(rt.alloc(), &LENGTHS), None);
 }
 
-/// Whether a request is written where it just fits, and not at all where it doesn't.
+/// Whether a request is written if it just fits, and not at all if it doesn't.
 fn fits_exactly(alloc: Global) -> Result<bool, WordFault> {
     let words = split(alloc, b"SET VAR u v \"a \\\"b\"")?;
     let mut exact: ArrayVec<u8, 21> = ArrayVec::new();
     let fits = match read(&words) {
-        Ok(request) => request.put_in(&mut exact) && !request.put_in(&mut exact),
+        Ok(request) => request.put(&mut exact).is_ok() && request.put(&mut exact).is_err(),
         Err(_) => false,
     };
     Ok(fits && exact.as_slice() == b"SET VAR u v \"a \\\"b\"\n".as_slice())

@@ -4,19 +4,19 @@ ghost use Rattle.std.specs.Prelude.{◌≡◌, ◌&&◌, nat_eq, None};
 
 use super::fresh_monitor;
 use nut_conf::Notice as Kind;
+use nut_io::{Fault, Piece, Written};
 use nut_monitor::{Monitor, Notice, Phase};
-use nut_serve::{Fault, Piece, Written};
-use nut_watch::{MonWorld, Next, watch};
+use nut_monitor_loop::{MonWorld, Next, watch};
 use std::alloc::Global;
 use std::sync::Wait;
 use std::test::Fail;
 
-/// What is odd about a world. It is odd on its first link, of which it takes one byte at a time.
+/// What is odd about a world. It concerns the first link, of which a world takes one byte at a time.
 #[derive(Clone, Copy, PartialEq, Eq)]
 enum Mode {
-    /// Nothing but that.
+    /// Only that.
     OneByte,
-    /// Each byte is to come later before it is taken.
+    /// Each byte is late once before it is taken.
     Reluctant,
     /// It never takes anything.
     LaterForever,
@@ -32,7 +32,7 @@ enum Mode {
     FaultAtNotice,
 }
 
-/// What comes, as a row of a table.
+/// An event, as a row of a table.
 #[derive(Clone, Copy)]
 enum Row {
     Moment(u64),
@@ -58,7 +58,7 @@ static ROWS: [Row; 11] = [
 const FILE: &[u8] =
     b"MONITOR a@localhost 1 mon m1 secondary\nMONITOR b@localhost 1 mon m1 secondary\n";
 
-/// What each server is to be sent.
+/// What the server of each link is to be sent.
 const FIRST_ASKED: &[u8] = b"USERNAME mon\nPASSWORD m1\nLOGIN a\nGET VAR a ups.status\n";
 
 const SECOND_ASKED: &[u8] = b"USERNAME mon\nPASSWORD m1\nLOGIN b\nGET VAR b ups.status\n";
@@ -93,7 +93,7 @@ fn make_odd(mode: Mode) -> Odd
     }
 }
 
-/// What `next` gives of a row.
+/// Returns what `next` gives for a row.
 fn show(row: Row, piece: &mut Piece) -> Next {
     match row {
         Row::Moment(t) => Next::Moment(t),
@@ -133,7 +133,7 @@ impl MonWorld for Odd {
             self.faults += 1;
             return Err(Fault);
         }
-        // what was put off goes before the answer to it
+        // what was late is written before the answer to it comes
         if was_late && self.mode == Mode::Reluctant {
             return Ok(Next::Again);
         }
@@ -187,19 +187,19 @@ impl MonWorld for Odd {
     }
 }
 
-/// What a monitor and an odd world have come to.
+/// The outcome of a monitor in an odd world.
 #[derive(Clone, Copy, PartialEq, Eq)]
 struct Outcome {
     is_ok: bool,
     /// How many bytes were taken of the links.
     took: (usize, usize),
-    /// Whether these are the first of those that were due.
+    /// Whether these are the first of the bytes that were due.
     is_front: bool,
-    /// Which links are there.
+    /// Which links are up.
     linked: (bool, bool),
     /// How often the links were closed.
     closed: [usize; 2],
-    /// How many events were given, and how many notices told.
+    /// How many events were given, and how many notices handed over.
     given: usize,
     told: usize,
     faults: u64,
@@ -217,7 +217,7 @@ fn watch_odd(rt: &impl Wait, alloc: Global, mode: Mode) -> Result<Outcome, Fail>
     Ok(outcome_of(is_ok, linked, waits, &world))
 }
 
-/// A monitor is let go in a function of its own, which costs the check much less than where much else is done.
+/// Drops a monitor, in a function of its own, which makes the check much faster.
 fn let_go(_monitor: Monitor) {}
 
 fn outcome_of(is_ok: bool, linked: (bool, bool), waits: Option<Notice>, world: &Odd) -> Outcome {
@@ -237,8 +237,8 @@ fn outcome_of(is_ok: bool, linked: (bool, bool), waits: Option<Notice>, world: &
 }
 
 impl Outcome {
-    /// Whether all went well, so many bytes were taken, the first link was closed so often and the second never, and so
-    /// much was told.
+    /// Whether all went well, this many bytes were taken, the first link was closed this often and the second never,
+    /// and this many notices were handed over.
     fn ended(&self, took: (usize, usize), closed: usize, told: usize) -> bool {
         self.is_ok
             && self.is_front
@@ -249,7 +249,7 @@ impl Outcome {
             && self.told == told
     }
 
-    /// Whether one fault ended the loop with so many bytes taken, and this notice still waits.
+    /// Whether one fault ended the loop, with this many bytes taken and this notice still waiting.
     fn broke(&self, took: (usize, usize), waits: Option<Notice>) -> bool {
         !self.is_ok
             && self.is_front
@@ -270,7 +270,7 @@ fn bytes_put_off_are_offered_again(rt: HostRuntime) -> Result<(), Fail> {
     Ok(())
 }
 
-/// An answer to what was never taken is the loss of the link.
+/// An answer to bytes that were never taken loses the link.
 #[test]
 fn late_for_good(rt: HostRuntime) -> Result<(), Fail> {
     let outcome = watch_odd(&rt, rt.alloc(), Mode::LaterForever)?;

@@ -1,19 +1,19 @@
-//! What arrives but is said by nobody: moments, connections and links that come and go, and bytes that are taken.
+//! Handles each kind of arrival, with the tests that refuse it. What the lines of clients do is in `hearing`.
 
 ghost use Rattle.std.specs.Prelude.{◌≡◌, ◌<◌, ◌≤◌, map, length, max};
-ghost use Rattle.nut_history.specs.Event.{Moment, Open, Bytes, Took, Close, DriverUp, DriverBytes, DriverTook, DriverDown};
-ghost use Rattle.nut_history.specs.Acceptance.{line_feeds};
-ghost use Rattle.nut_history.specs.Machine.{advance, ticked};
-ghost use Rattle.nut_history.specs.Outcome.{IsAnswer, content_after};
+ghost use Rattle.nut_server_spec.specs.Event.{Moment, Open, Bytes, Took, Close, DriverUp, DriverBytes, DriverTook, DriverDown};
+ghost use Rattle.nut_server_spec.specs.Acceptance.{line_feeds};
+ghost use Rattle.nut_server_spec.specs.machine.Machine.{advance, ticked};
+ghost use Rattle.nut_server_spec.specs.MachineOutcome.{Answers, content_after};
 
 use crate::address::address_of;
-use crate::arrival::PIECE_MAX;
 use crate::connection::Connection;
 use crate::device::Device;
-use crate::server::{MOST_OPENED, Server};
-use nut_history::{Place, Refused};
+use crate::server::Server;
+use nut_server_spec::{OPENED_MAX, Place, Refused};
+use nut_words::PIECE_MAX;
 
-/// It is this time: each driver is asked whether it is there, where that is due.
+/// Sends PING at this time to each driver that needs it.
 fn tick_all(devices: &mut Vec<Device>, max_age: u64, time: u64)
     ensures { devices.new.items ≡ map (ticked max_age time) devices.old.items }
 {
@@ -23,7 +23,7 @@ fn tick_all(devices: &mut Vec<Device>, max_age: u64, time: u64)
 }
 
 impl Server {
-    /// So many seconds have passed since the start, or more. It takes no memory.
+    /// Notes that at least `t` seconds have passed since the start. Allocates no memory.
     pub(super) fn moment(&mut self, t: u64)
         ensures { self.new ≡ advance self.old (Moment t) }
     {
@@ -35,15 +35,15 @@ impl Server {
         );
     }
 
-    /// A client connects, which takes no memory.
+    /// Opens a connection from this address. Allocates no memory.
     pub(super) fn open(&mut self, address: &[u8]) -> Result<(), Refused>
-        ensures answered { IsAnswer self.old (Open address.now) result }
+        ensures answered { Answers self.old (Open address.now) result }
         ensures content { self.new ≡ content_after result self.old (Open address.now) }
     {
         let Some(address) = address_of(address) else {
             return Err(Refused::BadAddress);
         };
-        if self.connections.len() >= self.config.most_connections() || self.opened >= MOST_OPENED {
+        if self.connections.len() >= self.config.most_connections() || self.opened >= OPENED_MAX {
             return Err(Refused::Full);
         }
         let number = self.opened + 1;
@@ -53,9 +53,9 @@ impl Server {
         Ok(())
     }
 
-    /// A connection sends a piece. Where memory runs out in it, the connection is closed.
+    /// Handles a piece of a connection. If memory runs out in it, the connection is closed.
     pub(super) fn bytes(&mut self, c: u64, piece: &[u8]) -> Result<(), Refused>
-        ensures answered { IsAnswer self.old (Bytes c piece.now) result }
+        ensures answered { Answers self.old (Bytes c piece.now) result }
         ensures content { self.new ≡ content_after result self.old (Bytes c piece.now) }
     {
         let Some(at) = self.connections.place_of(c) else {
@@ -73,9 +73,9 @@ impl Server {
         Ok(())
     }
 
-    /// A connection took the first `n` of the bytes that wait for it.
+    /// Removes the first `n` of the bytes that wait for a connection: it took them.
     pub(super) fn took(&mut self, c: u64, n: usize) -> Result<(), Refused>
-        ensures answered { IsAnswer self.old (Took c n) result }
+        ensures answered { Answers self.old (Took c n) result }
         ensures content { self.new ≡ content_after result self.old (Took c n) }
     {
         let Some(at) = self.connections.place_of(c) else {
@@ -88,9 +88,9 @@ impl Server {
         Ok(())
     }
 
-    /// A connection is closed.
+    /// Closes a connection.
     pub(super) fn close(&mut self, c: u64) -> Result<(), Refused>
-        ensures answered { IsAnswer self.old (Close c) result }
+        ensures answered { Answers self.old (Close c) result }
         ensures content { self.new ≡ content_after result self.old (Close c) }
     {
         let Some(_) = self.connections.place_of(c) else {
@@ -100,9 +100,9 @@ impl Server {
         Ok(())
     }
 
-    /// A driver is connected, which takes no memory.
+    /// Connects a driver. Allocates no memory.
     pub(super) fn driver_up(&mut self, u: usize) -> Result<(), Refused>
-        ensures answered { IsAnswer self.old (DriverUp u) result }
+        ensures answered { Answers self.old (DriverUp u) result }
         ensures content { self.new ≡ content_after result self.old (DriverUp u) }
     {
         if u >= self.devices.len() {
@@ -112,9 +112,9 @@ impl Server {
         Ok(())
     }
 
-    /// A driver sends a piece. Where memory runs out in it, the driver counts as gone.
+    /// Handles a piece of a driver. If memory runs out in it, the driver counts as disconnected.
     pub(super) fn driver_bytes(&mut self, u: usize, piece: &[u8]) -> Result<(), Refused>
-        ensures answered { IsAnswer self.old (DriverBytes u piece.now) result }
+        ensures answered { Answers self.old (DriverBytes u piece.now) result }
         ensures content { self.new ≡ content_after result self.old (DriverBytes u piece.now) }
     {
         if u >= self.devices.len() || !self.devices[u].is_connected() {
@@ -129,9 +129,9 @@ impl Server {
         Ok(())
     }
 
-    /// A driver took the first `n` of the bytes that wait for it.
+    /// Removes the first `n` of the bytes that wait for a driver: it took them.
     pub(super) fn driver_took(&mut self, u: usize, n: usize) -> Result<(), Refused>
-        ensures answered { IsAnswer self.old (DriverTook u n) result }
+        ensures answered { Answers self.old (DriverTook u n) result }
         ensures content { self.new ≡ content_after result self.old (DriverTook u n) }
     {
         if u >= self.devices.len() || !self.devices[u].is_connected() {
@@ -144,9 +144,9 @@ impl Server {
         Ok(())
     }
 
-    /// A driver is gone.
+    /// Disconnects a driver.
     pub(super) fn driver_down(&mut self, u: usize) -> Result<(), Refused>
-        ensures answered { IsAnswer self.old (DriverDown u) result }
+        ensures answered { Answers self.old (DriverDown u) result }
         ensures content { self.new ≡ content_after result self.old (DriverDown u) }
     {
         if u >= self.devices.len() || !self.devices[u].is_connected() {

@@ -1,16 +1,17 @@
-//! What clients say: what each line decides is answered and done.
+//! Handles the lines of clients: decides on each, queues its answer and applies its effect.
 
 ghost use Rattle.std.specs.Prelude.{◌≡◌, ◌<◌, ℕ, Some, Ok, Err, false, IfErr, IsTrue, OnOk, OnErr, length, slice_get};
 ghost use Rattle.nut_words.specs.Cutter.{line_of};
 ghost use Rattle.nut_words.specs.declared.words.WordFault.TheVariants.{Memory};
-ghost use Rattle.nut_history.specs.Acceptance.{front, line_feeds};
-ghost use Rattle.nut_history.specs.Answer.{answer};
-ghost use Rattle.nut_history.specs.Command.{asked, command_in, command_of};
-ghost use Rattle.nut_history.specs.Content.{Session};
-ghost use Rattle.nut_history.specs.Machine.{answer_in, bytes_heard, caller_of, scene_of};
-ghost use Rattle.nut_history.specs.Outcome.{content_lost, is_blank, line_takes, with_backslash, MayRunOut};
-ghost use Rattle.nut_server.specs.Effects.{HasShortNames, answered_by};
-ghost use Rattle.nut_server.specs.Place.{Stands};
+ghost use Rattle.nut_server_spec.specs.Acceptance.{front, line_feeds};
+ghost use Rattle.nut_server_spec.specs.Answer.{answer};
+ghost use Rattle.nut_server_spec.specs.Command.{asked, command_in, command_of};
+ghost use Rattle.nut_server_spec.specs.Content.{Session};
+ghost use Rattle.nut_server_spec.specs.machine.Machine.{answer_in, bytes_heard, caller_of, scene_of};
+ghost use Rattle.nut_server_spec.specs.Outcome.{is_blank, line_takes, with_backslash};
+ghost use Rattle.nut_server_spec.specs.MachineOutcome.{content_lost, RunsOut};
+ghost use Rattle.nut_server.specs.inside.Effects.{HasShortNames, answered_by};
+ghost use Rattle.nut_server.specs.inside.Place.{Stands};
 
 use crate::decision::{Decision, decide};
 use crate::scene::Scene;
@@ -21,8 +22,8 @@ use nut_words::{Line, WordFault, Words, split};
 use std::alloc::{AllocError, Global};
 
 impl Server {
-    /// Answers a request of the connection at this place, or a line that is none, and does what is decided. At an
-    /// `Err` it left no trace.
+    /// Answers a request of the connection at this place, or refuses a line that isn't one, and applies what was
+    /// decided. If memory cannot be allocated, nothing changes.
     fn hear_request(
         &mut self,
         at: usize,
@@ -55,8 +56,8 @@ impl Server {
         Ok(())
     }
 
-    /// Takes the words of a line of the connection at this place, whose client hasn't logged out. At an `Err` it left no
-    /// trace.
+    /// Handles the words of a line of the connection at this place, whose client hasn't logged out. If memory cannot be
+    /// allocated, nothing changes.
     fn hear_words(&mut self, at: usize, words: &Words<'_>) -> Result<(), AllocError>
         requires { at < length self.old.sessions }
         ensures ok { (c : ℕ) (k : Session) → Stands c self.old.sessions at → slice_get self.old.sessions at ≡ Some k
@@ -71,8 +72,8 @@ impl Server {
         self.hear_request(at, &read(words))
     }
 
-    /// Takes a line of the connection at this place, which isn't answered where the client has logged out. At an `Err`
-    /// it left no trace.
+    /// Handles a line of the connection at this place. It gets no answer if the client has logged out. If memory cannot
+    /// be allocated, nothing changes.
     fn hear_line(&mut self, at: usize, line: Line<'_>) -> Result<(), AllocError>
         requires { at < length self.old.sessions }
         ensures ok { (c : ℕ) (k : Session) → Stands c self.old.sessions at → slice_get self.old.sessions at ≡ Some k
@@ -101,16 +102,16 @@ impl Server {
 }
 
 impl Server {
-    /// Takes a piece of the connection with this number, which stands at this place. An `Err` tells how many lines were
-    /// done when memory ran out; the connection is then closed.
+    /// Handles a piece of the connection with this number, at this place. If memory runs out, returns as an error how
+    /// many lines of the piece were done; the connection is then closed.
     pub(super) fn hear(&mut self, c: u64, at: usize, piece: &[u8]) -> Result<(), usize>
         requires { Stands c self.old.sessions at }
         ensures ok { OnOk result (self.new ≡ bytes_heard c piece.now self.old) }
         ensures lost { IfErr result (λ done. self.new ≡ content_lost c piece.now done self.old) }
         ensures few { IfErr result (λ done. done < line_feeds piece.now) }
-        ensures memory { IfErr result (λ done. MayRunOut c piece.now done self.old) }
+        ensures memory { IfErr result (λ done. RunsOut c piece.now done self.old) }
     {
-        // Most pieces are one line. It is read where it lies.
+        // Most pieces are one line, which can be read where it lies.
         let Some(text) = self.connections.at(at).whole_line(piece) else {
             return self.hear_lines(c, at, piece);
         };
@@ -121,13 +122,13 @@ impl Server {
         Ok(())
     }
 
-    /// The same, line by line.
+    /// Handles a piece line by line, as [`hear`](Self::hear) promises.
     fn hear_lines(&mut self, c: u64, at: usize, piece: &[u8]) -> Result<(), usize>
         requires { Stands c self.old.sessions at }
         ensures ok { OnOk result (self.new ≡ bytes_heard c piece.now self.old) }
         ensures lost { IfErr result (λ done. self.new ≡ content_lost c piece.now done self.old) }
         ensures few { IfErr result (λ done. done < line_feeds piece.now) }
-        ensures memory { IfErr result (λ done. MayRunOut c piece.now done self.old) }
+        ensures memory { IfErr result (λ done. RunsOut c piece.now done self.old) }
     {
         let mut cutter = self.connections.take_cutter(at);
         let mut left = piece;
@@ -148,7 +149,7 @@ impl Server {
     }
 }
 
-/// The words of a line, or why it has none. A line that is too long to be kept has too many.
+/// Returns the words of a line, or why it has none: `TooManyWords` if it is longer than a line may be.
 fn words_of<'a>(alloc: Global, line: Line<'a>) -> Result<Words<'a>, WordFault>
     ensures command { (result ≡ Err Memory → ⊥) → command_in result ≡ command_of (line_of line.entry) }
     ensures memory { result ≡ Err Memory → IsTrue (with_backslash (line_of line.entry)) }

@@ -1,17 +1,18 @@
 //! The loop over a world whose devices are slow, late or broken.
 
 ghost use Rattle.std.specs.Prelude.{◌≡◌, []};
-ghost use Rattle.nut_history.specs.Content.{content};
+ghost use Rattle.nut_server_spec.specs.Content.{content};
 
 use super::room::{fresh_server, let_server_go};
 use failing_world::{Deed, FailingWorld, Row, Trouble, serve_failing};
-use nut_serve::{World, Written};
+use nut_io::Written;
 use nut_server::Server;
+use nut_server_loop::World;
 use std::alloc::{AllocError, Global};
 use std::sync::Wait;
 use std::test::Fail;
 
-/// What is wrong: with connection 1, with the driver of UPS 0, and with which call.
+/// The troubles: of connection 1, of the driver of UPS 0, and the call that is a fault.
 #[derive(Clone, Copy)]
 struct Troubles {
     client: Trouble,
@@ -55,7 +56,7 @@ fn one_byte_until(fault_at: u64) -> Troubles {
     }
 }
 
-/// What is due to two clients, and to the driver.
+/// What is due to two clients and to the driver.
 #[derive(Clone, Copy)]
 struct Due<'a> {
     first: &'a [u8],
@@ -63,16 +64,16 @@ struct Due<'a> {
     asked: &'a [u8],
 }
 
-/// What a fresh server and a world have come to.
+/// The outcome of a fresh server in a world.
 #[derive(Clone, Copy, Debug, PartialEq, Eq)]
 struct Outcome {
     /// Whether the loop ended with its world.
     is_ok: bool,
-    /// How many calls were a fault.
+    /// How many calls returned a fault.
     faults: u64,
-    /// How many rows the world has left to give.
+    /// How many rows the world still had to give.
     left: usize,
-    /// How many bytes the two clients and the driver took, where these are the first of those that were due.
+    /// How many bytes the two clients and the driver took; `None` if these aren't the first of those due.
     took: (Option<usize>, Option<usize>, Option<usize>),
     /// How many bytes still wait for the first client, and for the driver.
     waits: (usize, usize),
@@ -80,7 +81,7 @@ struct Outcome {
     closed: (usize, usize),
 }
 
-/// The outcome where the world ended and gave all its rows.
+/// The outcome if the world ended and gave all its rows.
 fn served(took: (usize, usize, usize), waits: (usize, usize), closed: (usize, usize)) -> Outcome {
     Outcome {
         is_ok: true,
@@ -92,7 +93,7 @@ fn served(took: (usize, usize, usize), waits: (usize, usize), closed: (usize, us
     }
 }
 
-/// Serves rows, and says what it comes to.
+/// Serves rows, and returns the outcome.
 fn play_rows(
     rt: &impl Wait,
     alloc: Global,
@@ -156,7 +157,7 @@ fn judge(world: &FailingWorld, is_ok: bool, waits: (usize, usize), due: Due<'_>)
     }
 }
 
-/// How many bytes a connection took, where these are the first of the text.
+/// Returns how many bytes a connection took; `None` if these aren't the first of the text.
 fn taken(deeds: &[Deed], c: u64, text: &[u8]) -> Option<usize> {
     let mut left = text;
     for deed in deeds {
@@ -169,7 +170,7 @@ fn taken(deeds: &[Deed], c: u64, text: &[u8]) -> Option<usize> {
     Some(text.len().saturating_sub(left.len()))
 }
 
-/// How many bytes the driver of UPS 0 took, where these are the first of the text.
+/// Returns how many bytes the driver of UPS 0 took; `None` if these aren't the first of the text.
 fn taken_requests(deeds: &[Deed], text: &[u8]) -> Option<usize> {
     let mut left = text;
     for deed in deeds {
@@ -180,7 +181,7 @@ fn taken_requests(deeds: &[Deed], text: &[u8]) -> Option<usize> {
     Some(text.len().saturating_sub(left.len()))
 }
 
-/// What stands behind a text's beginning, if that is its beginning.
+/// Returns the text behind its beginning, if that is its beginning.
 fn behind<'a>(text: &'a [u8], beginning: &[u8]) -> Option<&'a [u8]> {
     if !text.starts_with(beginning) {
         return None;
@@ -209,7 +210,7 @@ const PAIR: [Row; 5] = [
     Row::Bytes(2, b"VER\nLOGOUT\nVER\n"),
 ];
 
-/// 55, 46 and 8 bytes.
+/// These are 55, 46 and 8 bytes.
 const PAIR_DUE: Due<'static> = Due {
     first: b"Network UPS Tools upsd profile 1.2\nERR UNKNOWN-COMMAND\n",
     second: b"Network UPS Tools upsd profile 1.2\nOK Goodbye\n",
@@ -264,8 +265,8 @@ fn a_write_to_a_driver_fails(rt: HostRuntime) -> Result<(), Fail> {
     Ok(())
 }
 
-/// Whether one fault ended the loop behind so many calls that were done: the rows given, each byte of the driver and of the
-/// first client, the one write to the second, and what was closed.
+/// Whether one fault ended the loop after `calls` calls that were done: the rows given, each byte of the driver and of
+/// the first client, the one write to the second, and what was closed.
 fn broke(outcome: Outcome, calls: usize) -> bool {
     let (Some(first), Some(second), Some(asked)) = outcome.took else {
         return false;
@@ -292,7 +293,7 @@ fn each_call_is_a_fault(rt: HostRuntime) -> Result<(), Fail> {
     Ok(())
 }
 
-/// The lines of a driver whose UPS is on line, and those of a variable that may be set.
+/// The lines of a driver whose UPS is on line, and those of a writable variable.
 const ON_LINE: &[u8] = b"SETINFO ups.status \"OL\"\nDATAOK\nDUMPDONE\n";
 
 const ID: &[u8] = b"SETINFO ups.id \"x\"\nSETFLAGS ups.id RW STRING\nSETAUX ups.id 3\n";
@@ -344,7 +345,7 @@ fn a_client_that_never_takes_is_not_read(rt: HostRuntime) -> Result<(), Fail> {
     Ok(())
 }
 
-/// Rows in which a client sets a variable 242 times.
+/// Returns rows in which a client sets a variable 242 times.
 fn setting(alloc: Global) -> Result<Vec<Row>, AllocError> {
     let mut rows = Vec::new(alloc);
     for row in [
@@ -363,7 +364,7 @@ fn setting(alloc: Global) -> Result<Vec<Row>, AllocError> {
     Ok(rows)
 }
 
-/// What is due then: DUMPALL has 8 bytes and a SET 17, so 240 of them fit behind it in 4,096 bytes.
+/// Returns what is due then: DUMPALL has 8 bytes and a SET 17, so 240 of them fit behind it in 4,096 bytes.
 fn set_due(alloc: Global) -> Result<Vec<u8>, AllocError> {
     let mut due = Vec::new(alloc);
     for _ in 0..242 {

@@ -1,7 +1,7 @@
-//! The server of the tests: one UPS, a user who may set and one who monitors, and two connections.
+//! The server of the tests: one UPS, a user who may set, a user who monitors, and two connections.
 
 ghost use Rattle.std.specs.Prelude.{◌≡◌, [], IfOk};
-ghost use Rattle.nut_history.specs.Content.{content};
+ghost use Rattle.nut_server_spec.specs.Content.{content};
 
 use nut_conf::{UsersConf, read_ups, read_upsd, read_users};
 use nut_server::{Config, Server};
@@ -13,7 +13,7 @@ const UPSES: &[u8] = b"[su700]\ndesc = \"Server room\"\n";
 const USERS: &[u8] =
     b"[admin]\npassword = pw\nactions = SET\ninstcmds = all\n[mon]\npassword = m1\nupsmon primary\n";
 
-/// A server that was told nothing.
+/// Makes a server that was told nothing.
 pub fn fresh_server(alloc: Global) -> Result<Server, Fail>
     ensures { IfOk result (λ s. s ≡ content s.configuration []) }
 {
@@ -34,7 +34,7 @@ fn fresh_config(alloc: Global) -> Result<Config, Fail> {
     }
 }
 
-// What is large is let go in functions of their own, which costs the check much less than where much else is done.
+// Large values are dropped in functions of their own, which makes the check much faster.
 
 fn let_users_go(_users: UsersConf) {}
 

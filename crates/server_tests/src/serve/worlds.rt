@@ -1,13 +1,14 @@
 //! The loop over worlds in memory.
 
 ghost use Rattle.std.specs.Prelude.{◌≡◌, []};
-ghost use Rattle.nut_history.specs.Content.{content};
+ghost use Rattle.nut_server_spec.specs.Content.{content};
 
 use super::room::{fresh_server, let_server_go};
 use super::{ROWS, ROWS_ANSWERED};
 use failing_world::Row;
-use nut_serve::{Address, Given, MemoryWorld, Note, Piece, serve_memory};
+use nut_io::Piece;
 use nut_server::Server;
+use nut_server_loop::{Address, Given, MemoryWorld, Note, serve_memory};
 use std::alloc::{AllocError, Global};
 use std::sync::Wait;
 use std::test::Fail;
@@ -68,7 +69,7 @@ fn deeds_of(
     Ok(deeds)
 }
 
-/// Counts one thing that the world did.
+/// Adds a note of the world to its deeds.
 fn add_note(deeds: &mut Deeds, note: &Note, c: u64, u: usize) -> Result<(), AllocError> {
     match note {
         Note::Took(d, part) if *d == c => deeds.replies.extend_from_slice(part.as_slice()),
@@ -87,7 +88,7 @@ fn add_note(deeds: &mut Deeds, note: &Note, c: u64, u: usize) -> Result<(), Allo
     }
 }
 
-/// What is done where these arrivals are served, of the connection c and the driver u.
+/// Serves these arrivals, and returns what is done for the connection c and the driver u.
 fn serve_rows(
     rt: &impl Wait,
     alloc: Global,
@@ -113,7 +114,7 @@ fn arrivals_of(alloc: Global, rows: &[Row]) -> Result<Vec<Given>, Fail> {
     Ok(arrivals)
 }
 
-/// Serves these arrivals, and gives what is done.
+/// Serves these arrivals, and returns what is done.
 fn serve_all(
     rt: &impl Wait,
     alloc: Global,
@@ -132,7 +133,8 @@ fn serve_all(
     deeds
 }
 
-/// Whether the first connection is answered so, and this is asked of the driver of the first UPS, and so much is closed.
+/// Whether the first connection gets these replies, the driver of the first UPS these requests, and this much is
+/// closed.
 fn gives(
     rt: &impl Wait,
     alloc: Global,
@@ -161,7 +163,7 @@ fn rows_cut_at_every_place(rt: HostRuntime) -> Result<(), Fail> {
 
 #[test]
 fn two_connections(rt: HostRuntime) -> Result<(), Fail> {
-    // bytes come before the connection is open, and wait for it
+    // bytes that come before the connection is open wait for it
     let rows = [
         Row::Bytes(2, b"LIST UPS\nLO"),
         Row::Open(b"a"),

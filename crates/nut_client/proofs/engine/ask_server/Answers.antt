@@ -2,7 +2,7 @@ use Rattle.std.proofs.Common.{IsSome, subst}
 use Rattle.std.proofs.lemmas.Bool.{false≢true}
 use Rattle.nut_client.proofs.Turns.{ends_asking, ends_by, ends_well, goes_by}
 use Rattle.nut_client.specs.Script.{script}
-use Rattle.nut_client.specs.Task.{left_of}
+use Rattle.nut_client.specs.inside.Task.{left_of}
 use Rattle.nut_client.proofs.engine.ask_server.Goals as goal
 use Rattle.nut_client.proofs.engine.ask_server.Goals.{in-None, in-Some+in-Prints}
 

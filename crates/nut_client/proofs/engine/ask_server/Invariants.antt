@@ -1,7 +1,7 @@
 use Rattle.std.specs.Io.KnownBytes.{prepend_known}
-use Rattle.nut_client.specs.Between.{IsBetween}
+use Rattle.nut_client.specs.inside.Between.{IsBetween}
 use Rattle.nut_client.specs.Script.{script}
-use Rattle.nut_client.specs.Task.{left_of}
+use Rattle.nut_client.specs.inside.Task.{left_of}
 use Rattle.nut_client.proofs.engine.ask_server.Given as goal
 
 abbrev pub invariant-loop : goal.invariant-loop

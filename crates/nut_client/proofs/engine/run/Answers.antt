@@ -1,5 +1,5 @@
 use Rattle.std.proofs.Common.{◌≡◌, refl, rules, subst}
-use Rattle.nut_client.specs.Reading.{IsRead, options_view}
+use Rattle.nut_client.specs.inside.Reading.{IsRead, options_view}
 use Rattle.nut_client.specs.Script.{script}
 use Rattle.nut_client.specs.Tool.{EndsOver, asks}
 use Rattle.nut_client.proofs.Refused.{refused}

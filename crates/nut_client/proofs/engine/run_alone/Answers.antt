@@ -1,5 +1,5 @@
 use Rattle.std.proofs.Common.{refl, subst}
-use Rattle.nut_client.specs.Reading.{IsRead, options_view}
+use Rattle.nut_client.specs.inside.Reading.{IsRead, options_view}
 use Rattle.nut_client.specs.Tool.{asks}
 use Rattle.nut_client.proofs.Refused.{refused}
 use Rattle.nut_client.proofs.engine.run_alone.Goals as goal

@@ -1,5 +1,5 @@
 use Rattle.std.proofs.Common.{◌+◌, ◌∙◌, ap, drop, subst, Ok}
-use Rattle.nut_client.specs.Task.{ShowsRow, showing}
+use Rattle.nut_client.specs.inside.Task.{ShowsRow, showing}
 use Rattle.nut_client.proofs.Tasks.{drop_got, row_on, row_over}
 use Rattle.nut_client.proofs.task.hear_row.Goals as goal
 

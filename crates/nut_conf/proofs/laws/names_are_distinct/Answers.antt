@@ -3,9 +3,10 @@ use Rattle.nut_conf.specs.Ups.{ups_directives}
 use Rattle.nut_conf.specs.Users.{user_directives}
 use Rattle.nut_conf.proofs.DistinctNames.{distinct_names}
 use Rattle.nut_conf.proofs.laws.names_are_distinct.Goals as goal
+use Rattle.nut_conf.specs.declared.limits.TheConstants.{UPSES_MAX, USERS_MAX}
 
 pub returns-clause-ups : goal.returns-clause-ups
-returns-clause-ups c = λ file lines is. distinct_names (line_fault ups_directives) 32 file lines is
+returns-clause-ups c = λ file lines is. distinct_names (line_fault ups_directives) UPSES_MAX file lines is
 
 pub returns-clause-users : goal.returns-clause-users
-returns-clause-users c = λ file lines is. distinct_names (line_fault user_directives) 64 file lines is
+returns-clause-users c = λ file lines is. distinct_names (line_fault user_directives) USERS_MAX file lines is

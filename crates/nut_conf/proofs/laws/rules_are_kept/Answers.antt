@@ -1,9 +1,12 @@
 use Rattle.std.proofs.Common.{◌≡◌, Some, refl}
 use Rattle.nut_conf.specs.Settings.{directive_of}
+use Rattle.nut_conf.specs.Descriptions.{description_directive, description_directives}
 use Rattle.nut_conf.specs.Ups.{ups_directive, ups_directives}
 use Rattle.nut_conf.specs.Upsd.{upsd_directive, upsd_directives}
 use Rattle.nut_conf.specs.Upsmon.{upsmon_directive, upsmon_directives}
 use Rattle.nut_conf.specs.Users.{user_directive, user_directives}
+use Rattle.nut_conf.specs.declared.descriptions.DescriptionDirective.{DescriptionDirective}
+use Rattle.nut_conf.specs.declared.descriptions.DescriptionDirective.TheVariants as of_descriptions
 use Rattle.nut_conf.specs.declared.ups.UpsDirective.{UpsDirective}
 use Rattle.nut_conf.specs.declared.ups.UpsDirective.TheVariants as of_ups
 use Rattle.nut_conf.specs.declared.upsd.UpsdDirective.{UpsdDirective}
@@ -14,6 +17,7 @@ use Rattle.nut_conf.specs.declared.users.UserDirective.{UserDirective}
 use Rattle.nut_conf.specs.declared.users.UserDirective.TheVariants as of_users
 use Rattle.nut_conf.proofs.KeptRules.{each_keeps_rule, keeps_rule}
 use Rattle.nut_conf.proofs.laws.rules_are_kept.Goals as goal
+use Rattle.nut_conf.specs.declared.limits.TheConstants.{UPSES_MAX, USERS_MAX}
 
 ups_found : (d : UpsDirective) → directive_of (ups_directive d).word ups_directives ≡ Some (ups_directive d)
 ups_found of_ups.Driver = refl
@@ -46,10 +50,15 @@ upsmon_found of_upsmon.FinalDelay = refl
 upsmon_found of_upsmon.NotifyMsg = refl
 upsmon_found of_upsmon.NotifyFlag = refl
 
+description_found : (d : DescriptionDirective) → directive_of (description_directive d).word description_directives ≡ Some (description_directive d)
+description_found of_descriptions.Variable = refl
+description_found of_descriptions.Command = refl
+
 pub returns : goal.returns
 returns c = record {
-  ups = λ file lines is d. each_keeps_rule ups_directives (ups_directive d) (ups_found d) 32 file lines is;
-  users = λ file lines is d. each_keeps_rule user_directives (user_directive d) (user_found d) 64 file lines is;
+  ups = λ file lines is d. each_keeps_rule ups_directives (ups_directive d) (ups_found d) UPSES_MAX file lines is;
+  users = λ file lines is d. each_keeps_rule user_directives (user_directive d) (user_found d) USERS_MAX file lines is;
   upsd = λ file lines is d. keeps_rule upsd_directives (upsd_directive d) (upsd_found d) file lines is;
   upsmon = λ file lines is d. keeps_rule upsmon_directives (upsmon_directive d) (upsmon_found d) file lines is;
+  descriptions = λ file lines is d. keeps_rule description_directives (description_directive d) (description_found d) file lines is;
 }

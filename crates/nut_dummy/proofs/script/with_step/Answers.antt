@@ -2,7 +2,7 @@ use Rattle.std.proofs.Common.{◌≡◌, [], ◌∷◌, sym, ap, ◌∙◌, subs
 use Rattle.std.specs.List.{insert}
 use Rattle.std.specs.Prelude.{map, length, nat_lt}
 use Rattle.nut_state.specs.Sorted.{IsFound, IsFree, IsAscending}
-use Rattle.nut_dummy.specs.declared.limits.TheConstants.{SCRIPT_VARIABLES}
+use Rattle.nut_dummy.specs.declared.limits.TheConstants.{SCRIPT_VARIABLES_MAX}
 use Rattle.nut_dummy.proofs.ScriptLemmas.{name_of, step_found, step_free, step_taken, ascending_step}
 use Rattle.nut_dummy.proofs.script.with_step.Goals as goal
 
@@ -10,7 +10,7 @@ pub returns-in_ok-add-in-Ok-clause-step : goal.returns-in_ok-add-in-Ok-clause-st
 returns-in_ok-add-in-Ok-clause-step c =
     let found : IsFound name_of c.args.name c.args.variables.items c.in-Ok.place = rw (c.deref.ensures.value, c.as_bytes.ensures.value) at c.in-Ok.ensures in
     step_taken c.args.name c.args.step c.args.variables.items c.in-Ok.place c.index_mut.result.now c.add.new.self
-    (nat_lt (length c.args.variables.items) SCRIPT_VARIABLES) found c.index_mut.ensures.value c.in_ok-add-in-Ok.ensures.ok
+    (nat_lt (length c.args.variables.items) SCRIPT_VARIABLES_MAX) found c.index_mut.ensures.value c.in_ok-add-in-Ok.ensures.ok
 
 pub returns-in_ok-add-in-Ok-clause-ascending : goal.returns-in_ok-add-in-Ok-clause-ascending
 returns-in_ok-add-in-Ok-clause-ascending c =

@@ -4,7 +4,7 @@ use Rattle.std.proofs.lemmas.List.{take_rest, drop-drop, length-drop, length-app
 use Rattle.nut_words.specs.Lines.{rest, rest_after, lines_after}
 use Rattle.nut_words.specs.Cutter.{handed_out, line_of}
 use Rattle.nut_words.proofs.StreamGrowth.{rest-append}
-use Rattle.nut_dummy.specs.Teller.{heard_all}
+use Rattle.nut_dummy.specs.machine.Teller.{heard_all}
 use Rattle.nut_dummy.proofs.HearLemmas.{heard_all-append, front_lines, front_rest, stopped_at, few_lines_front, ok_is, err_is}
 use Rattle.nut_dummy.proofs.teller.hear_piece.Goals as goal
 use Rattle.nut_dummy.proofs.teller.hear_piece.Goals.{in-Some+else-is_err, in_default}

@@ -1,6 +1,6 @@
 use Rattle.std.proofs.Common.{◌≡◌, ◌≤◌, ◌++◌, ℕ, List, length, drop, take}
 use Rattle.nut_words.specs.Lines.{rest, lines_after}
-use Rattle.nut_dummy.specs.Teller.{heard_all}
+use Rattle.nut_dummy.specs.machine.Teller.{heard_all}
 use Rattle.nut_dummy.proofs.teller.hear_piece.Given as goal
 
 -- The first n bytes were heard, as the lines that they complete behind the bytes before the piece.

@@ -1,5 +1,5 @@
 use Rattle.std.proofs.Common.{[], ◌∷◌, ◌++◌, append_assoc, sym, ap, ◌∙◌}
-use Rattle.nut_monitor.specs.Sound.{with_word}
+use Rattle.nut_monitor.specs.inside.Sound.{with_word}
 use Rattle.nut_words.proofs.CutLemmas.{pending}
 use Rattle.nut_monitor.proofs.FlagLemmas.{flags_of-more}
 use Rattle.nut_monitor.proofs.flags.read_flags.Goals as goal

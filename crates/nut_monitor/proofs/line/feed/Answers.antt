@@ -1,5 +1,5 @@
 use Rattle.std.proofs.Common.{◌≡◌, true, false, is_err, sym, subst, ◌∙◌}
-use Rattle.nut_monitor.specs.Sound.{IsCountAfter, IsSound, IsSoundLink}
+use Rattle.nut_monitor.specs.inside.Sound.{IsCountAfter, IsSound, IsSoundLink}
 use Rattle.nut_monitor.proofs.Links.{fed_count, fed_failed, fed_sound, ok_fault}
 use Rattle.nut_monitor.proofs.line.feed.Goals as goal
 

@@ -1,4 +1,4 @@
-use Rattle.nut_decision.proofs.Writables.{query_writable}
+use Rattle.nut_monitor_spec.proofs.Writables.{query_writable}
 use Rattle.nut_monitor.proofs.query.request.Goals as goal
 
 pub returns-in-Username-clause-writable : goal.returns-in-Username-clause-writable

@@ -1,5 +1,5 @@
 use Rattle.std.proofs.Common.{◌∙◌, ap, map}
-use Rattle.nut_decision.specs.Configuration.{has_primary, line_of}
+use Rattle.nut_monitor_spec.specs.Configuration.{has_primary, line_of}
 use Rattle.nut_monitor.proofs.Loops.{primaries}
 use Rattle.nut_monitor.proofs.shutdown.has_primary.Goals as goal
 

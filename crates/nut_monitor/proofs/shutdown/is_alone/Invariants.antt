@@ -1,6 +1,6 @@
 use Rattle.std.proofs.Common.{◌≡◌, drop, map}
-use Rattle.nut_decision.specs.Configuration.{line_of}
-use Rattle.nut_decision.specs.Machine.{all_alone}
+use Rattle.nut_monitor_spec.specs.Configuration.{line_of}
+use Rattle.nut_monitor_spec.specs.machine.Machine.{all_alone}
 use Rattle.nut_monitor.proofs.shutdown.is_alone.Given as goal
 
 abbrev pub invariant-loop-i : goal.invariant-loop-i

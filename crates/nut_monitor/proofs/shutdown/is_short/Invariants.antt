@@ -1,7 +1,7 @@
 use Rattle.std.proofs.Common.{◌≡◌, ◌-◌, drop, map}
 use Rattle.nut_conf.specs.Upsmon.{min_supplies_of}
-use Rattle.nut_decision.specs.Configuration.{configuration_of, line_of}
-use Rattle.nut_decision.specs.Machine.{supply_of}
+use Rattle.nut_monitor_spec.specs.Configuration.{configuration_of, line_of}
+use Rattle.nut_monitor_spec.specs.machine.Machine.{supply_of}
 use Rattle.nut_monitor.proofs.shutdown.is_short.Given as goal
 
 abbrev pub invariant-loop-i : goal.invariant-loop-i

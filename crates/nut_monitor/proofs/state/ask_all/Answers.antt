@@ -1,6 +1,6 @@
 use Rattle.std.proofs.Common.{◌≡◌, ◌+◌, ◌<◌, length, map, slice_set, slice_index_or, ap, ◌∙◌, arith}
-use Rattle.nut_decision.specs.Configuration.{configuration_of, line_of}
-use Rattle.nut_decision.specs.Machine.{all_asked, asked_next}
+use Rattle.nut_monitor_spec.specs.Configuration.{configuration_of, line_of}
+use Rattle.nut_monitor_spec.specs.machine.Machine.{all_asked, asked_next}
 use Rattle.nut_monitor.proofs.Loops.{asked_more, asked_whole, front_asked, length-asked, suc_is}
 use Rattle.nut_monitor.proofs.Steps.{lines_length}
 use Rattle.nut_monitor.proofs.state.ask_all.Goals as goal

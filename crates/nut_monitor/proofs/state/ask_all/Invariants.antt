@@ -1,6 +1,6 @@
 use Rattle.std.proofs.Common.{◌≡◌, length}
-use Rattle.nut_decision.specs.Configuration.{configuration_of}
-use Rattle.nut_decision.specs.Machine.{asked_next}
+use Rattle.nut_monitor_spec.specs.Configuration.{configuration_of}
+use Rattle.nut_monitor_spec.specs.machine.Machine.{asked_next}
 use Rattle.nut_monitor.proofs.Loops.{front_asked}
 use Rattle.nut_monitor.proofs.state.ask_all.Given as goal
 

@@ -1,8 +1,8 @@
 use Rattle.std.proofs.Common.{◌≡◌, suc, ◌+◌, ◌++◌, ◌<◌, ◌≤◌, drop, length, slice_set, slice_index_or, ap, sym, ◌∙◌, append_assoc, arith}
 use Rattle.nut_conf.specs.declared.notice.Notice.TheVariants as kinds
-use Rattle.nut_decision.specs.Configuration.{configuration_of}
-use Rattle.nut_decision.specs.Decision.{told, when}
-use Rattle.nut_decision.specs.Machine.{is_silent, silences_told, silent}
+use Rattle.nut_monitor_spec.specs.Configuration.{configuration_of}
+use Rattle.nut_monitor_spec.specs.Decision.{told, when}
+use Rattle.nut_monitor_spec.specs.machine.Machine.{is_silent, silences_told, silent}
 use Rattle.nut_monitor.proofs.Loops.{front_silent, length-silent, silent_more, silent_whole, suc_is, told_step}
 use Rattle.nut_monitor.proofs.state.tell_silences.Goals as goal
 

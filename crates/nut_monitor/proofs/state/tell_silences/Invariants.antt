@@ -1,6 +1,6 @@
 use Rattle.std.proofs.Common.{◌≡◌, ◌≤◌, ◌+◌, ◌++◌, drop, length}
-use Rattle.nut_decision.specs.Configuration.{configuration_of}
-use Rattle.nut_decision.specs.Machine.{silences_told, silent}
+use Rattle.nut_monitor_spec.specs.Configuration.{configuration_of}
+use Rattle.nut_monitor_spec.specs.machine.Machine.{silences_told, silent}
 use Rattle.nut_monitor.proofs.Loops.{front_silent}
 use Rattle.nut_monitor.proofs.state.tell_silences.Given as goal
 

@@ -1,5 +1,5 @@
 use Rattle.std.proofs.Common.{◌≡◌, map, take}
-use Rattle.nut_monitor.specs.Inside.{unwatched}
+use Rattle.nut_monitor.specs.inside.Inside.{unwatched}
 use Rattle.nut_monitor.proofs.state.unlinked.Given as goal
 
 abbrev pub invariant-loop : goal.invariant-loop

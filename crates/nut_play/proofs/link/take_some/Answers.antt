@@ -1,10 +1,10 @@
 use Rattle.std.proofs.Common.{ap, sym, ◌∙◌, length, take, is_some, arith, length-drop}
-use Rattle.nut_history.specs.Acceptance.{session_of, waiting_of}
-use Rattle.nut_history.specs.Content.{Content}
-use Rattle.nut_history.specs.Event.{Took}
-use Rattle.nut_history.specs.Machine.{advance}
-use Rattle.nut_history.proofs.Others.{advance-took}
-use Rattle.nut_fleet.specs.Going.{put_on}
+use Rattle.nut_server_spec.specs.Acceptance.{session_of, waiting_of}
+use Rattle.nut_server_spec.specs.Content.{Content}
+use Rattle.nut_server_spec.specs.Event.{Took}
+use Rattle.nut_server_spec.specs.machine.Machine.{advance}
+use Rattle.nut_server_spec.proofs.Others.{advance-took}
+use Rattle.nut_fleet.specs.machine.Going.{put_on}
 use Rattle.nut_play.proofs.Takes.{took-twice, took-none, still-open, one-more, put-none}
 use Rattle.nut_play.proofs.link.take_some.Goals as goal
 

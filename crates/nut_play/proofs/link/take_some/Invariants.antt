@@ -1,8 +1,8 @@
 use Rattle.std.proofs.Common.{◌≡◌, ◌≤◌, ◌-◌, take}
-use Rattle.nut_history.specs.Acceptance.{waiting_of}
-use Rattle.nut_history.specs.Event.{Took}
-use Rattle.nut_history.specs.Machine.{advance}
-use Rattle.nut_fleet.specs.Going.{put_on}
+use Rattle.nut_server_spec.specs.Acceptance.{waiting_of}
+use Rattle.nut_server_spec.specs.Event.{Took}
+use Rattle.nut_server_spec.specs.machine.Machine.{advance}
+use Rattle.nut_fleet.specs.machine.Going.{put_on}
 use Rattle.nut_play.proofs.link.take_some.Given as goal
 
 abbrev pub invariant-loop-moved : goal.invariant-loop-moved

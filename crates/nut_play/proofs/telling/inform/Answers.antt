@@ -1,5 +1,5 @@
 use Rattle.std.proofs.Common.{◌<◌, ap, ◌∙◌, subst, ◌++◌, ◌∷◌, [], length, map, if◌then◌else◌}
-use Rattle.nut_decision.specs.Content.{phase_of}
+use Rattle.nut_monitor_spec.specs.Content.{phase_of}
 use Rattle.nut_monitor.specs.Monitors.{MonitorValue}
 use Rattle.nut_monitor.specs.Events.{event_of}
 use Rattle.nut_fleet.specs.Log.{Noticed, Moved, logged}

@@ -1,7 +1,7 @@
 use Rattle.std.proofs.Common.{refl}
 use Rattle.std.proofs.lemmas.Result.{err_from_is_err_and}
 use Rattle.nut_proto.specs.declared.reply.Reply.TheVariants as replies
-use Rattle.nut_history.specs.Answer.{Line}
+use Rattle.nut_server_spec.specs.Answer.{Line}
 use Rattle.nut_server.proofs.changes.become_primary.Goals as goal
 
 pub returns-in_err-authorize : goal.returns-in_err-authorize

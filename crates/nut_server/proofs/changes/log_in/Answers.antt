@@ -2,7 +2,7 @@ use Rattle.std.proofs.Common.{rules, refl, is_none, ℕ}
 use Rattle.std.proofs.lemmas.Result.{err_from_is_err_and}
 use Rattle.nut_proto.specs.declared.refusal.Refusal.TheVariants as refusals
 use Rattle.nut_proto.specs.declared.reply.Reply.TheVariants as replies
-use Rattle.nut_history.specs.Answer.{Answer, Line, check}
+use Rattle.nut_server_spec.specs.Answer.{Answer, Line, check}
 use Rattle.nut_server.proofs.changes.log_in.Goals as goal
 
 pub returns-in_err-u : goal.returns-in_err-u

@@ -1,7 +1,7 @@
 use Rattle.std.proofs.Common.{◌∙◌, ap, ℕ}
 use Rattle.std.proofs.lemmas.Result.{err_from_is_err_and}
-use Rattle.nut_history.specs.Answer.{Answer, set_answer, device_at, on_data, unless}
-use Rattle.nut_history.specs.Device.{Device, fits}
+use Rattle.nut_server_spec.specs.Answer.{Answer, set_answer, device_at, on_data, unless}
+use Rattle.nut_server_spec.specs.Device.{Device, fits}
 use Rattle.nut_server.proofs.Deciding.{sets, connected, on_told}
 use Rattle.nut_server.proofs.changes.set_variable.Goals as goal
 

@@ -2,11 +2,11 @@ use Rattle.std.proofs.Common.{◌∙◌, ap, subst, refl, length}
 use Rattle.nut_proto.specs.declared.reply.Reply.TheVariants as replies
 use Rattle.nut_proto.specs.declared.request.Request.TheVariants as requests
 use Rattle.nut_proto.specs.Descriptions.{variable_description, command_description}
-use Rattle.nut_history.specs.Answer.{Line, described, guests_of, type_reply, var_row}
-use Rattle.nut_history.specs.Command.{Asks}
-use Rattle.nut_history.specs.Configuration.{ups_named}
-use Rattle.nut_history.specs.Machine.{caller_of}
-use Rattle.nut_server.specs.Decisions.{Grants}
+use Rattle.nut_server_spec.specs.Answer.{Line, described, guests_of, type_reply, var_row}
+use Rattle.nut_server_spec.specs.Command.{Asks}
+use Rattle.nut_server_spec.specs.Configuration.{ups_named}
+use Rattle.nut_server_spec.specs.machine.Machine.{caller_of}
+use Rattle.nut_server.specs.inside.Decisions.{Grants}
 use Rattle.nut_server.proofs.Deciding.{tells, grants, refusable_set, refusable_command, refusable_fsd}
 use Rattle.nut_server.proofs.Quiet.{of_ups, of_described, of_variable, of_command, of_list}
 use Rattle.nut_server.proofs.decision.decide_request.Goals as goal
@@ -40,13 +40,13 @@ pub returns-in-GetDesc : goal.returns-in-GetDesc
 returns-in-GetDesc c =
     rw (c.in-GetDesc.is, ← c.as_bytes-in-GetDesc.ensures, ← c.as_bytes-in-GetDesc-2.ensures)
     (tells c.args.scene.now c.tell-in-GetDesc.result _ c.args.line.now.items (c.tell-in-GetDesc.ensures.answer ∙ c.describe_variable.ensures) c.tell-in-GetDesc.ensures.effect
-    (of_variable c.args.scene.now c.as_bytes-in-GetDesc.result.now c.as_bytes-in-GetDesc-2.result.now (λ d v. Line (replies.Desc c.as_bytes-in-GetDesc.result.now c.as_bytes-in-GetDesc-2.result.now (variable_description c.as_bytes-in-GetDesc-2.result.now))) (λ d v. (λ b. refl, λ configuration b. refl))))
+    (of_variable c.args.scene.now c.as_bytes-in-GetDesc.result.now c.as_bytes-in-GetDesc-2.result.now (λ d v. Line (replies.Desc c.as_bytes-in-GetDesc.result.now c.as_bytes-in-GetDesc-2.result.now (variable_description c.args.scene.now.configuration.variable_texts c.as_bytes-in-GetDesc-2.result.now))) (λ d v. (λ b. refl, λ configuration b. refl))))
 
 pub returns-in-GetCmdDesc : goal.returns-in-GetCmdDesc
 returns-in-GetCmdDesc c =
     rw (c.in-GetCmdDesc.is, ← c.as_bytes-in-GetCmdDesc.ensures, ← c.as_bytes-in-GetCmdDesc-2.ensures)
     (tells c.args.scene.now c.tell-in-GetCmdDesc.result _ c.args.line.now.items (c.tell-in-GetCmdDesc.ensures.answer ∙ c.describe_command.ensures) c.tell-in-GetCmdDesc.ensures.effect
-    (of_command c.args.scene.now c.as_bytes-in-GetCmdDesc.result.now c.as_bytes-in-GetCmdDesc-2.result.now (Line (replies.CmdDesc c.as_bytes-in-GetCmdDesc.result.now c.as_bytes-in-GetCmdDesc-2.result.now (command_description c.as_bytes-in-GetCmdDesc-2.result.now))) (λ b. refl, λ configuration b. refl)))
+    (of_command c.args.scene.now c.as_bytes-in-GetCmdDesc.result.now c.as_bytes-in-GetCmdDesc-2.result.now (Line (replies.CmdDesc c.as_bytes-in-GetCmdDesc.result.now c.as_bytes-in-GetCmdDesc-2.result.now (command_description c.args.scene.now.configuration.command_texts c.as_bytes-in-GetCmdDesc-2.result.now))) (λ b. refl, λ configuration b. refl)))
 
 pub returns-in-List : goal.returns-in-List
 returns-in-List c =

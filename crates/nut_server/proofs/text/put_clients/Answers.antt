@@ -1,5 +1,5 @@
 use Rattle.std.proofs.Common.{sym, ◌∙◌, ap}
-use Rattle.nut_server.specs.Rows.{client_text}
+use Rattle.nut_server.specs.inside.Rows.{client_text}
 use Rattle.nut_server.proofs.RowTexts.{row_behind, client_shown, client_hidden}
 use Rattle.nut_server.proofs.text.put_clients.Goals.{then-is_logged_in+in_ok-put_client, else-is_logged_in}
 use Rattle.nut_server.proofs.text.put_clients.Goals as goal

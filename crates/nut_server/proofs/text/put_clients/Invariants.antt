@@ -1,5 +1,5 @@
 use Rattle.std.proofs.Common.{◌≡◌, ◌++◌, take, flat_map}
-use Rattle.nut_server.specs.Rows.{client_text}
+use Rattle.nut_server.specs.inside.Rows.{client_text}
 use Rattle.nut_server.proofs.text.put_clients.Given as goal
 
 abbrev pub invariant-loop-index : goal.invariant-loop-index

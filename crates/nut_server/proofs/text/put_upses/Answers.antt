@@ -1,7 +1,7 @@
 use Rattle.std.proofs.Common.{sym, ◌∙◌, ap, ℕ, List, arith}
 use Rattle.nut_proto.specs.declared.reply.Reply.TheVariants as replies
 use Rattle.nut_proto.specs.Replies.{reply_line}
-use Rattle.nut_history.specs.Configuration.{Ups}
+use Rattle.nut_server_spec.specs.Configuration.{Ups}
 use Rattle.nut_server.proofs.RowTexts.{row_behind, within_some}
 use Rattle.nut_server.proofs.text.put_upses.Goals.{in-Some+in_ok-put_ups, in_default}
 use Rattle.nut_server.proofs.text.put_upses.Goals as goal

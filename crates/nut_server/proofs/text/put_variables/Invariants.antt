@@ -1,6 +1,6 @@
 use Rattle.std.proofs.Common.{◌≡◌, ◌++◌, take, flat_map}
 use Rattle.nut_proto.specs.Replies.{reply_line}
-use Rattle.nut_history.specs.Answer.{var_row}
+use Rattle.nut_server_spec.specs.Answer.{var_row}
 use Rattle.nut_server.proofs.text.put_variables.Given as goal
 
 abbrev pub invariant-loop-variable : goal.invariant-loop-variable

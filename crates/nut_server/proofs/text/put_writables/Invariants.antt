@@ -1,5 +1,5 @@
 use Rattle.std.proofs.Common.{◌≡◌, ◌++◌, take, flat_map}
-use Rattle.nut_server.specs.Rows.{writable_text}
+use Rattle.nut_server.specs.inside.Rows.{writable_text}
 use Rattle.nut_server.proofs.text.put_writables.Given as goal
 
 abbrev pub invariant-loop-variable : goal.invariant-loop-variable

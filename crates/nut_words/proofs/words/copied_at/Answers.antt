@@ -1,5 +1,5 @@
 use Rattle.std.proofs.Common.{arith, ap, sym, ◌∙◌, ◌≡◌, ◌+◌, ◌-◌, take, get_or, []}
-use Rattle.nut_words.specs.WordsInside.{with_copied}
+use Rattle.nut_words.specs.inside.WordsInside.{with_copied}
 use Rattle.nut_words.proofs.CopiedWords.{here, elsewhere}
 use Rattle.nut_words.proofs.words.copied_at.Goals as goal
 

@@ -1,8 +1,8 @@
 use Rattle.std.proofs.Common.{◌≡◌, ℕ, ◌≤◌, List, [], length, take, get_or}
-use Rattle.nut_words.specs.WordsInside.{with_copied}
+use Rattle.nut_words.specs.inside.WordsInside.{with_copied}
 use Rattle.nut_words.proofs.words.copied_at.Given as goal
 
--- No copy behind those that are left has the place.
+-- None of the copies already looked at has the place.
 abbrev pub invariant-loop-left : goal.invariant-loop-left
 invariant-loop-left l =
     (l.left ≤ length l.copied)

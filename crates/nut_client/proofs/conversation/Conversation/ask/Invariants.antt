@@ -1,5 +1,5 @@
 use Rattle.std.specs.Io.KnownBytes.{prepend_known}
-use Rattle.nut_client.specs.Conversation.{IsListening}
+use Rattle.nut_client.specs.inside.Conversation.{IsListening}
 use Rattle.nut_client.proofs.conversation.Conversation.ask.Given as goal
 
 abbrev pub invariant-loop : goal.invariant-loop

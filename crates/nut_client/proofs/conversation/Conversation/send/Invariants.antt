@@ -1,5 +1,5 @@
 use Rattle.std.proofs.Common.{◌≡◌}
-use Rattle.nut_client.specs.Sending.{IsSending}
+use Rattle.nut_client.specs.inside.Sending.{IsSending}
 use Rattle.nut_client.proofs.conversation.Conversation.send.Given as goal
 
 abbrev pub invariant-loop : goal.invariant-loop

@@ -1,5 +1,5 @@
 use Rattle.std.proofs.Common.{◌∙◌, sym, ap}
-use Rattle.nut_client.specs.Task.{left_at}
+use Rattle.nut_client.specs.inside.Task.{left_at}
 use Rattle.nut_client.proofs.Tasks.{text_shown}
 use Rattle.nut_client.proofs.task.Task.into_text.Goals as goal
 

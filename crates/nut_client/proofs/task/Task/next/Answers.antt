@@ -1,6 +1,6 @@
 use Rattle.std.proofs.Common.{ap, ◌∙◌}
 use Rattle.nut_proto.specs.declared.request.Request.TheVariants as requests
-use Rattle.nut_client.specs.Task.{left_at, row_query}
+use Rattle.nut_client.specs.inside.Task.{left_at, row_query}
 use Rattle.nut_client.proofs.Tasks.{says_at, says_deed, says_first, says_password, says_row}
 use Rattle.nut_client.proofs.task.Task.next.Goals as goal
 

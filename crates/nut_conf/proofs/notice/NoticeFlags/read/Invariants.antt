@@ -5,7 +5,7 @@ use Rattle.nut_conf.specs.Notices.{plus_parts, flags_in, is_flag}
 use Rattle.nut_words.proofs.CutLemmas.{pending, left}
 use Rattle.nut_conf.proofs.notice.NoticeFlags.read.Given as goal
 
--- the flags are those of the parts so far, and all of them are known
+-- The flags are those of the parts so far, all of which are known.
 abbrev pub invariant-loop-rest : goal.invariant-loop-rest
 invariant-loop-rest l = (done : Words) × record {
   parts : plus_parts l.bytes ≡ done ++ pending 43 l.rest;

@@ -1,5 +1,6 @@
 use Rattle.std.proofs.Common.{ap, sym, ◌∙◌}
 use Rattle.std.specs.List.{position}
+use Rattle.nut_words.specs.declared.limits.TheConstants.{UPS_NAME_MAX}
 use Rattle.indexmap.specs.IndexMap.{keys}
 use Rattle.nut_conf.specs.Sections.{is_named}
 use Rattle.nut_conf.proofs.NameLookup.{is_named-no, position-no, position-names}
@@ -10,7 +11,7 @@ pub returns-in-Ok-clause-number : goal.returns-in-Ok-clause-number
 returns-in-Ok-clause-number c =
     let word = c.args.name.now in
     let names = keys c.args.self.now.ups.by_name in
-    c.get_index_of.ensures.index ∙ ap (λ w. position (is_named w) names) (name-same 32 word c.in-Ok.name.bytes.items (c.in-Ok.ensures {u = tt})) ∙ sym (position-names word names)
+    c.get_index_of.ensures.index ∙ ap (λ w. position (is_named w) names) (name-same UPS_NAME_MAX word c.in-Ok.name.bytes.items (c.in-Ok.ensures {u = tt})) ∙ sym (position-names word names)
 
 pub returns-in-Err-clause-number : goal.returns-in-Err-clause-number
 returns-in-Err-clause-number c =

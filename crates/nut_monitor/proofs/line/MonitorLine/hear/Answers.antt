@@ -1,9 +1,9 @@
 use Rattle.std.proofs.Common.{◌≡◌, ◌++◌, [], Some, true, false, is_err, sym, ap, subst, ◌∙◌}
 use Rattle.std.specs.Prelude.{if◌then◌else◌, is_some}
-use Rattle.nut_decision.specs.Configuration.{configuration_of}
-use Rattle.nut_decision.specs.Content.{Watch}
-use Rattle.nut_decision.specs.Machine.{told_heard, watch_heard}
-use Rattle.nut_monitor.specs.Sound.{IsSound, IsSoundLink}
+use Rattle.nut_monitor_spec.specs.Configuration.{configuration_of}
+use Rattle.nut_monitor_spec.specs.Content.{Watch}
+use Rattle.nut_monitor_spec.specs.machine.Machine.{told_heard, watch_heard}
+use Rattle.nut_monitor.specs.inside.Sound.{IsSound, IsSoundLink}
 use Rattle.nut_monitor.proofs.Links.{err_fault, ok_fault}
 use Rattle.nut_monitor.proofs.Steps.{told_failed, told_goes_on, watch_failed, watch_goes_on}
 use Rattle.nut_monitor.proofs.line.MonitorLine.hear.Goals as goal

@@ -1,5 +1,5 @@
 use Rattle.std.proofs.Common.{ap, ◌∙◌}
-use Rattle.nut_decision.specs.Acceptance.{is_linked, watch_at}
+use Rattle.nut_monitor_spec.specs.Acceptance.{is_linked, watch_at}
 use Rattle.nut_monitor.specs.Monitors.{MonitorValue}
 use Rattle.nut_monitor.proofs.Arrives.{linked_told}
 use Rattle.nut_monitor.proofs.monitor.Monitor.linked.Goals as goal

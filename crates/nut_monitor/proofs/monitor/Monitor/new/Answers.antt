@@ -1,4 +1,4 @@
-use Rattle.nut_decision.specs.Configuration.{configuration_of}
+use Rattle.nut_monitor_spec.specs.Configuration.{configuration_of}
 use Rattle.nut_monitor.proofs.Begun.{begins_as}
 use Rattle.nut_monitor.proofs.Steps.{beginning_orderly}
 use Rattle.nut_monitor.proofs.monitor.Monitor.new.Goals as goal

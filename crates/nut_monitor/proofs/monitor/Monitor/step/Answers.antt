@@ -1,9 +1,9 @@
 use Rattle.std.proofs.Common.{sym, ap, subst, ◌∙◌}
-use Rattle.nut_decision.specs.Configuration.{configuration_of}
-use Rattle.nut_decision.specs.Event as E
-use Rattle.nut_decision.specs.Outcome.{IsAnswer}
+use Rattle.nut_monitor_spec.specs.Configuration.{configuration_of}
+use Rattle.nut_monitor_spec.specs.Event as E
+use Rattle.nut_monitor_spec.specs.Outcome.{IsAnswer}
 use Rattle.nut_monitor.specs.Events.{event_of}
-use Rattle.nut_monitor.specs.Steps.{content_in}
+use Rattle.nut_monitor.specs.inside.Steps.{content_in}
 use Rattle.nut_monitor.proofs.monitor.Monitor.step.Goals as goal
 
 pub invariant_of-self-in-LinkTook : goal.invariant_of-self-in-LinkTook

@@ -1,6 +1,6 @@
 use Rattle.std.proofs.Common.{ap}
-use Rattle.nut_decision.specs.Configuration.{configuration_of}
-use Rattle.nut_monitor.specs.Steps.{content_in}
+use Rattle.nut_monitor_spec.specs.Configuration.{configuration_of}
+use Rattle.nut_monitor.specs.inside.Steps.{content_in}
 use Rattle.nut_monitor.proofs.Arrives.{stands_taken}
 use Rattle.nut_monitor.proofs.monitor.Monitor.take_notice.Goals as goal
 

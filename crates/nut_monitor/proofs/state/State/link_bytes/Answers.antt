@@ -1,7 +1,8 @@
 use Rattle.std.proofs.Common.{◌≡◌, ◌≤◌, length, true, false, sym, ◌∙◌, ap, arith, length-set}
-use Rattle.nut_decision.specs.Configuration.{configuration_of}
-use Rattle.nut_monitor.specs.Sound.{lacks_memory}
-use Rattle.nut_monitor.specs.Steps.{content_in}
+use Rattle.nut_words.specs.declared.limits.TheConstants.{PIECE_MAX}
+use Rattle.nut_monitor_spec.specs.Configuration.{configuration_of}
+use Rattle.nut_monitor.specs.inside.Sound.{lacks_memory}
+use Rattle.nut_monitor.specs.inside.Steps.{content_in}
 use Rattle.nut_monitor.proofs.Steps.{anew_orderly}
 use Rattle.nut_monitor.proofs.Bounded.{set_bounded}
 use Rattle.nut_monitor.proofs.Bytes.{piece_bounded, bytes_done, bytes_free, bytes_lack, bytes_out}
@@ -20,7 +21,7 @@ returns-then-ran_out c =
     let s = content_in (configuration_of c.args.config.now) c.args.self.now in
     let checked = c.in_ok-check.ensures {u = tt} in
     let free : length c.args.self.now.notices ≤ 0 = grind (arith, c.is_empty.ensures, c.if-not-is_empty.false) in
-    let short : length c.args.piece.now ≤ 512 = omega (arith, c.if-piece-gt-PIECE_MAX.false) in
+    let short : length c.args.piece.now ≤ PIECE_MAX = omega (arith, c.if-piece-gt-PIECE_MAX.false) in
     let lacks : lacks_memory c.hear-done.result.1 ≡ true = sym c.ran_out.ensures ∙ c.if-ran_out.true in
     record {
       step = record {
@@ -36,7 +37,7 @@ returns c =
     let s = content_in (configuration_of c.args.config.now) c.args.self.now in
     let checked = c.in_ok-check.ensures {u = tt} in
     let free : length c.args.self.now.notices ≤ 0 = grind (arith, c.is_empty.ensures, c.if-not-is_empty.false) in
-    let short : length c.args.piece.now ≤ 512 = omega (arith, c.if-piece-gt-PIECE_MAX.false) in
+    let short : length c.args.piece.now ≤ PIECE_MAX = omega (arith, c.if-piece-gt-PIECE_MAX.false) in
     let kept : lacks_memory c.hear-done.result.1 ≡ false = sym c.ran_out.ensures ∙ c.if-ran_out.false in
     record {
       step = record {

@@ -1,9 +1,9 @@
 use Rattle.std.proofs.Common.{◌++◌, [], ◌∙◌, ap}
 use Rattle.std.specs.Prelude.{if◌then◌else◌}
-use Rattle.nut_decision.specs.Acceptance.{watch_at}
-use Rattle.nut_decision.specs.Configuration.{configuration_of}
-use Rattle.nut_decision.specs.Machine.{loss_told, settled}
-use Rattle.nut_monitor.specs.Steps.{content_in}
+use Rattle.nut_monitor_spec.specs.Acceptance.{watch_at}
+use Rattle.nut_monitor_spec.specs.Configuration.{configuration_of}
+use Rattle.nut_monitor_spec.specs.machine.Machine.{loss_told, settled}
+use Rattle.nut_monitor.specs.inside.Steps.{content_in}
 use Rattle.nut_monitor.proofs.Steps.{here, lost_accepted, lost_content}
 use Rattle.nut_monitor.proofs.state.State.link_lost.Goals as goal
 

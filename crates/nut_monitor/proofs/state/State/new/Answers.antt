@@ -1,8 +1,8 @@
 use Rattle.std.proofs.Common.{◌∙◌, ap, ap₂, map, None}
-use Rattle.nut_decision.specs.Configuration.{configuration_of, line_of}
-use Rattle.nut_decision.specs.Content.{Content}
+use Rattle.nut_monitor_spec.specs.Configuration.{configuration_of, line_of}
+use Rattle.nut_monitor_spec.specs.Content.{Content}
 use Rattle.nut_monitor.specs.Answers.{beginning}
-use Rattle.nut_monitor.specs.Inside.{unwatched}
+use Rattle.nut_monitor.specs.inside.Inside.{unwatched}
 use Rattle.nut_monitor.proofs.Steps.{all_unwatched}
 use Rattle.nut_monitor.proofs.state.State.new.Goals as goal
 

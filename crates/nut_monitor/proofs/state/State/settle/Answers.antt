@@ -1,7 +1,7 @@
 use Rattle.std.proofs.Common.{sym, subst}
-use Rattle.nut_decision.specs.Configuration.{configuration_of}
-use Rattle.nut_monitor.specs.Inside.{IsOrderly}
-use Rattle.nut_monitor.specs.Steps.{content_in}
+use Rattle.nut_monitor_spec.specs.Configuration.{configuration_of}
+use Rattle.nut_monitor.specs.inside.Inside.{IsOrderly}
+use Rattle.nut_monitor.specs.inside.Steps.{content_in}
 use Rattle.nut_monitor.proofs.Bounded.{lines_writable}
 use Rattle.nut_monitor.proofs.Steps.{asked_orderly}
 use Rattle.nut_monitor.proofs.state.State.settle.Goals as goal

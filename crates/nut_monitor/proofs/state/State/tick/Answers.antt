@@ -1,7 +1,7 @@
 use Rattle.std.proofs.Common.{◌∙◌, ap, sym, subst, length, arith}
-use Rattle.nut_decision.specs.Configuration.{configuration_of}
-use Rattle.nut_monitor.specs.Kept.{AreLinksBounded}
-use Rattle.nut_monitor.specs.Steps.{content_in}
+use Rattle.nut_monitor_spec.specs.Configuration.{configuration_of}
+use Rattle.nut_monitor.specs.inside.Kept.{AreLinksBounded}
+use Rattle.nut_monitor.specs.inside.Steps.{content_in}
 use Rattle.nut_monitor.proofs.Bounded.{all_silent_bounded}
 use Rattle.nut_monitor.proofs.Steps.{anew_orderly, length-all_silent}
 use Rattle.nut_monitor.proofs.state.State.tick.Goals as goal

@@ -5,7 +5,7 @@ use Rattle.nut_queue.proofs.HistoryLemmas.{holds_pushed, where_ok}
 use Rattle.nut_queue.proofs.outbox.Outbox.push.Goals as goal
 use Rattle.nut_queue.proofs.outbox.Outbox.push.Goals.{then-taken-len, else-taken-len}
 
--- the buffer then begins with what waited
+-- Before the new bytes are appended, the buffer holds the waiting bytes.
 waited : (c : goal.After-extend_from_slice) → c.if-taken-len.self-inside.buffer.items ≡ c.args.self.now
 waited c =
     elim c.if-taken-len.branch [

@@ -1,11 +1,11 @@
 use Rattle.std.proofs.Common.{arith, refl, ap, ◌∙◌, slice_set}
 use Rattle.std.proofs.lemmas.List.{set-get_or}
 use Rattle.slab.specs.Slab.{with_value}
-use Rattle.nut_server.specs.Effects.{affected, said}
+use Rattle.nut_server.specs.inside.Effects.{affected, said}
 use Rattle.nut_server.proofs.Results.{on_ok, if_err}
 use Rattle.nut_server.specs.declared.connections.Connections.TheInside.{Inside}
-use Rattle.nut_server.specs.Inside.{numbers_of}
-use Rattle.nut_server.specs.Entries.{sessions_of}
+use Rattle.nut_server.specs.inside.Inside.{numbers_of}
+use Rattle.nut_server.specs.inside.Entries.{sessions_of}
 use Rattle.nut_server.proofs.Places.{written}
 use Rattle.nut_server.proofs.Entries.{as_many, entry_read, entry_changed, marked_so, numbers-set}
 use Rattle.nut_server.proofs.connections.Connections.answer.Goals as goal

@@ -1,6 +1,6 @@
 use Rattle.std.proofs.Common.{arith, sym, ◌∙◌, ap, subst, option_map, Some}
-use Rattle.nut_history.specs.Laws.{IsRising}
-use Rattle.nut_server.specs.Inside.{numbers_of}
+use Rattle.nut_server_spec.specs.laws.Laws.{IsRising}
+use Rattle.nut_server.specs.inside.Inside.{numbers_of}
 use Rattle.nut_server.specs.Settling.{settles}
 use Rattle.nut_server.proofs.Entries.{as_many, sessions_rise, key_tells, nothing_found}
 use Rattle.nut_server.proofs.Settled.{find_here, find_on, find_none}

@@ -1,5 +1,5 @@
 use Rattle.std.proofs.Common.{◌≡◌, ◌∙◌, sym, true, false, arith}
-use Rattle.nut_history.specs.Answer.{is_logged_in}
+use Rattle.nut_server_spec.specs.Answer.{is_logged_in}
 use Rattle.nut_server.proofs.Logins.{logins_below, logins_more}
 use Rattle.nut_server.proofs.connections.Connections.logged_in.Goals.{then-is_logged_in, else-is_logged_in}
 use Rattle.nut_server.proofs.connections.Connections.logged_in.Goals as goal

@@ -1,9 +1,9 @@
 use Rattle.std.proofs.Common.{arith, ap, ◌≡◌, ◌∙◌, sym, [], Some}
 use Rattle.nut_words.specs.Lines.{Text}
-use Rattle.nut_history.specs.Machine.{with_rest}
+use Rattle.nut_server_spec.specs.machine.Machine.{with_rest}
 use Rattle.nut_server.specs.Settling.{is_unsettled}
-use Rattle.nut_server.specs.Inside.{numbers_of}
-use Rattle.nut_server.specs.Entries.{sessions_of}
+use Rattle.nut_server.specs.inside.Inside.{numbers_of}
+use Rattle.nut_server.specs.inside.Entries.{sessions_of}
 use Rattle.nut_server.proofs.Places.{written}
 use Rattle.nut_server.proofs.Entries.{as_many, entry_read, entry_kept, numbers-set, session_there}
 use Rattle.nut_server.proofs.connections.Connections.take_cutter.Goals as goal

@@ -1,8 +1,8 @@
 use Rattle.std.proofs.Common.{arith, refl, ap, ◌∙◌, drop}
 use Rattle.slab.specs.Slab.{with_value}
 use Rattle.nut_server.specs.declared.connections.Connections.TheInside.{Inside}
-use Rattle.nut_server.specs.Inside.{numbers_of}
-use Rattle.nut_server.specs.Entries.{sessions_of}
+use Rattle.nut_server.specs.inside.Inside.{numbers_of}
+use Rattle.nut_server.specs.inside.Entries.{sessions_of}
 use Rattle.nut_server.proofs.Places.{written}
 use Rattle.nut_server.proofs.Entries.{as_many, entry_read, entry_changed, marked_so, numbers-set, session_there}
 use Rattle.nut_server.proofs.connections.Connections.took.Goals as goal

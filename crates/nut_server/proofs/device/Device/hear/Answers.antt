@@ -2,10 +2,10 @@ use Rattle.std.proofs.Common.{◌≡◌, ◌<◌, ◌+◌, suc, ◌++◌, ℕ, L
 use Rattle.std.proofs.lemmas.List.{take_rest}
 use Rattle.nut_words.specs.Lines.{LineText, Text, rest, lines}
 use Rattle.nut_words.specs.Cutter.{handed_out, line_of}
-use Rattle.nut_history.specs.Content.{Supply}
-use Rattle.nut_history.specs.Acceptance.{front, line_feeds}
-use Rattle.nut_history.specs.Machine.{down, bytes_reported, reported_by}
-use Rattle.nut_history.proofs.Hearing.{first_line}
+use Rattle.nut_server_spec.specs.Content.{Supply}
+use Rattle.nut_server_spec.specs.Acceptance.{front, line_feeds}
+use Rattle.nut_server_spec.specs.machine.Machine.{down, bytes_reported, reported_by}
+use Rattle.nut_server_spec.proofs.Hearing.{first_line}
 use Rattle.nut_server.specs.contracts.device.Device.{the_view}
 use Rattle.nut_server.proofs.Feeds.{behind, front_and_behind, front_next, behind_next, line_feeds_behind, line_feeds-length, no_feed, has_feed, handed_is, left_is, none_of, some_of, take_all}
 use Rattle.nut_server.proofs.NthLine.{report_may_run_out}

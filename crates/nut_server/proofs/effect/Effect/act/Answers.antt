@@ -1,5 +1,5 @@
 use Rattle.std.proofs.Common.{◌≡◌, ◌∙◌, ap, sym, subst, map, true}
-use Rattle.nut_server.specs.Effects.{IsPossible, forced, requesting}
+use Rattle.nut_server.specs.inside.Effects.{IsPossible, forced, requesting}
 use Rattle.nut_server.proofs.Acting.{update_at_written, device_there, requesting_connected}
 use Rattle.nut_server.proofs.Deciding.{is_there, is_within}
 use Rattle.nut_server.proofs.effect.Effect.act.Goals as goal

@@ -1,6 +1,6 @@
 use Rattle.std.proofs.Common.{length, subst, sym, ap, arith}
-use Rattle.nut_history.specs.Laws.{IsUpTo}
-use Rattle.nut_server.specs.Inside.{numbers_of}
+use Rattle.nut_server_spec.specs.laws.Laws.{IsUpTo}
+use Rattle.nut_server.specs.inside.Inside.{numbers_of}
 use Rattle.nut_server.proofs.Orderly.{IsUpTo-without}
 use Rattle.nut_server.proofs.Places.{found_session}
 use Rattle.nut_server.proofs.Arrives.{close_ok, numbers-length, fewer}

@@ -1,6 +1,6 @@
 use Rattle.std.proofs.Common.{subst}
-use Rattle.nut_history.specs.Content.{Content}
-use Rattle.nut_history.specs.Limits.{IsWithin}
+use Rattle.nut_server_spec.specs.Content.{Content}
+use Rattle.nut_server_spec.specs.laws.Limits.{IsWithin}
 use Rattle.nut_server.proofs.server.Server.config.Goals as goal
 
 pub returns-clause-limits : goal.returns-clause-limits

@@ -1,6 +1,6 @@
 use Rattle.std.proofs.Common.{Some, refl, ap, arith}
-use Rattle.nut_history.specs.Acceptance.{front}
-use Rattle.nut_history.specs.Machine.{with_supplies, bytes_reported}
+use Rattle.nut_server_spec.specs.Acceptance.{front}
+use Rattle.nut_server_spec.specs.machine.Machine.{with_supplies, bytes_reported}
 use Rattle.nut_server.specs.contracts.server.Server.{the_view}
 use Rattle.nut_server.proofs.Acting.{act_written}
 use Rattle.nut_server.proofs.Arrives.{gone_after}

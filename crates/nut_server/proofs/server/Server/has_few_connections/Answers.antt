@@ -1,5 +1,5 @@
 use Rattle.std.proofs.Common.{subst, arith}
-use Rattle.nut_history.specs.Laws.{HasFewConnections}
+use Rattle.nut_server_spec.specs.laws.Laws.{HasFewConnections}
 use Rattle.nut_server.proofs.Arrives.{numbers-length}
 use Rattle.nut_server.proofs.server.Server.has_few_connections.Goals as goal
 

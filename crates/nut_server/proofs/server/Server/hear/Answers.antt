@@ -1,6 +1,6 @@
 use Rattle.std.proofs.Common.{subst, sym, ap, ◌∙◌, length, slice_get, arith}
-use Rattle.nut_history.specs.Laws.{IsUpTo}
-use Rattle.nut_server.specs.Inside.{numbers_of}
+use Rattle.nut_server_spec.specs.laws.Laws.{IsUpTo}
+use Rattle.nut_server.specs.inside.Inside.{numbers_of}
 use Rattle.nut_server.proofs.Arrives.{numbers-length, fewer}
 use Rattle.nut_server.proofs.Heard.{standing}
 use Rattle.nut_server.proofs.Orderly.{IsUpTo-without}

@@ -1,9 +1,9 @@
 use Rattle.std.proofs.Common.{◌≡◌, Some, Ok, Err, OnOk, ap, sym, subst, ◌∙◌, slice_get}
 use Rattle.nut_words.specs.Cutter.{line_of}
 use Rattle.nut_words.specs.declared.words.WordFault.TheVariants.{Memory}
-use Rattle.nut_history.specs.Command.{command_in, command_of}
-use Rattle.nut_history.specs.Machine.{answer_in}
-use Rattle.nut_server.specs.Effects.{answered_by}
+use Rattle.nut_server_spec.specs.Command.{command_in, command_of}
+use Rattle.nut_server_spec.specs.machine.Machine.{answer_in}
+use Rattle.nut_server.specs.inside.Effects.{answered_by}
 use Rattle.nut_server.proofs.Saying.{silent_out}
 use Rattle.nut_server.proofs.server.Server.hear_line.Goals as goal
 

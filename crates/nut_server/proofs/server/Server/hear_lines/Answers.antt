@@ -2,15 +2,15 @@ use Rattle.std.proofs.Common.{◌≡◌, ◌<◌, ◌+◌, suc, ◌++◌, ℕ, L
 use Rattle.std.proofs.lemmas.List.{take_rest}
 use Rattle.nut_words.specs.Lines.{Text, rest, lines}
 use Rattle.nut_words.specs.Cutter.{handed_out, line_of}
-use Rattle.nut_history.specs.Acceptance.{front, line_feeds}
-use Rattle.nut_history.specs.Command.{command_of}
-use Rattle.nut_history.specs.Content.{Content}
-use Rattle.nut_history.specs.Laws.{IsUpTo}
-use Rattle.nut_history.specs.Machine.{after_answer, answer_in, answered, bytes_heard, with_rest, with_sessions, without}
-use Rattle.nut_history.proofs.Hearing.{first_line, with_unfinished, bytes_heard-append, line_heard_front, rest_heard}
-use Rattle.nut_server.specs.Effects.{answered_by}
-use Rattle.nut_server.specs.Inside.{numbers_of}
-use Rattle.nut_server.specs.Place.{Stands}
+use Rattle.nut_server_spec.specs.Acceptance.{front, line_feeds}
+use Rattle.nut_server_spec.specs.Command.{command_of}
+use Rattle.nut_server_spec.specs.Content.{Content}
+use Rattle.nut_server_spec.specs.laws.Laws.{IsUpTo}
+use Rattle.nut_server_spec.specs.machine.Machine.{after_answer, answer_in, answered, bytes_heard, with_rest, with_sessions, without}
+use Rattle.nut_server_spec.proofs.Hearing.{first_line, with_unfinished, bytes_heard-append, line_heard_front, rest_heard}
+use Rattle.nut_server.specs.inside.Effects.{answered_by}
+use Rattle.nut_server.specs.inside.Inside.{numbers_of}
+use Rattle.nut_server.specs.inside.Place.{Stands}
 use Rattle.nut_server.specs.contracts.server.Server.{the_view}
 use Rattle.nut_server.proofs.Feeds.{behind, front_and_behind, front_next, behind_next, line_feeds_behind, line_feeds-length, no_feed, has_feed, handed_is, left_is, none_of, some_of, take_all}
 use Rattle.nut_server.proofs.Arrives.{numbers-length, fewer}

@@ -1,13 +1,13 @@
 use Rattle.std.proofs.Common.{◌≡◌, ℕ, List, length}
 use Rattle.nut_words.specs.Lines.{rest}
-use Rattle.nut_history.specs.Acceptance.{front}
-use Rattle.nut_history.specs.Machine.{bytes_heard}
-use Rattle.nut_history.proofs.Hearing.{with_unfinished}
-use Rattle.nut_server.specs.Place.{Stands}
+use Rattle.nut_server_spec.specs.Acceptance.{front}
+use Rattle.nut_server_spec.specs.machine.Machine.{bytes_heard}
+use Rattle.nut_server_spec.proofs.Hearing.{with_unfinished}
+use Rattle.nut_server.specs.inside.Place.{Stands}
 use Rattle.nut_server.proofs.Feeds.{behind}
 use Rattle.nut_server.proofs.server.Server.hear_lines.Given as goal
 
--- The piece was heard through as many line feeds as lines are done.
+-- The piece was handled up to as many line feeds as lines are done.
 abbrev pub invariant-loop-line : goal.invariant-loop-line
 invariant-loop-line l =
     (b : List ℕ) × (l.cutter ≡ rest b) × (l.left ≡ behind l.done l.piece)

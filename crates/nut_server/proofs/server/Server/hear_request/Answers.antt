@@ -1,10 +1,10 @@
 use Rattle.std.proofs.Common.{◌≡◌, ◌++◌, List, Some, ap, sym, subst, ◌∙◌, map}
-use Rattle.nut_history.specs.Answer.{Answer, answer, text_of}
-use Rattle.nut_history.specs.Command.{asked}
-use Rattle.nut_history.specs.Content.{Session, Supply}
-use Rattle.nut_history.specs.Machine.{caller_of, scene_of}
-use Rattle.nut_server.specs.Answers.{given}
-use Rattle.nut_server.specs.Effects.{Does, acting}
+use Rattle.nut_server_spec.specs.Answer.{Answer, answer, text_of}
+use Rattle.nut_server_spec.specs.Command.{asked}
+use Rattle.nut_server_spec.specs.Content.{Session, Supply}
+use Rattle.nut_server_spec.specs.machine.Machine.{caller_of, scene_of}
+use Rattle.nut_server.specs.inside.Answers.{given}
+use Rattle.nut_server.specs.inside.Effects.{Does, acting}
 use Rattle.nut_server.specs.contracts.server.Server.{the_view}
 use Rattle.nut_server.proofs.Saying.{answered_all}
 use Rattle.nut_server.proofs.server.Server.hear_request.Goals as goal

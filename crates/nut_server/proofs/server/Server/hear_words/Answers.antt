@@ -1,6 +1,6 @@
 use Rattle.std.proofs.Common.{ap, sym, subst, Ok}
-use Rattle.nut_history.specs.Command.{asked, command_in}
-use Rattle.nut_server.specs.Effects.{HasShortNames}
+use Rattle.nut_server_spec.specs.Command.{asked, command_in}
+use Rattle.nut_server.specs.inside.Effects.{HasShortNames}
 use Rattle.nut_server.proofs.Saying.{silent_blank}
 use Rattle.nut_server.proofs.ShortNames.{short_read}
 use Rattle.nut_server.proofs.server.Server.hear_words.Goals as goal

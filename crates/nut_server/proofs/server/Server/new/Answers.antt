@@ -1,10 +1,10 @@
 use Rattle.std.proofs.Common.{length, subst, sym, ap, ◌∙◌, arith}
 use Rattle.std.proofs.lemmas.List.{length-map}
-use Rattle.nut_history.specs.Laws.{IsUpTo}
-use Rattle.nut_history.specs.Limits.{IsWithin}
-use Rattle.nut_history.specs.Trace.{below}
-use Rattle.nut_server.specs.Inside.{numbers_of}
-use Rattle.nut_server.specs.Server.{unheard}
+use Rattle.nut_server_spec.specs.laws.Laws.{IsUpTo}
+use Rattle.nut_server_spec.specs.laws.Limits.{IsWithin}
+use Rattle.nut_server_spec.specs.Trace.{below}
+use Rattle.nut_server.specs.inside.Inside.{numbers_of}
+use Rattle.nut_server.specs.inside.Server.{unheard}
 use Rattle.nut_server.proofs.Arrives.{length-below}
 use Rattle.nut_server.proofs.Limited.{config_within}
 use Rattle.nut_server.proofs.server.Server.new.Goals as goal
@@ -14,6 +14,6 @@ invariant_of-result c = record {
   up_to = subst (λ ks. IsUpTo 0 (numbers_of ks)) (sym c.in_ok-connections.ensures) tt;
   few = omega arith;
   within = omega (arith, ap (λ ks. length (numbers_of ks)) c.in_ok-connections.ensures);
-  limits = subst IsWithin c.config.view_is (config_within c.config.inside.ups c.config.inside.users c.config.inside.upsd);
+  limits = subst IsWithin c.config.view_is (config_within c.config.inside.ups c.config.inside.users c.config.inside.upsd c.config.inside.descriptions);
   all = ap length c.in_ok-devices.ensures ∙ length-map (below c.number_of_upses.result) (λ u. unheard) ∙ length-below c.number_of_upses.result ∙ c.number_of_upses.ensures.len;
 }

@@ -1,7 +1,7 @@
 use Rattle.std.proofs.Common.{◌≡◌, Some, sym, subst, arith}
-use Rattle.nut_history.specs.Content.{Content}
-use Rattle.nut_history.specs.Acceptance.{session_of}
-use Rattle.nut_history.specs.Limits.{IsWithin}
+use Rattle.nut_server_spec.specs.Content.{Content}
+use Rattle.nut_server_spec.specs.Acceptance.{session_of}
+use Rattle.nut_server_spec.specs.laws.Limits.{IsWithin}
 use Rattle.nut_server.proofs.Limited.{waiting_few}
 use Rattle.nut_server.proofs.server.Server.waits.Goals as goal
 

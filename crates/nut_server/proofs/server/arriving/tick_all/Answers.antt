@@ -1,5 +1,5 @@
 use Rattle.std.proofs.Common.{◌+◌, length, slice_set, slice_index_or, ap, ◌∙◌, arith}
-use Rattle.nut_history.specs.Machine.{ticked}
+use Rattle.nut_server_spec.specs.machine.Machine.{ticked}
 use Rattle.nut_server.proofs.Arrives.{front_mapped, front_more, front_whole, length-front}
 use Rattle.nut_server.proofs.server.arriving.tick_all.Goals as goal
 

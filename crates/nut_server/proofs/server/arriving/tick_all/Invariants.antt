@@ -1,5 +1,5 @@
 use Rattle.std.proofs.Common.{◌≡◌, length}
-use Rattle.nut_history.specs.Machine.{ticked}
+use Rattle.nut_server_spec.specs.machine.Machine.{ticked}
 use Rattle.nut_server.proofs.Arrives.{front_mapped}
 use Rattle.nut_server.proofs.server.arriving.tick_all.Given as goal
 

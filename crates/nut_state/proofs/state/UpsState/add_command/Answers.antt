@@ -1,25 +1,25 @@
 use Rattle.std.proofs.Common.{◌≡◌, true, length, sym, subst, ◌∙◌, inl, inr, arith}
 use Rattle.std.specs.Prelude.{nat_lt}
 use Rattle.nut_state.specs.Sorted.{IsFound, IsFree}
-use Rattle.nut_state.specs.Holds.{IsTable}
+use Rattle.nut_state.specs.laws.Holds.{IsTable}
 use Rattle.nut_state.specs.contracts.state.UpsState.{the_view}
-use Rattle.nut_state.specs.declared.limits.TheConstants.{MAX_COMMANDS}
+use Rattle.nut_state.specs.declared.limits.TheConstants.{COMMANDS_MAX}
 use Rattle.nut_state.specs.Text.{is_name}
 use Rattle.nut_state.specs.Step.{after, adds}
 use Rattle.nut_state.specs.Change.{add_command}
 use Rattle.nut_state.proofs.TableLemmas.{IsTable-after, lt_true, lt_false}
 use Rattle.nut_state.proofs.ChangeLemmas.{itself, and_false, add_command_added, add_command_adds, add_command_listed, add_command_refused}
 use Rattle.nut_state.proofs.state.UpsState.add_command.Goals as goal
-use Rattle.nut_state.proofs.state.UpsState.add_command.Goals.{then-not-is_name-via-then-not-is_name, then-not-is_name-via-else-not-is_name+then-len-ge-MAX_COMMANDS}
+use Rattle.nut_state.proofs.state.UpsState.add_command.Goals.{then-not-is_name-via-then-not-is_name, then-not-is_name-via-else-not-is_name+then-len-ge-COMMANDS_MAX}
 
 pub returns-then-not-is_name-clause-ok : goal.returns-then-not-is_name-clause-ok
 returns-then-not-is_name-clause-ok c =
     rw (← c.self.view_is) (add_command_refused (the_view c.self.inside) c.args.name.now
     (elim c.then-not-is_name.branch [
       | then-not-is_name-via-then-not-is_name w ↦ and_false _ _ (inl (sym c.is_name.ensures ∙ w.if-not-is_name.true))
-      | then-not-is_name-via-else-not-is_name+then-len-ge-MAX_COMMANDS w ↦
-          and_false (is_name c.args.name.now) (nat_lt (length c.self.inside.commands.items) MAX_COMMANDS)
-          (inr (lt_false _ _ (omega (arith, w.if-len-ge-MAX_COMMANDS.true, w.len.ensures))))
+      | then-not-is_name-via-else-not-is_name+then-len-ge-COMMANDS_MAX w ↦
+          and_false (is_name c.args.name.now) (nat_lt (length c.self.inside.commands.items) COMMANDS_MAX)
+          (inr (lt_false _ _ (omega (arith, w.if-len-ge-COMMANDS_MAX.true, w.len.ensures))))
     ]))
 
 pub returns-in_err-insert-clause-succeeds : goal.returns-in_err-insert-clause-succeeds
@@ -27,7 +27,7 @@ returns-in_err-insert-clause-succeeds c =
     let free : IsFree itself c.args.name.now c.self.inside.commands.items c.in-Err.place = rw c.deref.ensures.value at c.in-Err.ensures in
     let grows : adds (the_view c.self.inside) (add_command c.args.name.now) ≡ true =
     add_command_adds (the_view c.self.inside) c.args.name.now c.in-Err.place free (sym c.is_name.ensures ∙ c.if-not-is_name.false)
-    (lt_true _ _ (omega (arith, c.if-len-ge-MAX_COMMANDS.false, c.len.ensures))) in
+    (lt_true _ _ (omega (arith, c.if-len-ge-COMMANDS_MAX.false, c.len.ensures))) in
     rw (← c.self.view_is) (λ none. cc (sym grows ∙ none))
 
 added : (c : goal.In_ok-insert)
@@ -35,7 +35,7 @@ added : (c : goal.In_ok-insert)
 added c =
     let free : IsFree itself c.args.name.now c.self.inside.commands.items c.in-Err.place = rw c.deref.ensures.value at c.in-Err.ensures in
     add_command_added (the_view c.self.inside) c.args.name.now c.in-Err.place free (sym c.is_name.ensures ∙ c.if-not-is_name.false)
-    (lt_true _ _ (omega (arith, c.if-len-ge-MAX_COMMANDS.false, c.len.ensures))) c.insert.new.self.items (rw (← c.new.ensures) c.in_ok-insert.ensures.items)
+    (lt_true _ _ (omega (arith, c.if-len-ge-COMMANDS_MAX.false, c.len.ensures))) c.insert.new.self.items (rw (← c.new.ensures) c.in_ok-insert.ensures.items)
 
 pub invariant_of-self : goal.invariant_of-self
 invariant_of-self c =

@@ -1,7 +1,7 @@
 use Rattle.std.proofs.Common.{◌≡◌, sym, subst, ap, ◌∙◌}
 use Rattle.std.specs.Prelude.{slice_set}
 use Rattle.nut_state.specs.Sorted.{IsFound, IsFree}
-use Rattle.nut_state.specs.Holds.{IsTable}
+use Rattle.nut_state.specs.laws.Holds.{IsTable}
 use Rattle.nut_state.specs.contracts.state.UpsState.{the_view}
 use Rattle.nut_state.specs.Step.{after}
 use Rattle.nut_state.specs.Change.{del_range}

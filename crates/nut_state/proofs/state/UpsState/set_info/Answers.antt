@@ -1,9 +1,9 @@
 use Rattle.std.proofs.Common.{◌≡◌, true, length, sym, subst, ◌∙◌, inl, inr, arith}
 use Rattle.std.specs.Prelude.{slice_set, nat_le}
+use Rattle.nut_words.specs.declared.limits.TheConstants.{VALUE_MAX}
 use Rattle.nut_state.specs.Sorted.{IsFound, IsFree}
-use Rattle.nut_state.specs.Holds.{IsTable}
+use Rattle.nut_state.specs.laws.Holds.{IsTable}
 use Rattle.nut_state.specs.contracts.state.UpsState.{the_view}
-use Rattle.nut_state.specs.declared.limits.TheConstants.{VALUE_BYTES}
 use Rattle.nut_state.specs.Text.{is_name}
 use Rattle.nut_state.specs.Step.{after, adds}
 use Rattle.nut_state.specs.Change.{set_info}
@@ -16,7 +16,7 @@ returns-then-not-is_name-clause-ok c =
     set_info_refused c.args.self.now c.args.name.now c.args.value.now
     (elim c.then-not-is_name.either [
       | inl bad ↦ and_false _ _ (inl (sym c.is_name.ensures ∙ bad))
-      | inr (good, long) ↦ and_false (is_name c.args.name.now) (nat_le (length c.args.value.now) VALUE_BYTES) (inr (le_false _ _ long))
+      | inr (good, long) ↦ and_false (is_name c.args.name.now) (nat_le (length c.args.value.now) VALUE_MAX) (inr (le_false _ _ long))
     ])
 
 edited : (c : goal.After-self-1)
@@ -25,7 +25,7 @@ edited : (c : goal.After-self-1)
 edited c =
     let found : IsFound name_of c.args.name.now c.self.inside.variables.items c.in-Ok.place = rw c.deref.ensures.value at c.in-Ok.ensures in
     set_info_found (the_view c.self.inside) c.args.name.now c.in-Ok.place c.index_mut.result.now found c.index_mut.ensures.value c.args.value.now
-    c.set_value.new.self (sym c.is_name.ensures ∙ c.if-not-is_name.false) (le_true _ _ c.if-value-gt-VALUE_BYTES.false) c.set_value.ensures
+    c.set_value.new.self (sym c.is_name.ensures ∙ c.if-not-is_name.false) (le_true _ _ c.if-value-gt-VALUE_MAX.false) c.set_value.ensures
 
 pub invariant_of-self : goal.invariant_of-self
 invariant_of-self c =
@@ -39,7 +39,7 @@ returns-in_err-insert-in-Err-clause-succeeds c =
     let free : IsFree name_of c.args.name.now c.self.inside.variables.items c.in-Err.place = rw c.deref.ensures.value at c.in-Err.ensures in
     let grows : adds (the_view c.self.inside) (set_info c.args.name.now c.args.value.now) ≡ true =
     set_info_adds (the_view c.self.inside) c.args.name.now c.args.value.now c.in-Err.place free (sym c.is_name.ensures ∙ c.if-not-is_name.false)
-    (le_true _ _ c.if-value-gt-VALUE_BYTES.false) (lt_true _ _ (omega (arith, c.if-len-lt-MAX_VARIABLES.true, c.len.ensures))) in
+    (le_true _ _ c.if-value-gt-VALUE_MAX.false) (lt_true _ _ (omega (arith, c.if-len-lt-VARIABLES_MAX.true, c.len.ensures))) in
     rw (← c.self.view_is) (λ none. cc (sym grows ∙ none))
 
 added : (c : goal.In_ok-insert-in-Err)
@@ -47,18 +47,18 @@ added : (c : goal.In_ok-insert-in-Err)
 added c =
     let free : IsFree name_of c.args.name.now c.self.inside.variables.items c.in-Err.place = rw c.deref.ensures.value at c.in-Err.ensures in
     set_info_added (the_view c.self.inside) c.args.name.now c.args.value.now c.in-Err.place free (sym c.is_name.ensures ∙ c.if-not-is_name.false)
-    (le_true _ _ c.if-value-gt-VALUE_BYTES.false) (lt_true _ _ (omega (arith, c.if-len-lt-MAX_VARIABLES.true, c.len.ensures)))
+    (le_true _ _ c.if-value-gt-VALUE_MAX.false) (lt_true _ _ (omega (arith, c.if-len-lt-VARIABLES_MAX.true, c.len.ensures)))
     c.insert.new.self.items (rw (← c.new.ensures) c.in_ok-insert-in-Err.ensures.items)
 
-pub invariant_of-self-then-len-lt-MAX_VARIABLES : goal.invariant_of-self-then-len-lt-MAX_VARIABLES
-invariant_of-self-then-len-lt-MAX_VARIABLES c =
+pub invariant_of-self-then-len-lt-VARIABLES_MAX : goal.invariant_of-self-then-len-lt-VARIABLES_MAX
+invariant_of-self-then-len-lt-VARIABLES_MAX c =
     subst IsTable (sym (added c)) (IsTable-after (the_view c.self.inside) (set_info c.args.name.now c.args.value.now) c.self.invariant)
 
 pub returns-in_ok-insert-in-Err-clause-ok : goal.returns-in_ok-insert-in-Err-clause-ok
 returns-in_ok-insert-in-Err-clause-ok c = rw (← c.self.view_is) (added c)
 
-pub returns-else-len-lt-MAX_VARIABLES-clause-ok : goal.returns-else-len-lt-MAX_VARIABLES-clause-ok
-returns-else-len-lt-MAX_VARIABLES-clause-ok c =
+pub returns-else-len-lt-VARIABLES_MAX-clause-ok : goal.returns-else-len-lt-VARIABLES_MAX-clause-ok
+returns-else-len-lt-VARIABLES_MAX-clause-ok c =
     let free : IsFree name_of c.args.name.now c.self.inside.variables.items c.in-Err.place = rw c.deref.ensures.value at c.in-Err.ensures in
     rw (← c.self.view_is) (set_info_full (the_view c.self.inside) c.args.name.now c.args.value.now free.is
-    (lt_false _ _ (omega (arith, c.if-len-lt-MAX_VARIABLES.false, c.len.ensures))))
+    (lt_false _ _ (omega (arith, c.if-len-lt-VARIABLES_MAX.false, c.len.ensures))))

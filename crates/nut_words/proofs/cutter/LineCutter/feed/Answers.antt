@@ -1,6 +1,6 @@
 use Rattle.std.proofs.Common.{◌≡◌, List, ℕ, [], take, refl, sym, ap, ◌∙◌, arith}
 use Rattle.nut_words.specs.Lines.{Text, joined}
-use Rattle.nut_words.specs.Inside.{rest_at}
+use Rattle.nut_words.specs.inside.Inside.{rest_at}
 use Rattle.nut_words.specs.declared.cutter.Stage.{Stage}
 use Rattle.nut_words.specs.declared.cutter.Stage.TheVariants.{Growing, Overlong, HandedOut}
 use Rattle.nut_words.specs.Cutter.{line_of}

@@ -1,5 +1,5 @@
 use Rattle.std.proofs.Common.{arith, ap, ◌∙◌, ◌∷◌, [], ◌++◌, refl, sym}
-use Rattle.nut_words.specs.WordsInside.{text_of}
+use Rattle.nut_words.specs.inside.WordsInside.{text_of}
 use Rattle.nut_words.proofs.CopiedWords.{counted, one_copy_more}
 use Rattle.nut_words.proofs.words.Words.push.Goals as goal
 

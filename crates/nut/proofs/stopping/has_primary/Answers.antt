@@ -1,7 +1,0 @@
-use Rattle.std.proofs.Common.{◌∙◌, ap, map}
-use Rattle.nut_decision.specs.Configuration.{has_primary, line_of}
-use Rattle.nut.proofs.Lines.{primaries}
-use Rattle.nut.proofs.stopping.has_primary.Goals as goal
-
-pub returns : goal.returns
-returns c = c.any_primary.ensures ∙ primaries c.as_slice.result.now ∙ ap (λ ms. has_primary (map line_of ms)) c.as_slice.ensures.value

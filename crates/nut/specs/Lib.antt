@@ -1,4 +1,0 @@
-pub mod Folder
-pub mod Stopping
-pub mod Unknown
-pub mod UpsOption

@@ -1,5 +1,0 @@
-use Rattle.nut_client.proofs.Bounded as bounded
-use Rattle.nut_client.proofs.laws.bounds_stay.Goals as goal
-
-pub returns : goal.returns
-returns c = bounded.bounds_stay

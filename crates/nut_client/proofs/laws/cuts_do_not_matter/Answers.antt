@@ -1,5 +1,0 @@
-use Rattle.nut_client.proofs.Feeding as feeding
-use Rattle.nut_client.proofs.laws.cuts_do_not_matter.Goals as goal
-
-pub returns : goal.returns
-returns c = feeding.cuts_do_not_matter

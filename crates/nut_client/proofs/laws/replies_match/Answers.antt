@@ -1,5 +1,0 @@
-use Rattle.nut_client.proofs.Matches as matches
-use Rattle.nut_client.proofs.laws.replies_match.Goals as goal
-
-pub returns : goal.returns
-returns c = matches.replies_match

@@ -1,0 +1,6 @@
+pub mod Between
+pub mod Conversation
+pub mod Reading
+pub mod Sending
+pub mod Task
+pub mod Unread

@@ -1,0 +1,88 @@
+//! The file cmdvartab.
+ghost use Rattle.std.specs.Prelude.{◌≡◌, [], None, IfErr, MatchOption};
+ghost use Rattle.nut_conf.specs.Files.{Means, read_file};
+ghost use Rattle.nut_conf.specs.Memory.{MayRunOut};
+ghost use Rattle.nut_conf.specs.Descriptions.{DescriptionsHold, descriptions_fault, descriptions_grow, rows_of};
+
+use crate::draft::Draft;
+use crate::fault::{ConfFault, FaultKind};
+use crate::file::read_draft;
+use crate::line::Line;
+use crate::texts::Texts;
+use std::alloc::Global;
+
+/// The configuration of cmdvartab: what variables tell and what commands do, for people to read.
+#[derive(Drop)]
+pub struct Descriptions {
+    pub variables: Texts,
+    pub commands: Texts,
+}
+
+impl Descriptions {
+    /// No descriptions, as those of an empty file.
+    pub fn new(alloc: Global) -> Self
+        ensures variables { rows_of result.variables ≡ [] }
+        ensures commands { rows_of result.commands ≡ [] }
+        ensures holds { DescriptionsHold result [] }
+    {
+        Descriptions {
+            variables: Texts::new(alloc),
+            commands: Texts::new(alloc),
+        }
+    }
+}
+
+/// What may stand in the file.
+#[derive(Clone, Copy)]
+pub enum DescriptionDirective {
+    Variable,
+    Command,
+}
+
+impl DescriptionDirective {
+    ghost use Rattle.nut_conf.specs.Settings.{directive_of};
+    ghost use Rattle.nut_conf.specs.Descriptions.{description_directive, description_directives};
+
+    fn of(word: &[u8]) -> Option<Self>
+        ensures { MatchOption result (directive_of word.now description_directives ≡ None) (λ d. word.now ≡ (description_directive d).word) }
+    {
+        match word {
+            b"VARDESC" => Some(DescriptionDirective::Variable),
+            b"CMDDESC" => Some(DescriptionDirective::Command),
+            _ => None,
+        }
+    }
+}
+
+impl Draft for Descriptions {
+    ghost use Rattle.nut_conf.specs.Descriptions.{DescriptionsHold, descriptions_fault, descriptions_grow};
+
+    ghost fault = { descriptions_fault };
+
+    ghost grows = { descriptions_grow };
+
+    ghost Holds = { DescriptionsHold };
+
+    fn new(alloc: Global) -> Self {
+        Descriptions::new(alloc)
+    }
+
+    fn put(&mut self, line: &Line<'_>) -> Result<(), FaultKind> {
+        match DescriptionDirective::of(line.directive()) {
+            Some(DescriptionDirective::Variable) => self.variables.put(line),
+            Some(DescriptionDirective::Command) => self.commands.put(line),
+            None => Err(FaultKind::UnknownDirective),
+        }
+    }
+}
+
+/// Reads cmdvartab (as NUT's file of this name: lines `VARDESC name "text"` and `CMDDESC name "text"`).
+///
+/// Gives the descriptions that its lines set, or the first line with a fault and the first fault in it. Memory may run
+/// out only at a line with a backslash, or at one without a fault.
+pub fn read_descriptions(alloc: Global, bytes: &[u8]) -> Result<Descriptions, ConfFault>
+    ensures means { Means (read_file descriptions_fault bytes.now) DescriptionsHold result }
+    ensures memory { IfErr result (λ fault. fault.kind ≡ FaultKind.Memory → MayRunOut descriptions_fault descriptions_grow bytes.now fault.line) }
+{
+    read_draft(alloc, bytes)
+}

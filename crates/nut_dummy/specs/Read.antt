@@ -1,8 +1,0 @@
--- What the items of the code are in the definitions.
-use Rattle.nut_dummy.specs.Item as said
-use Rattle.nut_dummy.specs.declared.item.Item.{Item}
-use Rattle.nut_dummy.specs.declared.item.Item.TheVariants as items
-
-abbrev pub item_of : Item → said.Item
-item_of (items.Timer seconds) = said.Timer seconds
-item_of (items.Setting name value) = said.Setting name value

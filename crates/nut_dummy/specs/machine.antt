@@ -1,0 +1,2 @@
+pub mod Dummy
+pub mod Teller

@@ -1,0 +1,210 @@
+//! dummy-ups: a driver without a device.
+
+use crate::driver_socket::{has_listener, listen_at};
+use crate::dummy_driver::DummyDriver;
+use clap::{Arg, Command};
+use mio::net::UnixListener;
+use nut_dummy::{Dummy, Script, ScriptFault, ScriptFaultKind, ScriptKind};
+use nut_program::{Failure, OwnFault, hold_closed_streams, read_file};
+use std::alloc::{AllocError, Global};
+use std::convert::AsStr;
+use std::io::{ErrorKind, Write};
+use std::net::Net;
+use std::rt::Files;
+use std::sync::Wait;
+use std::time::Clock;
+use std::{fmt, fs, io};
+
+/// The longest file of a script, in bytes: 16 MiB, many times its 4,096 settings of at most 512 bytes.
+const FILE_MAX: u64 = 16_777_216;
+
+/// The faults that only dummy-ups has, before it tells anything.
+#[derive(Drop)]
+enum DummyUpsFault<'a> {
+    /// The file's name doesn't end in `.dev` or `.seq`.
+    UnknownKind(&'a str),
+    /// The file doesn't exist, isn't a plain file, may not be read, or a read failed.
+    CannotRead(&'a str),
+    /// The file is too long.
+    TooLong(&'a str),
+    /// The file has this fault.
+    Script(&'a str, ScriptFault),
+    /// Another driver listens at this socket.
+    InUse(&'a str),
+    /// It is impossible to listen at this socket.
+    Listen(&'a str),
+}
+
+impl<'a> fmt::Display for DummyUpsFault<'a> {
+    fn fmt<W: fmt::Write>(&self, f: &mut fmt::Formatter<W>) -> fmt::Result {
+        match self {
+            DummyUpsFault::UnknownKind(file) => write!(f, "{file}: unknown kind"),
+            DummyUpsFault::CannotRead(file) => write!(f, "{file}: cannot read"),
+            DummyUpsFault::TooLong(file) => write!(f, "{file}: more than {FILE_MAX} bytes"),
+            DummyUpsFault::Script(file, fault) => write!(f, "{file}:{fault}"),
+            DummyUpsFault::InUse(socket) => write!(f, "{socket}: another driver listens there"),
+            DummyUpsFault::Listen(socket) => write!(f, "cannot listen on {socket}"),
+        }
+    }
+}
+
+impl<'a> OwnFault for DummyUpsFault<'a> {
+    fn unknown_word(&self) -> Option<&str> {
+        None
+    }
+}
+
+/// Runs dummy-ups. Returns its exit status.
+///
+/// `words` are those of the command line `dummy-ups FILE SOCKET`, the program's name first. The script in FILE is told,
+/// from now on, to one server at a time, which connects at SOCKET; a file of that name is removed if no other driver
+/// listens at it. The end of its name says what kind a script is: `.dev` is told once, `.seq` round after round. The
+/// program ends if waiting for the socket or reading the clock fails; then `dummy-ups: I/O failed` is written, and the
+/// status is 1.
+///
+/// If clap refuses the words, its text is written to `err`, and the status is 2; the help and the version are written
+/// to `out`, with status 0. Before anything is told to a server, the first of these is written to `err`, with status 1:
+/// `dummy-ups: FILE: unknown kind`; `dummy-ups: FILE: cannot read`; `dummy-ups: FILE: more than 16777216 bytes`; the
+/// first fault of the script, as `dummy-ups: FILE:2: BadName`; `dummy-ups: SOCKET: another driver listens there`;
+/// `dummy-ups: cannot listen on SOCKET`; or `dummy-ups: out of memory` if memory cannot be allocated before.
+pub fn run_dummy_ups<S: AsStr, O: Write, E: Write>(
+    rt: &(impl Wait + Files + Net + Clock),
+    alloc: Global,
+    words: &[S],
+    out: &mut O,
+    err: &mut E,
+) -> u8 {
+    match run(rt, alloc, words) {
+        Ok(()) => 0,
+        Err(failure) => failure.tell("dummy-ups", out, err),
+    }
+}
+
+fn run<'a, S: AsStr>(
+    rt: &(impl Wait + Files + Net + Clock),
+    alloc: Global,
+    words: &'a [S],
+) -> Result<(), Failure<DummyUpsFault<'a>>> {
+    let matches = command(alloc)?.try_get_matches_from(words)?;
+    let file = matches.get_str("file").unwrap_or("");
+    let socket = matches.get_str("socket").unwrap_or("");
+    tell_file(rt, alloc, file, socket)
+}
+
+/// Tells the script of a file to servers that connect at a socket.
+fn tell_file<'a>(
+    rt: &(impl Wait + Files + Net + Clock),
+    alloc: Global,
+    file: &'a str,
+    socket: &'a str,
+) -> Result<(), Failure<DummyUpsFault<'a>>> {
+    let script = read_script(rt, alloc, file)?;
+    let Ok(dummy) = Dummy::new(alloc, script, 0) else {
+        return Err(Failure::Memory);
+    };
+    tell(rt, alloc, dummy, socket)
+}
+
+/// Runs a dummy driver at a socket.
+fn tell<'a>(
+    rt: &(impl Wait + Files + Net + Clock),
+    alloc: Global,
+    dummy: Dummy,
+    socket: &'a str,
+) -> Result<(), Failure<DummyUpsFault<'a>>> {
+    let _held = hold_closed_streams(rt, alloc)?;
+    let listener = listen(rt, socket)?;
+    let driver = DummyDriver::new(rt, alloc, listener, dummy)?;
+    turn_for_ever(rt, driver)?;
+    Ok(())
+}
+
+/// Lets a driver do what there is to do, until a wait fails.
+fn turn_for_ever(rt: &(impl Wait + Clock), mut driver: DummyDriver) -> io::Result<()> {
+    for _ in rt.forever() {
+        driver.turn(rt)?;
+    }
+    unreachable!()
+}
+
+/// Reads the script of a file.
+fn read_script<'a>(
+    files: &impl Files,
+    alloc: Global,
+    file: &'a str,
+) -> Result<Script, Failure<DummyUpsFault<'a>>> {
+    let Some(kind) = kind_of(file) else {
+        return Err(Failure::Own(DummyUpsFault::UnknownKind(file)));
+    };
+    let bytes = contents(files, alloc, file)?;
+    match Script::read(alloc, kind, bytes.as_slice()) {
+        Ok(script) => Ok(script),
+        Err(fault) if fault.kind == ScriptFaultKind::Memory => Err(Failure::Memory),
+        Err(fault) => Err(Failure::Own(DummyUpsFault::Script(file, fault))),
+    }
+}
+
+/// Returns the bytes of a script's file.
+fn contents<'a>(
+    files: &impl Files,
+    alloc: Global,
+    file: &'a str,
+) -> Result<Vec<u8>, Failure<DummyUpsFault<'a>>> {
+    match read_plain_file(files, alloc, file) {
+        Ok(bytes) if bytes.len() as u64 <= FILE_MAX => Ok(bytes),
+        Ok(_) => Err(Failure::Own(DummyUpsFault::TooLong(file))),
+        Err(error) if error.kind() == ErrorKind::OutOfMemory => Err(Failure::Memory),
+        Err(_) => Err(Failure::Own(DummyUpsFault::CannotRead(file))),
+    }
+}
+
+/// Reads at most one byte more of a plain file than a script may have. A pipe could block the read, and a device may
+/// have no end.
+fn read_plain_file(files: &impl Files, alloc: Global, file: &str) -> io::Result<Vec<u8>> {
+    if !fs::metadata(files, file)?.is_file() {
+        return Err(io::Error::from(ErrorKind::InvalidInput));
+    }
+    read_file(files, alloc, file, FILE_MAX + 1)
+}
+
+/// Returns the kind of a script, by the end of its name.
+fn kind_of(file: &str) -> Option<ScriptKind> {
+    if file.ends_with(".dev") {
+        Some(ScriptKind::Dev)
+    } else if file.ends_with(".seq") {
+        Some(ScriptKind::Seq)
+    } else {
+        None
+    }
+}
+
+/// Listens at a socket unless another driver does.
+fn listen<'a>(
+    rt: &(impl Files + Net),
+    socket: &'a str,
+) -> Result<UnixListener, Failure<DummyUpsFault<'a>>> {
+    if has_listener(rt, socket) {
+        return Err(Failure::Own(DummyUpsFault::InUse(socket)));
+    }
+    match listen_at(rt, socket) {
+        Ok(listener) => Ok(listener),
+        Err(_) => Err(Failure::Own(DummyUpsFault::Listen(socket))),
+    }
+}
+
+/// Returns the command line of dummy-ups.
+fn command<'a>(alloc: Global) -> Result<Command<'a>, AllocError> {
+    let file = Arg::new(alloc, "file")
+        .value_name("FILE")
+        .required(true)
+        .help("The script: NAME.dev is told once, NAME.seq round after round");
+    let socket = Arg::new(alloc, "socket")
+        .value_name("SOCKET")
+        .required(true)
+        .help("Where a server connects: SOCKDIR/dummy-ups-UPS for upsd's -s SOCKDIR");
+    Command::new(alloc, "dummy-ups")
+        .version("profile 1.2")
+        .about("A driver that tells a script in place of a device")
+        .arg(file)?
+        .arg(socket)
+}

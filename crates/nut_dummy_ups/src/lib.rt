@@ -1,0 +1,8 @@
+//! What dummy-ups runs: the dummy driver on its socket.
+#![tactic(auto)]
+
+mod driver_socket;
+mod dummy;
+mod dummy_driver;
+
+pub use dummy::run_dummy_ups;

@@ -1,5 +1,0 @@
-use Rattle.nut_history.proofs.AnswerBounds.{answers-bounded}
-use Rattle.nut_history.proofs.answers_are_bounded.Goals as goal
-
-pub returns : goal.returns
-returns c = answers-bounded c.every_table_holds.ensures

@@ -1,5 +1,0 @@
-use Rattle.nut_history.proofs.Recut.{cuts-and-writes}
-use Rattle.nut_history.proofs.cuts_and_writes_do_not_matter.Goals as goal
-
-pub returns : goal.returns
-returns c = cuts-and-writes

@@ -1,5 +1,0 @@
-use Rattle.nut_history.proofs.Cuts.{driver_cut-law}
-use Rattle.nut_history.proofs.driver_cuts_do_not_matter.Goals as goal
-
-pub returns : goal.returns
-returns c = driver_cut-law

@@ -1,5 +1,0 @@
-use Rattle.nut_history.proofs.DriverSent.{driver_sent-waiting-due}
-use Rattle.nut_history.proofs.driver_sent_and_waiting_is_due.Goals as goal
-
-pub returns : goal.returns
-returns c = driver_sent-waiting-due

@@ -1,5 +1,0 @@
-use Rattle.nut_history.proofs.Recut.{same-steps}
-use Rattle.nut_history.proofs.same_steps_same_answers.Goals as goal
-
-pub returns : goal.returns
-returns c = same-steps

@@ -1,5 +1,0 @@
-use Rattle.nut_history.proofs.Sent.{sent-waiting-due}
-use Rattle.nut_history.proofs.sent_and_waiting_is_due.Goals as goal
-
-pub returns : goal.returns
-returns c = sent-waiting-due

@@ -1,5 +1,0 @@
-use Rattle.nut_history.proofs.Sent.{sent-front}
-use Rattle.nut_history.proofs.sent_is_front_of_due.Goals as goal
-
-pub returns : goal.returns
-returns c = sent-front

@@ -1,5 +1,0 @@
-use Rattle.nut_history.proofs.Waiting.{waits-bounded}
-use Rattle.nut_history.proofs.waits_are_bounded.Goals as goal
-
-pub returns : goal.returns
-returns c = waits-bounded c.every_table_holds.ensures

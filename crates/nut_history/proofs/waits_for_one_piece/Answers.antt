@@ -1,5 +1,0 @@
-use Rattle.nut_history.proofs.OnePiece.{waits-for-one-piece}
-use Rattle.nut_history.proofs.waits_for_one_piece.Goals as goal
-
-pub returns : goal.returns
-returns c = waits-for-one-piece

@@ -1,6 +1,0 @@
-use Rattle.nut_history.proofs.Worked.{connections}
-use Rattle.nut_history.proofs.WorkedDrivers.{drivers, edges, users}
-use Rattle.nut_history.proofs.worked_examples.Goals as goal
-
-pub returns : goal.returns
-returns c = record { connections = connections; drivers = drivers; edges = edges; users = users }

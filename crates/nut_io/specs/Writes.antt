@@ -1,0 +1,17 @@
+-- What a write may take, and who is late after it.
+use Rattle.std.specs.Prelude.{◌<◌, ◌≤◌, ℕ, Bool, ◌||◌, ◌==◌}
+use Rattle.nut_io.specs.declared.types.Written.{Written}
+use Rattle.nut_io.specs.declared.types.Written.TheVariants.{Took, Later, Failed}
+
+-- A write takes at least one byte and at most those that were offered.
+abbrev pub IsWithin : Written → ℕ → Type 0
+IsWithin (Took n) offered = (0 < n) × (n ≤ offered)
+IsWithin Later offered = Unit {0}
+IsWithin Failed offered = Unit {0}
+
+-- whether d is late after a write to c: it was late before, or it is c and the write is to come later; used of
+-- connections, drivers and links
+abbrev pub late_after : Written → ℕ → (ℕ → Bool) → ℕ → Bool
+late_after (Took n) c late d = late d
+late_after Later c late d = late d || (d == c)
+late_after Failed c late d = late d

@@ -1,0 +1,8 @@
+//! What a server's world and a monitor's share: pieces of bytes, the outcome of a write, and the fault of a device.
+#![tactic(auto)]
+
+mod streams;
+mod types;
+
+pub use streams::{read_piece, write_some};
+pub use types::{Fault, Piece, ServeFault, Written};

@@ -1,0 +1,38 @@
+//! What a world answers, whether it is a server's or a monitor's.
+
+use arrayvec::ArrayVec;
+use nut_words::PIECE_MAX;
+use thiserror::Error;
+
+/// The bytes of one arrival: at most [`PIECE_MAX`].
+pub type Piece = ArrayVec<u8, PIECE_MAX>;
+
+/// The outcome of a write.
+#[derive(Clone, Copy, Debug, PartialEq, Eq)]
+pub enum Written {
+    /// This many bytes from the front were taken, at least one.
+    Took(usize),
+    /// No byte was taken. Some may be taken after the next arrival.
+    Later,
+    /// No byte was taken, and none will be.
+    Failed,
+}
+
+/// A device of the world failed. The call did nothing.
+#[derive(Clone, Copy, Debug, PartialEq, Eq, Error)]
+#[error("a device failed")]
+pub struct Fault;
+
+/// Why the loop of a server or of a monitor stopped.
+#[derive(Clone, Copy, Debug, PartialEq, Eq, Error)]
+pub enum ServeFault {
+    /// A call of the world returned a fault.
+    #[error("I/O failed")]
+    World,
+}
+
+impl From<Fault> for ServeFault {
+    fn from(_: Fault) -> Self {
+        ServeFault::World
+    }
+}

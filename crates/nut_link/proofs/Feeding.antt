@@ -1,0 +1,180 @@
+-- How a link hears a piece by the lines that it completes.
+use Rattle.std.proofs.Common.{◌≡◌, ℕ, ◌+◌, true, List, [], ◌∷◌, ◌++◌, length, take, drop, Option, Some, None, is_some, Result, Ok, Err, if◌then◌else◌, refl, sym, ap, ap₂, subst, ◌∙◌, arith, inl, inr, ◌⊎◌, ◌==◌, eqb-true, take_all, length-drop}
+use Rattle.std.proofs.Math.Seq.{take-add}
+use Rattle.std.proofs.lemmas.Bool.{cases_Bool}
+use Rattle.std.proofs.lemmas.List.{append_assoc, append_cancel_left, take-append-drop}
+use Rattle.nut_words.specs.Lines.{LineText, Text, lines, rest, lines_after, rest_after}
+use Rattle.nut_words.proofs.StreamGrowth.{lines-append, rest-append}
+use Rattle.nut_link.specs.declared.exchange.Exchange.{Exchange}
+use Rattle.nut_link.specs.declared.fault.LinkFault.{LinkFault}
+use Rattle.nut_link.specs.declared.fault.LinkFault.TheVariants.{Memory}
+use Rattle.nut_link.specs.Hearing.{Feeds, Hears, RunsOut}
+use Rattle.nut_link.specs.Link.{answer_by, failed, fed, heard, lines_heard, link_with, moved, on_line}
+use Rattle.nut_link.specs.laws.Laws.{CutsDoNotMatter, RestsStay}
+
+pub lines_heard-append : (xs ys : List LineText) (e : Exchange) → lines_heard (xs ++ ys) e ≡ lines_heard ys (lines_heard xs e)
+lines_heard-append [] ys e = refl
+lines_heard-append (x ∷ xs) ys e = lines_heard-append xs ys (heard x e)
+
+-- An exchange that failed hears nothing.
+heard_failed : (line : LineText) (e : Exchange) → is_some e.fault ≡ true → heard line e ≡ e
+heard_failed line e over = ap (λ b. if b then e else moved e (on_line e.stage line)) over
+
+pub lines_heard_failed : (ls : List LineText) (e : Exchange) → is_some e.fault ≡ true → lines_heard ls e ≡ e
+lines_heard_failed [] e over = refl
+lines_heard_failed (l ∷ ls) e over = ap (lines_heard ls) (heard_failed l e over) ∙ lines_heard_failed ls e over
+
+-- the lines that further bytes of a stream complete
+pub lines_more : (b x y : List ℕ) (ls : List LineText) → lines ((b ++ x) ++ y) ≡ lines (b ++ x) ++ ls → lines_after (rest b) (x ++ y) ≡ lines_after (rest b) x ++ ls
+lines_more b x y ls brought =
+    append_cancel_left (lines b) (lines_after (rest b) (x ++ y)) (lines_after (rest b) x ++ ls) (
+    sym (lines-append b (x ++ y)) ∙ ap lines (sym (append_assoc b x y)) ∙ brought ∙ ap (λ front. front ++ ls) (lines-append b x) ∙ append_assoc (lines b) (lines_after (rest b) x) ls
+    )
+
+pub lines_cut : (b x y : List ℕ) → lines_after (rest b) (x ++ y) ≡ lines_after (rest b) x ++ lines_after (rest (b ++ x)) y
+lines_cut b x y = lines_more b x y (lines_after (rest (b ++ x)) y) (lines-append (b ++ x) y)
+
+pub rest_cut : (b x y : List ℕ) → rest_after (rest b) (x ++ y) ≡ rest_after (rest (b ++ x)) y
+rest_cut b x y = sym (rest-append b (x ++ y)) ∙ ap rest (sym (append_assoc b x y)) ∙ rest-append (b ++ x) y
+
+-- a front of what is left continues the front before it
+pub front_more : (n used : ℕ) (p left : List ℕ) → left ≡ drop n p → take n p ++ take used left ≡ take (n + used) p
+front_more n used p left is = ap (λ l. take n p ++ take used l) is ∙ sym (take-add n used p)
+
+-- the lines of the front, with those that the next part of the piece completed
+pub front_lines : (b : List ℕ) (r : LineText) (n used : ℕ) (p left : List ℕ) (ls : List LineText) → r ≡ rest b → left ≡ drop n p
+    → lines ((b ++ take n p) ++ take used left) ≡ lines (b ++ take n p) ++ ls → lines_after r (take (n + used) p) ≡ lines_after r (take n p) ++ ls
+front_lines b r n used p left ls here is brought =
+    ap (λ r. lines_after r (take (n + used) p)) here
+    ∙ ap (lines_after (rest b)) (sym (front_more n used p left is))
+    ∙ lines_more b (take n p) (take used left) ls brought
+    ∙ ap (λ r. lines_after r (take n p) ++ ls) (sym here)
+
+-- the lines of the whole piece, which begin with those of a front
+pub whole_lines : (b : List ℕ) (r : LineText) (n : ℕ) (p : List ℕ) → r ≡ rest b → lines_after r p ≡ lines_after r (take n p) ++ lines_after (rest (b ++ take n p)) (drop n p)
+whole_lines b r n p here =
+    ap (λ r. lines_after r p) here
+    ∙ ap (lines_after (rest b)) (sym (take-append-drop n p))
+    ∙ lines_cut b (take n p) (drop n p)
+    ∙ ap (λ r. lines_after r (take n p) ++ lines_after (rest (b ++ take n p)) (drop n p)) (sym here)
+
+-- how a link is fed whose exchange hasn't failed
+pub fed_going : (r : LineText) (e : Exchange) (p : List ℕ) → e.fault ≡ None → fed p (link_with r e) ≡ link_with (rest_after r p) (lines_heard (lines_after r p) e)
+fed_going r e p going = rw going refl
+
+-- Once a link failed, it doesn't matter what it had kept of an unfinished line.
+pub link_failed : (r s : LineText) (e : Exchange) → is_some e.fault ≡ true → link_with r e ≡ link_with s e
+link_failed r s e over = rw over refl
+
+-- the whole piece was heard
+pub all_heard : (b : List ℕ) (r s : LineText) (e e' : Exchange) (p : List ℕ) → e.fault ≡ None → r ≡ rest b → s ≡ rest (b ++ p) → e' ≡ lines_heard (lines_after r p) e → link_with s e' ≡ fed p (link_with r e)
+all_heard b r s e e' p going here there is =
+    ap₂ link_with (there ∙ rest-append b p ∙ ap (λ r. rest_after r p) (sym here)) is ∙ sym (fed_going r e p going)
+
+-- the exchange failed at a line of the piece, with the fault that the line leads to
+pub failed_heard : (r s : LineText) (e e' e'' : Exchange) (p : List ℕ) (earlier later : List LineText) (line : LineText) → e.fault ≡ None → is_some e''.fault ≡ true
+    → lines_after r p ≡ earlier ++ line ∷ later → e' ≡ lines_heard earlier e → e'' ≡ heard line e' → link_with s e'' ≡ fed p (link_with r e)
+failed_heard r s e e' e'' p earlier later line going over parted is said =
+    let all : lines_heard (lines_after r p) e ≡ e'' =
+    ap (λ ls. lines_heard ls e) parted
+    ∙ lines_heard-append earlier (line ∷ later) e
+    ∙ ap (λ e. lines_heard later (heard line e)) (sym is)
+    ∙ ap (lines_heard later) (sym said)
+    ∙ lines_heard_failed later e'' over in
+    link_failed s (rest_after r p) e'' over ∙ ap (link_with (rest_after r p)) (sym all) ∙ sym (fed_going r e p going)
+
+none_at : (o : Option LinkFault) → Ok tt ≡ answer_by o → o ≡ None
+none_at None is = refl
+none_at (Some fault) is = absurd (cc)
+
+some_at : (o : Option LinkFault) (fault : LinkFault) → Err fault ≡ answer_by o → is_some o ≡ true
+some_at None fault is = absurd (cc)
+some_at (Some other) fault is = refl
+
+-- an exchange that hasn't failed at a line has heard it
+pub heard_on : (e e' : Exchange) (line : LineText) (result : Result (Unit {0}) LinkFault) → result ≡ Ok tt → Hears e line result e' → (e' ≡ heard line e) × (e'.fault ≡ None)
+heard_on e e' line result ok h =
+    let going = none_at e'.fault (sym ok ∙ h.answered) in
+    elim h.stands [
+      | inl said ↦ (said, going)
+      | inr lacks ↦ let some : None ≡ Some Memory = sym going ∙ ap (λ e. e.fault) lacks.0 in absurd (cc)
+    ]
+
+-- an exchange that returned a fault has failed
+pub heard_over : (e e' : Exchange) (line : LineText) (result : Result (Unit {0}) LinkFault) (fault : LinkFault) → result ≡ Err fault → Hears e line result e' → is_some e'.fault ≡ true
+heard_over e e' line result fault err h = some_at e'.fault fault (sym err ∙ h.answered)
+
+-- the lines of the whole piece, by the line at which the exchange failed
+pub parted_at : (b : List ℕ) (r : LineText) (n used : ℕ) (p left : List ℕ) (line : LineText) → r ≡ rest b → left ≡ drop n p
+    → lines ((b ++ take n p) ++ take used left) ≡ lines (b ++ take n p) ++ line ∷ []
+    → lines_after r p ≡ lines_after r (take n p) ++ line ∷ lines_after (rest (b ++ take (n + used) p)) (drop (n + used) p)
+parted_at b r n used p left line here is brought =
+    let later = lines_after (rest (b ++ take (n + used) p)) (drop (n + used) p) in
+    whole_lines b r (n + used) p here
+    ∙ ap (λ front. front ++ later) (front_lines b r n used p left (line ∷ []) here is brought)
+    ∙ append_assoc (lines_after r (take n p)) (line ∷ []) later
+
+-- nothing is left
+pub taken_whole : (n : ℕ) (p left : List ℕ) → left ≡ drop n p → (length left == 0) ≡ true → take n p ≡ p
+taken_whole n p left is none = take_all n p (omega (arith, ap length is, length-drop n p, eqb-true (length left) 0 none))
+
+-- A link that failed is as it was.
+pub fed_over : (r : LineText) (e : Exchange) (p : List ℕ) (fault : LinkFault) → e.fault ≡ Some fault → Feeds (link_with r e) p 0 (Err fault) (link_with r e)
+fed_over r e p fault failed =
+    let over : is_some e.fault ≡ true = ap is_some failed in
+    let same = lines_heard_failed (lines_after (link_with r e).rest p) e over in
+    record {
+      answered = sym (ap answer_by failed);
+      stands = inl (link_failed r (rest_after (link_with r e).rest p) e over ∙ ap (link_with (rest_after (link_with r e).rest p)) (sym same));
+    }
+
+-- What a piece does to a link follows from what it does to its exchange.
+pub fed_link : (r s : LineText) (e e' : Exchange) (p : List ℕ) (done : ℕ) (result : Result (Unit {0}) LinkFault) → e.fault ≡ None → result ≡ answer_by e'.fault
+    → (link_with s e' ≡ fed p (link_with r e)) ⊎ RunsOut (lines_after r p) e done e' → Feeds (link_with r e) p done result (link_with s e')
+fed_link r s e e' p done result going answered stands = record {
+  answered = answered;
+  stands = elim stands [
+    | inl said ↦ inl said
+    | inr out ↦ inr (
+      subst (λ r. RunsOut (lines_after r p) e done e') (sym (rest_going r e going)) out,
+      rest_over s e' (ap (λ e. is_some e.fault) out.stands.0),
+    )
+  ];
+} where
+  rest_going : (r : LineText) (e : Exchange) → e.fault ≡ None → (link_with r e).rest ≡ r
+  rest_going r e going = ap (λ o. if is_some o then Text [] else r) going
+
+  rest_over : (s : LineText) (e : Exchange) → is_some e.fault ≡ true → (link_with s e).rest ≡ Text []
+  rest_over s e over = ap (λ b. if b then Text [] else s) over
+
+-- a piece behind another one
+fed_behind : (r : LineText) (e : Exchange) (p : List ℕ) → fed p (link_with r e) ≡ link_with (rest_after r p) (lines_heard (lines_after r p) e)
+fed_behind r e p = elim (cases_Bool (is_some e.fault)) [
+  | inl over ↦
+      let same : (ls : List LineText) → lines_heard ls e ≡ e = λ ls. lines_heard_failed ls e over in
+      ap (link_with (rest_after (link_with r e).rest p)) (same (lines_after (link_with r e).rest p))
+      ∙ link_failed (rest_after (link_with r e).rest p) (rest_after r p) e over
+      ∙ ap (link_with (rest_after r p)) (sym (same (lines_after r p)))
+  | inr on ↦ ap (λ b. link_with (rest_after (if b then Text [] else r) p) (lines_heard (lines_after (if b then Text [] else r) p) e)) on
+]
+
+pub cuts_do_not_matter : CutsDoNotMatter
+cuts_do_not_matter v x y is =
+    let b = is.0 in
+    let e = v.exchange in
+    let between : rest_after v.rest x ≡ rest (b ++ x) = ap (λ r. rest_after r x) is.1 ∙ sym (rest-append b x) in
+    let first = lines_heard (lines_after v.rest x) e in
+    let rests : rest_after v.rest (x ++ y) ≡ rest_after (rest_after v.rest x) y =
+    ap (λ r. rest_after r (x ++ y)) is.1 ∙ rest_cut b x y ∙ ap (λ r. rest_after r y) (sym between) in
+    let heard : lines_heard (lines_after v.rest (x ++ y)) e ≡ lines_heard (lines_after (rest_after v.rest x) y) first =
+    ap (λ r. lines_heard (lines_after r (x ++ y)) e) is.1
+    ∙ ap (λ ls. lines_heard ls e) (lines_cut b x y)
+    ∙ lines_heard-append (lines_after (rest b) x) (lines_after (rest (b ++ x)) y) e
+    ∙ ap₂ (λ r s. lines_heard (lines_after r y) (lines_heard (lines_after s x) e)) (sym between) (sym is.1) in
+    ap₂ link_with rests heard ∙ sym (fed_behind (rest_after v.rest x) first y)
+
+pub rests_stay : RestsStay
+rests_stay v x is = elim (cases_Bool (is_some (lines_heard (lines_after v.rest x) v.exchange).fault)) [
+  | inl over ↦ ([], ap (λ b. if b then Text [] else rest_after v.rest x) over)
+  | inr on ↦ (is.0 ++ x, ap (λ b. if b then Text [] else rest_after v.rest x) on ∙ ap (λ r. rest_after r x) is.1 ∙ sym (rest-append is.0 x))
+]

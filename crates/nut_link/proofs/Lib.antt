@@ -1,0 +1,6 @@
+pub mod Headings
+pub mod Writable
+pub mod Advancing
+pub mod Feeding
+pub mod Matches
+pub mod Bounded

@@ -1,0 +1,79 @@
+-- Which lines match.
+use Rattle.std.proofs.Common.{◌≡◌, ℕ, ◌||◌, Bool, true, false, List, [], ◌∷◌, None, Ok, bytes_eq, refl, sym, ap, ◌∙◌, inl, inr, Result}
+use Rattle.std.proofs.lemmas.Bool.{false≢true}
+use Rattle.std.proofs.lemmas.List.Folds.{list_any-append}
+use Rattle.std.proofs.lemmas.Slice.Eq.{bytes_eq-Decides}
+use Rattle.std.specs.List.{list_any}
+use Rattle.nut_words.specs.Lines.{lines_after}
+use Rattle.nut_words.specs.Reader.{read}
+use Rattle.nut_proto.specs.Answers.{answer_of}
+use Rattle.nut_proto.specs.declared.request.ListQuery.{ListQuery}
+use Rattle.nut_proto.specs.declared.request.ListQuery.TheVariants as queries
+use Rattle.nut_link.specs.Hearing.{Feeds, may_take_memory}
+use Rattle.nut_link.specs.laws.Laws.{OkTakesNoMemory, RepliesMatch}
+use Rattle.nut_link.specs.Link.{LinkValue, fed}
+use Rattle.nut_link.specs.Matching.{Listing, Complete, listing, next, progress}
+use Rattle.nut_proto.specs.declared.answer.Answer.TheVariants as answers
+use Rattle.nut_proto.specs.Lines.{message_words}
+use Rattle.nut_proto.specs.Requests.{query_parts}
+use Rattle.nut_link.specs.declared.outcome.Outcome.TheVariants as outcomes
+use Rattle.nut_link.specs.declared.fault.LinkFault.{LinkFault}
+
+bytes_same : (x : List ℕ) → bytes_eq x x ≡ true
+bytes_same x = (bytes_eq-Decides x x).1 refl
+
+or_true : (b c : Bool) → c ≡ true → (b || c) ≡ true
+or_true true c e = refl
+or_true false c e = e
+
+first_true : (b c : Bool) → b ≡ true → (b || c) ≡ true
+first_true b c e = ap (λ b. b || c) e
+
+-- if no line may allocate, memory doesn't run out
+pub without_memory : (v w : LinkValue) (p : List ℕ) (done : ℕ) (result : Result (Unit {0}) LinkFault) → Feeds v p done result w → list_any may_take_memory (lines_after v.rest p) ≡ false → w ≡ fed p v
+without_memory v w p done result feeds none = elim feeds.stands [
+  | inl said ↦ said
+  | inr out ↦
+      let here : list_any may_take_memory (out.0.line ∷ out.0.later) ≡ true = first_true (may_take_memory out.0.line) (list_any may_take_memory out.0.later) out.0.stands.1 in
+      let some : list_any may_take_memory (lines_after v.rest p) ≡ true =
+      ap (list_any may_take_memory) out.0.parted
+      ∙ list_any-append may_take_memory out.0.earlier (out.0.line ∷ out.0.later)
+      ∙ or_true (list_any may_take_memory out.0.earlier) (list_any may_take_memory (out.0.line ∷ out.0.later)) here in
+      absurd (false≢true (sym none ∙ some))
+]
+
+pub ok_takes_no_memory : OkTakesNoMemory
+unfolding answer_of read
+ok_takes_no_memory = refl
+
+begins : (query : ListQuery) → progress (listing query) None (answers.Begin (message_words (query_parts query))) ≡ Ok (Listing [])
+begins queries.Ups = refl
+begins (queries.Var ups) = rw (bytes_same ups) refl
+begins (queries.Rw ups) = rw (bytes_same ups) refl
+begins (queries.Cmd ups) = rw (bytes_same ups) refl
+begins (queries.Enum ups variable) = rw (bytes_same ups, bytes_same variable) refl
+begins (queries.Range ups variable) = rw (bytes_same ups, bytes_same variable) refl
+begins (queries.Client ups) = rw (bytes_same ups) refl
+
+ends : (query : ListQuery) (rows : List (List (List ℕ))) → next (listing query) rows (answers.End (message_words (query_parts query))) ≡ Ok (Complete (outcomes.List rows))
+ends queries.Ups rows = refl
+ends (queries.Var ups) rows = rw (bytes_same ups) refl
+ends (queries.Rw ups) rows = rw (bytes_same ups) refl
+ends (queries.Cmd ups) rows = rw (bytes_same ups) refl
+ends (queries.Enum ups variable) rows = rw (bytes_same ups, bytes_same variable) refl
+ends (queries.Range ups variable) rows = rw (bytes_same ups, bytes_same variable) refl
+ends (queries.Client ups) rows = rw (bytes_same ups) refl
+
+pub replies_match : RepliesMatch
+replies_match = record {
+  refused = λ request refusal. refl;
+  description = λ ups text. rw (bytes_same ups) refl;
+  value = λ ups variable text. rw (bytes_same ups, bytes_same variable) refl;
+  variable = λ ups name text. rw (bytes_same ups, bytes_same name) refl;
+  command = λ ups name text. rw (bytes_same ups, bytes_same name) refl;
+  login = λ ups. refl;
+  shutdown = λ ups. refl;
+  logout = refl;
+  begins = begins;
+  ends = ends;
+}

@@ -1,0 +1,7 @@
+pub mod Matching
+pub mod Asking
+pub mod Link
+pub mod Hearing
+pub mod Bounds
+pub mod inside
+pub mod laws

@@ -1,0 +1,118 @@
+-- What answer a request expects, and when a line matches it (RFC 9271).
+use Rattle.std.specs.Prelude.{ℕ, ◌+◌, ◌==◌, ◌&&◌, nat_le, nat_lt, Bool, true, false, List, [], ◌∷◌, ◌++◌, length, drop, Option, Some, None, Result, Ok, Err, codes, if◌then◌else◌}
+use Rattle.std.specs.Char.{is_ascii_digit}
+use Rattle.std.specs.List.{list_all}
+use Rattle.std.specs.Str.{bytes_eq}
+use Rattle.nut_words.specs.declared.limits.TheConstants.{LINE_MAX}
+use Rattle.nut_proto.specs.declared.answer.Answer.{Answer}
+use Rattle.nut_proto.specs.declared.answer.Answer.TheVariants as answers
+use Rattle.nut_proto.specs.declared.request.ListQuery.{ListQuery}
+use Rattle.nut_proto.specs.declared.request.ListQuery.TheVariants as queries
+use Rattle.nut_proto.specs.declared.request.Request.{Request}
+use Rattle.nut_proto.specs.declared.request.Request.TheVariants as requests
+use Rattle.nut_link.specs.declared.expected.Expected.{Expected}
+use Rattle.nut_link.specs.declared.expected.Expected.TheVariants as expects
+use Rattle.nut_link.specs.declared.expected.More.{More}
+use Rattle.nut_link.specs.declared.expected.More.TheVariants as mores
+use Rattle.nut_link.specs.declared.fault.LinkFault.{LinkFault}
+use Rattle.nut_link.specs.declared.fault.LinkFault.TheVariants.{NotMine, BadLine}
+use Rattle.nut_link.specs.declared.outcome.Outcome.{Outcome}
+use Rattle.nut_link.specs.declared.outcome.Outcome.TheVariants as outcomes
+use Rattle.nut_proto.specs.declared.limits.TheConstants.{ROWS_MAX}
+
+-- what a LIST expects: the words behind LIST in its first and last line, and rows that begin with them and have this
+-- many further words
+abbrev pub listing : ListQuery → Expected
+listing queries.Ups = expects.Listing (codes "UPS" ∷ []) 2
+listing (queries.Var ups) = expects.Listing (codes "VAR" ∷ ups ∷ []) 2
+listing (queries.Rw ups) = expects.Listing (codes "RW" ∷ ups ∷ []) 2
+listing (queries.Cmd ups) = expects.Listing (codes "CMD" ∷ ups ∷ []) 1
+listing (queries.Enum ups variable) = expects.Listing (codes "ENUM" ∷ ups ∷ variable ∷ []) 1
+listing (queries.Range ups variable) = expects.Listing (codes "RANGE" ∷ ups ∷ variable ∷ []) 2
+listing (queries.Client ups) = expects.Listing (codes "CLIENT" ∷ ups ∷ []) 1
+
+-- What a request expects. A GET: the words behind GET and one more, which for NUMLOGINS is a number; for TYPE one or
+-- more. The commands that are answered `OK`: that. VER, NETVER and HELP: any line.
+abbrev pub expected : Request → Expected
+expected (requests.GetNumLogins ups) = expects.Line (codes "NUMLOGINS" ∷ ups ∷ []) mores.Number
+expected (requests.GetUpsDesc ups) = expects.Line (codes "UPSDESC" ∷ ups ∷ []) mores.One
+expected (requests.GetVar ups variable) = expects.Line (codes "VAR" ∷ ups ∷ variable ∷ []) mores.One
+expected (requests.GetType ups variable) = expects.Line (codes "TYPE" ∷ ups ∷ variable ∷ []) mores.OneOrMore
+expected (requests.GetDesc ups variable) = expects.Line (codes "DESC" ∷ ups ∷ variable ∷ []) mores.One
+expected (requests.GetCmdDesc ups command) = expects.Line (codes "CMDDESC" ∷ ups ∷ command ∷ []) mores.One
+expected (requests.List query) = listing query
+expected (requests.SetVar ups variable value) = expects.Success
+expected (requests.InstCmd ups command) = expects.Success
+expected (requests.Username name) = expects.Success
+expected (requests.Password password) = expects.Success
+expected (requests.Login ups) = expects.Success
+expected (requests.Primary ups) = expects.Success
+expected (requests.Fsd ups) = expects.Success
+expected requests.Logout = expects.Success
+expected requests.Ver = expects.AnyLine
+expected requests.NetVer = expects.AnyLine
+expected requests.Help = expects.AnyLine
+expected requests.StartTls = expects.Refusal
+
+-- These words begin with those of the heading, byte for byte.
+abbrev pub begins : List (List ℕ) → List (List ℕ) → Bool
+begins [] words = true
+begins (first ∷ others) [] = false
+begins (first ∷ others) (word ∷ words) = bytes_eq first word && begins others words
+
+-- 1 to 9 digits
+abbrev pub is_count : List ℕ → Bool
+is_count word = nat_lt 0 (length word) && nat_le (length word) 9 && list_all is_ascii_digit word
+
+-- whether the words behind the query's are as many as there have to be, and of the right kind
+abbrev pub has_more : More → List (List ℕ) → Bool
+has_more mores.One words = length words == 1
+has_more mores.Number words = length words == 1 && list_all is_count words
+has_more mores.OneOrMore words = nat_le 1 (length words)
+
+-- What a line that matches does to a query: its list goes on, with these rows so far, or it is complete.
+pub data Progress : Type 0 where
+  Listing : List (List (List ℕ)) → Progress
+  Complete : Outcome → Progress
+
+-- the words are exactly those of the heading
+abbrev pub is_heading : List (List ℕ) → List (List ℕ) → Bool
+is_heading heading words = length words == length heading && begins heading words
+
+-- the words are those of the heading and `count` further ones
+abbrev pub is_row : List (List ℕ) → ℕ → List (List ℕ) → Bool
+is_row heading count words = length words == length heading + count && begins heading words
+
+-- the words are those of the heading and further ones that fit
+abbrev pub is_line : List (List ℕ) → More → List (List ℕ) → Bool
+is_line heading more words = begins heading words && has_more more (drop (length heading) words)
+
+-- What the first line does to a query. A refusal answers any query.
+abbrev pub first : Expected → Answer → Result Progress LinkFault
+first e (answers.Err name) = Ok (Complete (outcomes.Refused name))
+first expects.Success (answers.Ok words) = Ok (Complete outcomes.Done)
+first (expects.Line heading more) (answers.Row words) =
+    if is_line heading more words then Ok (Complete (outcomes.Said (drop (length heading) words))) else Err NotMine
+first expects.AnyLine (answers.Row words) = Ok (Complete (outcomes.Said words))
+first (expects.Listing heading count) (answers.Begin words) = if is_heading heading words then Ok (Listing []) else Err NotMine
+first e answer = Err NotMine
+
+-- What a line behind the beginning of a list makes of it, which has these rows so far: one more, of ROWS_MAX, or its end.
+abbrev pub next : Expected → List (List (List ℕ)) → Answer → Result Progress LinkFault
+next (expects.Listing heading count) rows (answers.Row words) =
+    if is_row heading count words
+    then (if nat_lt (length rows) ROWS_MAX then Ok (Listing (rows ++ drop (length heading) words ∷ [])) else Err BadLine)
+    else Err NotMine
+next (expects.Listing heading count) rows (answers.End words) =
+    if is_heading heading words then Ok (Complete (outcomes.List rows)) else Err NotMine
+next e rows answer = Err NotMine
+
+-- What a line does to a query that expects this. `rows` are those of its list so far, once that has begun. A line that
+-- doesn't match is `NotMine`.
+abbrev pub progress : Expected → Option (List (List (List ℕ))) → Answer → Result Progress LinkFault
+progress e None answer = first e answer
+progress e (Some rows) answer = next e rows answer
+
+-- more bytes than a line has
+abbrev pub is_long : List ℕ → Bool
+is_long word = nat_lt LINE_MAX (length word)

@@ -1,0 +1,198 @@
+//! The answer that a query expects.
+ghost use Rattle.std.specs.Prelude.{◌≡◌, ◌≤◌, [], IfSome, IfNone, IsTrue, drop, length};
+ghost use Rattle.std.specs.Char.{is_ascii_digit};
+ghost use Rattle.std.specs.List.{list_all, list_any};
+ghost use Rattle.nut_proto.specs.Lines.{message_words};
+ghost use Rattle.nut_proto.specs.Requests.{query_parts, request_parts};
+ghost use Rattle.nut_proto.specs.declared.answer.Answer.TheVariants as answers;
+ghost use Rattle.nut_link.specs.inside.Parts.{Gives};
+ghost use Rattle.nut_link.specs.Matching.{expected, first, listing, has_more, is_count, is_line, is_long};
+
+use crate::copied::Fields;
+use crate::fault::LinkFault;
+use crate::heading::Heading;
+use crate::outcome::Outcome;
+use nut_proto::{ListQuery, Request, Rest};
+use std::alloc::Global;
+
+/// How many words follow those of the query in the answer to a GET.
+#[derive(Clone, Copy, Debug, PartialEq, Eq)]
+pub enum More {
+    /// Exactly one.
+    One,
+    /// Exactly one, of 1 to 9 digits.
+    Number,
+    /// One or more.
+    OneOrMore,
+}
+
+/// The answer that a query expects, unless it is refused.
+#[derive(Debug, Drop)]
+pub enum Expected {
+    /// `OK`, whatever follows.
+    Success,
+    /// A line that begins with these words and has further words.
+    Line(Heading, More),
+    /// Any line but `OK`, a refusal, and the beginning and the end of a list.
+    AnyLine,
+    /// A list whose first and last line have these words; each row begins with them and has this many further words.
+    Listing(Heading, u8),
+    /// Only a refusal.
+    Refusal,
+}
+
+fn has_digits_alone(word: &[u8]) -> bool
+    ensures { result ≡ list_all is_ascii_digit word.now }
+{
+    word.iter().all(|byte| byte.is_ascii_digit())
+}
+
+/// Whether a word is 1 to 9 digits.
+fn is_count(word: &[u8]) -> bool
+    ensures { result ≡ is_count word.now }
+{
+    !word.is_empty() && word.len() <= 9 && has_digits_alone(word)
+}
+
+impl More {
+    /// Whether the words from the place `start` on are as many as there have to be, and of the right kind.
+    fn fits(self, words: &Rest<'_>, start: usize) -> bool
+        ensures { result ≡ has_more self (drop start words.now) }
+    {
+        let count = words.len().saturating_sub(start);
+        match self {
+            More::One => count == 1,
+            More::Number => count == 1 && is_count(words.get(start)),
+            More::OneOrMore => 1 <= count,
+        }
+    }
+}
+
+/// Whether a line's words are those of the heading and further ones that fit.
+fn is_line(heading: &Heading, more: More, words: &Rest<'_>) -> bool
+    ensures { result ≡ is_line heading.now more words.now }
+{
+    heading.begins(words) && more.fits(words, heading.len())
+}
+
+impl Expected {
+    /// Takes in a line that is neither `OK`, a refusal, nor the beginning or the end of a list, as the first line of
+    /// the answer.
+    pub(crate) fn say(&self, alloc: Global, words: &Rest<'_>) -> Result<Option<Outcome>, LinkFault>
+        ensures { Gives (first self.now (answers.Row words.now)) (answers.Row words.now) result [] }
+    {
+        match self {
+            Expected::Line(heading, more) => {
+                if !is_line(heading, *more, words) {
+                    return Err(LinkFault::NotMine);
+                }
+                let fields = Fields::copy(alloc, words, heading.len())?;
+                Ok(Some(Outcome::Said(fields)))
+            }
+            Expected::AnyLine => {
+                let fields = Fields::copy(alloc, words, 0)?;
+                Ok(Some(Outcome::Said(fields)))
+            }
+            Expected::Success | Expected::Listing(_, _) | Expected::Refusal => Err(
+                LinkFault::NotMine,
+            ),
+        }
+    }
+
+    /// Takes in `OK` as the first line.
+    pub(crate) fn succeed(&self, words: &Rest<'_>) -> Result<Option<Outcome>, LinkFault>
+        ensures { Gives (first self.now (answers.Ok words.now)) (answers.Ok words.now) result [] }
+    {
+        match self {
+            Expected::Success => Ok(Some(Outcome::Done)),
+            Expected::Line(_, _)
+            | Expected::AnyLine
+            | Expected::Listing(_, _)
+            | Expected::Refusal => Err(LinkFault::NotMine),
+        }
+    }
+
+    /// Takes in the beginning of a list as the first line.
+    pub(crate) fn begin(&self, words: &Rest<'_>) -> Result<Option<Outcome>, LinkFault>
+        ensures { Gives (first self.now (answers.Begin words.now)) (answers.Begin words.now) result [] }
+    {
+        match self {
+            Expected::Listing(heading, _) if heading.is_heading(words) => Ok(None),
+            Expected::Listing(_, _)
+            | Expected::Success
+            | Expected::Line(_, _)
+            | Expected::AnyLine
+            | Expected::Refusal => Err(LinkFault::NotMine),
+        }
+    }
+}
+
+/// What a request expects, unless a word of it that an answer repeats is longer than a line may be. Takes no memory.
+pub(crate) fn expected_of(request: &Request<'_>) -> Option<Expected>
+    ensures some { IfSome result (λ e. e ≡ expected request.now) }
+    ensures none { IfNone result (IsTrue (list_any is_long (drop 1 (message_words (request_parts request.now))))) }
+{
+    Some(match request {
+        Request::GetNumLogins { ups } => Expected::Line(
+            Heading::copy(&[b"NUMLOGINS", ups.as_bytes()])?,
+            More::Number,
+        ),
+        Request::GetUpsDesc { ups } => Expected::Line(
+            Heading::copy(&[b"UPSDESC", ups.as_bytes()])?,
+            More::One,
+        ),
+        Request::GetVar { ups, variable } => Expected::Line(
+            Heading::copy(&[b"VAR", ups.as_bytes(), variable.as_bytes()])?,
+            More::One,
+        ),
+        Request::GetType { ups, variable } => Expected::Line(
+            Heading::copy(&[b"TYPE", ups.as_bytes(), variable.as_bytes()])?,
+            More::OneOrMore,
+        ),
+        Request::GetDesc { ups, variable } => Expected::Line(
+            Heading::copy(&[b"DESC", ups.as_bytes(), variable.as_bytes()])?,
+            More::One,
+        ),
+        Request::GetCmdDesc { ups, command } => Expected::Line(
+            Heading::copy(&[b"CMDDESC", ups.as_bytes(), command.as_bytes()])?,
+            More::One,
+        ),
+        Request::List(query) => listing_of(query)?,
+        Request::SetVar { .. }
+        | Request::InstCmd { .. }
+        | Request::Username { .. }
+        | Request::Password { .. }
+        | Request::Login { .. }
+        | Request::Primary { .. }
+        | Request::Fsd { .. }
+        | Request::Logout => Expected::Success,
+        Request::Ver | Request::NetVer | Request::Help => Expected::AnyLine,
+        Request::StartTls => Expected::Refusal,
+    })
+}
+
+/// Returns what a LIST expects. `None` only if a word of it is longer than 512 bytes. It allocates nothing.
+fn listing_of(query: &ListQuery<'_>) -> Option<Expected>
+    ensures some { IfSome result (λ e. e ≡ listing query.now) }
+    ensures none { IfNone result (IsTrue (list_any is_long (message_words (query_parts query.now)))) }
+{
+    let heading = match query {
+        ListQuery::Ups => Heading::copy(&[b"UPS"])?,
+        ListQuery::Var { ups } => Heading::copy(&[b"VAR", ups.as_bytes()])?,
+        ListQuery::Rw { ups } => Heading::copy(&[b"RW", ups.as_bytes()])?,
+        ListQuery::Cmd { ups } => Heading::copy(&[b"CMD", ups.as_bytes()])?,
+        ListQuery::Enum { ups, variable } => {
+            Heading::copy(&[b"ENUM", ups.as_bytes(), variable.as_bytes()])?
+        }
+        ListQuery::Range { ups, variable } => {
+            Heading::copy(&[b"RANGE", ups.as_bytes(), variable.as_bytes()])?
+        }
+        ListQuery::Client { ups } => Heading::copy(&[b"CLIENT", ups.as_bytes()])?,
+    };
+    let count = match query {
+        ListQuery::Ups | ListQuery::Var { .. } | ListQuery::Rw { .. } | ListQuery::Range { .. } =>
+            2,
+        ListQuery::Cmd { .. } | ListQuery::Enum { .. } | ListQuery::Client { .. } => 1,
+    };
+    Some(Expected::Listing(heading, count))
+}

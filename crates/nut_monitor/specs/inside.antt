@@ -1,0 +1,5 @@
+pub mod Hearing
+pub mod Steps
+pub mod Inside
+pub mod Sound
+pub mod Kept

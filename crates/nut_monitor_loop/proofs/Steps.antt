@@ -1,0 +1,128 @@
+-- What is watched stays watched at each step of the loop.
+use Rattle.std.proofs.Common.{◌≡◌, ℕ, List, [], ◌∷◌, ◌++◌, Option, Some, None, Result, Ok, Err, IfSome, OnErr, refl, sym, ◌∙◌, ap, subst}
+use Rattle.nut_monitor_spec.specs.declared.MonitorFault.{MonitorFault}
+use Rattle.nut_monitor_spec.specs.declared.MonitorFault.TheVariants.{NoSuchLink, WrongLinkState, PieceTooLong, TooMuchTaken, Busy, Memory}
+use Rattle.nut_monitor_spec.specs.Configuration.{Configuration}
+use Rattle.nut_monitor_spec.specs.Event.{Event, Moment, Linked, LinkBytes, LinkLost, LinkTook, OutOfMemory, NoticeTaken}
+use Rattle.nut_monitor_spec.specs.Trace.{trace, sent, notices, taken_after, taken_notice, since_linked}
+use Rattle.nut_monitor_spec.specs.Content.{Content}
+use Rattle.nut_monitor_spec.specs.Acceptance.{refusal, IsAccepted, Tells}
+use Rattle.nut_monitor_spec.specs.machine.Machine.{advance}
+use Rattle.nut_monitor_spec.specs.Outcome.{IsAnswer, IsRefusal, MayLack}
+use Rattle.nut_monitor_spec.specs.MachineOutcome.{content_after}
+use Rattle.nut_monitor_spec.proofs.Answering.{answers-keep}
+use Rattle.nut_monitor_loop.specs.Record.{Entry, tells}
+use Rattle.nut_monitor_loop.specs.Watched.{entries_of, history_of, with_event, Stands, taken, since_made, handed, Watched}
+use Rattle.nut_monitor_loop.proofs.Sent.{sent-given}
+use Rattle.nut_monitor_loop.proofs.Handed.{handed-given}
+
+-- a world that tells its entries tells one more
+tells_more : (o : Option (List Entry)) (entries : List Entry) (entry : Entry) → IfSome o (λ r. r ≡ entries) → IfSome (tells entry o) (λ r. r ≡ entry ∷ entries)
+tells_more None entries entry same = tt
+tells_more (Some r) entries entry same = ap (λ q. entry ∷ q) same
+
+-- one more step
+pub goes_on : (first : Configuration) (o o' : Option (List Entry)) (s s' : Content) (owed owed' : Option ℕ) (entry : Entry) (event : Option Event) (watched : Watched first o s owed)
+    → o' ≡ tells entry o → Stands first (history_of watched.steps) owed entry event owed' → Tells first (with_event event (history_of watched.steps)) s'
+    → ((i : ℕ) → taken i (record { entry = entry; event = event } ∷ watched.steps) ≡ sent first i (trace first (with_event event (history_of watched.steps))))
+    → handed (entry ∷ entries_of watched.steps) ++ s'.notices ≡ notices (trace first (with_event event (history_of watched.steps))) → Watched first o' s' owed'
+goes_on first o o' s s' owed owed' entry event watched more stands holds same all =
+    record {
+      steps = record { entry = entry; event = event } ∷ watched.steps;
+      tells = subst (λ q. IfSome q (λ r. r ≡ entry ∷ entries_of watched.steps)) (sym more) (tells_more o (entries_of watched.steps) entry watched.tells);
+      told = (owed, watched.told, stands);
+      holds = holds;
+      sent_is = same;
+      notices_are = all;
+    }
+
+-- a fault adds nothing to the record
+pub stays : (first : Configuration) (o o' : Option (List Entry)) (s : Content) (owed : Option ℕ) → o' ≡ o → Watched first o s owed → Watched first o' s owed
+stays first o o' s owed same watched = subst (λ q. Watched first q s owed) (sym same) watched
+
+-- what is watched at a fault, with or without a link to be closed
+pub at_err : {T E : Type 0} (r : Result T E) (first : Configuration) (o : Option (List Entry)) (s : Content) (owed : Option ℕ) → Watched first o s owed
+    → OnErr r ((x : Option ℕ) × Watched first o s x)
+at_err (Ok _) first o s owed watched = tt
+at_err (Err _) first o s owed watched = (owed, watched)
+
+pub faulted : {T E : Type 0} (r : Result T E) (first : Configuration) (o o' : Option (List Entry)) (s : Content) (owed : Option ℕ) → Watched first o s owed → OnErr r (o' ≡ o)
+    → OnErr r ((x : Option ℕ) × Watched first o' s x)
+faulted (Ok _) first o o' s owed watched same = tt
+faulted (Err _) first o o' s owed watched same = (owed, stays first o o' s owed same watched)
+
+-- ---- events that take nothing
+
+abbrev pub IsQuiet : Event → Type 0
+IsQuiet (LinkTook i n) = ⊥
+IsQuiet NoticeTaken = ⊥
+IsQuiet e = Unit {0}
+
+takes_none : (e : Event) → IsQuiet e → (i t : ℕ) → taken_after i e t ≡ since_linked 0 i e t
+takes_none (Moment m) quiet i t = refl
+takes_none (Linked j) quiet i t = refl
+takes_none (LinkBytes j piece) quiet i t = refl
+takes_none (LinkLost j) quiet i t = refl
+takes_none (LinkTook j n) quiet i t = absurd quiet
+takes_none (OutOfMemory j piece k) quiet i t = refl
+takes_none NoticeTaken quiet i t = absurd quiet
+
+takes_no_notice : (e : Event) → IsQuiet e → (n : ℕ) → taken_notice e n ≡ n
+takes_no_notice (Moment m) quiet n = refl
+takes_no_notice (Linked j) quiet n = refl
+takes_no_notice (LinkBytes j piece) quiet n = refl
+takes_no_notice (LinkLost j) quiet n = refl
+takes_no_notice (LinkTook j m) quiet n = absurd quiet
+takes_no_notice (OutOfMemory j piece k) quiet n = refl
+takes_no_notice NoticeTaken quiet n = absurd quiet
+
+abbrev pub IsQuietIf : Option Event → Type 0
+IsQuietIf None = Unit {0}
+IsQuietIf (Some e) = IsQuiet e
+
+pub sent_on : (first : Configuration) (h : List Event) (event : Option Event) (i : ℕ) (before : List ℕ) → IsAccepted first (with_event event h) → IsQuietIf event
+    → before ≡ sent first i (trace first h) → since_made i event before ≡ sent first i (trace first (with_event event h))
+sent_on first h None i before accepted quiet same = same
+sent_on first h (Some e) i before accepted quiet same =
+    ap (λ b. since_linked [] i e b) same ∙ sym (sent-given first h i e accepted (takes_none e quiet i))
+
+pub notices_on : (first : Configuration) (h : List Event) (s s' : Content) (event : Option Event) (before : List _) → Tells first h s → Tells first (with_event event h) s' → IsQuietIf event
+    → before ++ s.notices ≡ notices (trace first h) → before ++ s'.notices ≡ notices (trace first (with_event event h))
+notices_on first h s s' None before told told' quiet same =
+    ap (λ (t : Content). before ++ t.notices) (told'.1 ∙ sym told.1) ∙ same
+notices_on first h s s' (Some e) before told told' quiet same =
+    ap (λ (t : Content). before ++ t.notices) told'.1
+    ∙ handed-given first h e before told'.0 (takes_no_notice e quiet) (sym (ap (λ (t : Content). before ++ t.notices) told.1) ∙ same)
+
+-- ---- events that take no memory
+
+-- memory cannot be lacking at this event
+abbrev pub TakesNoMemory : Event → Type 0
+TakesNoMemory e = (s : Content) (link : Option ℕ) (k : ℕ) → MayLack s link k e → ⊥
+
+pub no_memory_took : (i n : ℕ) → TakesNoMemory (LinkTook i n)
+no_memory_took i n s None k lacks = lacks
+no_memory_took i n s (Some j) k lacks = lacks
+
+pub no_memory_lost : (i : ℕ) → TakesNoMemory (LinkLost i)
+no_memory_lost i s None k lacks = lacks
+no_memory_lost i s (Some j) k lacks = lacks
+
+refused_not : (s : Content) (e : Event) (r : MonitorFault) → refusal s e ≡ None → TakesNoMemory e → IsRefusal s e r → ⊥
+refused_not s e (Memory link k) free small is = small s link k is.1
+refused_not s e NoSuchLink free small is = cc
+refused_not s e WrongLinkState free small is = cc
+refused_not s e PieceTooLong free small is = cc
+refused_not s e TooMuchTaken free small is = cc
+refused_not s e Busy free small is = cc
+
+-- an event that takes no memory and that no test refuses is accepted
+pub moved_on : (s s' : Content) (e : Event) (r : Result (Unit {0}) MonitorFault) → refusal s e ≡ None → TakesNoMemory e → IsAnswer s e r → s' ≡ content_after r s e → s' ≡ advance s e
+moved_on s s' e (Ok u) free small answer moved = moved
+moved_on s s' e (Err r) free small answer moved = absurd (refused_not s e r free small answer)
+
+pub holds_on : (first : Configuration) (h : List Event) (s s' : Content) (e : Event) (r : Result (Unit {0}) MonitorFault) → Tells first h s → refusal s e ≡ None → TakesNoMemory e
+    → IsAnswer s e r → s' ≡ content_after r s e → Tells first (e ∷ h) s'
+holds_on first h s s' e (Ok u) told free small answer moved =
+    subst (λ t. Tells first (e ∷ h) t) (sym moved) (answers-keep first h s e (Ok u) told answer)
+holds_on first h s s' e (Err r) told free small answer moved = absurd (refused_not s e r free small answer)

@@ -1,0 +1,20 @@
+use Rattle.std.proofs.Common.{◌≡◌, None}
+use Rattle.nut_monitor_loop.specs.Watched.{Watched}
+use Rattle.nut_monitor_loop.proofs.watching.go_on.Given as goal
+
+abbrev pub ghost-settle_links : goal.ghost-settle_links
+ghost-settle_links g a = g.first
+
+abbrev pub ghost-tell_all : goal.ghost-tell_all
+ghost-tell_all g a = g.first
+
+abbrev pub ghost-turn : goal.ghost-turn
+ghost-turn g a = g.first
+
+abbrev pub invariant-loop : goal.invariant-loop
+invariant-loop g l =
+    record {
+      same_count : g.W.MonWorld.fault_count l.world ≡ g.W.MonWorld.fault_count l.fn.world;
+      watched : Watched g.first (g.W.MonWorld.log l.world) l.monitor.content None;
+      reached : g.W.MonWorld.reached l.fn.world l.world;
+    }

@@ -1,0 +1,28 @@
+-- What a world over memory may become by its calls, and by calls after calls.
+use Rattle.std.specs.Prelude.{◌≡◌, List, [], ◌∷◌, ◌++◌, map, refl}
+use Rattle.std.proofs.Common.{sym, ◌∙◌, ap, append_assoc, append-nil}
+use Rattle.nut_monitor_loop.specs.Record as entry
+use Rattle.nut_monitor_loop.specs.Memory.{MemoryState, event_of, given_in, GoesOn}
+
+given_in-append : (xs ys : List entry.Entry) → given_in (xs ++ ys) ≡ given_in ys ++ given_in xs
+given_in-append [] ys = sym (append-nil (given_in ys))
+given_in-append (entry.Gave e ∷ r) ys = ap (λ l. l ++ e ∷ []) (given_in-append r ys) ∙ append_assoc (given_in ys) (given_in r) (e ∷ [])
+given_in-append (entry.TookBytes i bytes ∷ r) ys = given_in-append r ys
+given_in-append (entry.WasLate i ∷ r) ys = given_in-append r ys
+given_in-append (entry.WriteBroke i ∷ r) ys = given_in-append r ys
+given_in-append (entry.WasClosed i ∷ r) ys = given_in-append r ys
+given_in-append (entry.WasTold notice ∷ r) ys = given_in-append r ys
+
+-- a world may become what it is
+pub goes_on_self : (a : MemoryState) → GoesOn a a
+goes_on_self a = record { more = []; grown = refl; each = refl }
+
+pub goes_on_twice : (a b c : MemoryState) → GoesOn a b → GoesOn b c → GoesOn a c
+goes_on_twice a b c first second =
+    record {
+      more = second.more ++ first.more;
+      grown = second.grown ∙ ap (λ x. second.more ++ x) first.grown ∙ sym (append_assoc second.more first.more a.log);
+      each =
+          first.each ∙ ap (λ x. given_in first.more ++ x) second.each ∙ sym (append_assoc (given_in first.more) (given_in second.more) (map event_of c.left))
+          ∙ ap (λ x. x ++ map event_of c.left) (sym (given_in-append second.more first.more));
+    }

@@ -1,0 +1,290 @@
+//! The loop over any world.
+
+ghost use Rattle.std.specs.Prelude.{◌≡◌, ◌≢◌, ◌⊎◌, ◌+◌, ◌-◌, ◌^◌, ◌<◌, ℕ, true, false, List, [], length, Option, Some, None, Ok, IfSome, IfOk, OnOk, OnErr, is_ok, option_map, if◌then◌else◌};
+ghost use Rattle.nut_monitor_spec.specs.Configuration.{Configuration};
+ghost use Rattle.nut_monitor_spec.specs.Content.{content, phase_of};
+ghost use Rattle.nut_monitor.specs.Events.{event_of as told_as};
+ghost use Rattle.nut_monitor.specs.inside.Sound.{first_of};
+ghost use Rattle.nut_monitor_loop.specs.Record.{waiting_of, IsSettled, NothingIsWithheld, is_halted, event_given};
+ghost use Rattle.nut_monitor_loop.specs.Watched.{Watched, WatchedBefore, sender, lost_of};
+ghost use Rattle.nut_monitor_loop.specs.inside.Kept.{OnlyAt, StaysLate, KeepsLate, Less, Settles, Unbroken};
+
+use crate::{MonWorld, Next};
+use nut_io::{Fault, Piece, ServeFault, Written};
+use nut_monitor::{Event, Monitor, Notice, Phase};
+use std::sync::Wait;
+
+/// Watches until the machine has to be halted or the world ends. Returns the phase.
+///
+/// The monitor must have been told nothing yet, and the world's record must be empty if the world tells one. The
+/// monitor is told each event of the world, and the result of each write. Before the next event is asked for, the bytes
+/// that wait on each link were offered until none waited or the world took no more; each link that the monitor dropped
+/// by itself, or that a failed write ended, was closed; and each notice was handed to the world. No other link is
+/// closed.
+///
+/// At the return, with or without an error, the monitor's content is that of a history of accepted events which the
+/// world's record tells. The bytes that the world took of each link since it was made are those that were sent on it.
+/// The notices that the world was handed are those of the history, in order; after an error some may still wait.
+///
+/// # Errors
+///
+/// `ServeFault::World` if a call of the world returned a fault.
+pub fn watch<W: MonWorld>(
+    rt: &impl Wait,
+    monitor: &mut Monitor,
+    world: &mut W,
+) -> Result<Phase, ServeFault>
+    requires fresh { monitor.old.content ≡ content monitor.old.content.configuration [] }
+    requires blank { IfSome (W.log world.old) (λ r. r ≡ []) }
+    requires few { W.fault_count world.old < 2 ^ 64 - 1 }
+    ensures err { OnErr result ((owed : Option ℕ) × Watched monitor.old.content.configuration (W.log world.new) monitor.new.content owed) }
+    ensures ok { OnOk result (Watched monitor.old.content.configuration (W.log world.new) monitor.new.content None) }
+    ensures phase { IfOk result (λ phase. phase ≡ phase_of monitor.new.content) }
+    ensures told { OnOk result (monitor.new.content.notices ≡ []) }
+    ensures ended { IfOk result (λ phase. (is_halted phase ≡ true) ⊎ W.has_ended world.new) }
+    ensures fault { OnErr result (W.fault_count world.old < W.fault_count world.new) }
+    ensures reached { W.reached world.old world.new }
+{
+    go_on(rt, monitor, world)
+}
+
+/// Continues the loop of `watch` from where it is.
+fn go_on<W: MonWorld>(
+    rt: &impl Wait,
+    monitor: &mut Monitor,
+    world: &mut W,
+) -> Result<Phase, ServeFault>
+    ghost first: { Configuration }
+    requires few { W.fault_count world.old < 2 ^ 64 - 1 }
+    requires watched { Watched first (W.log world.old) monitor.old.content None }
+    ensures err { OnErr result ((owed : Option ℕ) × Watched first (W.log world.new) monitor.new.content owed) }
+    ensures ok { OnOk result (Watched first (W.log world.new) monitor.new.content None) }
+    ensures phase { IfOk result (λ phase. phase ≡ phase_of monitor.new.content) }
+    ensures told { OnOk result (monitor.new.content.notices ≡ []) }
+    ensures ended { IfOk result (λ phase. (is_halted phase ≡ true) ⊎ W.has_ended world.new) }
+    ensures fault { OnErr result (W.fault_count world.old < W.fault_count world.new) }
+    ensures reached { W.reached world.old world.new }
+{
+    let mut piece = Piece::new();
+    for _ in rt.forever() {
+        // A lost link may let queries be put on other links, so after a failed write all links are settled again.
+        if !settle_links(monitor, world)? {
+            continue;
+        }
+        tell_all(monitor, world)?;
+        if !turn(monitor, world, &mut piece)? {
+            return Ok(monitor.phase());
+        }
+    }
+    unreachable!()
+}
+
+/// Asks for the next event, unless the machine has to be halted, and handles it. Returns whether the loop goes on.
+fn turn<W: MonWorld>(monitor: &mut Monitor, world: &mut W, piece: &mut Piece) -> Result<bool, Fault>
+    ghost first: { Configuration }
+    requires few { W.fault_count world.old < 2 ^ 64 - 1 }
+    requires withheld { NothingIsWithheld (W.late world.old) monitor.old.content }
+    requires told { monitor.old.content.notices ≡ [] }
+    requires watched { Watched first (W.log world.old) monitor.old.content None }
+    ensures err { OnErr result ((owed : Option ℕ) × Watched first (W.log world.new) monitor.new.content owed) }
+    ensures ok { OnOk result (Watched first (W.log world.new) monitor.new.content None) }
+    ensures told { result ≡ Ok false → monitor.new.content.notices ≡ [] }
+    ensures ended { result ≡ Ok false → (is_halted (phase_of monitor.new.content) ≡ true) ⊎ W.has_ended world.new }
+    ensures counted { W.fault_count world.new ≡ (if is_ok result then W.fault_count world.old else W.fault_count world.old + 1) }
+    ensures reached { W.reached world.old world.new }
+{
+    if has_halted(monitor) {
+        return Ok(false);
+    }
+    let next = world.next(monitor, piece)?;
+    if let Next::End = next {
+        return Ok(false);
+    }
+    hand_on(monitor, world, &next, piece)?;
+    Ok(true)
+}
+
+/// Whether the machine has to be halted.
+fn has_halted(monitor: &Monitor) -> bool
+    ensures { result ≡ is_halted (phase_of monitor.now.content) }
+{
+    match monitor.phase() {
+        Phase::Halted { .. } => true,
+        Phase::Watching | Phase::Forcing | Phase::Final => false,
+    }
+}
+
+/// Tells the monitor the event that the world gave, if it gave one, and closes the link that the monitor dropped at it.
+fn hand_on<W: MonWorld>(
+    monitor: &mut Monitor,
+    world: &mut W,
+    next: &Next,
+    piece: &Piece,
+) -> Result<(), Fault>
+    ghost first: { Configuration }
+    requires few { W.fault_count world.old < 2 ^ 64 - 1 }
+    requires told { monitor.old.content.notices ≡ [] }
+    requires watched { WatchedBefore first (W.log world.old) monitor.old.content next.now piece.now.items }
+    ensures err { OnErr result ((owed : Option ℕ) × Watched first (W.log world.new) monitor.new.content owed) }
+    ensures ok { OnOk result (Watched first (W.log world.new) monitor.new.content None) }
+    ensures counted { W.fault_count world.new ≡ (if is_ok result then W.fault_count world.old else W.fault_count world.old + 1) }
+    ensures reached { W.reached world.old world.new }
+{
+    let Some(event) = event_of(next, piece) else {
+        return Ok(());
+    };
+    let sender = sender_of(monitor, event);
+    let _ = monitor.step(event);
+    match lost_link(monitor, sender) {
+        None => Ok(()),
+        Some(i) => world.close(i),
+    }
+}
+
+/// Returns the event that the world gave, if it gave one.
+fn event_of<'a>(next: &'a Next, piece: &'a Piece) -> Option<Event<'a>>
+    ensures { option_map told_as result ≡ event_given next.now piece.now.items }
+{
+    match next {
+        Next::Moment(t) => Some(Event::Moment(*t)),
+        Next::Linked(i) => Some(Event::Linked(*i)),
+        Next::LinkBytes(i) => Some(Event::LinkBytes(*i, piece.as_slice())),
+        Next::LinkLost(i) => Some(Event::LinkLost(*i)),
+        Next::Again | Next::End => None,
+    }
+}
+
+/// Returns the link on which a piece comes, if the event is a piece and that link is up.
+fn sender_of(monitor: &Monitor, event: Event<'_>) -> Option<usize>
+    ensures { result ≡ sender (told_as event.entry) monitor.now.content }
+{
+    match event {
+        Event::LinkBytes(i, _) if monitor.linked(i) => Some(i),
+        Event::LinkBytes(_, _)
+        | Event::Moment(_)
+        | Event::Linked(_)
+        | Event::LinkLost(_)
+        | Event::LinkTook(_, _) => None,
+    }
+}
+
+/// Returns the link that sent a piece, if it is no longer up.
+fn lost_link(monitor: &Monitor, sender: Option<usize>) -> Option<usize>
+    ensures { result ≡ lost_of sender monitor.now.content }
+{
+    let i = sender?;
+    if monitor.linked(i) { None } else { Some(i) }
+}
+
+/// Writes what waits on each link, as far as the world takes it. Stops at the first write that fails. Returns whether
+/// none failed.
+fn settle_links<W: MonWorld>(monitor: &mut Monitor, world: &mut W) -> Result<bool, Fault>
+    ghost first: { Configuration }
+    requires few { W.fault_count world.old < 2 ^ 64 - 1 }
+    requires watched { Watched first (W.log world.old) monitor.old.content None }
+    ensures err { OnErr result ((owed : Option ℕ) × Watched first (W.log world.new) monitor.new.content owed) }
+    ensures ok { OnOk result (Watched first (W.log world.new) monitor.new.content None) }
+    ensures withheld { result ≡ Ok true → NothingIsWithheld (W.late world.new) monitor.new.content }
+    ensures counted { W.fault_count world.new ≡ (if is_ok result then W.fault_count world.old else W.fault_count world.old + 1) }
+    ensures reached { W.reached world.old world.new }
+{
+    let lines = monitor.lines();
+    let mut i = 0;
+    while i < lines {
+        if !flush(monitor, world, i)? {
+            return Ok(false);
+        }
+        i += 1;
+    }
+    Ok(true)
+}
+
+/// Writes until nothing waits on a link or the world takes no more. Returns whether no write failed.
+fn flush<W: MonWorld>(monitor: &mut Monitor, world: &mut W, i: usize) -> Result<bool, Fault>
+    ghost first: { Configuration }
+    requires few { W.fault_count world.old < 2 ^ 64 - 1 }
+    requires watched { Watched first (W.log world.old) monitor.old.content None }
+    ensures err { OnErr result ((owed : Option ℕ) × Watched first (W.log world.new) monitor.new.content owed) }
+    ensures ok { OnOk result (Watched first (W.log world.new) monitor.new.content None) }
+    ensures settled { result ≡ Ok true → IsSettled (W.late world.new) monitor.new.content.watches i }
+    ensures only { result ≡ Ok true → OnlyAt i monitor.old.content.watches monitor.new.content.watches }
+    ensures late { OnOk result (StaysLate (W.late world.old) (W.late world.new)) }
+    ensures counted { W.fault_count world.new ≡ (if is_ok result then W.fault_count world.old else W.fault_count world.old + 1) }
+    ensures reached { W.reached world.old world.new }
+{
+    while monitor.waiting(i).len() > 0 {
+        match write_once(monitor, world, i)? {
+            Written::Took(_) => {}
+            Written::Later => return Ok(true),
+            Written::Failed => return Ok(false),
+        }
+    }
+    Ok(true)
+}
+
+/// Offers what waits on a link to the world once, and tells the monitor the result.
+fn write_once<W: MonWorld>(monitor: &mut Monitor, world: &mut W, i: usize) -> Result<Written, Fault>
+    ghost first: { Configuration }
+    requires few { W.fault_count world.old < 2 ^ 64 - 1 }
+    requires some { 0 < length (waiting_of i monitor.old.content.watches) }
+    requires watched { Watched first (W.log world.old) monitor.old.content None }
+    ensures err { OnErr result ((owed : Option ℕ) × Watched first (W.log world.new) monitor.new.content owed) }
+    ensures ok { OnOk result (Watched first (W.log world.new) monitor.new.content None) }
+    ensures less { IfOk result (λ w. Less w i monitor.old.content.watches monitor.new.content.watches) }
+    ensures settled { IfOk result (λ w. Settles w (W.late world.new) monitor.new.content.watches i) }
+    ensures only { IfOk result (λ w. Unbroken w i monitor.old.content.watches monitor.new.content.watches) }
+    ensures late { OnOk result (StaysLate (W.late world.old) (W.late world.new)) }
+    ensures counted { W.fault_count world.new ≡ (if is_ok result then W.fault_count world.old else W.fault_count world.old + 1) }
+    ensures reached { W.reached world.old world.new }
+{
+    match world.write(i, monitor.waiting(i))? {
+        Written::Took(n) => {
+            let _ = monitor.step(Event::LinkTook(i, n));
+            Ok(Written::Took(n))
+        }
+        Written::Later => Ok(Written::Later),
+        Written::Failed => {
+            let _ = monitor.step(Event::LinkLost(i));
+            world.close(i)?;
+            Ok(Written::Failed)
+        }
+    }
+}
+
+/// Hands each waiting notice to the world, the oldest first. No link changes.
+fn tell_all<W: MonWorld>(monitor: &mut Monitor, world: &mut W) -> Result<(), Fault>
+    ghost first: { Configuration }
+    requires few { W.fault_count world.old < 2 ^ 64 - 1 }
+    requires watched { Watched first (W.log world.old) monitor.old.content None }
+    ensures err { OnErr result ((owed : Option ℕ) × Watched first (W.log world.new) monitor.new.content owed) }
+    ensures ok { OnOk result (Watched first (W.log world.new) monitor.new.content None) }
+    ensures told { OnOk result (monitor.new.content.notices ≡ []) }
+    ensures watches { OnOk result (monitor.new.content.watches ≡ monitor.old.content.watches) }
+    ensures late { OnOk result (KeepsLate (W.late world.old) (W.late world.new)) }
+    ensures counted { W.fault_count world.new ≡ (if is_ok result then W.fault_count world.old else W.fault_count world.old + 1) }
+    ensures reached { W.reached world.old world.new }
+{
+    while let Some(notice) = monitor.first_notice() {
+        tell(monitor, world, notice)?;
+    }
+    Ok(())
+}
+
+/// Hands the oldest notice to the world and removes it from the monitor.
+fn tell<W: MonWorld>(monitor: &mut Monitor, world: &mut W, notice: Notice) -> Result<(), Fault>
+    ghost first: { Configuration }
+    requires few { W.fault_count world.old < 2 ^ 64 - 1 }
+    requires oldest { first_of monitor.old.content.notices ≡ Some notice }
+    requires watched { Watched first (W.log world.old) monitor.old.content None }
+    ensures err { OnErr result ((owed : Option ℕ) × Watched first (W.log world.new) monitor.new.content owed) }
+    ensures ok { OnOk result (Watched first (W.log world.new) monitor.new.content None) }
+    ensures less { OnOk result (length monitor.new.content.notices < length monitor.old.content.notices) }
+    ensures watches { OnOk result (monitor.new.content.watches ≡ monitor.old.content.watches) }
+    ensures late { OnOk result (KeepsLate (W.late world.old) (W.late world.new)) }
+    ensures counted { W.fault_count world.new ≡ (if is_ok result then W.fault_count world.old else W.fault_count world.old + 1) }
+    ensures reached { W.reached world.old world.new }
+{
+    world.notice(monitor, notice)?;
+    let _ = monitor.take_notice();
+    Ok(())
+}

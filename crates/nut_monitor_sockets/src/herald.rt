@@ -1,0 +1,12 @@
+//! Where a monitor's notices go.
+
+use nut_monitor::{Monitor, Notice};
+
+/// A receiver of a monitor's notices.
+pub trait Herald: Drop {
+    /// Receives a notice of this monitor.
+    fn announce(&mut self, monitor: &Monitor, notice: Notice);
+
+    /// Is told that a second has passed. What was started for a notice may have ended.
+    fn second(&mut self);
+}

@@ -1,0 +1,140 @@
+//! The host of a server, whose addresses are dialled one after the other.
+
+use crate::dialler::Dialler;
+use crate::look_ups::ADDRESSES_MAX;
+use crate::pause::Pause;
+use mio::net::TcpStream;
+use nut_conf::Target;
+use nut_poll::text_of;
+use std::alloc::{AllocError, Global};
+use std::io;
+use std::net::{IpAddr, Ipv4Addr, Ipv6Addr, Net, SocketAddr};
+
+/// The most seconds between two look-ups of a host.
+const LONGEST_PAUSE: u8 = 60;
+
+/// A host, a port, and the known addresses of the host.
+#[derive(Drop)]
+pub struct Host {
+    name: String,
+    port: u16,
+    /// Whether the host is a name whose addresses have to be looked up.
+    is_named: bool,
+    addresses: Vec<IpAddr>,
+    /// How many of the addresses were dialled in this call.
+    dialled: usize,
+    /// Whether the host is to be looked up.
+    is_wanted: bool,
+    /// The pause before the next look-up.
+    pause: Pause,
+}
+
+impl Host {
+    /// Returns the host and the port of a target. An address and `localhost` need no look-up.
+    ///
+    /// # Errors
+    ///
+    /// [`AllocError`] if memory cannot be allocated.
+    pub fn new(alloc: Global, target: &Target) -> Result<Host, AllocError> {
+        let name = text_of(target.host.as_bytes());
+        let mut addresses = Vec::with_capacity(alloc, ADDRESSES_MAX)?;
+        put_addresses(name, &mut addresses)?;
+        let is_named = addresses.is_empty();
+        Ok(Host {
+            name: String::from_str(alloc, name)?,
+            port: target.port.number,
+            is_named,
+            addresses,
+            dialled: 0,
+            is_wanted: is_named,
+            pause: Pause::none(),
+        })
+    }
+
+    /// Returns the name of the host.
+    pub fn name(&self) -> &str {
+        self.name.as_str()
+    }
+
+    /// Whether an address of the host is known.
+    pub fn has_addresses(&self) -> bool {
+        !self.addresses.is_empty()
+    }
+
+    /// Counts a second that has passed.
+    pub fn second(&mut self) {
+        self.pause.second(LONGEST_PAUSE);
+    }
+
+    /// Returns the last pause between look-ups, in seconds, if another look-up is due: no address is known, or all have
+    /// failed.
+    pub fn due_look_up(&self) -> Option<u8> {
+        if self.is_wanted && self.pause.is_over() {
+            Some(self.pause.length())
+        } else {
+            None
+        }
+    }
+
+    /// Replaces the known addresses by those that a look-up found, unless it found none. The next look-up comes after a
+    /// pause.
+    pub fn take_addresses(&mut self, found: &[IpAddr]) {
+        self.pause.begin(LONGEST_PAUSE);
+        if found.is_empty() {
+            return;
+        }
+        self.addresses.clear();
+        for address in found {
+            let _ = self.addresses.push(*address);
+        }
+        self.is_wanted = false;
+    }
+
+    /// Notes that the host was reached: the pauses between look-ups are short again.
+    pub fn reach(&mut self) {
+        self.is_wanted = false;
+        self.pause = Pause::none();
+    }
+
+    /// Begins a call, in which all addresses are to be dialled.
+    pub fn begin(&mut self) {
+        self.dialled = 0;
+    }
+
+    /// Dials the next of the addresses that doesn't refuse at once.
+    ///
+    /// # Errors
+    ///
+    /// The error of the last address, or `error` if no address is left. A named host is then to be looked up again.
+    pub fn dial(
+        &mut self,
+        dialler: &Dialler<'_, impl Net>,
+        mut error: io::Error,
+    ) -> io::Result<TcpStream> {
+        for _ in 0..self.addresses.len() {
+            let Some(address) = self.addresses.get(self.dialled) else {
+                break;
+            };
+            let address = SocketAddr::new(*address, self.port);
+            self.dialled = self.dialled.saturating_add(1);
+            match dialler.dial(address) {
+                Ok(stream) => return Ok(stream),
+                Err(refusal) => error = refusal,
+            }
+        }
+        self.is_wanted = self.is_named;
+        Err(error)
+    }
+}
+
+/// Appends the addresses that need no look-up: an address is one itself, and `localhost` has those of this machine.
+/// Other names have none.
+fn put_addresses(name: &str, addresses: &mut Vec<IpAddr>) -> Result<(), AllocError> {
+    if let Ok(address) = name.parse::<IpAddr>() {
+        addresses.push(address)?;
+    } else if name.eq_ignore_ascii_case("localhost") {
+        addresses.push(IpAddr::V4(Ipv4Addr::LOCALHOST))?;
+        addresses.push(IpAddr::V6(Ipv6Addr::LOCALHOST))?;
+    }
+    Ok(())
+}

@@ -1,0 +1,17 @@
+//! The world of a monitor over sockets: links over TCP to the servers of its MONITOR lines.
+#![tactic(auto)]
+
+mod dialler;
+mod herald;
+mod host;
+mod inquiry;
+mod limits;
+mod links;
+mod look_ups;
+mod mio_mon_world;
+mod pause;
+mod refusals;
+mod upstream;
+
+pub use herald::Herald;
+pub use mio_mon_world::MioMonWorld;

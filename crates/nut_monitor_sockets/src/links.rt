@@ -1,0 +1,462 @@
+//! All links of a monitor, watched by one poll.
+
+ghost use Rattle.std.specs.Prelude.{◌≡◌, ◌≢◌, length, IfSome, IfOk, Some, None};
+ghost use Rattle.nut_io.specs.Writes.{IsWithin};
+ghost use Rattle.nut_monitor_loop.specs.declared.types.Next.TheVariants as next;
+
+use crate::dialler::Dialler;
+use crate::inquiry::Reply;
+use crate::limits::{CALM, Limits};
+use crate::look_ups::LookUps;
+use crate::refusals::title;
+use crate::upstream::Upstream;
+use mio::{Events, Token};
+use nut_conf::UpsmonConf;
+use nut_io::{Piece, Written};
+use nut_monitor::{Monitor, Phase, Query};
+use nut_monitor_loop::Next;
+use nut_poll::{Heard, Ready, Report, Reports, Rounds, SOCKETS_MAX, text_of};
+use std::alloc::Global;
+use std::io;
+use std::io::Write;
+use std::net::Net;
+use std::process::Processes;
+use std::time::{Clock, Duration};
+
+/// The most milliseconds of one wait while a look-up goes on. No event reports its end.
+const LOOK_UP_WAIT: u64 = 100;
+
+/// Why a link ended.
+#[derive(Clone, Copy)]
+enum Loss {
+    /// The server closed it, or it failed.
+    Closed,
+    /// The server didn't answer for this many seconds.
+    Silent(u8),
+    /// The server said something that the monitor can't read or hadn't asked for.
+    Unread,
+}
+
+/// A piece that was given to the monitor, which either reads it or drops the link.
+#[derive(Drop)]
+struct Handed {
+    /// The number of the link.
+    link: usize,
+    /// If a line of the piece answers a query: that query, and what the line says.
+    answer: Option<(Query, Reply)>,
+}
+
+/// The links to the servers of the MONITOR lines, by the numbers of the lines, and a clock. The token of a link is its
+/// number.
+#[derive(Drop)]
+pub struct Links<'r, 'e, R: Processes, E> {
+    rt: &'r R,
+    alloc: Global,
+    rounds: Rounds,
+    upstreams: Vec<Upstream>,
+    look_ups: LookUps<'r, R>,
+    /// How long a server may take at present.
+    limits: Limits,
+    /// Whether the shutdown has begun.
+    is_ending: bool,
+    /// The piece that was given to the monitor last, until it is known whether the monitor read it.
+    handed: Option<Handed>,
+    reports: Reports<'e, E>,
+}
+
+impl<'r, 'e, R: Net + Clock + Processes, E: Write> Links<'r, 'e, R, E> {
+    /// Returns the links of a monitor with this configuration. Their servers are about to be called.
+    ///
+    /// # Errors
+    ///
+    /// The error of the poll or of the clock, or a lack of memory.
+    pub fn new(
+        rt: &'r R,
+        alloc: Global,
+        config: &UpsmonConf,
+        reports: Reports<'e, E>,
+    ) -> io::Result<Links<'r, 'e, R, E>> {
+        let mut upstreams = Vec::new(alloc);
+        for line in config.monitors.lines.iter() {
+            upstreams.push(Upstream::new(alloc, line)?)?;
+        }
+        let mut links = Links {
+            rt,
+            alloc,
+            rounds: Rounds::new(rt, alloc, upstreams.len())?,
+            upstreams,
+            look_ups: LookUps::none(rt, alloc),
+            limits: CALM,
+            is_ending: false,
+            handed: None,
+            reports,
+        };
+        links.look_up();
+        Ok(links)
+    }
+
+    /// Returns what comes next, after at most one wait.
+    ///
+    /// A second is told only after the sockets have been looked at since its end, so what had arrived by then is heard
+    /// first.
+    ///
+    /// # Errors
+    ///
+    /// The error of the wait or of the clock.
+    pub fn next(&mut self, monitor: &Monitor, piece: &mut Piece) -> io::Result<Next>
+        ensures goes_on { IfOk result (λ n. n ≢ next.End) }
+    {
+        self.follow(monitor);
+        if let Some(link) = self.link_of_handed() {
+            self.judge(monitor.linked(link));
+        }
+        if let Some(next) = self.look(monitor, piece) {
+            return Ok(next);
+        }
+        let all = self.may_catch_up();
+        if let Some(moment) = self.rounds.seconds.next(all) {
+            return Ok(Next::Moment(moment));
+        }
+        self.wait(monitor)?;
+        Ok(self.look(monitor, piece).unwrap_or(Next::Again))
+    }
+
+    /// Offers bytes to the server of a link. The monitor keeps a link that it writes to, so it has read the last piece.
+    pub fn offer(&mut self, i: usize, bytes: &[u8]) -> Written
+        ensures { IsWithin result (length bytes.now) }
+    {
+        if self.link_of_handed() == Some(i) {
+            self.judge(true);
+        }
+        match self.upstreams.get_mut(i) {
+            Some(upstream) => upstream.offer(bytes),
+            None => Written::Failed,
+        }
+    }
+
+    /// Closes a link. If the monitor was just given a piece from it, that piece is the reason.
+    pub fn close(&mut self, i: usize) {
+        if self.link_of_handed() == Some(i) {
+            self.judge(false);
+            self.end(i, Loss::Unread);
+        } else {
+            self.end(i, Loss::Closed);
+        }
+    }
+
+    /// Returns the link of the piece that was given to the monitor last, until it is known whether the monitor read it.
+    fn link_of_handed(&self) -> Option<usize>
+        ensures some { IfSome self.now.handed (λ h. result ≡ Some h.link) }
+        ensures none { self.now.handed ≡ None → result ≡ None }
+    {
+        match &self.handed {
+            Some(handed) => Some(handed.link),
+            None => None,
+        }
+    }
+
+    /// Reports the answer in the piece that was given to the monitor last, now that it is known whether the monitor
+    /// read it.
+    fn judge(&mut self, is_read: bool)
+        ensures { self.new.handed ≡ None }
+    {
+        let Some(Handed { link, answer }) = self.handed.take() else {
+            return;
+        };
+        let Some((query, reply)) = answer else {
+            return;
+        };
+        self.tell_answer(link, query, &reply, is_read);
+    }
+
+    /// Reports what an answer shows, if it has to be reported: that the server begins to serve, if the monitor read the
+    /// answer, and what was refused.
+    fn tell_answer(&mut self, i: usize, query: Query, reply: &Reply, is_read: bool)
+        ensures { self.new.handed ≡ self.old.handed }
+    {
+        let Some(upstream) = self.upstreams.get_mut(i) else {
+            return;
+        };
+        let is_told = upstream.note_reply(query, reply);
+        if is_read && is_behind_opening(query) && upstream.begins_to_serve() {
+            self.reports.tell(Report::Reached(upstream.name()));
+        }
+        if is_told {
+            self.reports.tell(Report::Refused(
+                upstream.name(),
+                title(query),
+                text_of(reply.error()),
+            ));
+        }
+    }
+
+    /// Closes a link and reports it: a server that has served is lost, and of any other it is reported once that there
+    /// is no server yet.
+    fn end(&mut self, i: usize, loss: Loss) {
+        let Some(upstream) = self.upstreams.get_mut(i) else {
+            return;
+        };
+        if !upstream.is_up() {
+            return;
+        }
+        if upstream.close(self.limits) {
+            self.reports.tell(lost(upstream.name(), loss));
+        } else if upstream.misses() {
+            self.reports.tell(unserved(upstream.name(), loss));
+        }
+    }
+
+    /// Follows the phase of the monitor. A shutdown counts its own seconds, so seconds that were missed before it are
+    /// forgotten, and no look-up helps it any more.
+    fn follow(&mut self, monitor: &Monitor) {
+        if !self.is_ending && !matches!(monitor.phase(), Phase::Watching) {
+            self.is_ending = true;
+            self.rounds.seconds.forget_missed();
+            self.look_ups.end();
+        }
+    }
+
+    /// Whether missed seconds may be told at once: no server is about to say what they would be judged by, or nothing
+    /// is judged any more.
+    fn may_catch_up(&self) -> bool {
+        let limits = self.limits;
+        self.is_ending || !self.upstreams.iter().any(|it| it.holds_clock(limits))
+    }
+
+    /// Looks at the links of this round, until one has something to tell.
+    fn look(&mut self, monitor: &Monitor, piece: &mut Piece) -> Option<Next>
+        ensures goes_on { IfSome result (λ n. n ≢ next.End) }
+    {
+        for _ in 0..SOCKETS_MAX {
+            let Token(i) = self.rounds.ready.take()?;
+            let next = self.look_at(monitor, i, piece);
+            if next.is_some() {
+                return next;
+            }
+        }
+        None
+    }
+
+    /// Reads from a link, or calls its server. If only the monitor or only this world has the link, it is lost.
+    fn look_at(&mut self, monitor: &Monitor, i: usize, piece: &mut Piece) -> Option<Next>
+        ensures goes_on { IfSome result (λ n. n ≢ next.End) }
+    {
+        match (self.upstreams.get(i)?.is_up(), monitor.linked(i)) {
+            (true, true) => self.hear(monitor, i, piece),
+            (false, false) => self.reach(i),
+            (false, true) => Some(Next::LinkLost(i)),
+            (true, false) => {
+                self.close(i);
+                None
+            }
+        }
+    }
+
+    /// Reads from a link. If its server doesn't answer in time the link is lost, whatever else the server sends.
+    fn hear(&mut self, monitor: &Monitor, i: usize, piece: &mut Piece) -> Option<Next>
+        ensures goes_on { IfSome result (λ n. n ≢ next.End) }
+    {
+        let heard = self.upstreams.get_mut(i)?.hear(piece);
+        let next = match heard {
+            Heard::Nothing => None,
+            Heard::All => Some(Next::LinkBytes(i)),
+            Heard::Part => {
+                self.rounds.ready.insert(Token(i));
+                Some(Next::LinkBytes(i))
+            }
+            Heard::End => {
+                self.end(i, Loss::Closed);
+                return Some(Next::LinkLost(i));
+            }
+        };
+        if next.is_some() {
+            self.hand_on(monitor, i, piece);
+        }
+        if self.upstreams.get(i)?.is_overdue(self.limits) {
+            self.end(i, Loss::Silent(self.limits.answer));
+            return Some(Next::LinkLost(i));
+        }
+        next
+    }
+
+    /// Notes the piece that is given to the monitor, and what it answers to the query on its link.
+    fn hand_on(&mut self, monitor: &Monitor, i: usize, piece: &Piece) {
+        let Some(upstream) = self.upstreams.get_mut(i) else {
+            return;
+        };
+        let reply = upstream.reply_in(self.alloc, piece.as_slice());
+        let answer = match (monitor.last_query(i), reply) {
+            (Some(last), Some(reply)) => Some((last.query, reply)),
+            _ => None,
+        };
+        self.handed = Some(Handed { link: i, answer });
+    }
+
+    /// Calls the server of a link, or continues the call. When the link is made, what the server has sent already is to
+    /// be read.
+    fn reach(&mut self, i: usize) -> Option<Next>
+        ensures goes_on { IfSome result (λ n. n ≢ next.End) }
+    {
+        let upstream = self.upstreams.get_mut(i)?;
+        let token = Token(i);
+        let dialler = Dialler {
+            net: self.rt,
+            registry: self.rounds.registry(),
+            token,
+        };
+        match upstream.reach(&dialler) {
+            Ok(false) => None,
+            Ok(true) => {
+                self.rounds.ready.insert(token);
+                Some(Next::Linked(i))
+            }
+            Err(error) => {
+                if upstream.misses() {
+                    self.reports
+                        .tell(Report::Unreachable(upstream.name(), error));
+                }
+                None
+            }
+        }
+    }
+
+    /// Waits until an event comes or a second is over, or not at all if there is more to do, and begins the next round.
+    fn wait(&mut self, monitor: &Monitor) -> io::Result<()> {
+        if self.rounds.look_at_clock(self.rt)? {
+            self.second(monitor);
+        }
+        let patience = self.patience();
+        self.rounds.wait_for(patience)?;
+        note(
+            &self.rounds.events,
+            &mut self.rounds.ready,
+            &mut self.upstreams,
+        );
+        self.take_look_up();
+        self.rounds.begin();
+        Ok(())
+    }
+
+    /// Returns how long there is nothing to do except wait for events.
+    fn patience(&self) -> Duration {
+        if self.rounds.seconds.has_next(self.may_catch_up()) {
+            return Duration::ZERO;
+        }
+        let ahead = self.rounds.seconds.ahead();
+        if self.look_ups.is_idle() {
+            ahead
+        } else {
+            ahead.min(Duration::from_millis(LOOK_UP_WAIT))
+        }
+    }
+
+    /// Counts a second that has passed, or several in which this process was stopped.
+    fn second(&mut self, monitor: &Monitor) {
+        self.limits = Limits::of(monitor);
+        for upstream in self.upstreams.iter_mut() {
+            upstream.second(self.limits);
+        }
+        self.look_ups.second();
+        if !self.is_ending && self.look_ups.has_room() {
+            self.look_up();
+        }
+    }
+
+    /// Begins one look-up, if any is due.
+    fn look_up(&mut self) {
+        let Some(i) = next_look_up(&self.upstreams, &self.look_ups) else {
+            return;
+        };
+        let Some(upstream) = self.upstreams.get_mut(i) else {
+            return;
+        };
+        if let Err(error) = self.look_ups.start(upstream.host_name()) {
+            upstream.take_addresses(&[]);
+            if upstream.misses() {
+                self.reports
+                    .tell(Report::Unreachable(upstream.name(), error));
+            }
+        }
+    }
+
+    /// Takes the result of a look-up that has ended. All links to that host are then called.
+    fn take_look_up(&mut self) {
+        let Some(found) = self.look_ups.take() else {
+            return;
+        };
+        if self.is_ending {
+            return;
+        }
+        for (i, upstream) in self.upstreams.iter_mut().enumerate() {
+            if upstream.host_name() == found.name.as_str() {
+                self.rounds.ready.insert(Token(i));
+                if !upstream.take_addresses(&found.addresses) && upstream.misses() {
+                    let error = io::Error::other(found.reason);
+                    self.reports
+                        .tell(Report::Unreachable(upstream.name(), error));
+                }
+            }
+        }
+    }
+}
+
+/// Returns the link whose host is to be looked up next, if any is due: the one whose last pause between look-ups is the
+/// shortest.
+fn next_look_up<R: Processes>(upstreams: &[Upstream], look_ups: &LookUps<'_, R>) -> Option<usize> {
+    let mut best: Option<(u8, usize)> = None;
+    for (i, upstream) in upstreams.iter().enumerate() {
+        let Some(pause) = upstream.due_look_up() else {
+            continue;
+        };
+        if look_ups.is_going(upstream.host_name()) {
+            continue;
+        }
+        match best {
+            Some((least, _)) if least <= pause => {}
+            Some(_) | None => best = Some((pause, i)),
+        }
+    }
+    match best {
+        Some((_, i)) => Some(i),
+        None => None,
+    }
+}
+
+/// Whether a query comes after those that open a link.
+fn is_behind_opening(query: Query) -> bool {
+    match query {
+        Query::Status | Query::Fsd | Query::NumLogins => true,
+        Query::Username | Query::Password | Query::Login | Query::Primary => false,
+    }
+}
+
+/// Returns the report that a server that served is lost.
+fn lost(name: &str, loss: Loss) -> Report<'_> {
+    match loss {
+        Loss::Closed => Report::Gone(name),
+        Loss::Silent(seconds) => Report::GivenUp(name, seconds),
+        Loss::Unread => Report::Unread(name),
+    }
+}
+
+/// Returns the report that there is no server yet, after a link ended on which none served.
+fn unserved(name: &str, loss: Loss) -> Report<'_> {
+    let why = match loss {
+        Loss::Closed => "it closes the connection",
+        Loss::Silent(_) => "it does not answer",
+        Loss::Unread => "what it says is not understood",
+    };
+    Report::Unreachable(name, io::Error::other(why))
+}
+
+/// Notes the events of the links.
+fn note(events: &Events, ready: &mut Ready, upstreams: &mut [Upstream]) {
+    for event in events.iter() {
+        let Token(i) = event.token();
+        if let Some(upstream) = upstreams.get_mut(i) {
+            if upstream.note(event) {
+                ready.insert(event.token());
+            }
+        }
+    }
+}

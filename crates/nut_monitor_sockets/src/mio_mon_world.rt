@@ -1,0 +1,147 @@
+//! The world of a monitor over sockets.
+
+ghost use Rattle.std.specs.Prelude.{◌≡◌, ◌<◌, ℕ, length, IsOk, IfOk, OnOk, OnErr};
+ghost use Rattle.nut_io.specs.Writes.{IsWithin, late_after};
+ghost use Rattle.nut_monitor_loop.specs.Record.{WasClosed, WasTold, tells, tells_write};
+ghost use Rattle.nut_poll.specs.Late.{is_noted};
+ghost use Rattle.nut_monitor_sockets.specs.Untold.{untold_watch};
+
+use crate::herald::Herald;
+use crate::links::Links;
+use arrayvec::ArrayVec;
+use nut_conf::{MONITORS_MAX, UpsmonConf};
+use nut_io::{Fault, Piece, Written};
+use nut_monitor::{Monitor, Notice};
+use nut_monitor_loop::{MonWorld, Next};
+use nut_poll::{Reports, note_written};
+use std::alloc::Global;
+use std::io;
+use std::io::Write;
+use std::net::Net;
+use std::process::Processes;
+use std::time::Clock;
+
+/// The world of a monitor whose servers are reached over TCP.
+///
+/// One thread watches all sockets, and nothing waits for a server or a name. If a link isn't made, its server is called
+/// at the start and every second: the addresses of its host are dialled one after the other, and an address that
+/// doesn't answer within five seconds is given up. A server that closes its link before it has served is called after
+/// pauses that grow. The addresses of a host that is given by name are looked up by a process of its own, at the start
+/// and whenever none of the known addresses answers. At most one look-up begins each second, with pauses that grow to
+/// 60 seconds, and none begins in a shutdown.
+///
+/// A server that doesn't answer for ten seconds, or five while a UPS is on battery, is lost.
+///
+/// A `Moment` comes each second, counted from the start, however much the servers send, after what had arrived by the
+/// end of that second was heard. Seconds that were missed, because this process was stopped, follow one at a time, and
+/// each only when no server is about to answer: so no server is judged by what it couldn't say. A shutdown that begins
+/// then counts its own seconds.
+///
+/// Notices go to a herald, which is also told of each second. The world never ends. Only `next` returns a fault, that
+/// of the wait for the sockets or of the clock: a failure of one link concerns no other. The world keeps no record.
+#[derive(Drop)]
+pub struct MioMonWorld<'r, 'e, R: Processes, H, E> {
+    links: Links<'r, 'e, R, E>,
+    herald: H,
+    late: ArrayVec<u64, MONITORS_MAX>,
+    faults: u64,
+}
+
+impl<'r, 'e, R: Net + Clock + Processes, H: Herald, E: Write> MioMonWorld<'r, 'e, R, H, E> {
+    /// Returns the world of a monitor with this configuration. The server of each of its MONITOR lines is called.
+    /// Reports say when servers come and go.
+    ///
+    /// # Errors
+    ///
+    /// If there is no poll, no clock or no memory.
+    pub fn new(
+        rt: &'r R,
+        alloc: Global,
+        config: &UpsmonConf,
+        herald: H,
+        reports: Reports<'e, E>,
+    ) -> io::Result<MioMonWorld<'r, 'e, R, H, E>>
+        ensures { IfOk result (λ w. w.faults ≡ 0) }
+    {
+        Ok(MioMonWorld {
+            links: Links::new(rt, alloc, config, reports)?,
+            herald,
+            late: ArrayVec::new(),
+            faults: 0,
+        })
+    }
+}
+
+ghost use Rattle.std.specs.Prelude.{◌≢◌, ◌<◌, ◌≤◌, IfOk, IfSome, Some, Ok};
+
+impl<'r, 'e, R: Net + Clock + Processes, H: Herald, E: Write> MonWorld
+    for MioMonWorld<'r, 'e, R, H, E> {
+    ghost log = { λ w. untold_watch };
+
+    ghost late = { λ w i. is_noted w.late.items i };
+
+    ghost fault_count = { λ w. w.faults };
+
+    ghost has_ended = { λ w. ⊥ };
+
+    ghost reached = { λ a b. Unit {0} };
+
+    ghost reached_self = { λ w. tt };
+
+    ghost reached_on = { λ a b c first second. tt };
+
+    fn faults(&self) -> u64 {
+        self.faults
+    }
+
+    fn next(&mut self, monitor: &Monitor, piece: &mut Piece) -> Result<Next, Fault> {
+        self.late.clear();
+        match self.links.next(monitor, piece) {
+            Ok(next) => {
+                if let Next::Moment(_) = next {
+                    self.herald.second();
+                }
+                Ok(next)
+            }
+            Err(_) => {
+                self.faults += 1;
+                Err(Fault)
+            }
+        }
+    }
+
+    fn write(&mut self, i: usize, bytes: &[u8]) -> Result<Written, Fault>
+        requires { 0 < length bytes.now }
+        ensures no_fault { IsOk result }
+        ensures count { self.new.faults ≡ self.old.faults }
+        ensures ok { IfOk result (λ w. untold_watch ≡ tells_write w i bytes.now untold_watch) }
+        ensures err { OnErr result (untold_watch ≡ untold_watch) }
+        ensures within { IfOk result (λ w. IsWithin w (length bytes.now)) }
+        ensures late { IfOk result (λ w. (j : ℕ) → is_noted self.new.late.items j ≡ late_after w i (is_noted self.old.late.items) j) }
+    {
+        let written = self.links.offer(i, bytes);
+        Ok(note_written(&mut self.late, i as u64, written))
+    }
+
+    fn close(&mut self, i: usize) -> Result<(), Fault>
+        ensures no_fault { IsOk result }
+        ensures count { self.new.faults ≡ self.old.faults }
+        ensures ok { OnOk result (untold_watch ≡ tells (WasClosed i) untold_watch) }
+        ensures err { OnErr result (untold_watch ≡ untold_watch) }
+        ensures late { (j : ℕ) → is_noted self.new.late.items j ≡ is_noted self.old.late.items j }
+    {
+        self.links.close(i);
+        Ok(())
+    }
+
+    fn notice(&mut self, monitor: &Monitor, notice: Notice) -> Result<(), Fault>
+        ensures no_fault { IsOk result }
+        ensures count { self.new.faults ≡ self.old.faults }
+        ensures ok { OnOk result (untold_watch ≡ tells (WasTold notice) untold_watch) }
+        ensures err { OnErr result (untold_watch ≡ untold_watch) }
+        ensures late { (j : ℕ) → is_noted self.new.late.items j ≡ is_noted self.old.late.items j }
+    {
+        self.herald.announce(monitor, notice);
+        Ok(())
+    }
+}

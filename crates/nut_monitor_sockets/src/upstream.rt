@@ -1,0 +1,295 @@
+//! The link to the server of a UPS that is watched.
+
+ghost use Rattle.std.specs.Prelude.{length};
+ghost use Rattle.nut_io.specs.Writes.{IsWithin};
+
+use crate::dialler::Dialler;
+use crate::host::Host;
+use crate::inquiry::{Inquiry, Reply};
+use crate::limits::Limits;
+use crate::pause::Pause;
+use crate::refusals::Refusals;
+use mio::event::Event;
+use mio::net::TcpStream;
+use nut_conf::Monitored;
+use nut_io::{Piece, Written};
+use nut_monitor::Query;
+use nut_poll::{Heard, Link, may_be_read, text_of};
+use std::alloc::{AllocError, Global};
+use std::io::ErrorKind;
+use std::net::{IpAddr, Net};
+use std::{io, mem};
+
+/// How many whole seconds an address has to answer a call.
+const PATIENCE: u8 = 5;
+
+/// The stage of a link.
+#[derive(Drop)]
+enum Stage {
+    /// There is no link.
+    Down,
+    /// An address is being dialled, and hasn't answered for this many seconds.
+    Calling(Link<TcpStream>, u8),
+    /// The link is made: its socket, and the query and its answer.
+    Up(Link<TcpStream>, Inquiry),
+}
+
+/// The link to the server of a MONITOR line.
+#[derive(Drop)]
+pub struct Upstream {
+    /// The target as the MONITOR line writes it.
+    name: String,
+    host: Host,
+    stage: Stage,
+    /// The pause before the host is called again.
+    pause: Pause,
+    /// Whether the server has answered a query after those that open a link, since this link was made.
+    serves: bool,
+    refusals: Refusals,
+    /// How many seconds the server has owed a status.
+    owed: u8,
+    /// Whether a call has failed since the server last served.
+    is_missed: bool,
+}
+
+impl Upstream {
+    /// Returns the link of a MONITOR line. Its host is about to be called.
+    ///
+    /// # Errors
+    ///
+    /// [`AllocError`] if memory cannot be allocated.
+    pub fn new(alloc: Global, line: &Monitored) -> Result<Upstream, AllocError> {
+        Ok(Upstream {
+            name: String::from_str(alloc, text_of(line.written.as_slice()))?,
+            host: Host::new(alloc, &line.target)?,
+            stage: Stage::Down,
+            pause: Pause::none(),
+            serves: false,
+            refusals: Refusals::none(),
+            owed: 0,
+            is_missed: false,
+        })
+    }
+
+    /// Returns the target as the MONITOR line writes it.
+    pub fn name(&self) -> &str {
+        self.name.as_str()
+    }
+
+    /// Returns the name of the host.
+    pub fn host_name(&self) -> &str {
+        self.host.name()
+    }
+
+    /// Whether the link is made.
+    pub fn is_up(&self) -> bool {
+        matches!(self.stage, Stage::Up(_, _))
+    }
+
+    /// Whether the server has answered all that it was asked, and didn't refuse the last query for the status.
+    fn is_settled(&self) -> bool {
+        match &self.stage {
+            Stage::Down | Stage::Calling(_, _) => false,
+            Stage::Up(_, inquiry) => !inquiry.is_outstanding() && !self.refusals.has_status(),
+        }
+    }
+
+    /// Whether seconds that were missed should not be told yet. The server was asked something and may still answer in
+    /// time, or it may yet be called, or report a status, within the time that it has for an answer.
+    pub fn holds_clock(&self, limits: Limits) -> bool {
+        match &self.stage {
+            Stage::Up(_, inquiry) if inquiry.is_outstanding() => true,
+            Stage::Down | Stage::Calling(_, _) | Stage::Up(_, _) => {
+                !self.is_settled() && self.owed < limits.answer
+            }
+        }
+    }
+
+    /// Counts a second that has passed.
+    pub fn second(&mut self, limits: Limits) {
+        self.owed = if self.is_settled() {
+            0
+        } else {
+            self.owed.saturating_add(1)
+        };
+        self.host.second();
+        self.pause.second(limits.pause);
+        match &mut self.stage {
+            Stage::Down => {}
+            Stage::Calling(_, waited) => *waited = waited.saturating_add(1),
+            Stage::Up(_, inquiry) => inquiry.second(),
+        }
+    }
+
+    /// Returns the last pause between look-ups of the host, in seconds, if another look-up is due.
+    pub fn due_look_up(&self) -> Option<u8> {
+        self.host.due_look_up()
+    }
+
+    /// Takes the addresses that a look-up of the host found. Returns whether any address is known.
+    pub fn take_addresses(&mut self, found: &[IpAddr]) -> bool {
+        self.host.take_addresses(found);
+        self.host.has_addresses()
+    }
+
+    /// Calls the host if that is due and an address is known, or continues the call. Returns whether the link is now
+    /// made. If an address refuses or doesn't answer in time, the next one is dialled.
+    ///
+    /// # Errors
+    ///
+    /// The error of the last address: the call has failed.
+    pub fn reach(&mut self, dialler: &Dialler<'_, impl Net>) -> io::Result<bool> {
+        match mem::replace(&mut self.stage, Stage::Down) {
+            Stage::Down => {
+                if self.pause.is_over() && self.host.has_addresses() {
+                    self.pause.wait();
+                    self.host.begin();
+                    self.call(dialler, io::Error::from(ErrorKind::NotFound))?;
+                }
+                Ok(false)
+            }
+            Stage::Calling(link, waited) => self.go_on(dialler, link, waited),
+            Stage::Up(link, inquiry) => {
+                self.stage = Stage::Up(link, inquiry);
+                Ok(false)
+            }
+        }
+    }
+
+    /// Dials the next address. Returns `error` if none is left.
+    fn call(&mut self, dialler: &Dialler<'_, impl Net>, error: io::Error) -> io::Result<()> {
+        let stream = self.host.dial(dialler, error)?;
+        self.stage = Stage::Calling(Link::new(stream), 0);
+        Ok(())
+    }
+
+    /// Continues a call, and returns whether the link is now made.
+    fn go_on(
+        &mut self,
+        dialler: &Dialler<'_, impl Net>,
+        link: Link<TcpStream>,
+        waited: u8,
+    ) -> io::Result<bool> {
+        match is_answered(link.stream(), waited) {
+            Ok(true) => {
+                self.stage = Stage::Up(link, Inquiry::new());
+                self.host.reach();
+                Ok(true)
+            }
+            Ok(false) => {
+                self.stage = Stage::Calling(link, waited);
+                Ok(false)
+            }
+            Err(error) => {
+                self.call(dialler, error)?;
+                Ok(false)
+            }
+        }
+    }
+
+    /// Notes that a call failed. Returns whether it is the first one since the server last served.
+    pub fn misses(&mut self) -> bool {
+        !mem::replace(&mut self.is_missed, true)
+    }
+
+    /// Reads from the server.
+    pub fn hear(&mut self, piece: &mut Piece) -> Heard {
+        match &mut self.stage {
+            Stage::Up(link, _) => link.hear(piece),
+            Stage::Down | Stage::Calling(_, _) => Heard::Nothing,
+        }
+    }
+
+    /// Returns the answer to the outstanding query, if the piece that was read completes a line.
+    pub fn reply_in(&mut self, alloc: Global, piece: &[u8]) -> Option<Reply> {
+        match &mut self.stage {
+            Stage::Up(_, inquiry) => inquiry.hear(alloc, piece),
+            Stage::Down | Stage::Calling(_, _) => None,
+        }
+    }
+
+    /// Notes the answer to a query, and returns whether it is a refusal that is now to be reported.
+    pub fn note_reply(&mut self, query: Query, reply: &Reply) -> bool {
+        let is_told = self.refusals.note(query, reply);
+        if self.is_settled() {
+            self.owed = 0;
+        }
+        is_told
+    }
+
+    /// Notes that the server answered a query after those that open a link. Returns whether this is the first on this
+    /// link.
+    pub fn begins_to_serve(&mut self) -> bool {
+        self.is_missed = false;
+        !mem::replace(&mut self.serves, true)
+    }
+
+    /// Whether a query has been outstanding for too long.
+    pub fn is_overdue(&self, limits: Limits) -> bool {
+        match &self.stage {
+            Stage::Up(_, inquiry) => inquiry.is_overdue(limits.answer),
+            Stage::Down | Stage::Calling(_, _) => false,
+        }
+    }
+
+    /// Offers bytes to the server.
+    pub fn offer(&mut self, bytes: &[u8]) -> Written
+        ensures { IsWithin result (length bytes.now) }
+    {
+        match &mut self.stage {
+            Stage::Up(link, inquiry) => {
+                inquiry.ask();
+                link.offer(bytes)
+            }
+            Stage::Down | Stage::Calling(_, _) => Written::Failed,
+        }
+    }
+
+    /// Notes an event of the socket, and returns whether the link is to be looked at.
+    pub fn note(&mut self, event: &Event) -> bool {
+        match &mut self.stage {
+            Stage::Down => false,
+            Stage::Calling(link, _) => {
+                link.note(event);
+                true
+            }
+            Stage::Up(link, _) => {
+                link.note(event);
+                may_be_read(event)
+            }
+        }
+    }
+
+    /// Closes the link, and returns whether its server has served on it. If it has, the server is called again in the
+    /// next second. Otherwise it is called after a pause, which grows from one loss to the next.
+    pub fn close(&mut self, limits: Limits) -> bool {
+        self.stage = Stage::Down;
+        let served = mem::replace(&mut self.serves, false);
+        if served {
+            self.pause = Pause::none();
+            self.refusals = Refusals::none();
+        } else {
+            self.pause.begin(limits.pause);
+        }
+        served
+    }
+}
+
+/// Whether the other end has answered a call.
+///
+/// # Errors
+///
+/// Why the call failed, or `TimedOut` if it wasn't answered in time.
+fn is_answered(stream: &TcpStream, waited: u8) -> io::Result<bool> {
+    if let Some(error) = stream.take_error()? {
+        return Err(error);
+    }
+    if stream.peer_addr().is_ok() {
+        return Ok(true);
+    }
+    if waited < PATIENCE {
+        Ok(false)
+    } else {
+        Err(io::Error::from(ErrorKind::TimedOut))
+    }
+}

@@ -1,0 +1,13 @@
+pub mod Configuration
+pub mod Event
+pub mod Query
+pub mod Decision
+pub mod Trace
+pub mod Handing
+pub mod Content
+pub mod Acceptance
+pub mod Outcome
+pub mod MachineOutcome
+pub mod machine
+pub mod laws
+pub mod examples

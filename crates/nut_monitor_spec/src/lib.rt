@@ -1,0 +1,233 @@
+//! What a monitor of UPSes is told and what it decides (upsmon(8)): definitions, and the laws that tie the machine of a
+//! monitor to the history of its events.
+#![tactic(auto)]
+
+ghost use Rattle.nut_monitor_spec.specs.machine.Machine.{KeepsContent};
+ghost use Rattle.nut_monitor_spec.specs.laws.Laws.{AnswersComeInTurn, AnswersKeepContent, CutsDoNotMatter, LinkedIsMade, LinksAreBounded, LinksAreTold, LoginsFollowFsd, NoticesAreFew, NoticesComeInOrder, OthersStay, QueriesComeAlone, SentAndWaitingIsDue, ShutdownStays, WaitingIsLeft};
+ghost use Rattle.nut_monitor_spec.specs.examples.Examples.{CommunicationExamples, EdgeExamples, OrderExamples, PrimaryExamples, RefusalExamples, RoomExamples, SecondaryExamples};
+
+mod limits;
+
+pub use limits::{NOTICES_MAX, notice_limits};
+use nut_conf::Notice as NoticeKind;
+use thiserror::Error;
+
+/// The flags in a UPS's `ups.status` that a monitor acts on.
+#[derive(Clone, Copy, Debug, PartialEq, Eq)]
+pub struct StatusFlags {
+    /// `OL`
+    pub on_line: bool,
+    /// `OB`
+    pub on_battery: bool,
+    /// `LB`
+    pub low_battery: bool,
+    /// `FSD`
+    pub forced_shutdown: bool,
+    /// `RB`
+    pub replace_battery: bool,
+    /// `CAL`
+    pub calibrating: bool,
+}
+
+/// Whether the status of a UPS is available.
+#[derive(Clone, Copy, Debug, PartialEq, Eq)]
+pub enum Communication {
+    /// No status query was answered or refused yet, and no link was lost.
+    Never,
+    /// The last status query was answered by a status, and the link wasn't lost since.
+    Good,
+    /// The last status query was refused, or the link was lost since.
+    Bad,
+}
+
+/// What a monitor asks its server on the link of a MONITOR line (RFC 9271, section 4).
+#[derive(Clone, Copy, Debug, PartialEq, Eq)]
+pub enum Query {
+    /// `USERNAME user`
+    Username,
+    /// `PASSWORD password`
+    Password,
+    /// `LOGIN ups`
+    Login,
+    /// `PRIMARY ups`
+    Primary,
+    /// `GET VAR ups ups.status`
+    Status,
+    /// `FSD ups`
+    Fsd,
+    /// `GET NUMLOGINS ups`
+    NumLogins,
+}
+
+/// The last query on a link, and the moment at which it was put, in seconds since the start.
+#[derive(Clone, Copy, Debug, PartialEq, Eq)]
+pub struct LastQuery {
+    pub query: Query,
+    pub moment: u64,
+}
+
+/// What is known of the UPS of a MONITOR line. Moments are in seconds since the start.
+#[derive(Clone, Copy, Debug, PartialEq, Eq)]
+pub struct Known {
+    /// The flags of the last status, if there was one.
+    pub flags: Option<StatusFlags>,
+    /// The moment of the last status, 0 if there was none.
+    pub polled: u64,
+    /// The moment of the last status without both OB and LB; if there is none, the moment of the first status.
+    pub calm: u64,
+    pub communication: Communication,
+    /// The moment of the last REPLBATT notice: the battery needs to be replaced.
+    pub replace_told: Option<u64>,
+    /// The moment of the last NOCOMM notice: the UPS is unavailable.
+    pub silence_told: Option<u64>,
+    /// Whether an FSD for it was answered OK.
+    pub forced: bool,
+    /// The number of clients logged in to it, by the last answer.
+    pub logins: Option<u32>,
+}
+
+/// A notice to the administrator (NOTIFYFLAG in upsmon.conf(5)).
+#[derive(Clone, Copy, Debug, PartialEq, Eq)]
+pub struct Notice {
+    pub kind: NoticeKind,
+    /// The number of the MONITOR line of the UPS that it is about, from 0 on; `None` for SHUTDOWN.
+    pub line: Option<usize>,
+}
+
+/// How far a shutdown has come.
+#[derive(Clone, Copy, Debug, PartialEq, Eq)]
+pub enum Phase {
+    /// No shutdown has begun.
+    Watching,
+    /// A primary waits until all other clients have logged out, or until HOSTSYNC has passed.
+    Forcing,
+    /// SHUTDOWN was given, and FINALDELAY passes.
+    Final,
+    /// The machine has to be halted. `flag` says whether a MONITOR line is primary: then the UPS has to be told to cut
+    /// its power.
+    Halted { flag: bool },
+}
+
+/// Why an event is refused. All faults but `Memory` leave the monitor unchanged.
+#[derive(Clone, Copy, Debug, PartialEq, Eq, Error)]
+pub enum MonitorFault {
+    /// No MONITOR line has this number.
+    #[error("no such link")]
+    NoSuchLink,
+    /// The link isn't up; for `Linked`, it is up already.
+    #[error("the link is in the wrong state")]
+    WrongLinkState,
+    /// The piece has more than [`PIECE_MAX`](nut_words::PIECE_MAX) bytes.
+    #[error("the piece is too long")]
+    PieceTooLong,
+    /// The server is said to have taken more bytes than wait on the link.
+    #[error("more was taken than waits")]
+    TooMuchTaken,
+    /// A notice waits and has to be taken first.
+    #[error("a notice waits")]
+    Busy,
+    /// Memory could not be allocated at a piece on `link`. The first `lines` lines that the piece completes took
+    /// effect; at the next one the link was lost. When a monitor is made, `link` is `None`, and there is no monitor.
+    #[error("out of memory")]
+    Memory { link: Option<usize>, lines: usize },
+}
+
+/// States a law and does nothing when called: the machine keeps the content of every history of accepted events: a step
+/// needs the content and not the past.
+pub fn machine_keeps_content()
+    ensures { KeepsContent }
+{}
+
+/// States a law and does nothing when called: whatever a monitor may answer to an event, its content afterwards is the
+/// content of the history after that answer.
+pub fn answers_keep_content()
+    ensures { AnswersKeepContent }
+{}
+
+/// States a law and does nothing when called: a link is up in the content exactly if it was made and not lost since.
+pub fn linked_is_made()
+    ensures { LinkedIsMade }
+{}
+
+/// States a law and does nothing when called: what waits on a link is what the server hasn't taken of the queries put
+/// on it since it was made, joined; nothing if the link isn't up.
+pub fn waiting_is_left()
+    ensures { WaitingIsLeft }
+{}
+
+/// States a law and does nothing when called: `linked_is_made` and `waiting_is_left` for every number, also for one
+/// that no MONITOR line has, after every history of accepted events.
+pub fn links_are_told()
+    ensures { LinksAreTold }
+{}
+
+/// States a law and does nothing when called: on a link that is up, the bytes that the server took, followed by those
+/// that wait, are the queries put on it since it was made, joined.
+pub fn sent_and_waiting_is_due()
+    ensures { SentAndWaitingIsDue }
+{}
+
+/// States a law and does nothing when called: once the shutdown has begun, the moment of its beginning never changes;
+/// nor does that of Final once that has begun.
+pub fn shutdown_stays()
+    ensures { ShutdownStays }
+{}
+
+/// States a law and does nothing when called: the answers on a link that is up belong to its queries in turn: each
+/// query but the newest has its answer, and the newest may have none.
+pub fn answers_come_in_turn()
+    ensures { AnswersComeInTurn }
+{}
+
+/// States a law and does nothing when called: an accepted event of a link changes nothing that is known of another
+/// line's UPS.
+pub fn others_stay()
+    ensures { OthersStay }
+{}
+
+/// States a law and does nothing when called: a query is put only on a link that is up and has no outstanding query.
+pub fn queries_come_alone()
+    ensures { QueriesComeAlone }
+{}
+
+/// States a law and does nothing when called: GET NUMLOGINS is put only once an FSD for the UPS was answered OK, and
+/// only if this machine is its primary.
+pub fn logins_follow_fsd()
+    ensures { LoginsFollowFsd }
+{}
+
+/// States a law and does nothing when called: a piece that completes no line, and then another piece, lead to the same
+/// content as both pieces joined in one.
+pub fn cuts_do_not_matter()
+    ensures { CutsDoNotMatter }
+{}
+
+/// A link keeps no more than one query of at most [`QUERY_MAX`](nut_link::QUERY_MAX) bytes, and
+/// [`LINE_MAX`](nut_words::LINE_MAX) bytes of an unfinished line.
+pub fn links_are_bounded()
+    ensures { LinksAreBounded }
+{}
+
+/// No more than [`NOTICES_MAX`] notices wait, where there are at most [`MONITORS_MAX`](nut_conf::MONITORS_MAX) MONITOR
+/// lines.
+pub fn notices_are_few()
+    ensures { NoticesAreFew }
+{}
+
+/// States a law and does nothing when called: the notices handed out, followed by those that wait, are all notices in
+/// their order: none is lost, none comes twice, and each one handed out was the oldest.
+pub fn notices_come_in_order()
+    ensures { NoticesComeInOrder }
+{}
+
+/// States worked examples and does nothing when called: what is told, asked, decided and refused in some runs, computed
+/// from the definitions.
+pub fn worked_examples()
+    ensures primaries { PrimaryExamples }
+    ensures secondaries { SecondaryExamples }
+    ensures communication { CommunicationExamples }
+    ensures rooms { RoomExamples }
+    ensures edges { EdgeExamples }
+    ensures refusals { RefusalExamples }
+    ensures orders { OrderExamples }
+{}

@@ -1,0 +1,23 @@
+//! What the sockets of a server, of a monitor and of a dummy driver share: a connection's end whose reads and writes don't
+//! block, the sockets that may be ready, rounds over them, whole seconds, and lines to an operator that nobody has to read.
+#![tactic(auto)]
+
+mod lateness;
+mod link;
+mod lossy_lines;
+mod questions;
+mod ready;
+mod reports;
+mod rounds;
+mod seconds;
+mod text;
+
+pub use lateness::note_written;
+pub use link::{Heard, Link};
+pub use lossy_lines::LossyLines;
+pub use questions::{Question, Questions};
+pub use ready::{Ready, SOCKETS_MAX, may_be_read};
+pub use reports::{Report, Reports};
+pub use rounds::Rounds;
+pub use seconds::Seconds;
+pub use text::text_of;

@@ -1,0 +1,97 @@
+//! One end of a connection, whose reads and writes don't block.
+
+ghost use Rattle.std.specs.Prelude.{length};
+ghost use Rattle.nut_io.specs.Writes.{IsWithin};
+
+use mio::event::Event;
+use nut_io::{Piece, Written, read_piece, write_some};
+use std::io::{ErrorKind, Read, Write};
+
+/// What a read found.
+#[derive(Clone, Copy, Debug, PartialEq, Eq)]
+pub enum Heard {
+    /// Bytes, and no more are there now.
+    All,
+    /// Bytes, and there may be more.
+    Part,
+    /// Nothing is there now.
+    Nothing,
+    /// The other end closed the connection, or it failed.
+    End,
+}
+
+/// One end of a connection, and what is known of its readiness. The stream returns `WouldBlock` if it would have to
+/// wait, and the poll reports once when that changes.
+#[derive(Drop)]
+pub struct Link<S> {
+    stream: S,
+    /// Whether the stream may take a write.
+    takes: bool,
+    /// Whether the other end has announced its end. No further event comes of that.
+    ends: bool,
+    /// Whether the other end sent urgent data. A read stops before it, and no event comes of what follows it.
+    is_urgent: bool,
+}
+
+impl<S: Read + Write> Link<S> {
+    /// Returns one end of a connection that was just made.
+    pub fn new(stream: S) -> Link<S> {
+        Link {
+            stream,
+            takes: true,
+            ends: false,
+            is_urgent: false,
+        }
+    }
+
+    /// Returns the stream.
+    pub fn stream(&self) -> &S {
+        &self.stream
+    }
+
+    /// Reads what is there, up to a piece. If it is less than a piece, there was no more, unless the other end has
+    /// ended or sent urgent data. Urgent data itself is skipped.
+    pub fn hear(&mut self, piece: &mut Piece) -> Heard {
+        match read_piece(&mut self.stream, piece) {
+            Ok(0) => Heard::End,
+            Ok(n) if n == piece.capacity() || self.ends || self.is_urgent => Heard::Part,
+            Ok(_) => Heard::All,
+            Err(error) if error.kind() == ErrorKind::WouldBlock => {
+                self.is_urgent = false;
+                Heard::Nothing
+            }
+            Err(_) => Heard::End,
+        }
+    }
+
+    /// Offers at least one byte, and returns the outcome.
+    pub fn offer(&mut self, bytes: &[u8]) -> Written
+        ensures { IsWithin result (length bytes.now) }
+    {
+        if !self.takes {
+            return Written::Later;
+        }
+        match write_some(&mut self.stream, bytes) {
+            Ok(0) => Written::Failed,
+            Ok(n) => Written::Took(n),
+            Err(error) if error.kind() == ErrorKind::WouldBlock => {
+                self.takes = false;
+                Written::Later
+            }
+            Err(_) => Written::Failed,
+        }
+    }
+
+    /// Notes an event of the stream.
+    pub fn note(&mut self, event: &Event) {
+        if event.is_writable() || event.is_write_closed() || event.is_error() {
+            self.takes = true;
+        }
+        if event.is_read_closed() || event.is_error() {
+            self.ends = true;
+        }
+        if event.is_priority() {
+            self.is_urgent = true;
+        }
+    }
+}

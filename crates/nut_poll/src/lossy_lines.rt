@@ -1,0 +1,126 @@
+//! Lines on a standard stream, whether or not anybody reads it.
+
+ghost use Rattle.std.specs.Prelude.{IsTrue};
+ghost use Rattle.std.specs.Io.KnownBytes.{Appends};
+
+use arrayvec::ArrayVec;
+use mio::unix::SourceFd;
+use mio::{Events, Interest, Poll, Token};
+use std::alloc::Global;
+use std::io;
+use std::io::{ErrorKind, Write};
+use std::net::Net;
+use std::os::fd::AsRawFd;
+use std::time::Duration;
+
+/// The most bytes of a line that are written, with the line feed. A longer line loses its end.
+const LOG_LINE_MAX: usize = 2048;
+
+/// The most bytes that are written at a time: a line, and before it the count of dropped lines. Linux takes up to 4,096
+/// bytes for a pipe whole, and without waiting if the pipe is reported as ready.
+const TEXT_MAX: usize = LOG_LINE_MAX + 128;
+
+/// A stream of lines that doesn't wait for its reader. A line that the stream can't take at once is dropped. Before the
+/// next line that is taken, the stream says how many were dropped, as in `upsd: lines let go: 3`.
+///
+/// What is written is kept until a line is whole. A write never fails.
+///
+/// The stream keeps its mode, because other processes may share it. Instead the system is asked, before each line,
+/// whether the stream takes one. A file always does. There are two exceptions in which a write may wait: another
+/// process fills a shared pipe between the question and the write, or a terminal has room for only a part of the line.
+#[derive(Drop)]
+pub struct LossyLines<S> {
+    stream: S,
+    program: &'static str,
+    poll: Poll,
+    events: Events,
+    /// What was written of the unfinished line.
+    line: ArrayVec<u8, 2048>,
+    /// How many lines were dropped since one was taken.
+    lost: u64,
+}
+
+impl<S: Write + AsRawFd + Drop> LossyLines<S> {
+    /// Returns the lines of this program on a stream.
+    ///
+    /// # Errors
+    ///
+    /// If there is no descriptor or no memory for asking the system.
+    pub fn new(
+        net: &impl Net,
+        alloc: Global,
+        program: &'static str,
+        stream: S,
+    ) -> io::Result<LossyLines<S>> {
+        Ok(LossyLines {
+            stream,
+            program,
+            poll: Poll::new(net)?,
+            events: Events::with_capacity(alloc, 1)?,
+            line: ArrayVec::new(),
+            lost: 0,
+        })
+    }
+
+    /// Ends the line: it is written or dropped.
+    fn end_line(&mut self) {
+        if self.line.is_full() {
+            self.line.pop();
+        }
+        self.line.push(b'\n');
+        if self.is_ready() && self.offer() {
+            self.lost = 0;
+        } else {
+            self.lost = self.lost.saturating_add(1);
+        }
+        self.line.clear();
+    }
+
+    /// Whether the stream takes a line at once. A registration reports what is ready now. A file can't be registered,
+    /// and is always ready.
+    fn is_ready(&mut self) -> bool {
+        let number = self.stream.as_raw_fd();
+        let mut source = SourceFd(&number);
+        let registry = self.poll.registry();
+        if let Err(error) = registry.register(&mut source, Token(0), Interest::WRITABLE) {
+            return error.kind() == ErrorKind::PermissionDenied;
+        }
+        let polled = self.poll.poll(&mut self.events, Some(Duration::ZERO));
+        let _ = self.poll.registry().deregister(&mut source);
+        polled.is_ok() && self.events.iter().any(|event| event.is_writable())
+    }
+
+    /// Writes the line, and before it the count of dropped lines, with one write. Returns whether all of it was taken.
+    fn offer(&mut self) -> bool {
+        let mut text: ArrayVec<u8, TEXT_MAX> = ArrayVec::new();
+        if self.lost > 0 {
+            let _ = writeln!(&mut text, "{}: lines let go: {}", self.program, self.lost);
+        }
+        let _ = text.write(&self.line);
+        write_whole(&mut self.stream, &text)
+    }
+}
+
+impl<S: Write + AsRawFd + Drop> Write for LossyLines<S> {
+    /// Keeps the bytes up to the end of the line. Bytes beyond the limit of a line are dropped.
+    fn write(&mut self, bytes: &[u8]) -> io::Result<usize> {
+        let Some(end) = bytes.iter().position(|byte| *byte == b'\n') else {
+            let _ = self.line.write(bytes);
+            return Ok(bytes.len());
+        };
+        let _ = self.line.write(&bytes[..end]);
+        self.end_line();
+        Ok(end + 1)
+    }
+
+    fn flush(&mut self) -> io::Result<()> {
+        Ok(())
+    }
+}
+
+/// Writes a text with one call, and returns whether all of it was taken.
+fn write_whole<S: Write>(stream: &mut S, text: &[u8]) -> bool
+    ensures { IsTrue result → Appends (S.Write.contents stream.old) (S.Write.contents stream.new) text.now }
+{
+    matches!(stream.write(text), Ok(taken) if taken == text.len())
+}

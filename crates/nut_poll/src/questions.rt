@@ -1,0 +1,129 @@
+//! Questions to other programs, which nobody waits for.
+
+use std::alloc::Global;
+use std::io::Read;
+use std::process::{Child, Command, OpenProcess, Processes, Stdio};
+
+/// The greatest number of questions that go on at a time.
+const QUESTIONS_MAX: usize = 8;
+
+/// A question: a process that prints the answer and ends.
+#[derive(Drop)]
+pub struct Question<P: OpenProcess, T> {
+    /// What is asked about.
+    pub about: T,
+    child: Child<P>,
+    /// How many steps it has taken.
+    age: u8,
+    /// Whether it was killed because it took too long.
+    pub is_late: bool,
+}
+
+/// Questions that go on. Each is a process of its own, because a process can be killed, and a call of a library that
+/// waits for a network can't be given up.
+#[derive(Drop)]
+pub struct Questions<'r, R: Processes, T> {
+    processes: &'r R,
+    /// How many steps a question may take.
+    patience: u8,
+    going: Vec<Question<R::Started, T>>,
+}
+
+impl<'r, R: Processes, T: Drop> Questions<'r, R, T> {
+    /// Returns an empty set of questions, each of which may take this many steps.
+    pub fn none(processes: &'r R, alloc: Global, patience: u8) -> Questions<'r, R, T> {
+        Questions {
+            processes,
+            patience,
+            going: Vec::new(alloc),
+        }
+    }
+
+    /// The questions that go on.
+    pub fn going(&self) -> &[Question<R::Started, T>] {
+        &self.going
+    }
+
+    /// Whether another question may begin.
+    pub fn has_room(&self) -> bool {
+        self.going.len() < QUESTIONS_MAX
+    }
+
+    /// Begins a question: starts the command, with a pipe for its output.
+    ///
+    /// # Errors
+    ///
+    /// Gives back what was to be asked about if the process can't be started or memory cannot be allocated.
+    pub fn start(&mut self, mut command: Command<Global>, about: T) -> Result<(), T> {
+        if self.going.reserve(1).is_err() {
+            return Err(about);
+        }
+        command
+            .stdin(Stdio::null())
+            .stdout(Stdio::piped())
+            .stderr(Stdio::null());
+        let Ok(child) = command.spawn(self.processes) else {
+            return Err(about);
+        };
+        let _ = self.going.push(Question {
+            about,
+            child,
+            age: 0,
+            is_late: false,
+        });
+        Ok(())
+    }
+
+    /// Counts a step, and kills the questions that take too long.
+    pub fn step(&mut self) {
+        for question in self.going.iter_mut() {
+            question.age = question.age.saturating_add(1);
+            if question.age > self.patience {
+                question.is_late = true;
+                let _ = question.child.kill();
+            }
+        }
+    }
+
+    /// Kills all questions.
+    pub fn end(&mut self) {
+        for question in self.going.iter_mut() {
+            let _ = question.child.kill();
+        }
+    }
+
+    /// Takes a question that has ended, if one has.
+    pub fn take(&mut self) -> Option<Question<R::Started, T>> {
+        let at = first_ended(&mut self.going)?;
+        if self.going.len() <= at {
+            return None;
+        }
+        Some(self.going.swap_remove(at))
+    }
+}
+
+impl<P: OpenProcess, T> Question<P, T> {
+    /// Reads the answer of a question that has ended: the bytes that the process printed, at most as many as this buffer
+    /// holds. There is none if the process failed.
+    ///
+    /// All of the output is there already and is read with one call, so the read doesn't wait for a process that still
+    /// holds the pipe and prints nothing.
+    pub fn answer<'b>(&mut self, buffer: &'b mut [u8]) -> Option<&'b [u8]> {
+        let Ok(Some(status)) = self.child.try_wait() else {
+            return None;
+        };
+        if !status.success() {
+            return None;
+        }
+        let output = self.child.stdout.as_mut()?;
+        let length = output.read(buffer).ok()?;
+        buffer.get(..length)
+    }
+}
+
+/// Returns the place of the first question that has ended, if one has.
+fn first_ended<P: OpenProcess + Drop, T: Drop>(going: &mut [Question<P, T>]) -> Option<usize> {
+    going
+        .iter_mut()
+        .position(|question| !matches!(question.child.try_wait(), Ok(None)))
+}

@@ -1,0 +1,108 @@
+//! Waits for many sockets.
+
+use crate::ready::Ready;
+use crate::seconds::Seconds;
+use mio::{Events, Poll, Registry};
+use std::alloc::Global;
+use std::io;
+use std::net::Net;
+use std::time::{Clock, Duration};
+
+/// The greatest number of events that one wait gives.
+const EVENTS_MAX: usize = 128;
+
+/// Waits for many sockets, which are looked at round by round, and for whole seconds.
+#[derive(Drop)]
+pub struct Rounds {
+    poll: Poll,
+    /// The events of the last wait.
+    pub events: Events,
+    /// The sockets to look at.
+    pub ready: Ready,
+    /// The clock.
+    pub seconds: Seconds,
+    fixed: usize,
+}
+
+impl Rounds {
+    /// Starts the clock. Tokens 0 to `fixed` - 1 are looked at in the first round and once a second, whether or not an
+    /// event came.
+    ///
+    /// # Errors
+    ///
+    /// The error of the poll or of the clock, or a lack of memory.
+    pub fn new(rt: &(impl Net + Clock), alloc: Global, fixed: usize) -> io::Result<Rounds> {
+        let mut ready = Ready::new(alloc)?;
+        ready.insert_first(fixed);
+        ready.turn();
+        Ok(Rounds {
+            poll: Poll::new(rt)?,
+            events: Events::with_capacity(alloc, EVENTS_MAX)?,
+            ready,
+            seconds: Seconds::start(rt)?,
+            fixed,
+        })
+    }
+
+    /// Returns the registry at which sockets are registered with the poll.
+    pub fn registry(&self) -> &Registry {
+        self.poll.registry()
+    }
+
+    /// Waits until an event comes or a second is over, or not at all if there is more to look at.
+    ///
+    /// # Errors
+    ///
+    /// The error of the wait.
+    pub fn wait(&mut self) -> io::Result<()> {
+        let ahead = self.seconds.ahead();
+        self.wait_for(ahead)
+    }
+
+    /// Waits until an event comes, at most this long, or not at all if there is more to look at.
+    ///
+    /// # Errors
+    ///
+    /// The error of the wait.
+    pub fn wait_for(&mut self, patience: Duration) -> io::Result<()> {
+        let patience = if self.ready.is_empty() {
+            patience
+        } else {
+            Duration::ZERO
+        };
+        self.poll.poll(&mut self.events, Some(patience))
+    }
+
+    /// Begins the next round. Returns the number of seconds since the start, if one more is over.
+    ///
+    /// # Errors
+    ///
+    /// The error of the clock.
+    pub fn turn(&mut self, clock: &impl Clock) -> io::Result<Option<u64>> {
+        let moment = self.seconds.pass(clock)?;
+        if moment.is_some() {
+            self.ready.insert_first(self.fixed);
+        }
+        self.begin();
+        Ok(moment)
+    }
+
+    /// Looks at the clock, and returns whether one more second is over. Tokens 0 to `fixed` - 1 are then looked at in
+    /// the next round.
+    ///
+    /// # Errors
+    ///
+    /// The error of the clock.
+    pub fn look_at_clock(&mut self, clock: &impl Clock) -> io::Result<bool> {
+        let is_full = self.seconds.look(clock)?;
+        if is_full {
+            self.ready.insert_first(self.fixed);
+        }
+        Ok(is_full)
+    }
+
+    /// Begins the next round.
+    pub fn begin(&mut self) {
+        self.ready.turn();
+    }
+}

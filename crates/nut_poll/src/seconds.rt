@@ -1,0 +1,110 @@
+//! Whole seconds.
+
+ghost use Rattle.std.specs.Prelude.{◌≡◌, ◌+◌, IfSome, false};
+
+use std::io;
+use std::time::{Clock, Duration, Instant};
+
+/// The whole seconds since the start, each told once.
+///
+/// If the process was stopped, many of them are over at once. A caller can be told only the last of them (`pass`), or
+/// each of them (`next`): one each time the clock is found to have moved on, and the missed ones when the caller asks
+/// for them.
+#[derive(Drop)]
+pub struct Seconds {
+    start: Instant,
+    /// How many seconds were over when the clock was last looked at.
+    full: u64,
+    /// How many of them haven't been told.
+    untold: u64,
+    /// The second that was last told.
+    told: u64,
+    /// Whether one was over since one was last told.
+    is_due: bool,
+    /// How long it was until the next second when the clock was last looked at.
+    ahead: Duration,
+}
+
+impl Seconds {
+    /// Starts the clock.
+    ///
+    /// # Errors
+    ///
+    /// The error of the clock.
+    pub fn start(clock: &impl Clock) -> io::Result<Seconds> {
+        Ok(Seconds {
+            start: Instant::now(clock)?,
+            full: 0,
+            untold: 0,
+            told: 0,
+            is_due: false,
+            ahead: Duration::from_secs(1),
+        })
+    }
+
+    /// Returns how many seconds have passed, if that is more than was told before.
+    ///
+    /// # Errors
+    ///
+    /// The error of the clock.
+    pub fn pass(&mut self, clock: &impl Clock) -> io::Result<Option<u64>> {
+        if !self.look(clock)? {
+            return Ok(None);
+        }
+        self.untold = 0;
+        self.told = self.full;
+        self.is_due = false;
+        Ok(Some(self.told))
+    }
+
+    /// Looks at the clock, and returns whether more seconds are over than when it was last looked at.
+    ///
+    /// # Errors
+    ///
+    /// The error of the clock.
+    pub fn look(&mut self, clock: &impl Clock) -> io::Result<bool> {
+        let passed = self.start.elapsed(clock)?;
+        let part = Duration::from_nanos(u64::from(passed.subsec_nanos()));
+        self.ahead = Duration::from_secs(1).saturating_sub(part);
+        let more = passed.as_secs().saturating_sub(self.full);
+        if more == 0 {
+            return Ok(false);
+        }
+        self.full = passed.as_secs();
+        self.untold = self.untold.saturating_add(more);
+        self.is_due = true;
+        Ok(true)
+    }
+
+    /// Whether `next` would return a second.
+    pub fn has_next(&self, all: bool) -> bool {
+        self.untold > 0 && (all || self.is_due)
+    }
+
+    /// Returns the next second that hasn't been told: one for each time the clock was found to have moved on, and, with
+    /// `all`, the missed ones, too.
+    pub fn next(&mut self, all: bool) -> Option<u64>
+        ensures turn { IfSome result (λ t. t ≡ self.old.told + 1) }
+        ensures told { IfSome result (λ t. self.new.told ≡ t) }
+        ensures once { self.new.is_due ≡ false }
+    {
+        let has_next = self.has_next(all);
+        self.is_due = false;
+        if !has_next {
+            return None;
+        }
+        self.told = self.told.checked_add(1)?;
+        self.untold = self.untold.saturating_sub(1);
+        Some(self.told)
+    }
+
+    /// Forgets the missed seconds: the next second that is told follows the last one.
+    pub fn forget_missed(&mut self) {
+        self.untold = u64::from(self.is_due);
+    }
+
+    /// Returns how long it was until the next second when the clock was last looked at.
+    pub fn ahead(&self) -> Duration {
+        self.ahead
+    }
+}

@@ -1,0 +1,209 @@
+//! Configuration files in their folder.
+
+use crate::unknown::unknown_word;
+use nut_conf::{
+    ConfFault, Descriptions, FILE_MAX, FaultKind, UpsConf, UpsdConf, UpsmonConf, UsersConf,
+    read_descriptions, read_ups, read_upsd, read_upsmon, read_users,
+};
+use std::alloc::Global;
+use std::fs::File;
+use std::io::{ErrorKind, Read};
+use std::path::{AsPath, Path};
+use std::rt::Files;
+use std::{fmt, io};
+
+/// A configuration that is read from a file.
+pub trait ConfFile: Drop + Sized {
+    /// Returns the file's name in its folder.
+    fn file_name() -> &'static str;
+
+    /// Reads the bytes of the file.
+    ///
+    /// # Errors
+    ///
+    /// The first fault of the file; `FaultKind::Memory` if memory cannot be allocated.
+    fn read(alloc: Global, bytes: &[u8]) -> Result<Self, ConfFault>;
+}
+
+impl ConfFile for UpsConf {
+    fn file_name() -> &'static str {
+        "ups.conf"
+    }
+
+    fn read(alloc: Global, bytes: &[u8]) -> Result<Self, ConfFault> {
+        read_ups(alloc, bytes)
+    }
+}
+
+impl ConfFile for UsersConf {
+    fn file_name() -> &'static str {
+        "upsd.users"
+    }
+
+    fn read(alloc: Global, bytes: &[u8]) -> Result<Self, ConfFault> {
+        read_users(alloc, bytes)
+    }
+}
+
+impl ConfFile for UpsdConf {
+    fn file_name() -> &'static str {
+        "upsd.conf"
+    }
+
+    fn read(alloc: Global, bytes: &[u8]) -> Result<Self, ConfFault> {
+        read_upsd(alloc, bytes)
+    }
+}
+
+impl ConfFile for UpsmonConf {
+    fn file_name() -> &'static str {
+        "upsmon.conf"
+    }
+
+    fn read(alloc: Global, bytes: &[u8]) -> Result<Self, ConfFault> {
+        read_upsmon(alloc, bytes)
+    }
+}
+
+impl ConfFile for Descriptions {
+    fn file_name() -> &'static str {
+        "cmdvartab"
+    }
+
+    fn read(alloc: Global, bytes: &[u8]) -> Result<Self, ConfFault> {
+        read_descriptions(alloc, bytes)
+    }
+}
+
+/// Why a file gives no configuration. It is displayed as in `ups.conf: cannot read` or `ups.conf:2: Repeated`.
+#[derive(Debug, Drop)]
+pub enum FileFault<'a> {
+    /// The file doesn't exist, is a folder, may not be read, or a read failed.
+    CannotRead(&'a str),
+    /// The file has this fault. The word is that of the directive if no line of the file may have it.
+    Conf(&'a str, ConfFault, Option<String>),
+    /// Memory could not be allocated.
+    Memory,
+}
+
+impl<'a> fmt::Display for FileFault<'a> {
+    fn fmt<W: fmt::Write>(&self, f: &mut fmt::Formatter<W>) -> fmt::Result {
+        match self {
+            FileFault::CannotRead(file) => write!(f, "{file}: cannot read"),
+            FileFault::Conf(file, fault, _) => write!(f, "{file}:{fault}"),
+            FileFault::Memory => write!(f, "out of memory"),
+        }
+    }
+}
+
+impl<'a> FileFault<'a> {
+    /// Returns the word of the directive that no line of the file may have, if that is the fault.
+    pub fn unknown_word(&self) -> Option<&str> {
+        match self {
+            FileFault::Conf(_, _, Some(word)) => Some(word.as_str()),
+            FileFault::Conf(_, _, None) => None,
+            FileFault::CannotRead(_) | FileFault::Memory => None,
+        }
+    }
+}
+
+/// Reads a configuration from its file in a folder.
+///
+/// # Errors
+///
+/// `CannotRead` if the file cannot be opened or read, `Conf` with its first fault, `Memory` if memory cannot be
+/// allocated.
+pub fn read_conf<C: ConfFile>(
+    files: &impl Files,
+    alloc: Global,
+    folder: &str,
+) -> Result<C, FileFault<'static>> {
+    let name = C::file_name();
+    match Path::new(folder).join(alloc, name) {
+        Ok(path) => read_conf_at(files, alloc, path, name),
+        Err(_) => Err(FileFault::Memory),
+    }
+}
+
+/// Reads a configuration from its file in a folder, if the file is there: `None` if it isn't.
+///
+/// # Errors
+///
+/// Those of [`read_conf`], but none for a file that doesn't exist.
+pub fn read_conf_if_there<C: ConfFile>(
+    files: &impl Files,
+    alloc: Global,
+    folder: &str,
+) -> Result<Option<C>, FileFault<'static>> {
+    let name = C::file_name();
+    let Ok(path) = Path::new(folder).join(alloc, name) else {
+        return Err(FileFault::Memory);
+    };
+    match read_file(files, alloc, path, READ_MAX) {
+        Ok(bytes) => Ok(Some(conf_of(alloc, bytes.as_slice(), name)?)),
+        Err(error) if error.kind() == ErrorKind::NotFound => Ok(None),
+        Err(error) => Err(unread(error, name)),
+    }
+}
+
+/// Reads a configuration from a file that a fault calls by this name.
+///
+/// # Errors
+///
+/// Those of [`read_conf`].
+pub fn read_conf_at<'a, C: ConfFile, P: AsPath>(
+    files: &impl Files,
+    alloc: Global,
+    path: P,
+    name: &'a str,
+) -> Result<C, FileFault<'a>> {
+    match read_file(files, alloc, path, READ_MAX) {
+        Ok(bytes) => conf_of(alloc, bytes.as_slice(), name),
+        Err(error) => Err(unread(error, name)),
+    }
+}
+
+/// Of a file that is too long no more bytes are read than show that.
+const READ_MAX: u64 = FILE_MAX as u64 + 1;
+
+/// Why a file can't be read.
+fn unread(error: io::Error, name: &str) -> FileFault<'_> {
+    if error.kind() == ErrorKind::OutOfMemory {
+        FileFault::Memory
+    } else {
+        FileFault::CannotRead(name)
+    }
+}
+
+/// Reads a configuration from the bytes of its file.
+fn conf_of<'a, C: ConfFile>(
+    alloc: Global,
+    bytes: &[u8],
+    name: &'a str,
+) -> Result<C, FileFault<'a>> {
+    match C::read(alloc, bytes) {
+        Ok(conf) => Ok(conf),
+        Err(fault) if fault.kind == FaultKind::Memory => Err(FileFault::Memory),
+        Err(fault) => {
+            let word = unknown_word::<C>(alloc, bytes, fault);
+            Err(FileFault::Conf(name, fault, word))
+        }
+    }
+}
+
+/// Returns the bytes of a file, of a longer one the first `most`.
+///
+/// # Errors
+///
+/// That of the system if the file cannot be opened or read; of the kind `OutOfMemory` if memory cannot be allocated.
+pub fn read_file<P: AsPath>(
+    files: &impl Files,
+    alloc: Global,
+    path: P,
+    most: u64,
+) -> io::Result<Vec<u8>> {
+    let file = File::open(files, path)?;
+    let mut bytes = Vec::new(alloc);
+    file.take(most).read_to_end(&mut bytes)?;
+    Ok(bytes)
+}

@@ -1,0 +1,100 @@
+//! Why a program ends before its work is done.
+
+use crate::conf_file::FileFault;
+use nut_io::ServeFault;
+use std::alloc::{AllocError, AllocFailed};
+use std::fmt::Display;
+use std::io;
+use std::io::{ErrorKind, Write};
+
+/// Why a program ends before its work is done. `F` is the type of the faults that only this program has.
+#[derive(Drop)]
+pub enum Failure<F> {
+    /// clap refuses the command line, or it asks for the help or the version. clap has the text to print.
+    CommandLine(clap::Error),
+    /// A fault that only this program has.
+    Own(F),
+    /// Memory could not be allocated.
+    Memory,
+    /// A read, a write or a wait failed.
+    Io,
+}
+
+impl<F> From<clap::Error> for Failure<F> {
+    fn from(error: clap::Error) -> Self {
+        if error.kind() == clap::error::ErrorKind::OutOfMemory {
+            Failure::Memory
+        } else {
+            Failure::CommandLine(error)
+        }
+    }
+}
+
+impl<F> From<AllocError> for Failure<F> {
+    fn from(_: AllocError) -> Self {
+        Failure::Memory
+    }
+}
+
+impl<T: Drop, F> From<AllocFailed<T>> for Failure<F> {
+    fn from(_: AllocFailed<T>) -> Self {
+        Failure::Memory
+    }
+}
+
+impl<F> From<io::Error> for Failure<F> {
+    fn from(error: io::Error) -> Self {
+        if error.kind() == ErrorKind::OutOfMemory {
+            Failure::Memory
+        } else {
+            Failure::Io
+        }
+    }
+}
+
+impl<F> From<ServeFault> for Failure<F> {
+    fn from(_: ServeFault) -> Self {
+        Failure::Io
+    }
+}
+
+impl<F: From<FileFault<'static>>> From<FileFault<'static>> for Failure<F> {
+    fn from(fault: FileFault<'static>) -> Self {
+        Failure::Own(F::from(fault))
+    }
+}
+
+/// A fault that only one program has. It is displayed as the text behind the program's name.
+pub trait OwnFault: Display {
+    /// Returns the word of a directive that no line of a configuration file may have, if that is the fault.
+    fn unknown_word(&self) -> Option<&str>;
+}
+
+/// Writes a fault that only this program has. If it is a word that no line of a file may have, a second line says where
+/// to read about that.
+fn tell_own<F: OwnFault, E: Write>(program: &str, fault: &F, err: &mut E) -> io::Result<()> {
+    writeln!(err, "{program}: {fault}")?;
+    match fault.unknown_word() {
+        Some(word) => writeln!(err, "{program}: {word} isn't taken here: see from-nut(7)"),
+        None => Ok(()),
+    }
+}
+
+impl<F: OwnFault> Failure<F> {
+    /// Writes why the program ends to the right stream, as `PROGRAM: WHY`, except for clap's texts. Returns the exit
+    /// status: 2 if clap refuses the command line, 0 for the help or the version if it could be written, else 1.
+    pub fn tell<O: Write, E: Write>(&self, program: &str, out: &mut O, err: &mut E) -> u8 {
+        let told = match self {
+            Failure::CommandLine(error) if error.use_stderr() => write!(err, "{error}"),
+            Failure::CommandLine(error) => write!(out, "{error}"),
+            Failure::Own(fault) => tell_own(program, fault, err),
+            Failure::Memory => writeln!(err, "{program}: out of memory"),
+            Failure::Io => writeln!(err, "{program}: I/O failed"),
+        };
+        match self {
+            Failure::CommandLine(error) if error.use_stderr() => 2,
+            Failure::CommandLine(_) => u8::from(told.is_err()),
+            Failure::Own(_) | Failure::Memory | Failure::Io => 1,
+        }
+    }
+}

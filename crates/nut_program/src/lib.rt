@@ -1,0 +1,19 @@
+//! What the programs share: their command lines, their configuration files, and why they end.
+#![tactic(auto)]
+
+mod arguments;
+mod command_line;
+mod conf_file;
+mod failure;
+mod folder;
+mod streams;
+mod unknown;
+mod warning;
+
+pub use arguments::refuse_start;
+pub use command_line::{check_option, quiet_option};
+pub use conf_file::{ConfFile, FileFault, read_conf, read_conf_at, read_conf_if_there, read_file};
+pub use failure::{Failure, OwnFault};
+pub use folder::conf_folder;
+pub use streams::hold_closed_streams;
+pub use warning::{Readable, readable_file, warn};

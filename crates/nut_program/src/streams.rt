@@ -1,0 +1,25 @@
+//! The descriptors of the standard streams.
+
+use std::alloc::{AllocError, Global};
+use std::fs::File;
+use std::rt::Files;
+
+/// The number of standard streams, whose descriptors come before all others.
+const STREAMS: usize = 3;
+
+/// Opens as many files as there are standard streams. While they are kept, they hold the descriptors of streams that
+/// are closed. Otherwise the next socket would get one of these, and its peer would be sent what is meant for an
+/// operator.
+///
+/// # Errors
+///
+/// `AllocError` if memory for the list cannot be allocated.
+pub fn hold_closed_streams<F: Files>(files: &F, alloc: Global) -> Result<Vec<F::File>, AllocError> {
+    let mut held = Vec::new(alloc);
+    for _ in 0..STREAMS {
+        if let Ok(file) = File::open(files, "/dev/null") {
+            held.push(file)?;
+        }
+    }
+    Ok(held)
+}

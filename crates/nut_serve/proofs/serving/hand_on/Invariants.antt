@@ -1,4 +1,0 @@
-use Rattle.nut_serve.proofs.serving.hand_on.Given as goal
-
-abbrev pub ghost-settle_heard : goal.ghost-settle_heard
-ghost-settle_heard g a = g.first

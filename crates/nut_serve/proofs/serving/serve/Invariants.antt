@@ -1,4 +1,0 @@
-use Rattle.nut_serve.proofs.serving.serve.Given as goal
-
-abbrev pub ghost-go_on : goal.ghost-go_on
-ghost-go_on g a = a.server.now.configuration

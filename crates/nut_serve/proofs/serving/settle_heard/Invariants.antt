@@ -1,4 +1,0 @@
-use Rattle.nut_serve.proofs.serving.settle_heard.Given as goal
-
-abbrev pub ghost-settle : goal.ghost-settle
-ghost-settle g a = g.first

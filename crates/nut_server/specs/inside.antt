@@ -1,0 +1,10 @@
+pub mod Access
+pub mod Answers
+pub mod Decisions
+pub mod Effects
+pub mod Entries
+pub mod Inside
+pub mod Login
+pub mod Place
+pub mod Rows
+pub mod Server

@@ -1,0 +1,10 @@
+use Rattle.std.proofs.Common.{refl}
+use Rattle.nut_server_loop.specs.Record.{TookBytes}
+use Rattle.nut_server_loop.specs.Memory.{log_of}
+use Rattle.nut_server_loop.proofs.Noted.{goes_on_more}
+use Rattle.nut_server_loop.proofs.memory.MemoryWorldWorld.write.Goals as goal
+
+pub returns-in-Ok-clause-reached : goal.returns-in-Ok-clause-reached
+returns-in-Ok-clause-reached c =
+    rw (← c.self.view_is) (goes_on_more (record { left = c.self.inside.left.items; log = log_of c.self.inside.notes.items; faults = c.self.inside.faults })
+    (record { left = c.self.inside.left.items; log = log_of c.note_taken.new.notes.items; faults = c.self.inside.faults }) (TookBytes c.args.c c.args.bytes.now) refl c.in-Ok.ensures.ok refl)

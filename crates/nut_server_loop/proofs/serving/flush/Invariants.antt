@@ -1,0 +1,20 @@
+use Rattle.std.proofs.Common.{◌≡◌, [], length}
+use Rattle.nut_server_spec.specs.Acceptance.{waiting_of}
+use Rattle.nut_server_loop.specs.Served.{Served, OnlyAt, StaysLate}
+use Rattle.nut_server_loop.proofs.serving.flush.Given as goal
+
+abbrev pub ghost-write_once : goal.ghost-write_once
+ghost-write_once g a = g.first
+
+abbrev pub invariant-loop-server : goal.invariant-loop-server
+invariant-loop-server g l =
+    record {
+      same_count : g.W.World.fault_count l.world ≡ g.W.World.fault_count l.fn.world;
+      served : Served g.first (g.W.World.log l.world) l.server [];
+      only : OnlyAt l.c l.fn.server l.server;
+      late : StaysLate (g.W.World.late l.fn.world) (g.W.World.late l.world);
+      reached : g.W.World.reached l.fn.world l.world;
+    }
+
+abbrev pub decreases-loop-server : goal.decreases-loop-server
+decreases-loop-server g l = length (waiting_of l.c l.server.sessions)

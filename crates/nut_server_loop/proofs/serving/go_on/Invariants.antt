@@ -1,0 +1,17 @@
+use Rattle.std.proofs.Common.{◌≡◌, []}
+use Rattle.nut_server_loop.specs.Served.{Served}
+use Rattle.nut_server_loop.proofs.serving.go_on.Given as goal
+
+abbrev pub ghost-settle_all : goal.ghost-settle_all
+ghost-settle_all g a = g.first
+
+abbrev pub ghost-turn : goal.ghost-turn
+ghost-turn g a = g.first
+
+abbrev pub invariant-loop : goal.invariant-loop
+invariant-loop g l =
+    record {
+      same_count : g.W.World.fault_count l.world ≡ g.W.World.fault_count l.fn.world;
+      served : Served g.first (g.W.World.log l.world) l.server [];
+      reached : g.W.World.reached l.fn.world l.world;
+    }

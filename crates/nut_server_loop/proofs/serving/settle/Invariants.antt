@@ -1,0 +1,4 @@
+use Rattle.nut_server_loop.proofs.serving.settle.Given as goal
+
+abbrev pub ghost-flush : goal.ghost-flush
+ghost-flush g a = g.first

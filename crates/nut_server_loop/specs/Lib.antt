@@ -1,0 +1,5 @@
+pub mod Record
+pub mod Served
+pub mod Memory
+pub mod ServedAll
+pub mod inside

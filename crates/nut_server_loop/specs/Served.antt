@@ -1,0 +1,105 @@
+-- How the history that a server was told follows from the record of the world.
+use Rattle.std.specs.Prelude.{◌≡◌, ◌≢◌, ◌⊎◌, ℕ, Bool, true, List, [], ◌∷◌, length, Option, Some, None, Result, Ok, Err, IfSome}
+use Rattle.nut_server_spec.specs.declared.Refused.{Refused}
+use Rattle.nut_server_spec.specs.declared.Refused.TheVariants.{Memory}
+use Rattle.nut_server_spec.specs.declared.Place.{Place}
+use Rattle.nut_server_spec.specs.declared.Place.TheVariants.{Line, Report}
+use Rattle.nut_server_spec.specs.Configuration.{Configuration}
+use Rattle.nut_server_spec.specs.Event.{Event, Took, Close, WriteFailed, DriverTook, DriverDown}
+use Rattle.nut_server_spec.specs.Trace.{driver_sent}
+use Rattle.nut_server_spec.specs.Content.{Content, content, past, sent}
+use Rattle.nut_server_spec.specs.Acceptance.{refusal, session_of, supply_of, leaves, Tells}
+use Rattle.nut_server_spec.specs.Outcome.{IsAnswer, after}
+use Rattle.nut_server_loop.specs.Record.{Entry, Gave, TookBytes, WasLate, WriteBroke, WasClosed, TookRequests, DriverWasLate, DriverBroke, DriverWasClosed, tells_next, taken, driver_taken}
+use Rattle.nut_server_loop.specs.declared.types.Next.{Next}
+
+-- What has ended for the server, and has still to be closed by the world: a connection, or the link to the driver of a
+-- UPS.
+pub data Ended : Type 0 where
+  Connection : (c : ℕ) → Ended
+  Driver : (u : ℕ) → Ended
+
+-- what a lack of memory at a place ended
+abbrev pub ended_at : Place → List Ended
+ended_at (Line c k) = Connection c ∷ []
+ended_at (Report u k) = Driver u ∷ []
+
+-- what a lack of memory ended, if there was one
+abbrev pub ended_in : Option Place → List Ended
+ended_in None = []
+ended_in (Some place) = ended_at place
+
+-- what a refusal ended: nothing, unless memory ran out
+abbrev pub ended_by_refusal : Refused → List Ended
+ended_by_refusal (Memory place) = ended_at place
+ended_by_refusal r = []
+
+-- what an answer of the server ended
+abbrev pub ended_by : {U : Type 0} → Result U Refused → List Ended
+ended_by (Ok _) = []
+ended_by (Err r) = ended_by_refusal r
+
+-- The server was made with `first`. Before the entry it was told the events h, and the world still has to close what
+-- `owed` lists; after the entry these are h' and owed'.
+abbrev pub Stands : Configuration → List Event → List Ended → Entry → List Event → List Ended → Type 0
+-- An arrival comes only when nothing is left to close. The history goes on by the server's answer: with the arrival;
+-- without it if it is refused; or, if memory ran out, with the lines that were done and the end of the connection or
+-- the driver, which has then to be closed.
+Stands first h owed (Gave e) h' owed' =
+    (answer : Result (Unit {0}) Refused) × (owed ≡ []) × IsAnswer first h e answer × (h' ≡ after answer e h) × (owed' ≡ ended_by answer)
+-- Bytes that were taken are an event. A write that is to come later is none. A failed write is one, and its connection
+-- has then to be closed.
+Stands first h owed (TookBytes c bytes) h' owed' =
+    (refusal (content first h) (Took c (length bytes)) ≡ None) × (h' ≡ Took c (length bytes) ∷ h) × (owed' ≡ owed)
+Stands first h owed (WasLate c) h' owed' = (h' ≡ h) × (owed' ≡ owed)
+Stands first h owed (WriteBroke c) h' owed' =
+    (refusal (content first h) (WriteFailed c) ≡ None) × (h' ≡ WriteFailed c ∷ h) × (owed' ≡ Connection c ∷ owed)
+-- The world closes the connection that ended last, or one that has logged out and for which nothing waits, and no
+-- other.
+Stands first h owed (WasClosed c) h' owed' =
+    ((owed ≡ Connection c ∷ owed') × (h' ≡ h)) ⊎ ((leaves (session_of c (content first h).sessions) ≡ true) × (h' ≡ Close c ∷ h) × (owed' ≡ owed))
+-- Writes to drivers follow the same rules. The world closes only the link to the driver that ended last.
+Stands first h owed (TookRequests u bytes) h' owed' =
+    (refusal (content first h) (DriverTook u (length bytes)) ≡ None) × (h' ≡ DriverTook u (length bytes) ∷ h) × (owed' ≡ owed)
+Stands first h owed (DriverWasLate u) h' owed' = (h' ≡ h) × (owed' ≡ owed)
+Stands first h owed (DriverBroke u) h' owed' =
+    (refusal (content first h) (DriverDown u) ≡ None) × (h' ≡ DriverDown u ∷ h) × (owed' ≡ Driver u ∷ owed)
+Stands first h owed (DriverWasClosed u) h' owed' = (owed ≡ Driver u ∷ owed') × (h' ≡ h)
+
+-- These entries, the newest first, lead to the events h, with `owed` still to be closed.
+abbrev pub Told : Configuration → List Entry → List Event → List Ended → Type 0
+Told first [] h owed = (h ≡ []) × (owed ≡ [])
+Told first (entry ∷ entries) h owed =
+    (h0 : List Event) × (owed0 : List Ended) × Told first entries h0 owed0 × Stands first h0 owed0 entry h owed
+
+-- There are entries, which are the world's record if it keeps one, and a history that they lead to. The server has the
+-- content of this history. The bytes that the world took for each connection, and for each driver since it was last
+-- connected, are those that were sent.
+pub record Served (first : Configuration) (log : Option (List Entry)) (s : Content) (owed : List Ended) : Type 0 where
+  pub entries : List Entry
+  pub history : List Event
+  pub tells : IfSome log (λ r. r ≡ entries)
+  pub told : Told first entries history owed
+  pub holds : Tells first history s
+  pub sent_is : (c : ℕ) → taken c entries ≡ sent first c history
+  pub asked_is : (u : ℕ) → driver_taken u entries ≡ driver_sent u (past first history)
+
+-- `Served` held, with nothing to close, before the world gave this, with these bytes in the piece.
+abbrev pub ServedBefore : Configuration → Option (List Entry) → Content → Next → List ℕ → Type 0
+ServedBefore first log s n piece = (before : Option (List Entry)) × Served first before s [] × (log ≡ tells_next n piece before)
+
+-- The contents differ at most in connection c.
+abbrev pub OnlyAt : ℕ → Content → Content → Type 0
+OnlyAt c old new = (d : ℕ) → d ≢ c → session_of d new.sessions ≡ session_of d old.sessions
+
+-- The contents have the same connections, and differ at most in the UPS u.
+abbrev pub OnlyAtDriver : ℕ → Content → Content → Type 0
+OnlyAtDriver u old new = (new.sessions ≡ old.sessions) × ((v : ℕ) → v ≢ u → supply_of v new.supplies ≡ supply_of v old.supplies)
+
+-- Who is late stays late.
+abbrev pub StaysLate : (ℕ → Bool) → (ℕ → Bool) → Type 0
+StaysLate old new = (d : ℕ) → old d ≡ true → new d ≡ true
+
+-- Exactly those who were late are late.
+abbrev pub KeepsLate : (ℕ → Bool) → (ℕ → Bool) → Type 0
+KeepsLate old new = (d : ℕ) → new d ≡ old d

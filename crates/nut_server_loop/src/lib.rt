@@ -1,0 +1,18 @@
+//! The outer loop of a server: it asks a world for arrivals and writes bytes to it. With it come two worlds, one over
+//! memory and one over standard streams.
+#![tactic(auto)]
+
+mod memory;
+mod replay;
+mod serving;
+mod streams;
+mod types;
+mod world;
+
+pub use memory::MemoryWorld;
+pub use nut_io::{Fault, Piece, ServeFault, Written, read_piece, write_some};
+pub use replay::serve_memory;
+pub use serving::serve;
+pub use streams::{Stream, StreamWorld};
+pub use types::{Address, Given, Next, Note};
+pub use world::World;

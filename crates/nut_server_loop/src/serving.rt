@@ -1,0 +1,358 @@
+//! The loop that serves over a world.
+
+ghost use Rattle.std.specs.Prelude.{◌≡◌, ◌≢◌, ◌+◌, ◌-◌, ◌^◌, ◌<◌, ◌≤◌, ℕ, true, false, List, [], ◌∷◌, length, Option, Ok, IfSome, IfOk, OnOk, OnErr, is_ok, option_map, if◌then◌else◌};
+ghost use Rattle.nut_server_spec.specs.Configuration.{Configuration};
+ghost use Rattle.nut_server_spec.specs.Content.{content};
+ghost use Rattle.nut_server_spec.specs.Acceptance.{session_of, waiting_of, asks_of, leaves};
+ghost use Rattle.nut_server.specs.Arrival.{event_of};
+ghost use Rattle.nut_server_loop.specs.Record.{IsSettled, IsDriverSettled, NothingIsWithheld, NoRequestIsWithheld, NobodyLeaves};
+ghost use Rattle.nut_server_loop.specs.Record as entry;
+ghost use Rattle.nut_server_loop.specs.Served.{Ended, ended_by, ended_in, Served, ServedBefore, OnlyAt, OnlyAtDriver, StaysLate, KeepsLate};
+
+use crate::{Next, World};
+use nut_io::{Fault, Piece, ServeFault, Written};
+use nut_server::{Arrival, Place, Refused, Server};
+use std::sync::Wait;
+
+/// Serves until the world ends.
+///
+/// The server is told each arrival of the world and the outcome of each write. Before the loop asks for the next
+/// arrival, it offers each connection and each driver all that waits for it, until nothing waits or the world takes no
+/// more. It closes each connection that has logged out and taken everything, and each connection and link to a driver
+/// that was ended by a failed write or a lack of memory. It closes no others.
+///
+/// When it returns, the server holds the content of a history of accepted events that the world's record leads to. The
+/// bytes that the world took for each connection, and for each driver since it was last connected, are those that were
+/// sent.
+///
+/// # Errors
+///
+/// `ServeFault::World` if a call of the world returns a fault.
+pub fn serve<W: World>(rt: &impl Wait, server: &mut Server, world: &mut W) -> Result<(), ServeFault>
+    requires fresh { server.old ≡ content server.old.configuration [] }
+    requires blank { IfSome (W.log world.old) (λ r. r ≡ []) }
+    requires few { W.fault_count world.old < 2 ^ 64 - 1 }
+    ensures err { OnErr result ((owed : List Ended) × Served server.old.configuration (W.log world.new) server.new owed) }
+    ensures ok { OnOk result (Served server.old.configuration (W.log world.new) server.new []) }
+    ensures left { OnOk result (NobodyLeaves server.new) }
+    ensures ended { OnOk result (W.has_ended world.new server.new) }
+    ensures fault { OnErr result (W.fault_count world.old < W.fault_count world.new) }
+    ensures reached { W.reached world.old world.new }
+{
+    go_on(rt, server, world)
+}
+
+/// Serves until the world ends, from any point of a history at which nothing is left to close.
+fn go_on<W: World>(rt: &impl Wait, server: &mut Server, world: &mut W) -> Result<(), ServeFault>
+    ghost first: { Configuration }
+    requires served { Served first (W.log world.old) server.old [] }
+    requires few { W.fault_count world.old < 2 ^ 64 - 1 }
+    ensures err { OnErr result ((owed : List Ended) × Served first (W.log world.new) server.new owed) }
+    ensures ok { OnOk result (Served first (W.log world.new) server.new []) }
+    ensures left { OnOk result (NobodyLeaves server.new) }
+    ensures ended { OnOk result (W.has_ended world.new server.new) }
+    ensures fault { OnErr result (W.fault_count world.old < W.fault_count world.new) }
+    ensures reached { W.reached world.old world.new }
+{
+    let mut piece = Piece::new();
+    for _ in rt.forever() {
+        settle_all(server, world)?;
+        if !turn(server, world, &mut piece)? {
+            return Ok(());
+        }
+    }
+    unreachable!()
+}
+
+/// Asks for the next arrival, tells it to the server, and closes what that ended. Returns false at the end of the
+/// world.
+fn turn<W: World>(server: &mut Server, world: &mut W, piece: &mut Piece) -> Result<bool, Fault>
+    ghost first: { Configuration }
+    requires few { W.fault_count world.old < 2 ^ 64 - 1 }
+    requires withheld { NothingIsWithheld (W.late world.old) server.old }
+    requires requests { NoRequestIsWithheld (W.driver_late world.old) server.old }
+    requires left { NobodyLeaves server.old }
+    requires served { Served first (W.log world.old) server.old [] }
+    ensures err { OnErr result ((owed : List Ended) × Served first (W.log world.new) server.new owed) }
+    ensures ok { OnOk result (Served first (W.log world.new) server.new []) }
+    ensures left { result ≡ Ok false → NobodyLeaves server.new }
+    ensures ended { result ≡ Ok false → W.has_ended world.new server.new }
+    ensures counted { W.fault_count world.new ≡ (if is_ok result then W.fault_count world.old else W.fault_count world.old + 1) }
+    ensures reached { W.reached world.old world.new }
+{
+    let next = world.next(server, piece)?;
+    if let Next::End = next {
+        return Ok(false);
+    }
+    hand_on(server, world, &next, piece)?;
+    Ok(true)
+}
+
+/// Tells the server what the world gave, if it is an arrival, and closes what that ended.
+fn hand_on<W: World>(
+    server: &mut Server,
+    world: &mut W,
+    next: &Next,
+    piece: &Piece,
+) -> Result<(), Fault>
+    ghost first: { Configuration }
+    requires few { W.fault_count world.old < 2 ^ 64 - 1 }
+    requires served { ServedBefore first (W.log world.old) server.old next.now piece.now.items }
+    ensures err { OnErr result ((owed : List Ended) × Served first (W.log world.new) server.new owed) }
+    ensures ok { OnOk result (Served first (W.log world.new) server.new []) }
+    ensures counted { W.fault_count world.new ≡ (if is_ok result then W.fault_count world.old else W.fault_count world.old + 1) }
+    ensures reached { W.reached world.old world.new }
+{
+    let Some(arrival) = arrival_of(next, piece) else {
+        return Ok(());
+    };
+    match place_of_lack(server.arrive(arrival)) {
+        None => settle_heard(server, world, next),
+        Some(Place::Line(c, _)) => world.close(c),
+        Some(Place::Report(u, _)) => world.close_driver(u),
+    }
+}
+
+/// Settles the connection whose bytes were handled. In most cases no other is unsettled, so no search is needed.
+fn settle_heard<W: World>(server: &mut Server, world: &mut W, next: &Next) -> Result<(), Fault>
+    ghost first: { Configuration }
+    requires few { W.fault_count world.old < 2 ^ 64 - 1 }
+    requires served { Served first (W.log world.old) server.old [] }
+    ensures err { OnErr result ((owed : List Ended) × Served first (W.log world.new) server.new owed) }
+    ensures ok { OnOk result (Served first (W.log world.new) server.new []) }
+    ensures counted { W.fault_count world.new ≡ (if is_ok result then W.fault_count world.old else W.fault_count world.old + 1) }
+    ensures reached { W.reached world.old world.new }
+{
+    match next {
+        Next::Bytes(c) => settle(server, world, *c),
+        Next::Moment(_)
+        | Next::Open(_)
+        | Next::Close(_)
+        | Next::DriverUp(_)
+        | Next::DriverBytes(_)
+        | Next::DriverDown(_)
+        | Next::Again
+        | Next::End => Ok(()),
+    }
+}
+
+/// Returns the place at which memory ran out, if it did. It names what was ended.
+fn place_of_lack(answer: Result<(), Refused>) -> Option<Place>
+    ensures { ended_by answer ≡ ended_in result }
+{
+    match answer {
+        Err(Refused::Memory(place)) => Some(place),
+        Err(
+            Refused::NoSuchConnection
+            | Refused::NotConnected
+            | Refused::PieceTooLong
+            | Refused::Busy
+            | Refused::TooMuchTaken
+            | Refused::BadAddress
+            | Refused::Full,
+        ) => None,
+        Ok(()) => None,
+    }
+}
+
+/// Returns the arrival that the world gave, if it gave one.
+fn arrival_of<'a>(next: &'a Next, piece: &'a Piece) -> Option<Arrival<'a>>
+    ensures { option_map event_of result ≡ entry.arrival_of next.now piece.now.items }
+{
+    match next {
+        Next::Moment(t) => Some(Arrival::Moment(*t)),
+        Next::Open(address) => Some(Arrival::Open(address.as_slice())),
+        Next::Bytes(c) => Some(Arrival::Bytes(*c, piece.as_slice())),
+        Next::Close(c) => Some(Arrival::Close(*c)),
+        Next::DriverUp(u) => Some(Arrival::DriverUp(*u)),
+        Next::DriverBytes(u) => Some(Arrival::DriverBytes(*u, piece.as_slice())),
+        Next::DriverDown(u) => Some(Arrival::DriverDown(*u)),
+        Next::Again | Next::End => None,
+    }
+}
+
+/// Writes all that waits, as far as the world takes it, and closes each connection that is to be closed.
+fn settle_all<W: World>(server: &mut Server, world: &mut W) -> Result<(), Fault>
+    ghost first: { Configuration }
+    requires few { W.fault_count world.old < 2 ^ 64 - 1 }
+    requires served { Served first (W.log world.old) server.old [] }
+    ensures err { OnErr result ((owed : List Ended) × Served first (W.log world.new) server.new owed) }
+    ensures ok { OnOk result (Served first (W.log world.new) server.new []) }
+    ensures withheld { OnOk result (NothingIsWithheld (W.late world.new) server.new) }
+    ensures requests { OnOk result (NoRequestIsWithheld (W.driver_late world.new) server.new) }
+    ensures left { OnOk result (NobodyLeaves server.new) }
+    ensures counted { W.fault_count world.new ≡ (if is_ok result then W.fault_count world.old else W.fault_count world.old + 1) }
+    ensures reached { W.reached world.old world.new }
+{
+    settle_connections(server, world)?;
+    settle_drivers(server, world)
+}
+
+/// Writes to connections what waits for them, as far as the world takes it, and closes each that is to be closed.
+fn settle_connections<W: World>(server: &mut Server, world: &mut W) -> Result<(), Fault>
+    ghost first: { Configuration }
+    requires few { W.fault_count world.old < 2 ^ 64 - 1 }
+    requires served { Served first (W.log world.old) server.old [] }
+    ensures err { OnErr result ((owed : List Ended) × Served first (W.log world.new) server.new owed) }
+    ensures ok { OnOk result (Served first (W.log world.new) server.new []) }
+    ensures withheld { OnOk result (NothingIsWithheld (W.late world.new) server.new) }
+    ensures left { OnOk result (NobodyLeaves server.new) }
+    ensures counted { W.fault_count world.new ≡ (if is_ok result then W.fault_count world.old else W.fault_count world.old + 1) }
+    ensures reached { W.reached world.old world.new }
+{
+    let mut from = 0;
+    while let Some(c) = server.next_unsettled(from) {
+        settle(server, world, c)?;
+        from = c + 1;
+    }
+    Ok(())
+}
+
+/// Writes to one connection what waits for it, as far as the world takes it, and closes it if it is to be closed.
+fn settle<W: World>(server: &mut Server, world: &mut W, c: u64) -> Result<(), Fault>
+    ghost first: { Configuration }
+    requires few { W.fault_count world.old < 2 ^ 64 - 1 }
+    requires served { Served first (W.log world.old) server.old [] }
+    ensures err { OnErr result ((owed : List Ended) × Served first (W.log world.new) server.new owed) }
+    ensures ok { OnOk result (Served first (W.log world.new) server.new []) }
+    ensures settled { OnOk result (IsSettled (W.late world.new) server.new c) }
+    ensures left { OnOk result (leaves (session_of c server.new.sessions) ≡ false) }
+    ensures only { OnOk result (OnlyAt c server.old server.new) }
+    ensures late { OnOk result (StaysLate (W.late world.old) (W.late world.new)) }
+    ensures counted { W.fault_count world.new ≡ (if is_ok result then W.fault_count world.old else W.fault_count world.old + 1) }
+    ensures reached { W.reached world.old world.new }
+{
+    flush(server, world, c)?;
+    if server.leaves(c) {
+        world.close(c)?;
+        let _ = server.arrive(Arrival::Close(c));
+    }
+    Ok(())
+}
+
+/// Writes to a connection until nothing waits for it or the world takes no more.
+fn flush<W: World>(server: &mut Server, world: &mut W, c: u64) -> Result<(), Fault>
+    ghost first: { Configuration }
+    requires few { W.fault_count world.old < 2 ^ 64 - 1 }
+    requires served { Served first (W.log world.old) server.old [] }
+    ensures err { OnErr result ((owed : List Ended) × Served first (W.log world.new) server.new owed) }
+    ensures ok { OnOk result (Served first (W.log world.new) server.new []) }
+    ensures settled { OnOk result (IsSettled (W.late world.new) server.new c) }
+    ensures only { OnOk result (OnlyAt c server.old server.new) }
+    ensures late { OnOk result (StaysLate (W.late world.old) (W.late world.new)) }
+    ensures counted { W.fault_count world.new ≡ (if is_ok result then W.fault_count world.old else W.fault_count world.old + 1) }
+    ensures reached { W.reached world.old world.new }
+{
+    while server.waits(c) > 0 {
+        if !write_once(server, world, c)? {
+            return Ok(());
+        }
+    }
+    Ok(())
+}
+
+/// Writes once to a connection and tells the server the outcome. Returns whether another write may follow.
+fn write_once<W: World>(server: &mut Server, world: &mut W, c: u64) -> Result<bool, Fault>
+    ghost first: { Configuration }
+    requires few { W.fault_count world.old < 2 ^ 64 - 1 }
+    requires some { 0 < length (waiting_of c server.old.sessions) }
+    requires served { Served first (W.log world.old) server.old [] }
+    ensures err { OnErr result ((owed : List Ended) × Served first (W.log world.new) server.new owed) }
+    ensures ok { OnOk result (Served first (W.log world.new) server.new []) }
+    ensures less { result ≡ Ok true → length (waiting_of c server.new.sessions) < length (waiting_of c server.old.sessions) }
+    ensures settled { result ≡ Ok false → IsSettled (W.late world.new) server.new c }
+    ensures only { OnOk result (OnlyAt c server.old server.new) }
+    ensures late { OnOk result (StaysLate (W.late world.old) (W.late world.new)) }
+    ensures counted { W.fault_count world.new ≡ (if is_ok result then W.fault_count world.old else W.fault_count world.old + 1) }
+    ensures reached { W.reached world.old world.new }
+{
+    match world.write(c, server.waiting(c))? {
+        Written::Took(n) => {
+            let _ = server.arrive(Arrival::Took(c, n));
+            Ok(true)
+        }
+        Written::Later => Ok(false),
+        Written::Failed => {
+            let _ = server.arrive(Arrival::WriteFailed(c));
+            world.close(c)?;
+            Ok(false)
+        }
+    }
+}
+
+/// Writes to drivers what waits for them, as far as the world takes it. No connection changes.
+fn settle_drivers<W: World>(server: &mut Server, world: &mut W) -> Result<(), Fault>
+    ghost first: { Configuration }
+    requires few { W.fault_count world.old < 2 ^ 64 - 1 }
+    requires served { Served first (W.log world.old) server.old [] }
+    ensures err { OnErr result ((owed : List Ended) × Served first (W.log world.new) server.new owed) }
+    ensures ok { OnOk result (Served first (W.log world.new) server.new []) }
+    ensures requests { OnOk result (NoRequestIsWithheld (W.driver_late world.new) server.new) }
+    ensures sessions { OnOk result (server.new.sessions ≡ server.old.sessions) }
+    ensures late { OnOk result (KeepsLate (W.late world.old) (W.late world.new)) }
+    ensures counted { W.fault_count world.new ≡ (if is_ok result then W.fault_count world.old else W.fault_count world.old + 1) }
+    ensures reached { W.reached world.old world.new }
+{
+    let mut from = 0;
+    while let Some(u) = server.next_driver_waiting(from) {
+        flush_driver(server, world, u)?;
+        from = u + 1;
+    }
+    Ok(())
+}
+
+/// Writes to a driver until nothing waits for it or the world takes no more.
+fn flush_driver<W: World>(server: &mut Server, world: &mut W, u: usize) -> Result<(), Fault>
+    ghost first: { Configuration }
+    requires few { W.fault_count world.old < 2 ^ 64 - 1 }
+    requires served { Served first (W.log world.old) server.old [] }
+    ensures err { OnErr result ((owed : List Ended) × Served first (W.log world.new) server.new owed) }
+    ensures ok { OnOk result (Served first (W.log world.new) server.new []) }
+    ensures settled { OnOk result (IsDriverSettled (W.driver_late world.new) server.new u) }
+    ensures only { OnOk result (OnlyAtDriver u server.old server.new) }
+    ensures late { OnOk result (KeepsLate (W.late world.old) (W.late world.new)) }
+    ensures drivers { OnOk result (StaysLate (W.driver_late world.old) (W.driver_late world.new)) }
+    ensures counted { W.fault_count world.new ≡ (if is_ok result then W.fault_count world.old else W.fault_count world.old + 1) }
+    ensures reached { W.reached world.old world.new }
+{
+    while server.waits_for_driver(u) > 0 {
+        if !write_requests_once(server, world, u)? {
+            return Ok(());
+        }
+    }
+    Ok(())
+}
+
+/// Writes once to a driver and tells the server the outcome. Returns whether another write may follow.
+fn write_requests_once<W: World>(
+    server: &mut Server,
+    world: &mut W,
+    u: usize,
+) -> Result<bool, Fault>
+    ghost first: { Configuration }
+    requires few { W.fault_count world.old < 2 ^ 64 - 1 }
+    requires some { 0 < length (asks_of u server.old.supplies) }
+    requires served { Served first (W.log world.old) server.old [] }
+    ensures err { OnErr result ((owed : List Ended) × Served first (W.log world.new) server.new owed) }
+    ensures ok { OnOk result (Served first (W.log world.new) server.new []) }
+    ensures less { result ≡ Ok true → length (asks_of u server.new.supplies) < length (asks_of u server.old.supplies) }
+    ensures settled { result ≡ Ok false → IsDriverSettled (W.driver_late world.new) server.new u }
+    ensures only { OnOk result (OnlyAtDriver u server.old server.new) }
+    ensures late { OnOk result (KeepsLate (W.late world.old) (W.late world.new)) }
+    ensures drivers { OnOk result (StaysLate (W.driver_late world.old) (W.driver_late world.new)) }
+    ensures counted { W.fault_count world.new ≡ (if is_ok result then W.fault_count world.old else W.fault_count world.old + 1) }
+    ensures reached { W.reached world.old world.new }
+{
+    match world.write_driver(u, server.waiting_for_driver(u))? {
+        Written::Took(n) => {
+            let _ = server.arrive(Arrival::DriverTook(u, n));
+            Ok(true)
+        }
+        Written::Later => Ok(false),
+        Written::Failed => {
+            let _ = server.arrive(Arrival::DriverDown(u));
+            world.close_driver(u)?;
+            Ok(false)
+        }
+    }
+}

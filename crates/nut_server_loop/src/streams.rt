@@ -1,0 +1,146 @@
+//! A world over a reader and a writer, with one client.
+
+ghost use Rattle.std.specs.Prelude.{◌≡◌, true, false, List, None, OnErr};
+ghost use Rattle.nut_server_loop.specs.declared.streams.Stage.{Stage};
+ghost use Rattle.nut_server_loop.specs.declared.streams.Stage.TheVariants.{Ended};
+
+use crate::{Address, Next, World};
+use nut_io::{Fault, Piece, Written, read_piece, write_some};
+use nut_server::Server;
+use std::io::{Read, Write};
+
+/// The number of the one connection, the first that a server opens.
+const CLIENT: u64 = 1;
+
+/// The address of the one client.
+const ADDRESS: &[u8] = b"stdio";
+
+/// The stage of the one client: about to connect, connected, or gone.
+#[derive(Clone, Copy, Debug, PartialEq, Eq)]
+enum Stage {
+    Arriving,
+    Present,
+    Ended,
+}
+
+/// One of the two streams of the world.
+#[derive(Clone, Copy, Debug, PartialEq, Eq)]
+pub enum Stream {
+    /// The reader that the client's bytes come from.
+    Input,
+    /// The writer that replies go to.
+    Output,
+}
+
+/// A world with one client and no drivers. The client's bytes come from a reader, and replies are written at once.
+///
+/// It ends when the client may not be read any more, or at the end of the input. A failed read or write is a fault.
+/// The writer isn't flushed, so it should be one without a buffer. The world keeps no record.
+#[derive(Drop)]
+pub struct StreamWorld<'a, R, T> {
+    input: &'a mut R,
+    output: &'a mut T,
+    stage: Stage,
+    faults: u64,
+    failed: Option<Stream>,
+}
+
+impl<'a, R: Read, T: Write> StreamWorld<'a, R, T> {
+    /// Returns a world whose client is about to connect.
+    pub fn new(input: &'a mut R, output: &'a mut T) -> Self
+        ensures faults { result.faults ≡ 0 }
+        ensures failed { result.failed ≡ None }
+    {
+        StreamWorld {
+            input,
+            output,
+            stage: Stage::Arriving,
+            faults: 0,
+            failed: None,
+        }
+    }
+
+    /// Returns the stream that failed last, if one did.
+    pub fn failed(&self) -> Option<Stream>
+        ensures { result ≡ self.now.failed }
+    {
+        self.failed
+    }
+}
+
+impl<'a, R: Read, T: Write> World for StreamWorld<'a, R, T> {
+    ghost log = { λ w. None };
+
+    ghost late = { λ w d. false };
+
+    ghost driver_late = { λ w u. false };
+
+    ghost fault_count = { λ w. w.faults };
+
+    ghost has_ended = { λ w s. w.stage ≡ Ended };
+
+    ghost reached = { λ a b. Unit {0} };
+
+    ghost reached_self = { λ w. tt };
+
+    ghost reached_on = { λ a b c first second. tt };
+
+    fn faults(&self) -> u64 {
+        self.faults
+    }
+
+    fn next(&mut self, server: &Server, piece: &mut Piece) -> Result<Next, Fault> {
+        if self.stage == Stage::Arriving {
+            self.stage = Stage::Present;
+            return Ok(Next::Open(address()));
+        }
+        if self.stage == Stage::Ended || !server.may_read(CLIENT) {
+            self.stage = Stage::Ended;
+            return Ok(Next::End);
+        }
+        match read_piece(self.input, piece) {
+            Ok(0) => {
+                self.stage = Stage::Ended;
+                Ok(Next::End)
+            }
+            Ok(_) => Ok(Next::Bytes(CLIENT)),
+            Err(_) => {
+                self.failed = Some(Stream::Input);
+                self.faults += 1;
+                Err(Fault)
+            }
+        }
+    }
+
+    fn write(&mut self, _c: u64, bytes: &[u8]) -> Result<Written, Fault> {
+        match write_some(self.output, bytes) {
+            Ok(n) if n > 0 => Ok(Written::Took(n)),
+            _ => {
+                self.failed = Some(Stream::Output);
+                self.faults += 1;
+                Err(Fault)
+            }
+        }
+    }
+
+    fn write_driver(&mut self, _u: usize, _bytes: &[u8]) -> Result<Written, Fault> {
+        self.faults += 1;
+        Err(Fault)
+    }
+
+    fn close(&mut self, _c: u64) -> Result<(), Fault> {
+        self.stage = Stage::Ended;
+        Ok(())
+    }
+
+    fn close_driver(&mut self, _u: usize) -> Result<(), Fault> {
+        Ok(())
+    }
+}
+
+/// Returns the address of the one client.
+fn address() -> Address {
+    let mut address = Address::new();
+    let _ = address.try_extend_from_slice(ADDRESS);
+    address
+}

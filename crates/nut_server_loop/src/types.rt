@@ -1,0 +1,66 @@
+//! The answers of a world.
+
+use arrayvec::ArrayVec;
+use nut_io::Piece;
+use nut_server_spec::ADDRESS_MAX;
+
+/// The address of a client, as the world names it: at most [`ADDRESS_MAX`] bytes.
+pub type Address = ArrayVec<u8, ADDRESS_MAX>;
+
+/// What comes next. Connections have the numbers that the server gave them, and UPSes the numbers of their places in
+/// ups.conf, counted from 0.
+#[derive(Drop)]
+pub enum Next {
+    /// This many seconds have passed since the start.
+    Moment(u64),
+    /// A client connects from this address.
+    Open(Address),
+    /// The connection with this number sent the bytes in the piece.
+    Bytes(u64),
+    /// The connection with this number was closed, by its client or by the world.
+    Close(u64),
+    /// The driver of the UPS with this number was connected, or connected anew.
+    DriverUp(usize),
+    /// The driver of the UPS with this number sent the bytes in the piece.
+    DriverBytes(usize),
+    /// The driver of the UPS with this number disconnected.
+    DriverDown(usize),
+    /// Nothing came. Writes that were to come later may be tried again.
+    Again,
+    /// Nothing more will come.
+    End,
+}
+
+/// An arrival as the world over memory keeps it.
+#[derive(Drop)]
+pub enum Given {
+    /// This many seconds have passed since the start.
+    Moment(u64),
+    /// A client connects from this address.
+    Open(Address),
+    /// The connection with this number sends these bytes.
+    Bytes(u64, Piece),
+    /// The connection with this number is closed.
+    Close(u64),
+    /// The driver of the UPS with this number is connected.
+    DriverUp(usize),
+    /// The driver of the UPS with this number sends these bytes.
+    DriverBytes(usize, Piece),
+    /// The driver of the UPS with this number disconnects.
+    DriverDown(usize),
+}
+
+/// What the world over memory notes.
+#[derive(Drop)]
+pub enum Note {
+    /// It gave this arrival.
+    Gave(Given),
+    /// It took these bytes for a connection.
+    Took(u64, Vec<u8>),
+    /// It closed a connection.
+    Closed(u64),
+    /// It took these requests, or parts of them, for the driver of a UPS.
+    TookRequests(usize, Vec<u8>),
+    /// It closed the link to the driver of a UPS.
+    ClosedDriver(usize),
+}

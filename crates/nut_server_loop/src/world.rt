@@ -1,0 +1,106 @@
+//! The world as the loop sees it.
+
+ghost use Rattle.std.specs.Prelude.{◌≡◌, ◌+◌, ◌-◌, ◌^◌, ◌<◌, ℕ, Bool, true, false, List, length, Option, Some, Ok, IfOk, OnOk, OnErr, is_ok, if◌then◌else◌};
+ghost use Rattle.nut_server_spec.specs.Content.{Content};
+ghost use Rattle.nut_io.specs.Writes.{IsWithin, late_after};
+ghost use Rattle.nut_server_loop.specs.Record.{Entry, WasClosed, DriverWasClosed, tells, tells_next, tells_write, tells_request, MayCome, NothingIsWithheld, NoRequestIsWithheld, NobodyLeaves};
+
+use crate::Next;
+use nut_io::{Fault, Piece, Written};
+use nut_server::Server;
+
+/// Gives arrivals, takes bytes, and closes connections and links to drivers. Connections have the numbers that the
+/// server gave them. Drivers have the numbers of their UPSes: their places in ups.conf, counted from 0.
+///
+/// Any call may return a fault instead, if a device fails. It has then done nothing except count the fault.
+pub trait World {
+    /// What it gave, took and closed, the newest first. `None` if it keeps no record.
+    ghost log: { Self → Option (List Entry) };
+
+    /// To which connections a write was `Later` since the last `next`.
+    ghost late: { Self → ℕ → Bool };
+
+    /// To which drivers a write was `Later` since the last `next`.
+    ghost driver_late: { Self → ℕ → Bool };
+
+    /// How many calls returned a fault.
+    ghost fault_count: { Self → ℕ };
+
+    /// Nothing more comes as long as the server has this content.
+    ghost has_ended: { Self → Content → Type 0 };
+
+    /// Calls may lead from the first state to the second.
+    ghost reached: { Self → Self → Type 0 };
+
+    /// Returns how many calls have returned a fault.
+    fn faults(&self) -> u64
+        ensures { result ≡ fault_count self.now };
+
+    /// Returns the next arrival. The bytes of a `Next::Bytes` or a `Next::DriverBytes` are then in the piece.
+    ///
+    /// The caller asks only if each connection and each driver with waiting bytes is late, and each connection that is
+    /// to be closed has been. The world gives bytes only of connections that may be read. Afterwards nobody is late.
+    fn next(&mut self, server: &Server, piece: &mut Piece) -> Result<Next, Fault>
+        requires few { fault_count self.old < 2 ^ 64 - 1 }
+        requires withheld { NothingIsWithheld (late self.old) server.now }
+        requires requests { NoRequestIsWithheld (driver_late self.old) server.now }
+        requires left { NobodyLeaves server.now }
+        ensures ok { IfOk result (λ n. log self.new ≡ tells_next n piece.new.items (log self.old)) }
+        ensures err { OnErr result (log self.new ≡ log self.old) }
+        ensures read { IfOk result (λ n. MayCome n server.now) }
+        ensures ended { result ≡ Ok Next.End → has_ended self.new server.now }
+        ensures none_late { (d : ℕ) → late self.new d ≡ false }
+        ensures no_driver_late { (u : ℕ) → driver_late self.new u ≡ false }
+        ensures counted { fault_count self.new ≡ (if is_ok result then fault_count self.old else fault_count self.old + 1) }
+        ensures reached { reached self.old self.new };
+
+    /// Offers at least one byte to connection `c`, and returns the outcome.
+    fn write(&mut self, c: u64, bytes: &[u8]) -> Result<Written, Fault>
+        requires few { fault_count self.old < 2 ^ 64 - 1 }
+        requires some { 0 < length bytes.now }
+        ensures ok { IfOk result (λ w. log self.new ≡ tells_write w c bytes.now (log self.old)) }
+        ensures err { OnErr result (log self.new ≡ log self.old) }
+        ensures within { IfOk result (λ w. IsWithin w (length bytes.now)) }
+        ensures late { IfOk result (λ w. (d : ℕ) → late self.new d ≡ late_after w c (late self.old) d) }
+        ensures drivers { (u : ℕ) → driver_late self.new u ≡ driver_late self.old u }
+        ensures counted { fault_count self.new ≡ (if is_ok result then fault_count self.old else fault_count self.old + 1) }
+        ensures reached { reached self.old self.new };
+
+    /// Offers at least one byte to the driver of UPS `u`, and returns the outcome.
+    fn write_driver(&mut self, u: usize, bytes: &[u8]) -> Result<Written, Fault>
+        requires few { fault_count self.old < 2 ^ 64 - 1 }
+        requires some { 0 < length bytes.now }
+        ensures ok { IfOk result (λ w. log self.new ≡ tells_request w u bytes.now (log self.old)) }
+        ensures err { OnErr result (log self.new ≡ log self.old) }
+        ensures within { IfOk result (λ w. IsWithin w (length bytes.now)) }
+        ensures late { (d : ℕ) → late self.new d ≡ late self.old d }
+        ensures drivers { IfOk result (λ w. (v : ℕ) → driver_late self.new v ≡ late_after w u (driver_late self.old) v) }
+        ensures counted { fault_count self.new ≡ (if is_ok result then fault_count self.old else fault_count self.old + 1) }
+        ensures reached { reached self.old self.new };
+
+    /// Closes connection `c`. Nothing more is offered to it.
+    fn close(&mut self, c: u64) -> Result<(), Fault>
+        requires few { fault_count self.old < 2 ^ 64 - 1 }
+        ensures ok { OnOk result (log self.new ≡ tells (WasClosed c) (log self.old)) }
+        ensures err { OnErr result (log self.new ≡ log self.old) }
+        ensures late { (d : ℕ) → late self.new d ≡ late self.old d }
+        ensures drivers { (u : ℕ) → driver_late self.new u ≡ driver_late self.old u }
+        ensures counted { fault_count self.new ≡ (if is_ok result then fault_count self.old else fault_count self.old + 1) }
+        ensures reached { reached self.old self.new };
+
+    /// Closes the link to the driver of UPS `u`. Nothing more is offered to it until it is connected anew.
+    fn close_driver(&mut self, u: usize) -> Result<(), Fault>
+        requires few { fault_count self.old < 2 ^ 64 - 1 }
+        ensures ok { OnOk result (log self.new ≡ tells (DriverWasClosed u) (log self.old)) }
+        ensures err { OnErr result (log self.new ≡ log self.old) }
+        ensures late { (d : ℕ) → late self.new d ≡ late self.old d }
+        ensures drivers { (v : ℕ) → driver_late self.new v ≡ driver_late self.old v }
+        ensures counted { fault_count self.new ≡ (if is_ok result then fault_count self.old else fault_count self.old + 1) }
+        ensures reached { reached self.old self.new };
+
+    /// Each state is reached from itself.
+    ghost reached_self: { (w : Self) → reached w w };
+
+    /// What is reached from a reached state is reached.
+    ghost reached_on: { (a b c : Self) → reached a b → reached b c → reached a c };
+}

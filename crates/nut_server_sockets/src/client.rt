@@ -1,0 +1,127 @@
+//! The socket of a client.
+
+ghost use Rattle.std.specs.Prelude.{length};
+ghost use Rattle.nut_io.specs.Writes.{IsWithin};
+
+use crate::batches::Batches;
+use mio::event::Event;
+use mio::net::TcpStream;
+use nut_io::{Piece, Written};
+use nut_poll::{Heard, Link};
+use nut_server::Server;
+use std::net::IpAddr;
+
+/// How many seconds a client may be silent.
+const PATIENCE: u64 = 60;
+
+/// How many seconds a client may be silent if it is logged in.
+const PATIENCE_WITH_LOGIN: u64 = 600;
+
+/// A client's socket.
+#[derive(Drop)]
+pub struct Client {
+    /// The number of its connection.
+    number: u64,
+    address: IpAddr,
+    link: Link<TcpStream>,
+    batches: Batches,
+    /// What was read from it and the server hasn't been given.
+    held: Piece,
+    /// Whether there is something to read, which isn't read while an answer waits.
+    is_parked: bool,
+    /// The second in which it last sent a whole line, or took some of an answer.
+    spoke: u64,
+}
+
+impl Client {
+    /// Returns a client that connects in this second.
+    pub fn new(number: u64, address: IpAddr, stream: TcpStream, second: u64) -> Client {
+        Client {
+            number,
+            address,
+            link: Link::new(stream),
+            batches: Batches::new(),
+            held: Piece::new(),
+            is_parked: false,
+            spoke: second,
+        }
+    }
+
+    /// Returns the number of its connection.
+    pub fn number(&self) -> u64 {
+        self.number
+    }
+
+    /// Returns the address that it connected from.
+    pub fn address(&self) -> IpAddr {
+        self.address
+    }
+
+    /// Reads up to a piece, and returns as much of it as the server is given at once. The rest is held, and returned
+    /// before anything more is read.
+    pub fn hear(&mut self, piece: &mut Piece, second: u64) -> Heard {
+        let heard = self.read(piece);
+        if heard == Heard::Nothing || heard == Heard::End {
+            return heard;
+        }
+        let end = self.batches.cut(piece.as_slice());
+        let (now, later) = piece.as_slice().split_at(end);
+        if now.contains(&b'\n') {
+            self.spoke = second;
+        }
+        if later.is_empty() {
+            return heard;
+        }
+        let _ = self.held.try_extend_from_slice(later);
+        piece.truncate(end);
+        Heard::Part
+    }
+
+    /// Returns what is held, or else reads what has arrived.
+    fn read(&mut self, piece: &mut Piece) -> Heard {
+        if self.held.is_empty() {
+            return self.link.hear(piece);
+        }
+        *piece = self.held.take();
+        Heard::Part
+    }
+
+    /// Puts off reading until a write to the client succeeds.
+    pub fn park(&mut self) {
+        self.is_parked = true;
+    }
+
+    /// Offers bytes. Returns the outcome, and whether the client is then to be read again.
+    pub fn offer(&mut self, bytes: &[u8], second: u64) -> (Written, bool)
+        ensures { IsWithin result.0 (length bytes.now) }
+    {
+        let written = self.link.offer(bytes);
+        let Written::Took(_) = written else {
+            return (written, false);
+        };
+        let was_parked = self.is_parked;
+        self.is_parked = false;
+        self.spoke = second;
+        (written, was_parked)
+    }
+
+    /// Notes an event of the socket.
+    pub fn note(&mut self, event: &Event) {
+        self.link.note(event);
+    }
+
+    /// Returns how many seconds of silence the client is allowed, if it has been silent for longer.
+    pub fn oversilent(&self, server: &Server, second: u64) -> Option<u64> {
+        let silence = second.saturating_sub(self.spoke);
+        if silence <= PATIENCE {
+            return None;
+        }
+        if !server.is_logged_in(self.number) {
+            return Some(PATIENCE);
+        }
+        if silence <= PATIENCE_WITH_LOGIN {
+            return None;
+        }
+        Some(PATIENCE_WITH_LOGIN)
+    }
+}

@@ -1,0 +1,151 @@
+//! The sockets of clients.
+
+ghost use Rattle.std.specs.Prelude.{length};
+ghost use Rattle.nut_io.specs.Writes.{IsWithin};
+
+use crate::client::Client;
+use crate::door::Guest;
+use crate::keepalive::keep_alive;
+use crate::source::Source;
+use mio::event::Event;
+use mio::{Interest, Registry};
+use nut_io::{Piece, Written};
+use nut_poll::Heard;
+use nut_server::Server;
+use slab::Slab;
+use std::alloc::Global;
+use std::collections::HashMap;
+use std::net::IpAddr;
+
+/// A client that has been silent for longer than it may.
+#[derive(Clone, Copy)]
+pub struct Silent {
+    /// The number of its connection.
+    pub number: u64,
+    /// The address that it connected from.
+    pub address: IpAddr,
+    /// How many seconds of silence it was allowed.
+    pub seconds: u64,
+}
+
+/// The sockets of the open connections. The token of a socket holds its key, which is used again after the socket is
+/// closed. Connections are told apart by their numbers, which are not.
+#[derive(Drop)]
+pub struct Clients {
+    sockets: Slab<Client>,
+    keys: HashMap<u64, usize>,
+    /// How many seconds the server has been awake. Seconds in which it was stopped don't count as silence of a client.
+    second: u64,
+}
+
+impl Clients {
+    /// Returns an empty set of sockets.
+    pub fn new(alloc: Global) -> Clients {
+        Clients {
+            sockets: Slab::new(alloc),
+            keys: HashMap::new(alloc),
+            second: 0,
+        }
+    }
+
+    /// Makes room for one more socket. Returns false if memory cannot be allocated.
+    pub fn make_room(&mut self) -> bool {
+        self.sockets.reserve(1).is_ok() && self.keys.try_reserve(1).is_ok()
+    }
+
+    /// Keeps the socket of a connection and registers it with the poll. If that fails, closes it and returns false.
+    pub fn add(&mut self, registry: &Registry, number: u64, guest: Guest) -> bool {
+        let Guest {
+            mut stream,
+            address,
+        } = guest;
+        let key = self.sockets.vacant_key();
+        let all = Interest::READABLE | Interest::WRITABLE | Interest::PRIORITY;
+        let token = Source::Client(key).token();
+        if registry.register(&mut stream, token, all).is_err() {
+            return false;
+        }
+        let _ = keep_alive(&stream);
+        let client = Client::new(number, address, stream, self.second);
+        if self.keys.insert(number, key).is_err() {
+            return false;
+        }
+        if self.sockets.insert(client).is_err() {
+            self.keys.remove(&number);
+            return false;
+        }
+        true
+    }
+
+    /// Returns the number of the connection whose socket has this key.
+    pub fn number(&self, key: usize) -> Option<u64> {
+        match self.sockets.get(key) {
+            Some(client) => Some(client.number()),
+            None => None,
+        }
+    }
+
+    /// Reads from a socket.
+    pub fn hear(&mut self, key: usize, piece: &mut Piece) -> Heard {
+        match self.sockets.get_mut(key) {
+            Some(client) => client.hear(piece, self.second),
+            None => Heard::Nothing,
+        }
+    }
+
+    /// Puts off reading from a socket until a write to it succeeds.
+    pub fn park(&mut self, key: usize) {
+        if let Some(client) = self.sockets.get_mut(key) {
+            client.park();
+        }
+    }
+
+    /// Notes an event of a socket.
+    pub fn note(&mut self, key: usize, event: &Event) {
+        if let Some(client) = self.sockets.get_mut(key) {
+            client.note(event);
+        }
+    }
+
+    /// Offers bytes to a connection. Returns the outcome, and the key of its socket if it is then to be read again.
+    pub fn offer(&mut self, number: u64, bytes: &[u8]) -> (Written, Option<usize>)
+        ensures { IsWithin result.0 (length bytes.now) }
+    {
+        let Some(key) = self.keys.get(&number).copied() else {
+            return (Written::Failed, None);
+        };
+        let Some(client) = self.sockets.get_mut(key) else {
+            return (Written::Failed, None);
+        };
+        match client.offer(bytes, self.second) {
+            (written, true) => (written, Some(key)),
+            (written, false) => (written, None),
+        }
+    }
+
+    /// Counts a second that has passed.
+    pub fn second(&mut self) {
+        self.second = self.second.saturating_add(1);
+    }
+
+    /// Returns a client that has been silent for longer than it may, if there is one.
+    pub fn find_silent(&self, server: &Server) -> Option<Silent> {
+        for (_, client) in self.sockets.iter() {
+            if let Some(seconds) = client.oversilent(server, self.second) {
+                return Some(Silent {
+                    number: client.number(),
+                    address: client.address(),
+                    seconds,
+                });
+            }
+        }
+        None
+    }
+
+    /// Closes the socket of a connection.
+    pub fn close(&mut self, number: u64) {
+        if let Some(key) = self.keys.remove(&number) {
+            let _ = self.sockets.try_remove(key);
+        }
+    }
+}

@@ -1,0 +1,156 @@
+//! The world of a server over sockets.
+
+ghost use Rattle.std.specs.Prelude.{◌≡◌, ◌<◌, ℕ, length, IsOk, IfOk, OnOk, OnErr};
+ghost use Rattle.nut_io.specs.Writes.{IsWithin, late_after};
+ghost use Rattle.nut_server_loop.specs.Record.{tells, tells_write, tells_request};
+ghost use Rattle.nut_server_loop.specs.Record as entry;
+ghost use Rattle.nut_poll.specs.Late.{is_noted};
+ghost use Rattle.nut_server_sockets.specs.Untold.{untold};
+
+use crate::drivers::Driver;
+use crate::sockets::Sockets;
+use arrayvec::ArrayVec;
+use mio::net::TcpListener;
+use nut_conf::{CONNECTIONS_MAX, UPSES_MAX};
+use nut_io::{Fault, Piece, Written};
+use nut_poll::{Reports, note_written};
+use nut_server::Server;
+use nut_server_loop::{Next, World};
+use std::alloc::Global;
+use std::io;
+use std::io::Write;
+use std::net::Net;
+use std::time::Clock;
+
+/// The greatest number of clients that are noted as late.
+const LATE_MAX: usize = CONNECTIONS_MAX as usize;
+
+/// The world of a server whose clients connect over TCP, and whose drivers listen on Unix sockets.
+///
+/// One thread watches all sockets. A `Moment` comes each second, counted from the start. After it the drivers are
+/// looked at, and one that isn't connected is dialled. A client that the server has no room for is accepted and closed
+/// at once. A client that is silent for too long is closed: after 60 seconds in which it neither sent a line nor took
+/// some of an answer, or 600 if it is logged in.
+///
+/// The world never ends. Only `next` returns a fault, that of the wait for the sockets or of the clock: a failure of
+/// one socket concerns no other. The world keeps no record.
+#[derive(Drop)]
+pub struct MioWorld<'r, 'e, R, E> {
+    sockets: Sockets<'r, 'e, R, E>,
+    late: ArrayVec<u64, LATE_MAX>,
+    late_drivers: ArrayVec<u64, UPSES_MAX>,
+    faults: u64,
+}
+
+impl<'r, 'e, R: Net + Clock, E: Write> MioWorld<'r, 'e, R, E> {
+    /// Returns the world of these listeners and these drivers, in the order of the numbers of their UPSes. Reports say
+    /// when drivers come and go.
+    ///
+    /// # Errors
+    ///
+    /// If there is no poll, no clock or no memory.
+    pub fn new(
+        rt: &'r R,
+        alloc: Global,
+        listeners: Vec<TcpListener>,
+        drivers: Vec<Driver>,
+        reports: Reports<'e, E>,
+    ) -> io::Result<MioWorld<'r, 'e, R, E>>
+        ensures { IfOk result (λ w. w.faults ≡ 0) }
+    {
+        Ok(MioWorld {
+            sockets: Sockets::new(rt, alloc, listeners, drivers, reports)?,
+            late: ArrayVec::new(),
+            late_drivers: ArrayVec::new(),
+            faults: 0,
+        })
+    }
+}
+
+ghost use Rattle.std.specs.Prelude.{◌≢◌, ◌<◌, ◌≤◌, IfOk, IfSome, Some, Ok};
+
+impl<'r, 'e, R: Net + Clock, E: Write> World for MioWorld<'r, 'e, R, E> {
+    ghost log = { λ w. untold };
+
+    ghost late = { λ w c. is_noted w.late.items c };
+
+    ghost driver_late = { λ w u. is_noted w.late_drivers.items u };
+
+    ghost fault_count = { λ w. w.faults };
+
+    ghost has_ended = { λ w s. ⊥ };
+
+    ghost reached = { λ a b. Unit {0} };
+
+    ghost reached_self = { λ w. tt };
+
+    ghost reached_on = { λ a b c first second. tt };
+
+    fn faults(&self) -> u64 {
+        self.faults
+    }
+
+    fn next(&mut self, server: &Server, piece: &mut Piece) -> Result<Next, Fault> {
+        self.late.clear();
+        self.late_drivers.clear();
+        match self.sockets.next(server, piece) {
+            Ok(next) => Ok(next),
+            Err(_) => {
+                self.faults += 1;
+                Err(Fault)
+            }
+        }
+    }
+
+    fn write(&mut self, c: u64, bytes: &[u8]) -> Result<Written, Fault>
+        requires { 0 < length bytes.now }
+        ensures no_fault { IsOk result }
+        ensures count { self.new.faults ≡ self.old.faults }
+        ensures ok { IfOk result (λ w. untold ≡ tells_write w c bytes.now untold) }
+        ensures err { OnErr result (untold ≡ untold) }
+        ensures within { IfOk result (λ w. IsWithin w (length bytes.now)) }
+        ensures late { IfOk result (λ w. (d : ℕ) → is_noted self.new.late.items d ≡ late_after w c (is_noted self.old.late.items) d) }
+        ensures drivers { (u : ℕ) → is_noted self.new.late_drivers.items u ≡ is_noted self.old.late_drivers.items u }
+    {
+        let written = self.sockets.offer(c, bytes);
+        Ok(note_written(&mut self.late, c, written))
+    }
+
+    fn write_driver(&mut self, u: usize, bytes: &[u8]) -> Result<Written, Fault>
+        requires { 0 < length bytes.now }
+        ensures no_fault { IsOk result }
+        ensures count { self.new.faults ≡ self.old.faults }
+        ensures ok { IfOk result (λ w. untold ≡ tells_request w u bytes.now untold) }
+        ensures err { OnErr result (untold ≡ untold) }
+        ensures within { IfOk result (λ w. IsWithin w (length bytes.now)) }
+        ensures late { (d : ℕ) → is_noted self.new.late.items d ≡ is_noted self.old.late.items d }
+        ensures drivers { IfOk result (λ w. (v : ℕ) → is_noted self.new.late_drivers.items v ≡ late_after w u (is_noted self.old.late_drivers.items) v) }
+    {
+        let written = self.sockets.offer_driver(u, bytes);
+        Ok(note_written(&mut self.late_drivers, u as u64, written))
+    }
+
+    fn close(&mut self, c: u64) -> Result<(), Fault>
+        ensures no_fault { IsOk result }
+        ensures count { self.new.faults ≡ self.old.faults }
+        ensures ok { OnOk result (untold ≡ tells (entry.WasClosed c) untold) }
+        ensures err { OnErr result (untold ≡ untold) }
+        ensures late { (d : ℕ) → is_noted self.new.late.items d ≡ is_noted self.old.late.items d }
+        ensures drivers { (v : ℕ) → is_noted self.new.late_drivers.items v ≡ is_noted self.old.late_drivers.items v }
+    {
+        self.sockets.close(c);
+        Ok(())
+    }
+
+    fn close_driver(&mut self, u: usize) -> Result<(), Fault>
+        ensures no_fault { IsOk result }
+        ensures count { self.new.faults ≡ self.old.faults }
+        ensures ok { OnOk result (untold ≡ tells (entry.DriverWasClosed u) untold) }
+        ensures err { OnErr result (untold ≡ untold) }
+        ensures late { (d : ℕ) → is_noted self.new.late.items d ≡ is_noted self.old.late.items d }
+        ensures drivers { (v : ℕ) → is_noted self.new.late_drivers.items v ≡ is_noted self.old.late_drivers.items v }
+    {
+        self.sockets.close_driver(u);
+        Ok(())
+    }
+}

@@ -1,0 +1,365 @@
+//! All sockets of a server, watched by one poll.
+
+ghost use Rattle.std.specs.Prelude.{◌≢◌, length, IfSome, IfOk};
+ghost use Rattle.nut_io.specs.Writes.{IsWithin};
+ghost use Rattle.nut_server_loop.specs.Record.{MayCome};
+ghost use Rattle.nut_server_loop.specs.declared.types.Next.TheVariants as next;
+ghost use Rattle.nut_server_spec.specs.Content.{Content};
+
+use crate::clients::Clients;
+use crate::door::{Door, concerns_one};
+use crate::drivers::Driver;
+use crate::source::Source;
+use crate::stall::Stall;
+use mio::Events;
+use mio::net::TcpListener;
+use nut_conf::LISTENERS_MAX;
+use nut_io::{Piece, Written};
+use nut_poll::{Heard, Ready, Report, Reports, Rounds, SOCKETS_MAX, may_be_read};
+use nut_server::Server;
+use nut_server_loop::{Address, Next};
+use std::alloc::Global;
+use std::io;
+use std::io::{ErrorKind, Write};
+use std::net::{IpAddr, Net};
+use std::time::Clock;
+
+/// How many pieces of one driver are read in a second before the next driver is looked at: more than its socket holds.
+const PIECES: usize = 1024;
+
+/// The listeners, the clients and the drivers of a server, and its clock.
+#[derive(Drop)]
+pub struct Sockets<'r, 'e, R, E> {
+    rt: &'r R,
+    rounds: Rounds,
+    door: Door,
+    clients: Clients,
+    drivers: Vec<Driver>,
+    reports: Reports<'e, E>,
+    /// The moment that was last given.
+    moment: u64,
+    /// Whether silent clients have still to be looked for in this second.
+    sheds: bool,
+    /// Which driver is to be looked at next in this second, and how many more of its pieces may be read.
+    roll: usize,
+    pieces: usize,
+    stall: Stall,
+}
+
+impl<'r, 'e, R: Net + Clock, E: Write> Sockets<'r, 'e, R, E> {
+    /// Watches these listeners, and will dial these drivers.
+    ///
+    /// # Errors
+    ///
+    /// The error of the poll or of the clock, or a lack of memory.
+    pub fn new(
+        rt: &'r R,
+        alloc: Global,
+        listeners: Vec<TcpListener>,
+        drivers: Vec<Driver>,
+        reports: Reports<'e, E>,
+    ) -> io::Result<Sockets<'r, 'e, R, E>> {
+        let stall = Stall::new(alloc)?;
+        let rounds = Rounds::new(rt, alloc, LISTENERS_MAX)?;
+        let door = Door::new(rounds.registry(), listeners)?;
+        Ok(Sockets {
+            rt,
+            rounds,
+            door,
+            clients: Clients::new(alloc),
+            drivers,
+            reports,
+            moment: 0,
+            sheds: false,
+            roll: 0,
+            pieces: PIECES,
+            stall,
+        })
+    }
+
+    /// Returns what comes next, after at most one wait. After each second silent clients come first, and then the
+    /// drivers.
+    ///
+    /// # Errors
+    ///
+    /// The error of the wait or of the clock.
+    pub fn next(&mut self, server: &Server, piece: &mut Piece) -> io::Result<Next>
+        ensures may { IfOk result (λ n. MayCome n server.now) }
+        ensures goes_on { IfOk result (λ n. n ≢ next.End) }
+    {
+        if let Some(number) = self.seat(server) {
+            return Ok(Next::Close(number));
+        }
+        if let Some(number) = self.shed(server) {
+            return Ok(Next::Close(number));
+        }
+        if let Some(next) = self.look(server, piece) {
+            return Ok(next);
+        }
+        if let Some(moment) = self.wait()? {
+            self.begin_second(server, moment);
+            return Ok(Next::Moment(moment));
+        }
+        Ok(self.look(server, piece).unwrap_or(Next::Again))
+    }
+
+    /// Offers bytes to a connection.
+    pub fn offer(&mut self, number: u64, bytes: &[u8]) -> Written
+        ensures { IsWithin result (length bytes.now) }
+    {
+        let (written, resumed) = self.clients.offer(number, bytes);
+        if let Some(key) = resumed {
+            self.rounds.ready.insert(Source::Client(key).token());
+        }
+        written
+    }
+
+    /// Offers bytes to the driver of a UPS.
+    pub fn offer_driver(&mut self, u: usize, bytes: &[u8]) -> Written
+        ensures { IsWithin result (length bytes.now) }
+    {
+        match self.drivers.get_mut(u) {
+            Some(driver) => driver.offer(bytes),
+            None => Written::Failed,
+        }
+    }
+
+    /// Closes a connection.
+    pub fn close(&mut self, number: u64) {
+        self.clients.close(number);
+    }
+
+    /// Closes the link to the driver of a UPS, and reports it.
+    pub fn close_driver(&mut self, u: usize) {
+        if let Some(driver) = self.drivers.get_mut(u) {
+            driver.close();
+            self.reports.tell(Report::Lost(driver.name()));
+        }
+    }
+
+    /// Keeps the socket of a connection that the server accepted, and closes that of one that it refused. Returns the
+    /// number of a connection that the server accepted and whose socket can't be kept.
+    fn seat(&mut self, server: &Server) -> Option<u64> {
+        let (number, guest) = self.door.seat(server)?;
+        if self.clients.add(self.rounds.registry(), number, guest) {
+            return None;
+        }
+        Some(number)
+    }
+
+    /// Closes the socket of a client that was silent for too long. Returns the number of its connection.
+    fn shed(&mut self, server: &Server) -> Option<u64> {
+        if !self.sheds {
+            return None;
+        }
+        let Some(silent) = self.clients.find_silent(server) else {
+            self.sheds = false;
+            return None;
+        };
+        self.clients.close(silent.number);
+        self.reports
+            .tell(Report::Shed(silent.address, silent.seconds));
+        Some(silent.number)
+    }
+
+    /// Looks at the drivers, if they haven't been looked at in this second, and then at the sockets of this round,
+    /// until one has something to tell.
+    fn look(&mut self, server: &Server, piece: &mut Piece) -> Option<Next>
+        ensures may { IfSome result (λ n. MayCome n server.now) }
+        ensures goes_on { IfSome result (λ n. n ≢ next.End) }
+    {
+        if let Some(next) = self.call_roll(piece) {
+            return Some(next);
+        }
+        self.end_stall();
+        for _ in 0..SOCKETS_MAX {
+            let token = self.rounds.ready.take()?;
+            let next = self.look_at(server, Source::of(token), piece);
+            if next.is_some() {
+                return next;
+            }
+        }
+        None
+    }
+
+    /// Looks at one source.
+    fn look_at(&mut self, server: &Server, source: Source, piece: &mut Piece) -> Option<Next>
+        ensures may { IfSome result (λ n. MayCome n server.now) }
+        ensures goes_on { IfSome result (λ n. n ≢ next.End) }
+    {
+        match source {
+            Source::Listener(i) => self.look_at_listener(server, i),
+            Source::Driver(u) => self.look_at_driver(u, piece),
+            Source::Client(key) => self.look_at_client(server, key, piece),
+        }
+    }
+
+    /// Looks at each driver once a second, as long as it has something to read, whether or not an event came.
+    fn call_roll(&mut self, piece: &mut Piece) -> Option<Next>
+        ensures may { (s : Content) → IfSome result (λ n. MayCome n s) }
+        ensures goes_on { IfSome result (λ n. n ≢ next.End) }
+    {
+        for _ in self.roll..self.drivers.len() {
+            let next = self.look_at_driver(self.roll, piece);
+            if self.pieces > 0 && matches!(next, Some(Next::DriverBytes(_))) {
+                self.pieces -= 1;
+            } else {
+                self.roll = self.roll.saturating_add(1);
+                self.pieces = PIECES;
+            }
+            if next.is_some() {
+                return next;
+            }
+        }
+        None
+    }
+
+    /// Accepts a client. If there is no room or no descriptor for it, that is tried again in the next second.
+    fn look_at_listener(&mut self, server: &Server, i: usize) -> Option<Next>
+        ensures may { IfSome result (λ n. MayCome n server.now) }
+        ensures goes_on { IfSome result (λ n. n ≢ next.End) }
+    {
+        if !self.clients.make_room() {
+            return None;
+        }
+        match self.door.let_in(i, server.opened()) {
+            Ok(address) => {
+                self.rounds.ready.insert(Source::Listener(i).token());
+                Some(Next::Open(address_of(address)))
+            }
+            Err(error) => {
+                if concerns_one(&error) {
+                    self.rounds.ready.insert(Source::Listener(i).token());
+                } else if error.kind() != ErrorKind::WouldBlock {
+                    self.reports.tell(Report::ShutOut(error));
+                }
+                None
+            }
+        }
+    }
+
+    /// Dials a driver that isn't connected, and reads from one that is.
+    fn look_at_driver(&mut self, u: usize, piece: &mut Piece) -> Option<Next>
+        ensures may { (s : Content) → IfSome result (λ n. MayCome n s) }
+        ensures goes_on { IfSome result (λ n. n ≢ next.End) }
+    {
+        let driver = self.drivers.get_mut(u)?;
+        let source = Source::Driver(u);
+        if !driver.is_connected() {
+            if let Err(error) = driver.dial(self.rt, self.rounds.registry(), source.token()) {
+                if driver.misses() {
+                    self.reports.tell(Report::Missed(driver.name(), error));
+                }
+                return None;
+            }
+            self.reports.tell(Report::Connected(driver.name()));
+            return Some(Next::DriverUp(u));
+        }
+        match driver.hear(piece) {
+            Heard::Nothing => None,
+            Heard::All => Some(Next::DriverBytes(u)),
+            Heard::Part => {
+                self.rounds.ready.insert(source.token());
+                Some(Next::DriverBytes(u))
+            }
+            Heard::End => {
+                driver.close();
+                self.reports.tell(Report::Lost(driver.name()));
+                Some(Next::DriverDown(u))
+            }
+        }
+    }
+
+    /// Reads from a client that may be read, unless clients have to wait for the drivers.
+    fn look_at_client(&mut self, server: &Server, key: usize, piece: &mut Piece) -> Option<Next>
+        ensures may { IfSome result (λ n. MayCome n server.now) }
+        ensures goes_on { IfSome result (λ n. n ≢ next.End) }
+    {
+        let token = Source::Client(key).token();
+        let number = self.clients.number(key)?;
+        if self.stall.is_on() {
+            self.stall.hold(token);
+            return None;
+        }
+        if !server.may_read(number) {
+            self.clients.park(key);
+            return None;
+        }
+        match self.clients.hear(key, piece) {
+            Heard::Nothing => None,
+            Heard::All => Some(Next::Bytes(number)),
+            Heard::Part => {
+                self.rounds.ready.insert(token);
+                Some(Next::Bytes(number))
+            }
+            Heard::End => {
+                self.clients.close(number);
+                Some(Next::Close(number))
+            }
+        }
+    }
+
+    /// Waits until an event comes or a second is over, or not at all if there is more to look at, and begins the next
+    /// round. Returns the number of seconds since the start, if one more is over.
+    fn wait(&mut self) -> io::Result<Option<u64>> {
+        self.rounds.wait()?;
+        note(
+            &self.rounds.events,
+            &mut self.rounds.ready,
+            &mut self.clients,
+            &mut self.drivers,
+        );
+        self.rounds.turn(self.rt)
+    }
+
+    /// Begins a second: silent clients and all drivers are to be looked at. If more than one second and more than a
+    /// third of MAXAGE passed at once, the drivers are sent PING now, and clients wait until they have answered.
+    fn begin_second(&mut self, server: &Server, moment: u64) {
+        let passed = moment.saturating_sub(self.moment);
+        self.moment = moment;
+        self.clients.second();
+        self.sheds = true;
+        self.roll = 0;
+        self.pieces = PIECES;
+        if passed > 1 && passed > u64::from(server.config().max_age() / 3) {
+            for driver in self.drivers.iter_mut() {
+                driver.await_word();
+            }
+            self.stall.begin();
+        } else {
+            self.stall.second(&mut self.rounds.ready);
+        }
+    }
+
+    /// Lets clients be read again, once each driver has said something.
+    fn end_stall(&mut self) {
+        if self.stall.is_on() && !self.drivers.iter().any(|driver| driver.is_awaited()) {
+            self.stall.end(&mut self.rounds.ready);
+        }
+    }
+}
+
+/// Notes the events of the sockets.
+fn note(events: &Events, ready: &mut Ready, clients: &mut Clients, drivers: &mut [Driver]) {
+    for event in events.iter() {
+        match Source::of(event.token()) {
+            Source::Listener(_) => {}
+            Source::Driver(u) => {
+                if let Some(driver) = drivers.get_mut(u) {
+                    driver.note(event);
+                }
+            }
+            Source::Client(key) => clients.note(key, event),
+        }
+        if may_be_read(event) {
+            ready.insert(event.token());
+        }
+    }
+}
+
+/// Returns the address of a client as the server knows it.
+fn address_of(ip: IpAddr) -> Address {
+    let mut address = Address::new();
+    let _ = write!(&mut address, "{ip}");
+    address
+}

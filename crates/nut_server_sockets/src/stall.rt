@@ -1,0 +1,62 @@
+//! What is done first after the server itself was stopped.
+
+use mio::Token;
+use nut_poll::Ready;
+use std::alloc::{AllocError, Global};
+
+/// The most seconds that clients wait for the drivers.
+const PATIENCE: u8 = 2;
+
+/// The clients that wait for the drivers.
+///
+/// A server that was stopped, for example with its machine, hasn't heard from any driver for so long that it would call
+/// all data stale. It then sends each driver PING, and most answer at once. So clients are read only after that.
+#[derive(Drop)]
+pub struct Stall {
+    clients: Ready,
+    /// How many more seconds they wait.
+    seconds: u8,
+}
+
+impl Stall {
+    /// Returns the state in which no client waits.
+    ///
+    /// # Errors
+    ///
+    /// [`AllocError`] if memory cannot be allocated.
+    pub fn new(alloc: Global) -> Result<Stall, AllocError> {
+        Ok(Stall {
+            clients: Ready::new(alloc)?,
+            seconds: 0,
+        })
+    }
+
+    /// Makes clients wait from now on.
+    pub fn begin(&mut self) {
+        self.seconds = PATIENCE;
+    }
+
+    /// Counts a second that has passed. Ends the wait when its last second is over.
+    pub fn second(&mut self, ready: &mut Ready) {
+        if self.seconds == 1 {
+            self.end(ready);
+        }
+        self.seconds = self.seconds.saturating_sub(1);
+    }
+
+    /// Whether clients have to wait.
+    pub fn is_on(&self) -> bool {
+        self.seconds > 0
+    }
+
+    /// Makes a client wait.
+    pub fn hold(&mut self, client: Token) {
+        self.clients.insert(client);
+    }
+
+    /// Ends the wait: each client that waited is to be looked at.
+    pub fn end(&mut self, ready: &mut Ready) {
+        self.seconds = 0;
+        ready.append(&mut self.clients);
+    }
+}

@@ -1,0 +1,193 @@
+-- How a content changes with the bytes of a connection, line by line.
+use Rattle.std.proofs.Common.{◌≡◌, ℕ, zero, suc, ◌<◌, true, false, eqb, List, [], ◌∷◌, ◌++◌, map, length, refl, sym, ◌∙◌, ap, arith, inl, inr, append_assoc, append-nil, Option, Some, None}
+use Rattle.std.specs.Prelude.{◌==◌, if◌then◌else◌, option_map}
+use Rattle.std.proofs.lemmas.Bool.{cases_Bool, eqb-false}
+use Rattle.nut_words.specs.Lines.{LineText, Text, as_line, last_of, parts, rest, joined}
+use Rattle.nut_words.proofs.LineLemmas.{joined-as_line}
+use Rattle.nut_words.proofs.StreamGrowth.{rest_within}
+use Rattle.nut_server_spec.specs.Command.{Command, command_of}
+use Rattle.nut_server_spec.specs.Effect.{target}
+use Rattle.nut_server_spec.specs.Answer.{Answer, Silence, answer}
+use Rattle.nut_server_spec.specs.Content.{Session, Supply, Content}
+use Rattle.nut_server_spec.specs.Acceptance.{session_of, front, line_feeds}
+use Rattle.nut_server_spec.specs.machine.Machine.{update, update_at, with_rest, with_sessions, guest_of, caller_of, scene_of, answered, answer_in, act_on, acted, after_answer, line_heard, byte_heard, bytes_heard}
+use Rattle.nut_server_spec.specs.laws.Laws.{numbers}
+use Rattle.nut_server_spec.proofs.Sessions.{KeepsNumber, session_of-update}
+
+pub bytes_heard-append : (c : ℕ) (x y : List ℕ) (s : Content) → bytes_heard c (x ++ y) s ≡ bytes_heard c y (bytes_heard c x s)
+bytes_heard-append c [] y s = refl
+bytes_heard-append c (b ∷ x) y s = bytes_heard-append c x y (byte_heard c b s)
+
+-- ---- updates of one session
+
+pub update-update : (c : ℕ) (f g : Session → Session) (sessions : List Session) → KeepsNumber f → update c g (update c f sessions) ≡ update c (λ k. g (f k)) sessions
+update-update c f g [] keeps = refl
+update-update c f g (k ∷ sessions) keeps =
+    elim (cases_Bool (eqb k.number c)) [
+      | inl e ↦ let e' : eqb (f k).number c ≡ true = ap (λ n. eqb n c) (keeps k) ∙ e in rw (e, e') refl
+      | inr e ↦ rw (e, e) (ap (λ ks. k ∷ ks) (update-update c f g sessions keeps))
+    ]
+
+-- What an update keeps of every session is kept of the sessions.
+update-map : {A : Type 0} (f : Session → A) (c : ℕ) (change : Session → Session) (sessions : List Session) → ((k : Session) → f (change k) ≡ f k) → map f (update c change sessions) ≡ map f sessions
+update-map f c change [] keeps = refl
+update-map f c change (k ∷ sessions) keeps =
+    elim (cases_Bool (eqb k.number c)) [
+      | inl e ↦ rw e (ap (λ x. x ∷ map f sessions) (keeps k))
+      | inr e ↦ rw e (ap (λ xs. f k ∷ xs) (update-map f c change sessions keeps))
+    ]
+
+update-same : (c : ℕ) (r : LineText) (sessions : List Session) (k : Session) → session_of c sessions ≡ Some k → k.rest ≡ r → update c (with_rest r) sessions ≡ sessions
+update-same c r [] k found is = refl
+update-same c r (j ∷ sessions) k found is =
+    elim (cases_Bool (eqb j.number c)) [
+      | inl e ↦
+          let here : Some j ≡ Some k = rw e at found in
+          let same : j ≡ k = cc in
+          rw e (ap (λ x. record j { rest = x } ∷ sessions) (sym (ap (λ k. k.rest) same ∙ is)))
+      | inr e ↦ rw e (ap (λ ks. j ∷ ks) (update-same c r sessions k (rw e at found) is))
+    ]
+
+-- ---- one byte
+
+-- the content in which c has this unfinished line
+abbrev pub with_unfinished : ℕ → LineText → Content → Content
+with_unfinished c r s = with_sessions (update c (with_rest r) s.sessions) s
+
+-- If c has this unfinished line already, that content is the same.
+pub with_unfinished-same : (c : ℕ) (r : LineText) (s : Content) (k : Session) → session_of c s.sessions ≡ Some k → k.rest ≡ r → with_unfinished c r s ≡ s
+with_unfinished-same c r s k found is = ap (λ sessions. with_sessions sessions s) (update-same c r s.sessions k found is)
+
+byte_other : (c b : ℕ) (r : LineText) (s : Content) → eqb b 10 ≡ false → byte_heard c b (with_unfinished c r s) ≡ with_unfinished c (joined r (b ∷ [])) s
+byte_other c b r s other =
+    rw other (ap (λ sessions. with_sessions sessions s) (update-update c (with_rest r) (λ k. with_rest (joined k.rest (b ∷ [])) k) s.sessions (λ k. refl)))
+
+-- What the server knows when it answers a line doesn't depend on unfinished lines.
+scene-unfinished : (c : ℕ) (r : LineText) (s : Content) → scene_of (with_unfinished c r s) ≡ scene_of s
+scene-unfinished c r s = ap (λ guests. record (scene_of s) { guests = guests }) (update-map guest_of c (with_rest r) s.sessions (λ k. refl))
+
+answer-unfinished : (c : ℕ) (r : LineText) (s : Content) (command : Command) (k : Session) → answer_in (with_unfinished c r s) command (with_rest r k) ≡ answer_in s command k
+answer-unfinished c r s command k = ap (λ scene. if k.logged_out then Silence else answer scene (caller_of k) command) (scene-unfinished c r s)
+
+after-unfinished : (c : ℕ) (r : LineText) (s : Content) (command : Command) (reply : Answer) → after_answer c command reply (with_unfinished c r s) ≡ after_answer c command reply s
+after-unfinished c r s command reply =
+    ap (λ sessions. record s { sessions = sessions; supplies = act_on (target s.configuration command) (acted command reply) s.supplies })
+    (update-update c (with_rest r) (λ k. with_rest (Text []) (answered s.configuration command reply k)) s.sessions (λ k. refl))
+
+byte_feed : (c b : ℕ) (r : LineText) (s : Content) (k : Session) → session_of c s.sessions ≡ Some k → eqb b 10 ≡ true
+    → byte_heard c b (with_unfinished c r s) ≡ after_answer c (command_of r) (answer_in s (command_of r) k) s
+byte_feed c b r s k found is =
+    let there : session_of c (update c (with_rest r) s.sessions) ≡ Some (with_rest r k) =
+    session_of-update c (with_rest r) s.sessions (λ k. refl) ∙ ap (option_map (with_rest r)) found in
+    rw is (ap (λ o. line_heard c o (with_unfinished c r s)) there
+    ∙ ap (λ reply. after_answer c (command_of r) reply (with_unfinished c r s)) (answer-unfinished c r s (command_of r) k)
+    ∙ after-unfinished c r s (command_of r) (answer_in s (command_of r) k))
+
+-- ---- bytes
+
+-- the bytes of a text before its first line feed, and the line that they complete behind an unfinished one
+abbrev pub until_feed : List ℕ → List ℕ
+until_feed [] = []
+until_feed (b ∷ bytes) = if b == 10 then [] else b ∷ until_feed bytes
+
+abbrev pub first_line : LineText → List ℕ → LineText
+first_line rest text = joined rest (until_feed text)
+
+-- an unfinished line with no byte added, and one with bytes added one by one
+joined_rest : (b : List ℕ) → joined (rest b) [] ≡ rest b
+joined_rest b = let t = last_of (parts b) in joined-as_line t [] ∙ ap as_line (append-nil t)
+
+joined_next : (b : List ℕ) (c : ℕ) (u : List ℕ) → joined (joined (rest b) (c ∷ [])) u ≡ joined (rest b) (c ∷ u)
+joined_next b c u = grows (last_of (parts b)) where
+  grows : (t : List ℕ) → joined (joined (as_line t) (c ∷ [])) u ≡ joined (as_line t) (c ∷ u)
+  grows t = ap (λ r. joined r u) (joined-as_line t (c ∷ [])) ∙ joined-as_line (t ++ c ∷ []) u ∙ ap as_line (append_assoc t (c ∷ []) u) ∙ sym (joined-as_line t (c ∷ u))
+
+-- Bytes up to their first line feed complete a line, which is answered.
+pub line_heard_front : (c : ℕ) (b left : List ℕ) (s : Content) (k : Session) → session_of c s.sessions ≡ Some k → 0 < line_feeds left
+    → bytes_heard c (front 1 left) (with_unfinished c (rest b) s)
+    ≡ after_answer c (command_of (first_line (rest b) left)) (answer_in s (command_of (first_line (rest b) left)) k) s
+line_heard_front c b [] s k found more = absurd (omega arith)
+line_heard_front c b (x ∷ left) s k found more =
+    elim (cases_Bool (eqb x 10)) [
+      | inl e ↦ rw e (byte_feed c x (rest b) s k found e ∙ ap (λ l. after_answer c (command_of l) (answer_in s (command_of l) k) s) (sym (joined_rest b)))
+      | inr e ↦
+          let grown : joined (rest b) (x ∷ []) ≡ rest (b ++ x ∷ []) = sym (rest_within b x (eqb-false x 10 e)) in
+          rw e (ap (bytes_heard c (front 1 left)) (byte_other c x (rest b) s e)
+          ∙ ap (λ r. bytes_heard c (front 1 left) (with_unfinished c r s)) grown
+          ∙ line_heard_front c (b ++ x ∷ []) left s k found (rw e at more)
+          ∙ ap (λ r. answered_by (joined r (until_feed left))) (sym grown)
+          ∙ ap answered_by (joined_next b x (until_feed left)))
+    ] where
+      answered_by : LineText → Content
+      answered_by l = after_answer c (command_of l) (answer_in s (command_of l) k) s
+
+-- Bytes without a line feed.
+pub rest_heard : (c : ℕ) (b y : List ℕ) (s : Content) → line_feeds y ≡ 0 → bytes_heard c y (with_unfinished c (rest b) s) ≡ with_unfinished c (rest (b ++ y)) s
+rest_heard c b [] s none = ap (λ r. with_unfinished c (rest r) s) (sym (append-nil b))
+rest_heard c b (x ∷ y) s none =
+    elim (cases_Bool (eqb x 10)) [
+      | inl e ↦ absurd (let some : suc (line_feeds y) ≡ 0 = rw e at none in cc)
+      | inr e ↦
+          ap (bytes_heard c y) (byte_other c x (rest b) s e)
+          ∙ ap (λ r. bytes_heard c y (with_unfinished c r s)) (sym (rest_within b x (eqb-false x 10 e)))
+          ∙ rest_heard c (b ++ x ∷ []) y s (rw e at none)
+          ∙ ap (λ r. with_unfinished c (rest r) s) (append_assoc b (x ∷ []) y)
+    ]
+
+-- ---- what the bytes of a connection leave as it is
+
+-- the configuration, the time, the numbers of the open connections, and the number of UPSes
+pub record LeavesFrame (before later : Content) : Type 0 where
+  pub configuration : later.configuration ≡ before.configuration
+  pub clock : later.clock ≡ before.clock
+  pub opened : later.opened ≡ before.opened
+  pub numbers : numbers later ≡ numbers before
+  pub supplies : length later.supplies ≡ length before.supplies
+
+length-update_at : (u : ℕ) (change : Supply → Supply) (supplies : List Supply) → length (update_at u change supplies) ≡ length supplies
+length-update_at u change [] = refl
+length-update_at zero change (d ∷ supplies) = refl
+length-update_at (suc u) change (d ∷ supplies) = ap suc (length-update_at u change supplies)
+
+length-act_on : (o : Option ℕ) (change : Supply → Supply) (supplies : List Supply) → length (act_on o change supplies) ≡ length supplies
+length-act_on None change supplies = refl
+length-act_on (Some u) change supplies = length-update_at u change supplies
+
+pub after_answer-leaves : (c : ℕ) (command : Command) (reply : Answer) (s : Content) → LeavesFrame s (after_answer c command reply s)
+after_answer-leaves c command reply s = record {
+  configuration = refl;
+  clock = refl;
+  opened = refl;
+  numbers = update-map (λ k. k.number) c (λ k. with_rest (Text []) (answered s.configuration command reply k)) s.sessions (λ k. refl);
+  supplies = length-act_on (target s.configuration command) (acted command reply) s.supplies;
+}
+
+line_heard-leaves : (c : ℕ) (o : Option Session) (s : Content) → LeavesFrame s (line_heard c o s)
+line_heard-leaves c None s = record { configuration = refl; clock = refl; opened = refl; numbers = refl; supplies = refl }
+line_heard-leaves c (Some k) s = after_answer-leaves c (command_of k.rest) (answer_in s (command_of k.rest) k) s
+
+byte_heard-leaves : (c b : ℕ) (s : Content) → LeavesFrame s (byte_heard c b s)
+byte_heard-leaves c b s =
+    elim (cases_Bool (eqb b 10)) [
+      | inl e ↦ rw e (line_heard-leaves c (session_of c s.sessions) s)
+      | inr e ↦ rw e (record {
+        configuration = refl;
+        clock = refl;
+        opened = refl;
+        numbers = update-map (λ k. k.number) c (λ k. with_rest (joined k.rest (b ∷ [])) k) s.sessions (λ k. refl);
+        supplies = refl;
+      })
+    ]
+
+pub bytes_heard-leaves : (c : ℕ) (piece : List ℕ) (s : Content) → LeavesFrame s (bytes_heard c piece s)
+bytes_heard-leaves c [] s = record { configuration = refl; clock = refl; opened = refl; numbers = refl; supplies = refl }
+bytes_heard-leaves c (b ∷ piece) s =
+    let one = byte_heard-leaves c b s in
+    let more = bytes_heard-leaves c piece (byte_heard c b s) in
+    record {
+      configuration = more.configuration ∙ one.configuration;
+      clock = more.clock ∙ one.clock;
+      opened = more.opened ∙ one.opened;
+      numbers = more.numbers ∙ one.numbers;
+      supplies = more.supplies ∙ one.supplies;
+    }

@@ -1,0 +1,267 @@
+-- What holds after every history of accepted events, and the law of the machine.
+use Rattle.std.proofs.Common.{◌≡◌, ℕ, ◌+◌, ◌-◌, ◌<◌, ◌≤◌, Bool, true, false, eqb, ltb, List, [], ◌∷◌, ◌++◌, map, drop, length, refl, sym, ◌∙◌, ap, arith, inl, inr, Option, Some, None, length-drop, subst}
+use Rattle.std.specs.Prelude.{if◌then◌else◌}
+use Rattle.std.proofs.lemmas.Bool.{cases_Bool, eqb-true, ne_eqb, eq-eqb, ltb-false}
+use Rattle.std.proofs.lemmas.List.{map-append}
+use Rattle.nut_words.specs.Lines.{LineText}
+use Rattle.nut_server_spec.specs.declared.Refused.TheVariants.{TooMuchTaken}
+use Rattle.nut_server_spec.specs.Configuration.{Configuration}
+use Rattle.nut_server_spec.specs.Event.{Event, Moment, Open, Bytes, Took, Close, WriteFailed, DriverUp, DriverBytes, DriverTook, DriverDown, Step, Clock, Opened, Said, Gone, Up, Reported, Drained, Down, input, taken, driver_input, steps, with_lines, with_reports, brought}
+use Rattle.nut_server_spec.specs.Trace.{Entry, configuration, opened, open_numbers, user, password, login, logged_out, due, connected, driver_due, driver_taken, driver_waits, ups_numbers, asks_at, trace}
+use Rattle.nut_server_spec.specs.Content.{Session, Supply, past, content, session, supply}
+use Rattle.nut_server_spec.specs.Acceptance.{refusal, IsAccepted, session_of, supply_of, bytes_refusal, took_refusal, drain_refusal}
+use Rattle.nut_server_spec.specs.machine.Machine.{advance, fresh, KeepsContent}
+use Rattle.nut_server_spec.specs.laws.Laws.{IsUpTo}
+use Rattle.nut_server_spec.proofs.Numbers.{numbers_up_to}
+use Rattle.nut_server_spec.proofs.Places.{found_at, below_counts}
+use Rattle.nut_server_spec.proofs.Law.{IsDriverCovered, law-moment, law-close, law-write_failed, law-took, law-driver_up, law-driver_took, law-driver_down}
+use Rattle.nut_server_spec.proofs.Pieces.{IsCovered, AreDriversCovered, IsThere, law-bytes, law-driver_bytes, covered_bytes, drivers_bytes, request_grows}
+
+-- A session that is found has the number looked for, which has been given out.
+found_up : (c n : ℕ) (f : ℕ → Session) (ns : List ℕ) → ((d : ℕ) → (f d).number ≡ d) → IsUpTo n ns → (session_of c (map f ns) ≡ None → ⊥) → c ≤ n
+found_up c n f [] numbered up found = absurd (found refl)
+found_up c n f (m ∷ ns) numbered up found =
+    elim (cases_Bool (eqb m c)) [
+      | inl e ↦ let same : m ≡ c = eqb-true m c e in omega (arith, same, up.0)
+      | inr e ↦
+          let test : eqb (f m).number c ≡ false = ap (λ k. eqb k c) (numbered m) ∙ e in
+          found_up c n f ns numbered up.1 (λ none. found (rw test none))
+    ]
+
+found_is : (c : ℕ) (f : ℕ → Session) (ns : List ℕ) (k : Session) → ((d : ℕ) → (f d).number ≡ d) → session_of c (map f ns) ≡ Some k → k ≡ f c
+found_is c f [] k numbered found = cc
+found_is c f (m ∷ ns) k numbered found =
+    elim (cases_Bool (eqb m c)) [
+      | inl e ↦
+          let test : eqb (f m).number c ≡ true = ap (λ k. eqb k c) (numbered m) ∙ e in
+          let here : Some (f m) ≡ Some k = rw test at found in
+          let this : f m ≡ k = cc in
+          sym this ∙ ap f (eqb-true m c e)
+      | inr e ↦
+          let test : eqb (f m).number c ≡ false = ap (λ k. eqb k c) (numbered m) ∙ e in
+          found_is c f ns k numbered (rw test at found)
+    ]
+
+-- The session that a content has under a number is the one that the history says.
+pub session_is : (first : Configuration) (h : List Event) (c : ℕ) (k : Session) → session_of c (content first h).sessions ≡ Some k → k ≡ session first h c
+session_is first h c k found = found_is c (session first h) (open_numbers (past first h)) k (λ d. refl) found
+
+-- The UPS that a content has under a number is the one that the history says.
+pub supply_is : (first : Configuration) (h : List Event) (u : ℕ) (d : Supply) → supply_of u (content first h).supplies ≡ Some d → d ≡ supply first h u
+supply_is first h u d found = found_at u u 0 (supply first h) (ups_numbers first (past first h)) d (below_counts (length (configuration first (past first h)).upses)) (omega arith) found
+
+session_up : (first : Configuration) (h : List Event) (c : ℕ) → (session_of c (content first h).sessions ≡ None → ⊥) → c ≤ opened (past first h)
+session_up first h c found = found_up c (opened (past first h)) (session first h) (open_numbers (past first h)) (λ d. refl) (numbers_up_to (past first h)) found
+
+bytes_up : (first : Configuration) (h : List Event) (c : ℕ) (piece : List ℕ) → refusal (content first h) (Bytes c piece) ≡ None → c ≤ opened (past first h)
+bytes_up first h c piece accepted = session_up first h c (λ none. let e = ap (bytes_refusal piece) none in cc (e, accepted))
+
+took_up : (first : Configuration) (h : List Event) (c n : ℕ) → refusal (content first h) (Took c n) ≡ None → c ≤ opened (past first h)
+took_up first h c n accepted = session_up first h c (λ none. let e = ap (took_refusal n) none in cc (e, accepted))
+
+-- ---- no more was taken than was due
+
+took_covered : (first : Configuration) (h : List Event) (c n : ℕ) (o : Option Session) → IsCovered first h c → session_of c (content first h).sessions ≡ o → took_refusal n o ≡ None
+    → taken c h + n ≤ length (due c (past first h))
+took_covered first h c n None covered found accepted = cc
+took_covered first h c n (Some k) covered found accepted =
+    let is : k ≡ session first h c = session_is first h c k found in
+    let waiting : length k.waits ≡ length (due c (past first h)) - taken c h = ap (λ k. length k.waits) is ∙ length-drop (taken c h) (due c (past first h)) in
+    elim (cases_Bool (ltb (length k.waits) n)) [
+      | inl e ↦ absurd (let bad = rw e at accepted in cc)
+      | inr e ↦ omega (arith, waiting, covered, ltb-false (length k.waits) n e)
+    ]
+
+-- A driver's line adds nothing to the answers due to a client.
+pub due_reports : (first : Configuration) (c u : ℕ) (ls : List LineText) (s : List Step) → due c (trace first (with_reports u ls s)) ≡ due c (trace first s)
+due_reports first c u [] s = refl
+due_reports first c u (l ∷ ls) s = due_reports first c u ls (Reported u l ∷ s)
+
+pub all_covered : (first : Configuration) (h : List Event) (c : ℕ) → IsAccepted first h → IsCovered first h c
+all_covered first [] c accepted = omega arith
+all_covered first (Moment t ∷ h) c accepted = all_covered first h c accepted.0
+all_covered first (Open address ∷ h) c accepted = all_covered first h c accepted.0
+all_covered first (Bytes d piece ∷ h) c accepted = covered_bytes first h d c piece (all_covered first h c accepted.0)
+all_covered first (Took d n ∷ h) c accepted =
+    let before = all_covered first h d accepted.0 in
+    elim (cases_Bool (eqb d c)) [
+      | inl e ↦
+          let P : ℕ → Type 0 = λ x. taken x h + n ≤ length (due x (past first h)) in
+          rw e (subst P (eqb-true d c e) (took_covered first h d n (session_of d (content first h).sessions) before refl accepted.1))
+      | inr e ↦ rw e (all_covered first h c accepted.0)
+    ]
+all_covered first (Close d ∷ h) c accepted = all_covered first h c accepted.0
+all_covered first (WriteFailed d ∷ h) c accepted = all_covered first h c accepted.0
+all_covered first (DriverUp u ∷ h) c accepted = all_covered first h c accepted.0
+all_covered first (DriverBytes u piece ∷ h) c accepted =
+    omega (arith, all_covered first h c accepted.0, ap length (due_reports first c u (brought (driver_input u h) piece) (steps h)))
+all_covered first (DriverTook u n ∷ h) c accepted = all_covered first h c accepted.0
+all_covered first (DriverDown u ∷ h) c accepted = all_covered first h c accepted.0
+
+-- no more was taken by drivers than was due to them
+waits-length : (is : Bool) (m : ℕ) (x : List ℕ) → length (if is then drop m x else []) ≤ length x - m
+waits-length true m x = omega (arith, length-drop m x)
+waits-length false m x = omega arith
+
+drain_covered : (first : Configuration) (h : List Event) (u n : ℕ) (o : Option Supply) → IsDriverCovered (past first h) u → supply_of u (content first h).supplies ≡ o → drain_refusal n o ≡ None
+    → driver_taken u (past first h) + n ≤ length (driver_due u (past first h))
+drain_covered first h u n None covered found accepted = cc
+drain_covered first h u n (Some d) covered found accepted =
+    let is : d ≡ supply first h u = supply_is first h u d found in
+    let waiting : length d.device.waits ≡ length (driver_waits u (past first h)) = ap (λ d. length d.device.waits) is in
+    let most = waits-length (connected u (past first h)) (driver_taken u (past first h)) (driver_due u (past first h)) in
+    elim (cases_Bool d.device.connected) [
+      | inr down ↦ absurd (let bad = rw down at accepted in cc)
+      | inl up ↦
+          let rest : (if ltb (length d.device.waits) n then Some TooMuchTaken else None) ≡ None = rw up at accepted in
+          elim (cases_Bool (ltb (length d.device.waits) n)) [
+            | inl e ↦ absurd (let bad = rw e at rest in cc)
+            | inr e ↦ omega (arith, waiting, most, covered, ltb-false (length d.device.waits) n e)
+          ]
+    ]
+
+drivers_reports : (first : Configuration) (u : ℕ) (ls : List LineText) (s : List Step) → ((v : ℕ) → IsDriverCovered (trace first s) v) → (v : ℕ) → IsDriverCovered (trace first (with_reports u ls s)) v
+drivers_reports first u [] s covered v = covered v
+drivers_reports first u (l ∷ ls) s covered v = drivers_reports first u ls (Reported u l ∷ s) covered v
+
+pub drivers_covered : (first : Configuration) (h : List Event) → IsAccepted first h → AreDriversCovered first h
+drivers_covered first [] accepted v = omega arith
+drivers_covered first (Moment t ∷ h) accepted v =
+    omega (arith, drivers_covered first h accepted.0 v, request_grows (asks_at first (past first h) (Clock t) v) (driver_due v (past first h)))
+drivers_covered first (Open a ∷ h) accepted v = drivers_covered first h accepted.0 v
+drivers_covered first (Bytes c piece ∷ h) accepted v = drivers_bytes first h c piece (drivers_covered first h accepted.0) v
+drivers_covered first (Took c n ∷ h) accepted v = drivers_covered first h accepted.0 v
+drivers_covered first (Close c ∷ h) accepted v = drivers_covered first h accepted.0 v
+drivers_covered first (WriteFailed c ∷ h) accepted v = drivers_covered first h accepted.0 v
+drivers_covered first (DriverUp u ∷ h) accepted v =
+    elim (cases_Bool (eqb u v)) [ inl e ↦ rw e (omega arith) | inr e ↦ rw e (drivers_covered first h accepted.0 v) ]
+drivers_covered first (DriverBytes u piece ∷ h) accepted v = drivers_reports first u (brought (driver_input u h) piece) (steps h) (drivers_covered first h accepted.0) v
+drivers_covered first (DriverTook u n ∷ h) accepted v =
+    elim (cases_Bool (eqb u v)) [
+      | inl e ↦
+          let P : ℕ → Type 0 = λ x. driver_taken x (past first h) + n ≤ length (driver_due x (past first h)) in
+          rw e (subst P (eqb-true u v e) (drain_covered first h u n (supply_of u (content first h).supplies) (drivers_covered first h accepted.0 u) refl accepted.1))
+      | inr e ↦ rw e (drivers_covered first h accepted.0 v)
+    ]
+drivers_covered first (DriverDown u ∷ h) accepted v = drivers_covered first h accepted.0 v
+
+-- ---- a connection that hasn't been opened
+
+-- It has said nothing, and no answer is due to it.
+pub record IsSilent (first : Configuration) (t : List Entry) (c : ℕ) : Type 0 where
+  pub user : user c t ≡ None
+  pub password : password c t ≡ None
+  pub login : login first c t ≡ None
+  pub stays : logged_out c t ≡ false
+  pub due : due c t ≡ []
+
+-- A step that is no line of c keeps it so.
+silent_on : (first : Configuration) (step : Step) (c : ℕ) (s : List Step) → IsSilent first (trace first s) c
+    → user c (trace first (step ∷ s)) ≡ user c (trace first s) → password c (trace first (step ∷ s)) ≡ password c (trace first s)
+    → login first c (trace first (step ∷ s)) ≡ login first c (trace first s) → logged_out c (trace first (step ∷ s)) ≡ logged_out c (trace first s)
+    → due c (trace first (step ∷ s)) ≡ due c (trace first s) → IsSilent first (trace first (step ∷ s)) c
+silent_on first step c s silent u p l o d =
+    record { user = u ∙ silent.user; password = p ∙ silent.password; login = l ∙ silent.login; stays = o ∙ silent.stays; due = d ∙ silent.due }
+
+silent_lines : (first : Configuration) (c d : ℕ) (ls : List LineText) (s : List Step) → eqb d c ≡ false → IsSilent first (trace first s) c → IsSilent first (trace first (with_lines d ls s)) c
+silent_lines first c d [] s differ silent = silent
+silent_lines first c d (l ∷ ls) s differ silent =
+    silent_lines first c d ls (Said d l ∷ s) differ (record {
+      user = rw differ silent.user;
+      password = rw differ silent.password;
+      login = rw differ silent.login;
+      stays = rw differ silent.stays;
+      due = rw differ silent.due;
+    })
+
+silent_reports : (first : Configuration) (c u : ℕ) (ls : List LineText) (s : List Step) → IsSilent first (trace first s) c → IsSilent first (trace first (with_reports u ls s)) c
+silent_reports first c u [] s silent = silent
+silent_reports first c u (l ∷ ls) s silent = silent_reports first c u ls (Reported u l ∷ s) (silent_on first (Reported u l) c s silent refl refl refl refl refl)
+
+pub opened_lines : (first : Configuration) (d : ℕ) (ls : List LineText) (s : List Step) → opened (trace first (with_lines d ls s)) ≡ opened (trace first s)
+opened_lines first d [] s = refl
+opened_lines first d (l ∷ ls) s = opened_lines first d ls (Said d l ∷ s)
+
+pub opened_reports : (first : Configuration) (u : ℕ) (ls : List LineText) (s : List Step) → opened (trace first (with_reports u ls s)) ≡ opened (trace first s)
+opened_reports first u [] s = refl
+opened_reports first u (l ∷ ls) s = opened_reports first u ls (Reported u l ∷ s)
+
+pub record IsUnknown (first : Configuration) (h : List Event) (c : ℕ) : Type 0 where
+  pub silent : IsSilent first (past first h) c
+  pub input : input c h ≡ []
+  pub taken : taken c h ≡ 0
+
+pub unknown : (first : Configuration) (h : List Event) (c : ℕ) → IsAccepted first h → opened (past first h) < c → IsUnknown first h c
+unknown first [] c accepted later = record { silent = record { user = refl; password = refl; login = refl; stays = refl; due = refl }; input = refl; taken = refl }
+unknown first (Bytes d piece ∷ h) c accepted later =
+    let earlier : opened (past first h) < c = omega (arith, opened_lines first d (brought (input d h) piece) (steps h)) in
+    let before = unknown first h c accepted.0 earlier in
+    let differ : eqb d c ≡ false = ne_eqb d c (λ e. omega (arith, earlier, bytes_up first h d piece accepted.1)) in
+    record { silent = silent_lines first c d (brought (input d h) piece) (steps h) differ before.silent; input = rw differ before.input; taken = before.taken }
+unknown first (Took d n ∷ h) c accepted later =
+    let before = unknown first h c accepted.0 later in
+    let differ : eqb d c ≡ false = ne_eqb d c (λ e. omega (arith, later, took_up first h d n accepted.1)) in
+    record { silent = before.silent; input = before.input; taken = rw differ before.taken }
+unknown first (DriverBytes u piece ∷ h) c accepted later =
+    let earlier : opened (past first h) < c = omega (arith, opened_reports first u (brought (driver_input u h) piece) (steps h)) in
+    let before = unknown first h c accepted.0 earlier in
+    record { silent = silent_reports first c u (brought (driver_input u h) piece) (steps h) before.silent; input = before.input; taken = before.taken }
+unknown first (Moment t ∷ h) c accepted later =
+    let before = unknown first h c accepted.0 later in
+    record { silent = silent_on first (Clock t) c (steps h) before.silent refl refl refl refl refl; input = before.input; taken = before.taken }
+unknown first (Open address ∷ h) c accepted later =
+    let before = unknown first h c accepted.0 (omega arith) in
+    record { silent = silent_on first (Opened address) c (steps h) before.silent refl refl refl refl refl; input = before.input; taken = before.taken }
+unknown first (Close d ∷ h) c accepted later =
+    let before = unknown first h c accepted.0 later in
+    record { silent = silent_on first (Gone d) c (steps h) before.silent refl refl refl refl refl; input = before.input; taken = before.taken }
+unknown first (WriteFailed d ∷ h) c accepted later =
+    let before = unknown first h c accepted.0 later in
+    record { silent = silent_on first (Gone d) c (steps h) before.silent refl refl refl refl refl; input = before.input; taken = before.taken }
+unknown first (DriverUp u ∷ h) c accepted later =
+    let before = unknown first h c accepted.0 later in
+    record { silent = silent_on first (Up u) c (steps h) before.silent refl refl refl refl refl; input = before.input; taken = before.taken }
+unknown first (DriverTook u n ∷ h) c accepted later =
+    let before = unknown first h c accepted.0 later in
+    record { silent = silent_on first (Drained u n) c (steps h) before.silent refl refl refl refl refl; input = before.input; taken = before.taken }
+unknown first (DriverDown u ∷ h) c accepted later =
+    let before = unknown first h c accepted.0 later in
+    record { silent = silent_on first (Down u) c (steps h) before.silent refl refl refl refl refl; input = before.input; taken = before.taken }
+
+map-up_to : (n : ℕ) (f g : ℕ → Session) (ns : List ℕ) → IsUpTo n ns → ((d : ℕ) → d ≤ n → g d ≡ f d) → map g ns ≡ map f ns
+map-up_to n f g [] up same = refl
+map-up_to n f g (m ∷ ns) up same = rw (same m up.0, map-up_to n f g ns up.1 same) refl
+
+law-open : (first : Configuration) (h : List Event) (a : List ℕ) → IsAccepted first h → content first (Open a ∷ h) ≡ advance (content first h) (Open a)
+law-open first h a accepted =
+    let n = opened (past first h) in
+    let unheard = unknown first h (n + 1) accepted (omega arith) in
+    let f = session first h in
+    let g = session first (Open a ∷ h) in
+    let newest : g (n + 1) ≡ fresh (n + 1) a =
+    rw (eq-eqb (n + 1) (n + 1) refl, unheard.silent.user, unheard.silent.password, unheard.silent.login, unheard.silent.stays, unheard.silent.due, unheard.input, unheard.taken) refl in
+    let others : map g (open_numbers (past first h)) ≡ map f (open_numbers (past first h)) =
+    map-up_to n f g (open_numbers (past first h)) (numbers_up_to (past first h))
+    (λ d le. let differ : eqb (n + 1) d ≡ false = ne_eqb (n + 1) d (λ e. omega arith) in rw differ refl) in
+    ap (λ sessions. record (content first h) { opened = n + 1; sessions = sessions })
+    (map-append g (open_numbers (past first h)) ((n + 1) ∷ []) ∙ ap (λ ks. ks ++ g (n + 1) ∷ []) others ∙ ap (λ k. map f (open_numbers (past first h)) ++ k ∷ []) newest)
+
+-- ---- the law
+
+-- If the bytes of a connection are accepted, it is open.
+is_there : (first : Configuration) (h : List Event) (c : ℕ) (piece : List ℕ) (o : Option Session) → session_of c (content first h).sessions ≡ o → bytes_refusal piece o ≡ None → IsThere first h c
+is_there first h c piece None found accepted = cc
+is_there first h c piece (Some k) found accepted = found ∙ ap (λ x. Some x) (session_is first h c k found)
+
+pub keeps-content : KeepsContent
+keeps-content first h (Moment t) accepted = law-moment first h t (drivers_covered first h accepted.0)
+keeps-content first h (Open a) accepted = law-open first h a accepted.0
+keeps-content first h (Bytes c piece) accepted =
+    law-bytes first h c piece (all_covered first h c accepted.0) (drivers_covered first h accepted.0) (is_there first h c piece (session_of c (content first h).sessions) refl accepted.1)
+keeps-content first h (Took c n) accepted = law-took first h c n
+keeps-content first h (Close c) accepted = law-close first h c
+keeps-content first h (WriteFailed c) accepted = law-write_failed first h c
+keeps-content first h (DriverUp u) accepted = law-driver_up first h u
+keeps-content first h (DriverBytes u piece) accepted = law-driver_bytes first h u piece
+keeps-content first h (DriverTook u n) accepted = law-driver_took first h u n
+keeps-content first h (DriverDown u) accepted = law-driver_down first h u

@@ -1,0 +1,94 @@
+-- The numbers of open connections rise, each is at least 1, and none is greater than how many were opened.
+use Rattle.std.proofs.Common.{◌≡◌, ℕ, ◌+◌, ◌<◌, Bool, List, [], ◌∷◌, ◌++◌, filter, map, refl, sym, subst, arith, inl, inr}
+use Rattle.std.proofs.lemmas.Bool.{cases_Bool}
+use Rattle.nut_server_spec.specs.laws.Laws.{IsBelow, IsRising, IsUpTo, numbers, NumbersRise}
+use Rattle.nut_server_spec.specs.Configuration.{Configuration}
+use Rattle.nut_server_spec.specs.Content.{Session, Content, content, session, past}
+use Rattle.nut_server_spec.specs.Acceptance.{Tells}
+use Rattle.nut_server_spec.specs.Event.{Event, Step, Clock, Opened, Said, Gone, Up, Reported, Drained, Down}
+use Rattle.nut_server_spec.specs.Trace.{Entry, opened, open_numbers, numbers_after, opened_after}
+
+IsUpTo-filter : (n : ℕ) (p : ℕ → Bool) (ns : List ℕ) → IsUpTo n ns → IsUpTo n (filter p ns)
+IsUpTo-filter n p [] h = tt
+IsUpTo-filter n p (m ∷ ns) h = elim (cases_Bool (p m)) [ inl e ↦ rw e (h.0, IsUpTo-filter n p ns h.1) | inr e ↦ rw e (IsUpTo-filter n p ns h.1) ]
+
+IsUpTo-push : (n : ℕ) (ns : List ℕ) → IsUpTo n ns → IsUpTo (n + 1) (ns ++ (n + 1) ∷ [])
+IsUpTo-push n [] up = (omega arith, tt)
+IsUpTo-push n (m ∷ ns) up = (omega (arith, up.0), IsUpTo-push n ns up.1)
+
+step_up : (s : Step) (n : ℕ) (ns : List ℕ) → IsUpTo n ns → IsUpTo (opened_after s n) (numbers_after s n ns)
+step_up (Clock t) n ns up = up
+step_up (Opened a) n ns up = IsUpTo-push n ns up
+step_up (Said c line) n ns up = up
+step_up (Gone c) n ns up = IsUpTo-filter n _ ns up
+step_up (Up u) n ns up = up
+step_up (Reported u line) n ns up = up
+step_up (Drained u m) n ns up = up
+step_up (Down u) n ns up = up
+
+pub numbers_up_to : (t : List Entry) → IsUpTo (opened t) (open_numbers t)
+numbers_up_to [] = tt
+numbers_up_to (e ∷ t) = step_up e.step (opened t) (open_numbers t) (numbers_up_to t)
+
+IsBelow-filter : (n : ℕ) (p : ℕ → Bool) (ns : List ℕ) → IsBelow n ns → IsBelow n (filter p ns)
+IsBelow-filter n p [] h = tt
+IsBelow-filter n p (m ∷ ns) h = elim (cases_Bool (p m)) [ inl e ↦ rw e (h.0, IsBelow-filter n p ns h.1) | inr e ↦ rw e (IsBelow-filter n p ns h.1) ]
+
+IsRising-filter : (p : ℕ → Bool) (ns : List ℕ) → IsRising ns → IsRising (filter p ns)
+IsRising-filter p [] h = tt
+IsRising-filter p (m ∷ ns) h = elim (cases_Bool (p m)) [ inl e ↦ rw e (IsBelow-filter m p ns h.0, IsRising-filter p ns h.1) | inr e ↦ rw e (IsRising-filter p ns h.1) ]
+
+IsBelow-push : (n k : ℕ) (ns : List ℕ) → IsBelow n ns → n < k → IsBelow n (ns ++ k ∷ [])
+IsBelow-push n k [] h less = (less, tt)
+IsBelow-push n k (m ∷ ns) h less = (h.0, IsBelow-push n k ns h.1 less)
+
+IsRising-push : (n : ℕ) (ns : List ℕ) → IsRising ns → IsUpTo n ns → IsRising (ns ++ (n + 1) ∷ [])
+IsRising-push n [] h up = (tt, tt)
+IsRising-push n (m ∷ ns) h up = (IsBelow-push m (n + 1) ns h.0 (omega (arith, up.0)), IsRising-push n ns h.1 up.1)
+
+step_rising : (s : Step) (n : ℕ) (ns : List ℕ) → IsUpTo n ns → IsRising ns → IsRising (numbers_after s n ns)
+step_rising (Clock t) n ns up h = h
+step_rising (Opened a) n ns up h = IsRising-push n ns h up
+step_rising (Said c line) n ns up h = h
+step_rising (Gone c) n ns up h = IsRising-filter _ ns h
+step_rising (Up u) n ns up h = h
+step_rising (Reported u line) n ns up h = h
+step_rising (Drained u m) n ns up h = h
+step_rising (Down u) n ns up h = h
+
+pub open_numbers_rise : (t : List Entry) → IsRising (open_numbers t)
+open_numbers_rise [] = tt
+open_numbers_rise (e ∷ t) = step_rising e.step (opened t) (open_numbers t) (numbers_up_to t) (open_numbers_rise t)
+
+step_above : (s : Step) (n : ℕ) (ns : List ℕ) → IsBelow 0 ns → IsBelow 0 (numbers_after s n ns)
+step_above (Clock t) n ns h = h
+step_above (Opened a) n ns h = IsBelow-push 0 (n + 1) ns h (omega arith)
+step_above (Said c line) n ns h = h
+step_above (Gone c) n ns h = IsBelow-filter 0 _ ns h
+step_above (Up u) n ns h = h
+step_above (Reported u line) n ns h = h
+step_above (Drained u m) n ns h = h
+step_above (Down u) n ns h = h
+
+pub open_numbers_above : (t : List Entry) → IsBelow 0 (open_numbers t)
+open_numbers_above [] = tt
+open_numbers_above (e ∷ t) = step_above e.step (opened t) (open_numbers t) (open_numbers_above t)
+
+-- The numbers of a content's sessions are those of the open connections.
+sessions_numbered : (f : ℕ → Session) (ns : List ℕ) → ((d : ℕ) → (f d).number ≡ d) → map (λ k. k.number) (map f ns) ≡ ns
+sessions_numbered f [] numbered = refl
+sessions_numbered f (n ∷ ns) numbered = rw (numbered n, sessions_numbered f ns numbered) refl
+
+pub numbers_are : (first : Configuration) (h : List Event) → numbers (content first h) ≡ open_numbers (past first h)
+numbers_are first h = sessions_numbered (session first h) (open_numbers (past first h)) (λ d. refl)
+
+pub numbers-rise : NumbersRise
+numbers-rise first h =
+    let P : List ℕ → Type 0 = λ ns. IsBelow 0 ns × IsRising ns × IsUpTo (opened (past first h)) ns in
+    subst P (sym (numbers_are first h)) (open_numbers_above (past first h), open_numbers_rise (past first h), numbers_up_to (past first h))
+
+-- The numbers of the connections that a server holds rise, too.
+pub numbers-rise_told : (first : Configuration) (h : List Event) (s : Content) → Tells first h s → IsBelow 0 (numbers s) × IsRising (numbers s) × IsUpTo s.opened (numbers s)
+numbers-rise_told first h s told =
+    let P : Content → Type 0 = λ x. IsBelow 0 (numbers x) × IsRising (numbers x) × IsUpTo x.opened (numbers x) in
+    subst P (sym told.1) (numbers-rise first h)

@@ -1,0 +1,150 @@
+-- Which connections and which UPSes an event changes.
+use Rattle.std.proofs.Common.{◌≡◌, ℕ, ◌+◌, ◌≤◌, ◌<◌, false, eqb, List, [], ◌∷◌, drop, map, refl, sym, ◌∙◌, ap, arith, inl, inr, Option, Some, None, subst}
+use Rattle.std.specs.Prelude.{option_map}
+use Rattle.std.proofs.lemmas.Bool.{cases_Bool, eqb-true, ne_eqb}
+use Rattle.nut_words.specs.Lines.{LineText}
+use Rattle.nut_server_spec.specs.Configuration.{Configuration}
+use Rattle.nut_server_spec.specs.Event.{Event, Moment, Open, Bytes, Took, Close, WriteFailed, DriverUp, DriverBytes, DriverTook, DriverDown, Step, Said, Reported, with_lines, with_reports}
+use Rattle.nut_server_spec.specs.Trace.{configuration, opened, open_numbers, trace}
+use Rattle.nut_server_spec.specs.Content.{Session, Content, past, content, session}
+use Rattle.nut_server_spec.specs.Acceptance.{refusal, Tells, session_of, supply_of, bytes_refusal, took_refusal, close_refusal, waiting_of, asks_of}
+use Rattle.nut_server_spec.specs.machine.Machine.{advance, bytes_reported, up, down, drained, fresh}
+use Rattle.nut_server_spec.specs.laws.Laws.{IsUpTo, IsOther, connection_of, driver_of, OthersStay, OtherDriversStay, OpenedIsFresh, ClosedStaysClosed}
+use Rattle.nut_server_spec.proofs.Law.{eqb_turn}
+use Rattle.nut_server_spec.proofs.Numbers.{numbers_up_to}
+use Rattle.nut_server_spec.proofs.Kept.{keeps-content}
+use Rattle.nut_server_spec.proofs.Sessions.{session_of-update_other, session_of-without, session_of-without_other, session_of-push, session_of-push_other, bytes_heard-other, waiting_of-took}
+use Rattle.nut_server_spec.proofs.Supplies.{supply_of-update, supply_of-update_other, asks_of-drained}
+
+-- An event leaves the sessions of other connections as they are.
+pub advance-other : (s : Content) (e : Event) (d : ℕ) → IsOther d (connection_of s e) → session_of d (advance s e).sessions ≡ session_of d s.sessions
+advance-other s (Moment t) d differ = refl
+advance-other s (Open address) d differ = session_of-push_other d (fresh (s.opened + 1) address) s.sessions differ
+advance-other s (Bytes c piece) d differ = bytes_heard-other c d piece s (eqb_turn c d differ)
+advance-other s (Took c n) d differ = session_of-update_other c d (λ k. record k { waits = drop n k.waits }) s.sessions (λ k. refl) (eqb_turn c d differ)
+advance-other s (Close c) d differ = session_of-without_other c d s.sessions (eqb_turn c d differ)
+advance-other s (WriteFailed c) d differ = session_of-without_other c d s.sessions (eqb_turn c d differ)
+advance-other s (DriverUp u) d differ = refl
+advance-other s (DriverBytes u piece) d differ = refl
+advance-other s (DriverTook u n) d differ = refl
+advance-other s (DriverDown u) d differ = refl
+
+-- how each event changes its own connection
+pub advance-took : (s : Content) (c n : ℕ) → waiting_of c (advance s (Took c n)).sessions ≡ drop n (waiting_of c s.sessions)
+advance-took s c n = waiting_of-took c n s.sessions
+
+pub advance-close : (s : Content) (c : ℕ) → session_of c (advance s (Close c)).sessions ≡ None
+advance-close s c = session_of-without c s.sessions
+
+pub advance-write_failed : (s : Content) (c : ℕ) → session_of c (advance s (WriteFailed c)).sessions ≡ None
+advance-write_failed s c = session_of-without c s.sessions
+
+pub others-stay : OthersStay
+others-stay first h e d accepted differ =
+    ap (λ s. session_of d s.sessions) (keeps-content first h e accepted) ∙ advance-other (content first h) e d differ
+
+-- ---- UPSes
+
+turned : (w u v : ℕ) → Some w ≡ Some v → eqb v u ≡ false → eqb u w ≡ false
+turned w u v is differ = let same : w ≡ v = cc in eqb_turn w u (ap (λ x. eqb x u) same ∙ differ)
+
+-- An event of a driver leaves the other UPSes as they are.
+pub advance-other_driver : (s : Content) (e : Event) (u v : ℕ) → driver_of e ≡ Some v → eqb v u ≡ false → supply_of u (advance s e).supplies ≡ supply_of u s.supplies
+advance-other_driver s (Moment t) u v is differ = cc
+advance-other_driver s (Open address) u v is differ = cc
+advance-other_driver s (Bytes c piece) u v is differ = cc
+advance-other_driver s (Took c n) u v is differ = cc
+advance-other_driver s (Close c) u v is differ = cc
+advance-other_driver s (WriteFailed c) u v is differ = cc
+advance-other_driver s (DriverUp w) u v is differ = supply_of-update_other w u (up s.clock) s.supplies (turned w u v is differ)
+advance-other_driver s (DriverBytes w piece) u v is differ = supply_of-update_other w u (bytes_reported s.clock piece) s.supplies (turned w u v is differ)
+advance-other_driver s (DriverTook w n) u v is differ = supply_of-update_other w u (drained n) s.supplies (turned w u v is differ)
+advance-other_driver s (DriverDown w) u v is differ = supply_of-update_other w u down s.supplies (turned w u v is differ)
+
+-- how each event changes its own UPS
+pub advance-driver_up : (s : Content) (u : ℕ) → supply_of u (advance s (DriverUp u)).supplies ≡ option_map (up s.clock) (supply_of u s.supplies)
+advance-driver_up s u = supply_of-update u (up s.clock) s.supplies
+
+pub advance-driver_bytes : (s : Content) (u : ℕ) (piece : List ℕ) → supply_of u (advance s (DriverBytes u piece)).supplies ≡ option_map (bytes_reported s.clock piece) (supply_of u s.supplies)
+advance-driver_bytes s u piece = supply_of-update u (bytes_reported s.clock piece) s.supplies
+
+pub advance-driver_took : (s : Content) (u n : ℕ) → asks_of u (advance s (DriverTook u n)).supplies ≡ drop n (asks_of u s.supplies)
+advance-driver_took s u n = asks_of-drained u n s.supplies
+
+pub advance-driver_down : (s : Content) (u : ℕ) → supply_of u (advance s (DriverDown u)).supplies ≡ option_map down (supply_of u s.supplies)
+advance-driver_down s u = supply_of-update u down s.supplies
+
+pub other-drivers-stay : OtherDriversStay
+other-drivers-stay first h e u v accepted is differ =
+    ap (λ s. supply_of u s.supplies) (keeps-content first h e accepted) ∙ advance-other_driver (content first h) e u v is differ
+
+-- ---- connections that are opened
+
+-- No session has a number that hasn't been given out.
+none_above : (c n : ℕ) (f : ℕ → Session) (ns : List ℕ) → ((d : ℕ) → (f d).number ≡ d) → IsUpTo n ns → n < c → session_of c (map f ns) ≡ None
+none_above c n f [] numbered up less = refl
+none_above c n f (m ∷ ns) numbered up less =
+    let test : eqb (f m).number c ≡ false = ap (λ k. eqb k c) (numbered m) ∙ ne_eqb m c (λ e. omega (arith, up.0)) in
+    rw test (none_above c n f ns numbered up.1 less)
+
+pub none_unopened : (first : Configuration) (h : List Event) (c : ℕ) → (content first h).opened < c → session_of c (content first h).sessions ≡ None
+none_unopened first h c less = none_above c (opened (past first h)) (session first h) (open_numbers (past first h)) (λ d. refl) (numbers_up_to (past first h)) less
+
+-- the session of a connection that is being opened
+pub advance-open : (first : Configuration) (h : List Event) (address : List ℕ)
+    → session_of ((content first h).opened + 1) (advance (content first h) (Open address)).sessions ≡ Some (fresh ((content first h).opened + 1) address)
+advance-open first h address =
+    let s = content first h in
+    session_of-push (s.opened + 1) (fresh (s.opened + 1) address) s.sessions (none_unopened first h (s.opened + 1) (omega arith)) refl
+
+pub advance-open_told : (first : Configuration) (h : List Event) (s : Content) (address : List ℕ) → Tells first h s
+    → session_of (s.opened + 1) (advance s (Open address)).sessions ≡ Some (fresh (s.opened + 1) address)
+advance-open_told first h s address told =
+    let P : Content → Type 0 = λ x. session_of (x.opened + 1) (advance x (Open address)).sessions ≡ Some (fresh (x.opened + 1) address) in
+    subst P (sym told.1) (advance-open first h address)
+
+pub opened-fresh : OpenedIsFresh
+opened-fresh first h address accepted =
+    ap (λ s. session_of ((content first h).opened + 1) s.sessions) (keeps-content first h (Open address) accepted) ∙ advance-open first h address
+
+-- ---- connections that are closed
+
+-- An event that isn't refused concerns an open connection, or opens one.
+not_closed : (s : Content) (e : Event) (c d : ℕ) → d ≤ s.opened → session_of d s.sessions ≡ None → refusal s e ≡ None → connection_of s e ≡ Some c → c ≡ d → ⊥
+not_closed s (Moment t) c d le none accepted is same = cc
+not_closed s (Open address) c d le none accepted is same = let here : s.opened + 1 ≡ c = cc in omega (arith, here, same)
+not_closed s (Bytes a piece) c d le none accepted is same = let here : a ≡ d = cc in
+    let e = ap (λ x. bytes_refusal piece (session_of x s.sessions)) here ∙ ap (bytes_refusal piece) none in cc (e, accepted)
+not_closed s (Took a n) c d le none accepted is same = let here : a ≡ d = cc in
+    let e = ap (λ x. took_refusal n (session_of x s.sessions)) here ∙ ap (took_refusal n) none in cc (e, accepted)
+not_closed s (Close a) c d le none accepted is same = let here : a ≡ d = cc in
+    let e = ap (λ x. close_refusal (session_of x s.sessions)) here ∙ ap close_refusal none in cc (e, accepted)
+not_closed s (WriteFailed a) c d le none accepted is same = let here : a ≡ d = cc in
+    let e = ap (λ x. close_refusal (session_of x s.sessions)) here ∙ ap close_refusal none in cc (e, accepted)
+not_closed s (DriverUp u) c d le none accepted is same = cc
+not_closed s (DriverBytes u piece) c d le none accepted is same = cc
+not_closed s (DriverTook u n) c d le none accepted is same = cc
+not_closed s (DriverDown u) c d le none accepted is same = cc
+
+pub closed-stays : ClosedStaysClosed
+closed-stays first h e d accepted le none = stays (connection_of (content first h) e) refl where
+  P : Option ℕ → Type 0
+  P o = IsOther d o
+
+  stays : (o : Option ℕ) → connection_of (content first h) e ≡ o → session_of d (content first (e ∷ h)).sessions ≡ None
+  stays None is = others-stay first h e d accepted (subst P (sym is) tt) ∙ none
+  stays (Some c) is =
+      elim (cases_Bool (eqb c d)) [
+        | inl same ↦ absurd (not_closed (content first h) e c d le none accepted.1 is (eqb-true c d same))
+        | inr differ ↦ others-stay first h e d accepted (subst P (sym is) differ) ∙ none
+      ]
+
+-- ---- what lines leave as it is
+
+pub configuration_lines : (first : Configuration) (d : ℕ) (ls : List LineText) (s : List Step) → configuration first (trace first (with_lines d ls s)) ≡ configuration first (trace first s)
+configuration_lines first d [] s = refl
+configuration_lines first d (l ∷ ls) s = configuration_lines first d ls (Said d l ∷ s)
+
+pub configuration_reports : (first : Configuration) (u : ℕ) (ls : List LineText) (s : List Step) → configuration first (trace first (with_reports u ls s)) ≡ configuration first (trace first s)
+configuration_reports first u [] s = refl
+configuration_reports first u (l ∷ ls) s = configuration_reports first u ls (Reported u l ∷ s)

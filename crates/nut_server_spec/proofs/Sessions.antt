@@ -1,0 +1,144 @@
+-- The session found under a number after one session is changed or removed, and after bytes of one.
+use Rattle.std.proofs.Common.{◌≡◌, ℕ, true, false, eqb, List, [], ◌∷◌, ◌++◌, drop, refl, ◌∙◌, ap, inl, inr, Option, Some, None}
+use Rattle.std.specs.Prelude.{option_map}
+use Rattle.std.proofs.Common.{sym}
+use Rattle.std.proofs.Math.Seq.{drop-nil}
+use Rattle.std.proofs.lemmas.Bool.{cases_Bool, eqb-true, eq-eqb}
+use Rattle.nut_words.specs.Lines.{Text, joined}
+use Rattle.nut_server_spec.specs.Command.{Command, command_of}
+use Rattle.nut_server_spec.specs.Answer.{Answer}
+use Rattle.nut_server_spec.specs.Content.{Session, Content}
+use Rattle.nut_server_spec.specs.Acceptance.{session_of, waiting_in, waiting_of}
+use Rattle.nut_server_spec.specs.machine.Machine.{update, without, with_rest, with_sessions, answered, answer_in, after_answer, line_heard, byte_heard, bytes_heard}
+use Rattle.nut_server_spec.proofs.Law.{eqb_turn}
+
+-- a change that keeps the number of a session
+abbrev pub KeepsNumber : (Session → Session) → Type 0
+KeepsNumber change = (k : Session) → (change k).number ≡ k.number
+
+not_both : (n c d : ℕ) → eqb d c ≡ false → eqb n c ≡ true → eqb n d ≡ false
+not_both n c d differ is = ap (λ m. eqb m d) (eqb-true n c is) ∙ eqb_turn d c differ
+
+pub session_of-update : (c : ℕ) (change : Session → Session) (sessions : List Session) → KeepsNumber change → session_of c (update c change sessions) ≡ option_map change (session_of c sessions)
+session_of-update c change [] keeps = refl
+session_of-update c change (k ∷ sessions) keeps =
+    elim (cases_Bool (eqb k.number c)) [
+      | inl e ↦ let e' : eqb (change k).number c ≡ true = ap (λ n. eqb n c) (keeps k) ∙ e in rw (e, e') refl
+      | inr e ↦ rw (e, e) (session_of-update c change sessions keeps)
+    ]
+
+pub session_of-update_other : (c d : ℕ) (change : Session → Session) (sessions : List Session) → KeepsNumber change → eqb d c ≡ false → session_of d (update c change sessions) ≡ session_of d sessions
+session_of-update_other c d change [] keeps differ = refl
+session_of-update_other c d change (k ∷ sessions) keeps differ =
+    elim (cases_Bool (eqb k.number c)) [
+      | inl e ↦
+          let old : eqb k.number d ≡ false = not_both k.number c d differ e in
+          let later : eqb (change k).number d ≡ false = ap (λ n. eqb n d) (keeps k) ∙ old in
+          rw (e, old, later) refl
+      | inr e ↦ rw e (elim (cases_Bool (eqb k.number d)) [
+        | inl f ↦ rw f refl
+        | inr f ↦ rw f (session_of-update_other c d change sessions keeps differ)
+      ])
+    ]
+
+pub session_of-without : (c : ℕ) (sessions : List Session) → session_of c (without c sessions) ≡ None
+session_of-without c [] = refl
+session_of-without c (k ∷ sessions) =
+    elim (cases_Bool (eqb k.number c)) [
+      | inl e ↦ rw e (session_of-without c sessions)
+      | inr e ↦ rw (e, e) (session_of-without c sessions)
+    ]
+
+pub session_of-without_other : (c d : ℕ) (sessions : List Session) → eqb d c ≡ false → session_of d (without c sessions) ≡ session_of d sessions
+session_of-without_other c d [] differ = refl
+session_of-without_other c d (k ∷ sessions) differ =
+    elim (cases_Bool (eqb k.number c)) [
+      | inl e ↦ let old : eqb k.number d ≡ false = not_both k.number c d differ e in rw (e, old) (session_of-without_other c d sessions differ)
+      | inr e ↦ rw e (elim (cases_Bool (eqb k.number d)) [
+        | inl f ↦ rw f refl
+        | inr f ↦ rw f (session_of-without_other c d sessions differ)
+      ])
+    ]
+
+-- A session that is changed and then removed is the same as one that is removed.
+pub without-update : (c : ℕ) (change : Session → Session) (sessions : List Session) → KeepsNumber change → without c (update c change sessions) ≡ without c sessions
+without-update c change [] keeps = refl
+without-update c change (k ∷ sessions) keeps =
+    elim (cases_Bool (eqb k.number c)) [
+      | inl e ↦ let e' : eqb (change k).number c ≡ true = ap (λ n. eqb n c) (keeps k) ∙ e in rw (e, e') refl
+      | inr e ↦ rw (e, e) (ap (λ ks. k ∷ ks) (without-update c change sessions keeps))
+    ]
+
+-- a session added at the end
+pub session_of-push : (c : ℕ) (k : Session) (sessions : List Session) → session_of c sessions ≡ None → k.number ≡ c → session_of c (sessions ++ k ∷ []) ≡ Some k
+session_of-push c k [] none is = let e : eqb k.number c ≡ true = eq-eqb k.number c is in rw e refl
+session_of-push c k (j ∷ sessions) none is =
+    elim (cases_Bool (eqb j.number c)) [
+      | inl e ↦ absurd (let bad : Some j ≡ None = rw e at none in cc)
+      | inr e ↦ rw e (session_of-push c k sessions (rw e at none) is)
+    ]
+
+pub session_of-push_other : (d : ℕ) (k : Session) (sessions : List Session) → eqb k.number d ≡ false → session_of d (sessions ++ k ∷ []) ≡ session_of d sessions
+session_of-push_other d k [] differ = rw differ refl
+session_of-push_other d k (j ∷ sessions) differ =
+    elim (cases_Bool (eqb j.number d)) [
+      | inl e ↦ rw e refl
+      | inr e ↦ rw e (session_of-push_other d k sessions differ)
+    ]
+
+-- what waits after n bytes were taken
+abbrev after_took : ℕ → Session → Session
+after_took n k = record k { waits = drop n k.waits }
+
+pub waiting_of-took : (c n : ℕ) (sessions : List Session) → waiting_of c (update c (λ k. record k { waits = drop n k.waits }) sessions) ≡ drop n (waiting_of c sessions)
+waiting_of-took c n sessions =
+    ap waiting_in (session_of-update c (after_took n) sessions (λ k. refl)) ∙ found (session_of c sessions) where
+      found : (o : Option Session) → waiting_in (option_map (after_took n) o) ≡ drop n (waiting_in o)
+      found None = sym (drop-nil n)
+      found (Some k) = refl
+
+-- ---- bytes of a connection
+
+-- A line of c leaves the sessions of other connections as they are.
+after_answer-other : (c d : ℕ) (command : Command) (reply : Answer) (s : Content) → eqb d c ≡ false → session_of d (after_answer c command reply s).sessions ≡ session_of d s.sessions
+after_answer-other c d command reply s differ =
+    session_of-update_other c d (λ k. with_rest (Text []) (answered s.configuration command reply k)) s.sessions (λ k. refl) differ
+
+line_heard-other : (c d : ℕ) (o : Option Session) (s : Content) → eqb d c ≡ false → session_of d (line_heard c o s).sessions ≡ session_of d s.sessions
+line_heard-other c d None s differ = refl
+line_heard-other c d (Some k) s differ = after_answer-other c d (command_of k.rest) (answer_in s (command_of k.rest) k) s differ
+
+byte_heard-other : (c d b : ℕ) (s : Content) → eqb d c ≡ false → session_of d (byte_heard c b s).sessions ≡ session_of d s.sessions
+byte_heard-other c d b s differ =
+    elim (cases_Bool (eqb b 10)) [
+      | inl e ↦ rw e (line_heard-other c d (session_of c s.sessions) s differ)
+      | inr e ↦ rw e (session_of-update_other c d (λ k. with_rest (joined k.rest (b ∷ [])) k) s.sessions (λ k. refl) differ)
+    ]
+
+pub bytes_heard-other : (c d : ℕ) (piece : List ℕ) (s : Content) → eqb d c ≡ false → session_of d (bytes_heard c piece s).sessions ≡ session_of d s.sessions
+bytes_heard-other c d [] s differ = refl
+bytes_heard-other c d (b ∷ piece) s differ = bytes_heard-other c d piece (byte_heard c b s) differ ∙ byte_heard-other c d b s differ
+
+-- The connection c is open.
+abbrev pub IsOpen : ℕ → Content → Type 0
+IsOpen c s = (k : Session) × (session_of c s.sessions ≡ Some k)
+
+update-open : (c : ℕ) (change : Session → Session) (s : Content) → KeepsNumber change → IsOpen c s → IsOpen c (with_sessions (update c change s.sessions) s)
+update-open c change s keeps is = (change is.0, session_of-update c change s.sessions keeps ∙ ap (option_map change) is.1)
+
+line_heard-open : (c : ℕ) (o : Option Session) (s : Content) → IsOpen c s → IsOpen c (line_heard c o s)
+line_heard-open c None s is = is
+line_heard-open c (Some k) s is =
+    let command = command_of k.rest in
+    update-open c (λ j. with_rest (Text []) (answered s.configuration command (answer_in s command k) j)) s (λ j. refl) is
+
+byte_heard-open : (c b : ℕ) (s : Content) → IsOpen c s → IsOpen c (byte_heard c b s)
+byte_heard-open c b s is =
+    elim (cases_Bool (eqb b 10)) [
+      | inl e ↦ rw e (line_heard-open c (session_of c s.sessions) s is)
+      | inr e ↦ rw e (update-open c (λ k. with_rest (joined k.rest (b ∷ [])) k) s (λ k. refl) is)
+    ]
+
+pub bytes_heard-open : (c : ℕ) (piece : List ℕ) (s : Content) → IsOpen c s → IsOpen c (bytes_heard c piece s)
+bytes_heard-open c [] s is = is
+bytes_heard-open c (b ∷ piece) s is = bytes_heard-open c piece (byte_heard c b s) (byte_heard-open c b s is)

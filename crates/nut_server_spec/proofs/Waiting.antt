@@ -1,0 +1,385 @@
+-- What waits for a client: the answers to the lines of one piece, none longer than the longest.
+use Rattle.std.proofs.Common.{◌≡◌, ℕ, zero, suc, ◌+◌, ◌*◌, ◌<◌, ◌≤◌, Bool, true, false, eqb, List, [], ◌∷◌, length, map, drop, refl, sym, subst, ◌∙◌, ap, arith, inl, inr, Option, Some, None, length-append, length-drop}
+use Rattle.std.specs.Prelude.{◌&&◌, if◌then◌else◌, not, nat_lt, nat_le, option_map}
+use Rattle.std.specs.List.{AllByRecursion, list_all}
+use Rattle.std.proofs.lemmas.Bool.{cases_Bool, eqb-true, ltb-true, ltb-false, leb-true}
+use Rattle.std.proofs.lemmas.List.{length-map}
+use Rattle.nut_conf.specs.declared.limits.TheConstants.{CONNECTIONS_MAX}
+use Rattle.nut_words.specs.Lines.{LineText, Text, TooLong, joined}
+use Rattle.nut_words.specs.Reader as reader
+use Rattle.nut_words.specs.Spelling.{is_bare}
+use Rattle.nut_words.specs.declared.limits.TheConstants.{PIECE_MAX}
+use Rattle.nut_state.specs.laws.Holds.{EveryTableHolds}
+use Rattle.nut_state.specs.Table.{empty}
+use Rattle.nut_server_spec.specs.declared.Refused.TheVariants.{PieceTooLong, Busy, BadAddress, Full}
+use Rattle.nut_server_spec.specs.Configuration.{Configuration}
+use Rattle.nut_server_spec.specs.Command.{Command, Blank, command_of}
+use Rattle.nut_server_spec.specs.Event.{Event, Moment, Open, Bytes, Took, Close, WriteFailed, DriverUp, DriverBytes, DriverTook, DriverDown}
+use Rattle.nut_server_spec.specs.Answer.{Answer, Silence, Guest, text_of, answer}
+use Rattle.nut_server_spec.specs.Device.{Device}
+use Rattle.nut_server_spec.specs.Effect.{target}
+use Rattle.nut_server_spec.specs.Trace.{Entry, configuration, reports, ups_numbers}
+use Rattle.nut_server_spec.specs.Content.{Session, Supply, Content, content, past, supply}
+use Rattle.nut_server_spec.specs.Acceptance.{IsAccepted, refusal, session_of, waiting_in, waiting_of, is_address, open_refusal, bytes_refusal}
+use Rattle.nut_server_spec.specs.machine.Machine.{advance, update, update_at, act_on, acted, answered, after_answer, answer_in, caller_of, scene_of, guest_of, with_rest, line_heard, byte_heard, bytes_heard, without, fresh}
+use Rattle.nut_server_spec.specs.laws.Laws.{IsOther, connection_of}
+use Rattle.nut_server_spec.specs.laws.Limits.{IsWithin, WaitsAreBounded, most_waits}
+use Rattle.nut_server_spec.proofs.Alls.{all_append, all_filter, all_map}
+use Rattle.nut_server_spec.proofs.AnswerLengths.{IsFit, IsShortScene, answer_fit, fewer, fit_silence}
+use Rattle.nut_server_spec.proofs.Kept.{keeps-content}
+use Rattle.nut_server_spec.proofs.Others.{advance-other, advance-took, advance-close, advance-write_failed, opened-fresh}
+use Rattle.nut_server_spec.proofs.Sessions.{session_of-update}
+use Rattle.nut_server_spec.proofs.Tables.{IsShortTable, table_short}
+use Rattle.nut_server_spec.specs.declared.limits.TheConstants.{ADDRESS_MAX, OPENED_MAX}
+
+-- ---- open connections
+
+-- so many are open at most, and the address of each has at most ADDRESS_MAX bytes
+pub record AreFew (m : ℕ) (ks : List Session) : Type 0 where
+  pub few : length ks ≤ m
+  pub addresses : AllByRecursion (λ k. length k.address ≤ ADDRESS_MAX) ks
+
+few_update : (m c : ℕ) (change : Session → Session) (ks : List Session) → ((k : Session) → (change k).address ≡ k.address) → AreFew m ks → AreFew m (update c change ks)
+few_update m c change ks keeps are = record { few = omega (arith, as_long ks, are.few); addresses = each ks are.addresses } where
+  as_long : (ks : List Session) → length (update c change ks) ≡ length ks
+  as_long [] = refl
+  as_long (k ∷ ks) = elim (cases_Bool (eqb k.number c)) [ inl e ↦ rw e refl | inr e ↦ rw e (ap suc (as_long ks)) ]
+
+  each : (ks : List Session) → AllByRecursion (λ k. length k.address ≤ ADDRESS_MAX) ks → AllByRecursion (λ k. length k.address ≤ ADDRESS_MAX) (update c change ks)
+  each [] all = tt
+  each (k ∷ ks) all =
+      elim (cases_Bool (eqb k.number c)) [
+        | inl e ↦ rw e (omega (arith, ap length (keeps k), all.0), all.1)
+        | inr e ↦ rw e (all.0, each ks all.1)
+      ]
+
+few_without : (m c : ℕ) (ks : List Session) → AreFew m ks → AreFew m (without c ks)
+few_without m c ks are =
+    let p : Session → Bool = λ k. not (eqb k.number c) in
+    record { few = omega (arith, fewer p ks, are.few); addresses = all_filter _ p ks are.addresses }
+
+few_answer : (m c : ℕ) (command : Command) (reply : Answer) (s : Content) → AreFew m s.sessions → AreFew m (after_answer c command reply s).sessions
+few_answer m c command reply s are = few_update m c (λ k. with_rest (Text []) (answered s.configuration command reply k)) s.sessions (λ k. refl) are
+
+few_line : (m c : ℕ) (o : Option Session) (s : Content) → AreFew m s.sessions → AreFew m (line_heard c o s).sessions
+few_line m c None s are = are
+few_line m c (Some k) s are = few_answer m c (command_of k.rest) (answer_in s (command_of k.rest) k) s are
+
+few_byte : (m c b : ℕ) (s : Content) → AreFew m s.sessions → AreFew m (byte_heard c b s).sessions
+few_byte m c b s are =
+    elim (cases_Bool (eqb b 10)) [
+      | inl e ↦ rw e (few_line m c (session_of c s.sessions) s are)
+      | inr e ↦ rw e (few_update m c (λ k. with_rest (joined k.rest (b ∷ [])) k) s.sessions (λ k. refl) are)
+    ]
+
+few_bytes : (m c : ℕ) (piece : List ℕ) (s : Content) → AreFew m s.sessions → AreFew m (bytes_heard c piece s).sessions
+few_bytes m c [] s are = are
+few_bytes m c (b ∷ bytes) s are = few_bytes m c bytes (byte_heard c b s) (few_byte m c b s are)
+
+both : (a b : Bool) → (a && b) ≡ true → (a ≡ true) × (b ≡ true)
+both true b e = (refl, e)
+both false b e = absurd (cc)
+
+-- an address that is accepted has at most ADDRESS_MAX bytes, and there is room and a number
+pub opened_few : (s : Content) (address : List ℕ) → open_refusal s address ≡ None
+    → (length address ≤ ADDRESS_MAX) × (length s.sessions < s.configuration.most_connections) × (s.opened < OPENED_MAX)
+opened_few s address accepted =
+    elim (cases_Bool (is_address address)) [
+      | inl e ↦
+          elim (cases_Bool (nat_lt (length s.sessions) s.configuration.most_connections && nat_lt s.opened OPENED_MAX)) [
+            | inl f ↦
+                let sizes = both (nat_le 1 (length address) && nat_le (length address) ADDRESS_MAX) (list_all is_bare address) e in
+                let most = both (nat_le 1 (length address)) (nat_le (length address) ADDRESS_MAX) sizes.0 in
+                let room = both (nat_lt (length s.sessions) s.configuration.most_connections) (nat_lt s.opened OPENED_MAX) f in
+                (leb-true (length address) ADDRESS_MAX most.1, ltb-true (length s.sessions) s.configuration.most_connections room.0, ltb-true s.opened OPENED_MAX room.1)
+            | inr f ↦ absurd (let bad : Some Full ≡ None = rw (e, f) at accepted in cc)
+          ]
+      | inr e ↦ absurd (let bad : Some BadAddress ≡ None = rw e at accepted in cc)
+    ]
+
+few_advance : (s : Content) (e : Event) → refusal s e ≡ None → AreFew s.configuration.most_connections s.sessions → AreFew s.configuration.most_connections (advance s e).sessions
+few_advance s (Moment t) accepted are = are
+few_advance s (Open address) accepted are =
+    let k = fresh (s.opened + 1) address in
+    let room = opened_few s address accepted in
+    record { few = omega (arith, length-append s.sessions (k ∷ []), room.1); addresses = all_append (λ k. length k.address ≤ ADDRESS_MAX) s.sessions (k ∷ []) are.addresses (room.0, tt) }
+few_advance s (Bytes c piece) accepted are = few_bytes s.configuration.most_connections c piece s are
+few_advance s (Took c n) accepted are = few_update s.configuration.most_connections c (λ k. record k { waits = drop n k.waits }) s.sessions (λ k. refl) are
+few_advance s (Close c) accepted are = few_without s.configuration.most_connections c s.sessions are
+few_advance s (WriteFailed c) accepted are = few_without s.configuration.most_connections c s.sessions are
+few_advance s (DriverUp u) accepted are = are
+few_advance s (DriverBytes u piece) accepted are = are
+few_advance s (DriverTook u n) accepted are = are
+few_advance s (DriverDown u) accepted are = are
+
+-- No step changes the configuration.
+pub configuration_stays : (first : Configuration) (t : List Entry) → configuration first t ≡ first
+configuration_stays first [] = refl
+configuration_stays first (e ∷ t) = configuration_stays first t
+
+pub few_history : (first : Configuration) (h : List Event) → IsAccepted first h → AreFew first.most_connections (content first h).sessions
+few_history first [] accepted = record { few = omega arith; addresses = tt }
+few_history first (e ∷ h) accepted =
+    let s = content first h in
+    let same : s.configuration.most_connections ≡ first.most_connections = ap (λ (c : Configuration). c.most_connections) (configuration_stays first (past first h)) in
+    let before = few_history first h accepted.0 in
+    let moved = few_advance s e accepted.1 (subst (λ m. AreFew m s.sessions) (sym same) before) in
+    let now' : (content first (e ∷ h)).sessions ≡ (advance s e).sessions = ap (λ (s : Content). s.sessions) (keeps-content first h e accepted) in
+    subst (λ ks. AreFew first.most_connections ks) (sym now') (subst (λ m. AreFew m (advance s e).sessions) same moved)
+
+-- ---- a content within its limits
+
+pub record IsShort (s : Content) : Type 0 where
+  pub configured : IsWithin s.configuration
+  pub tables : AllByRecursion (λ d. IsShortTable d.device.table) s.supplies
+  pub nothing : IsShortTable empty
+  pub sessions : AreFew CONNECTIONS_MAX s.sessions
+
+scene_short : (s : Content) → IsShort s → IsShortScene (scene_of s)
+scene_short s short = record {
+  configured = short.configured;
+  devices = each_device s.supplies short.tables;
+  nothing = short.nothing;
+  guests = each_guest s.sessions short.sessions.addresses;
+  few = omega (arith, length-map s.sessions guest_of, short.sessions.few);
+} where
+  each_device : (ds : List Supply) → AllByRecursion (λ d. IsShortTable d.device.table) ds → AllByRecursion (λ (d : Device). IsShortTable d.table) (map (λ d. d.device) ds)
+  each_device [] all = tt
+  each_device (d ∷ ds) all = (all.0, each_device ds all.1)
+
+  each_guest : (ks : List Session) → AllByRecursion (λ k. length k.address ≤ ADDRESS_MAX) ks → AllByRecursion (λ (g : Guest). length g.address ≤ ADDRESS_MAX) (map guest_of ks)
+  each_guest [] all = tt
+  each_guest (k ∷ ks) all = (all.0, each_guest ks all.1)
+
+tables_at : (u : ℕ) (change : Supply → Supply) (ds : List Supply) → ((d : Supply) → (change d).device.table ≡ d.device.table) → AllByRecursion (λ d. IsShortTable d.device.table) ds
+    → AllByRecursion (λ d. IsShortTable d.device.table) (update_at u change ds)
+tables_at u change [] keeps all = tt
+tables_at zero change (d ∷ ds) keeps all = (subst IsShortTable (sym (keeps d)) all.0, all.1)
+tables_at (suc u) change (d ∷ ds) keeps all = (all.0, tables_at u change ds keeps all.1)
+
+tables_acted : (o : Option ℕ) (command : Command) (reply : Answer) (ds : List Supply) → AllByRecursion (λ d. IsShortTable d.device.table) ds
+    → AllByRecursion (λ d. IsShortTable d.device.table) (act_on o (acted command reply) ds)
+tables_acted None command reply ds all = all
+tables_acted (Some u) command reply ds all = tables_at u (acted command reply) ds (λ d. refl) all
+
+short_line : (c : ℕ) (o : Option Session) (s : Content) → IsShort s → IsShort (line_heard c o s)
+short_line c None s short = short
+short_line c (Some k) s short =
+    let command = command_of k.rest in
+    let reply = answer_in s command k in
+    record {
+      configured = short.configured;
+      tables = tables_acted (target s.configuration command) command reply s.supplies short.tables;
+      nothing = short.nothing;
+      sessions = few_answer CONNECTIONS_MAX c command reply s short.sessions;
+    }
+
+short_byte : (c b : ℕ) (s : Content) → IsShort s → IsShort (byte_heard c b s)
+short_byte c b s short =
+    elim (cases_Bool (eqb b 10)) [
+      | inl e ↦ rw e (short_line c (session_of c s.sessions) s short)
+      | inr e ↦ rw e (record {
+        configured = short.configured;
+        tables = short.tables;
+        nothing = short.nothing;
+        sessions = few_update CONNECTIONS_MAX c (λ k. with_rest (joined k.rest (b ∷ [])) k) s.sessions (λ k. refl) short.sessions;
+      })
+    ]
+
+short_history : EveryTableHolds → (first : Configuration) (h : List Event) → IsWithin first → IsAccepted first h → IsShort (content first h)
+short_history every first h within accepted =
+    let are = few_history first h accepted in
+    record {
+      configured = subst IsWithin (sym (configuration_stays first (past first h))) within;
+      tables = all_map (λ (d : Supply). IsShortTable d.device.table) (supply first h) (ups_numbers first (past first h)) (λ u. table_short every (reports u (past first h)));
+      nothing = table_short every [];
+      sessions = record { few = omega (arith, are.few, within.connections); addresses = are.addresses };
+    }
+
+-- ---- the answers to a piece
+
+-- 1 for an unfinished line that isn't empty, which may be answered when it ends; else 0
+abbrev unfinished : LineText → ℕ
+unfinished (Text []) = 0
+unfinished (Text (b ∷ bytes)) = 1
+unfinished TooLong = 1
+
+unfinished-le : (l : LineText) → unfinished l ≤ 1
+unfinished-le (Text []) = omega arith
+unfinished-le (Text (b ∷ bytes)) = omega arith
+unfinished-le TooLong = omega arith
+
+-- After n bytes, with one counted for an unfinished line before them: what waits is at most this many of the longest
+-- answers, and each line answered took at least two of these bytes.
+record IsServed (n : ℕ) (k : Session) : Type 0 where
+  lines : ℕ
+  answers : length k.waits ≤ 184930 * lines
+  heard : 2 * lines + unfinished k.rest ≤ n
+
+length-silence : length (text_of Silence) ≡ 0
+unfolding text_of
+length-silence = refl
+
+-- An empty line gets no answer.
+empty_blank : command_of (Text []) ≡ Blank
+unfolding reader.read
+empty_blank = refl
+
+answer_empty : (s : Content) (k : Session) → answer_in s (command_of (Text [])) k ≡ Silence
+answer_empty s k = ap (λ command. answer_in s command k) empty_blank ∙ by_test k.logged_out where
+  by_test : (b : Bool) → (if b then Silence else Silence) ≡ Silence
+  by_test true = refl
+  by_test false = refl
+
+answer_in_fit : (s : Content) (command : Command) (k : Session) → IsShort s → IsFit (answer_in s command k)
+answer_in_fit s command k short = by_test k.logged_out where
+  by_test : (b : Bool) → IsFit (if b then Silence else answer (scene_of s) (caller_of k) command)
+  by_test true = fit_silence
+  by_test false = answer_fit (scene_of s) (scene_short s short) (caller_of k) command
+
+served_line : (n : ℕ) (s : Content) (k : Session) → IsShort s → IsServed n k
+    → IsServed (n + 1) (with_rest (Text []) (answered s.configuration (command_of k.rest) (answer_in s (command_of k.rest) k) k))
+served_line n s k short served = by_rest k.rest refl where
+  reply : Answer
+  reply = answer_in s (command_of k.rest) k
+
+  later : Session
+  later = with_rest (Text []) (answered s.configuration (command_of k.rest) reply k)
+
+  one_more : unfinished k.rest ≡ 1 → IsServed (n + 1) later
+  one_more is = record {
+    lines = served.lines + 1;
+    answers = omega (arith, length-append k.waits (text_of reply), answer_in_fit s (command_of k.rest) k short, served.answers);
+    heard = omega (arith, served.heard, is);
+  }
+
+  by_rest : (r : LineText) → k.rest ≡ r → IsServed (n + 1) later
+  by_rest (Text []) is =
+      let silent : reply ≡ Silence = ap (λ r. answer_in s (command_of r) k) is ∙ answer_empty s k in
+      record {
+        lines = served.lines;
+        answers = omega (arith, length-append k.waits (text_of reply), ap (λ a. length (text_of a)) silent, length-silence, served.answers);
+        heard = omega (arith, served.heard);
+      }
+  by_rest (Text (b ∷ bytes)) is = one_more (ap unfinished is)
+  by_rest TooLong is = one_more (ap unfinished is)
+
+-- what is done if c is open
+abbrev AreServed : ℕ → ℕ → Content → Type 0
+AreServed c n s = (k : Session) → session_of c s.sessions ≡ Some k → IsServed n k
+
+-- A session that is found after a change is the changed one.
+found_changed : (c : ℕ) (change : Session → Session) (ks : List Session) (k : Session) → ((j : Session) → (change j).number ≡ j.number) → session_of c (update c change ks) ≡ Some k
+    → (j : Session) × (session_of c ks ≡ Some j) × (change j ≡ k)
+found_changed c change ks k keeps there = by_found (session_of c ks) refl where
+  by_found : (o : Option Session) → session_of c ks ≡ o → (j : Session) × (session_of c ks ≡ Some j) × (change j ≡ k)
+  by_found None is = absurd (let bad : None ≡ Some k = sym (session_of-update c change ks keeps ∙ ap (option_map change) is) ∙ there in cc)
+  by_found (Some j) is = let same : Some (change j) ≡ Some k = sym (session_of-update c change ks keeps ∙ ap (option_map change) is) ∙ there in (j, is, cc)
+
+served_feed : (c n : ℕ) (s : Content) (o : Option Session) → IsShort s → session_of c s.sessions ≡ o → AreServed c n s → AreServed c (n + 1) (line_heard c o s)
+served_feed c n s None short is served k there = absurd (let bad : None ≡ Some k = sym is ∙ there in cc)
+served_feed c n s (Some j) short is served k there =
+    let change : Session → Session = λ k. with_rest (Text []) (answered s.configuration (command_of j.rest) (answer_in s (command_of j.rest) j) k) in
+    let found = found_changed c change s.sessions k (λ k. refl) there in
+    let one : Some found.0 ≡ Some j = sym found.1 ∙ is in
+    let this : found.0 ≡ j = cc in
+    subst (IsServed (n + 1)) (ap change (sym this) ∙ found.2) (served_line n s j short (served j is))
+
+served_byte : (c b n : ℕ) (s : Content) → IsShort s → AreServed c n s → AreServed c (n + 1) (byte_heard c b s)
+served_byte c b n s short served k there =
+    elim (cases_Bool (eqb b 10)) [
+      | inl e ↦ served_feed c n s (session_of c s.sessions) short refl served k (rw e at there)
+      | inr e ↦
+          let found = found_changed c (λ k. with_rest (joined k.rest (b ∷ [])) k) s.sessions k (λ k. refl) (rw e at there) in
+          let before = served found.0 found.1 in
+          subst (IsServed (n + 1)) found.2 (record {
+            lines = before.lines;
+            answers = before.answers;
+            heard = omega (arith, before.heard, unfinished-le (joined found.0.rest (b ∷ [])));
+          })
+    ]
+
+served_bytes : (c : ℕ) (piece : List ℕ) (n m : ℕ) (s : Content) → n + length piece ≤ m → IsShort s → AreServed c n s → AreServed c m (bytes_heard c piece s)
+served_bytes c [] n m s le short served = λ k there.
+    let before = served k there in
+    record { lines = before.lines; answers = before.answers; heard = omega (arith, before.heard) }
+served_bytes c (b ∷ bytes) n m s le short served = served_bytes c bytes (n + 1) m (byte_heard c b s) (omega arith) (short_byte c b s short) (served_byte c b n s short served)
+
+-- If a piece is accepted, it is short and nothing waits.
+pub piece_accepted : (piece : List ℕ) (o : Option Session) → bytes_refusal piece o ≡ None → (length piece ≤ PIECE_MAX) × (length (waiting_in o) ≤ 0)
+piece_accepted piece None accepted = absurd (cc)
+piece_accepted piece (Some k) accepted =
+    elim (cases_Bool (nat_lt PIECE_MAX (length piece))) [
+      | inl e ↦ absurd (let bad : Some PieceTooLong ≡ None = rw e at accepted in cc)
+      | inr e ↦
+          elim (cases_Bool (nat_lt 0 (length k.waits))) [
+            | inl f ↦ absurd (let bad : Some Busy ≡ None = rw (e, f) at accepted in cc)
+            | inr f ↦ (ltb-false PIECE_MAX (length piece) e, ltb-false 0 (length k.waits) f)
+          ]
+    ]
+
+piece_bounded : (s : Content) (c : ℕ) (piece : List ℕ) (k : Session) → IsShort s → refusal s (Bytes c piece) ≡ None → session_of c (bytes_heard c piece s).sessions ≡ Some k → length k.waits ≤ most_waits
+piece_bounded s c piece k short accepted there =
+    let before = piece_accepted piece (session_of c s.sessions) accepted in
+    let served = served_bytes c piece 1 (PIECE_MAX + 1) s (omega (arith, before.0)) short (λ j is. record {
+      lines = 0;
+      answers = omega (arith, before.1, ap (λ o. length (waiting_in o)) is);
+      heard = omega (arith, unfinished-le j.rest);
+    }) k there in
+    omega (arith, served.answers, served.heard)
+
+-- ---- every history
+
+waiting_bounded : (o : Option Session) → ((k : Session) → o ≡ Some k → length k.waits ≤ most_waits) → length (waiting_in o) ≤ most_waits
+waiting_bounded None bounded = omega arith
+waiting_bounded (Some k) bounded = bounded k refl
+
+abbrev AreBounded : ℕ → Content → Type 0
+AreBounded d s = (k : Session) → session_of d s.sessions ≡ Some k → length k.waits ≤ most_waits
+
+bounded_other : (s : Content) (e : Event) (d : ℕ) → IsOther d (connection_of s e) → AreBounded d s → AreBounded d (advance s e)
+bounded_other s e d other bounded k there = bounded k (sym (advance-other s e d other) ∙ there)
+
+module _ (first : Configuration) (h : List Event) (d : ℕ) (short : IsShort (content first h)) (bounded : AreBounded d (content first h)) where
+  -- an event of d itself, or of another connection
+  bounded_of : (e : Event) (c : ℕ) → connection_of (content first h) e ≡ Some c → (c ≡ d → AreBounded d (advance (content first h) e)) → AreBounded d (advance (content first h) e)
+  bounded_of e c is own =
+      elim (cases_Bool (eqb c d)) [
+        | inl t ↦ own (eqb-true c d t)
+        | inr t ↦ bounded_other (content first h) e d (let P : Option ℕ → Type 0 = IsOther d in subst P (sym is) t) bounded
+      ]
+
+  bounded_advance : (e : Event) → IsAccepted first (e ∷ h) → AreBounded d (advance (content first h) e)
+  bounded_advance (Moment t) accepted = bounded_other (content first h) (Moment t) d tt bounded
+  bounded_advance (Open address) accepted = bounded_of (Open address) ((content first h).opened + 1) refl (λ is k there.
+      let s = content first h in
+      let opened : session_of (s.opened + 1) (advance s (Open address)).sessions ≡ Some (fresh (s.opened + 1) address) =
+      sym (ap (λ (t : Content). session_of (s.opened + 1) t.sessions) (keeps-content first h (Open address) accepted)) ∙ opened-fresh first h address accepted in
+      let same : Some (fresh (s.opened + 1) address) ≡ Some k = sym opened ∙ ap (λ n. session_of n (advance s (Open address)).sessions) is ∙ there in
+      let this : fresh (s.opened + 1) address ≡ k = cc in
+      omega (arith, ap (λ (k : Session). length k.waits) this))
+  bounded_advance (Bytes c piece) accepted = bounded_of (Bytes c piece) c refl (λ is k there.
+      piece_bounded (content first h) c piece k short accepted.1 (ap (λ n. session_of n (bytes_heard c piece (content first h)).sessions) is ∙ there))
+  bounded_advance (Took c n) accepted = bounded_of (Took c n) c refl (λ is k there.
+      let s = content first h in
+      let left : k.waits ≡ drop n (waiting_of c s.sessions) = sym (ap waiting_in there) ∙ ap (λ m. waiting_of m (advance s (Took c n)).sessions) (sym is) ∙ advance-took s c n in
+      let before : length (waiting_of c s.sessions) ≤ most_waits = waiting_bounded (session_of c s.sessions) (λ j found. bounded j (ap (λ m. session_of m s.sessions) (sym is) ∙ found)) in
+      omega (arith, ap length left, length-drop n (waiting_of c s.sessions), before))
+  bounded_advance (Close c) accepted = bounded_of (Close c) c refl (λ is k there.
+      absurd (let bad : None ≡ Some k = sym (advance-close (content first h) c) ∙ ap (λ m. session_of m (advance (content first h) (Close c)).sessions) is ∙ there in cc))
+  bounded_advance (WriteFailed c) accepted = bounded_of (WriteFailed c) c refl (λ is k there.
+      absurd (let bad : None ≡ Some k = sym (advance-write_failed (content first h) c) ∙ ap (λ m. session_of m (advance (content first h) (WriteFailed c)).sessions) is ∙ there in cc))
+  bounded_advance (DriverUp u) accepted = bounded_other (content first h) (DriverUp u) d tt bounded
+  bounded_advance (DriverBytes u piece) accepted = bounded_other (content first h) (DriverBytes u piece) d tt bounded
+  bounded_advance (DriverTook u n) accepted = bounded_other (content first h) (DriverTook u n) d tt bounded
+  bounded_advance (DriverDown u) accepted = bounded_other (content first h) (DriverDown u) d tt bounded
+
+waits_history : EveryTableHolds → (first : Configuration) (h : List Event) (d : ℕ) → IsWithin first → IsAccepted first h → AreBounded d (content first h)
+waits_history every first [] d within accepted k there = absurd (cc)
+waits_history every first (e ∷ h) d within accepted k there =
+    let before = waits_history every first h d within accepted.0 in
+    let short = short_history every first h within accepted.0 in
+    bounded_advance first h d short before e accepted k (sym (ap (λ (s : Content). session_of d s.sessions) (keeps-content first h e accepted)) ∙ there)
+
+pub waits-bounded : EveryTableHolds → WaitsAreBounded
+waits-bounded every first h within accepted c k there = waits_history every first h c within accepted k there

@@ -1,0 +1,283 @@
+-- How a server answers a client's line (RFC 9271; NUT developer guide, chapter 9).
+use Rattle.std.specs.Prelude.{ℕ, ℤ, ◌==◌, Bool, true, false, not, ◌&&◌, ◌||◌, nat_lt, int_le, if◌then◌else◌, List, [], ◌∷◌, ◌++◌, codes, length, map, filter, flat_map, slice_index_or, Option, Some, None, is_some, is_none}
+use Rattle.std.specs.List.{list_any}
+use Rattle.std.specs.Str.{bytes_eq}
+use Rattle.nut_words.specs.declared.limits.TheConstants.{VALUE_MAX}
+use Rattle.nut_conf.specs.declared.users.Action.TheVariants as actions
+use Rattle.nut_conf.specs.declared.users.Role.{Role}
+use Rattle.nut_conf.specs.declared.users.Role.TheVariants as roles
+use Rattle.nut_state.specs.Attribute.{lists_enum}
+use Rattle.nut_state.specs.Number.{whole_number}
+use Rattle.nut_state.specs.Table.{Entry, variable, has_command}
+use Rattle.nut_state.specs.declared.number.Range.{Range}
+use Rattle.nut_proto.specs.declared.refusal.Refusal.{Refusal}
+use Rattle.nut_proto.specs.declared.refusal.Refusal.TheVariants as refusals
+use Rattle.nut_proto.specs.declared.request.Request.{Request}
+use Rattle.nut_proto.specs.declared.request.Request.TheVariants as requests
+use Rattle.nut_proto.specs.declared.request.ListQuery.{ListQuery}
+use Rattle.nut_proto.specs.declared.request.ListQuery.TheVariants as queries
+use Rattle.nut_proto.specs.declared.reply.Reply.{Reply}
+use Rattle.nut_proto.specs.declared.reply.Reply.TheVariants as replies
+use Rattle.nut_proto.specs.declared.reply.VariableKind.{VariableKind}
+use Rattle.nut_proto.specs.declared.reply.VariableKind.TheVariants as kinds
+use Rattle.nut_proto.specs.declared.driver_ask.DriverAsk.TheVariants as asks
+use Rattle.nut_proto.specs.Descriptions.{variable_description, command_description}
+use Rattle.nut_proto.specs.DriverAsks.{ask_line}
+use Rattle.nut_proto.specs.Replies.{reply_line}
+use Rattle.nut_proto.specs.Requests.{begin_line, end_line}
+use Rattle.nut_server_spec.specs.Configuration.{Ups, User, Configuration, ups_named, number_of_ups, user_named, has_password, may_act, may_command}
+use Rattle.nut_server_spec.specs.Command.{Command, Blank, Malformed, Asks}
+use Rattle.nut_server_spec.specs.Device.{Device, absent, trouble, fits}
+
+-- An answer before it is written as bytes: nothing, one line, or the rows of a list between its first and its last
+-- line.
+pub data Answer : Type 0 where
+  Silence : Answer
+  Line : (reply : Reply) → Answer
+  Listing : (query : ListQuery) (rows : List Reply) → Answer
+
+-- the bytes of an answer
+unfoldable pub text_of : Answer → List ℕ
+text_of Silence = []
+text_of (Line reply) = reply_line reply
+text_of (Listing query rows) = begin_line query ++ (flat_map reply_line rows ++ end_line query)
+
+-- an open connection: its address, and the number of the UPS that it is logged in to, if any
+pub record Guest : Type 0 where
+  pub address : List ℕ
+  pub login : Option ℕ
+
+-- What the server knows when it answers a line: the configuration, the time, the UPSes in the order of their numbers,
+-- and the open connections by rising number.
+pub record Scene : Type 0 where
+  pub configuration : Configuration
+  pub clock : ℕ
+  pub devices : List Device
+  pub guests : List Guest
+
+-- what the server knows of the connection whose line it answers: the user and the password that it gave, and the UPS
+-- that it is logged in to
+pub record Caller : Type 0 where
+  pub user : Option (List ℕ)
+  pub password : Option (List ℕ)
+  pub login : Option ℕ
+
+-- the answer `ERR` with this refusal
+abbrev pub refused : Refusal → Answer
+refused refusal = Line (replies.Refused refusal)
+
+-- the number of the UPS with this name, if there is one
+abbrev pub ups_number : Scene → List ℕ → Option ℕ
+ups_number s name = number_of_ups name s.configuration.upses
+
+-- the UPS with this number, or one without a driver if there is none
+abbrev pub device_at : Scene → ℕ → Device
+device_at s u = slice_index_or s.devices u absent
+
+-- ---- tests: each gives the answer of the next step, or refuses
+
+-- the next step with x, if there is one; else the refusal
+abbrev pub require : {A : Type 0} → Refusal → Option A → (A → Answer) → Answer
+require refusal None next = refused refusal
+require refusal (Some x) next = next x
+
+-- the next step if the test holds; else the refusal
+abbrev pub check : Refusal → Bool → Answer → Answer
+check refusal holds next = if holds then next else refused refusal
+
+-- the refusal, if there is one; else the next step
+abbrev pub unless : Option Refusal → Answer → Answer
+unless None next = next
+unless (Some refusal) next = refused refusal
+
+-- the next step with the number of the UPS of this name; `UNKNOWN-UPS` if there is none
+abbrev pub on_ups : Scene → List ℕ → (ℕ → Answer) → Answer
+on_ups s name next = require refusals.UnknownUps (ups_number s name) next
+
+-- the next step with the UPS u, if its driver is connected and its data are current; else the refusal that says which
+-- is not so
+abbrev pub on_data : Scene → ℕ → (Device → Answer) → Answer
+on_data s u next = unless (trouble s.configuration.max_age s.clock (device_at s u)) (next (device_at s u))
+
+-- the next step with the UPS of this name, after the two tests above
+abbrev pub on_device : Scene → List ℕ → (Device → Answer) → Answer
+on_device s name next = on_ups s name (λ u. on_data s u next)
+
+-- the next step with the variable of this name; `VAR-NOT-SUPPORTED` if the UPS has none
+abbrev pub on_variable : List ℕ → Device → (Entry → Answer) → Answer
+on_variable name d next = require refusals.VarNotSupported (variable d.table name) next
+
+-- the next step if the UPS has a command with this name; else `CMD-NOT-SUPPORTED`
+abbrev pub on_command : List ℕ → Device → Answer → Answer
+on_command name d next = check refusals.CmdNotSupported (has_command d.table name) next
+
+-- ---- rights
+
+-- whether there is such a user, this is the user's password, and the user has the right
+abbrev pub has_right : (User → Bool) → List ℕ → Option User → Bool
+has_right right password None = false
+has_right right password (Some user) = has_password password user && right user
+
+-- The next step of a request that changes something, with the number of the UPS. The tests in their order: the
+-- connection gave a user name, it gave a password, there is a UPS of this name, and there is such a user with this
+-- password and this right.
+abbrev pub with_right : Scene → Caller → (User → Bool) → List ℕ → (ℕ → Answer) → Answer
+with_right s k right name next =
+    require refusals.UsernameRequired k.user (λ user. require refusals.PasswordRequired k.password (λ password.
+    on_ups s name (λ u. check refusals.AccessDenied (has_right right password (user_named user s.configuration.users)) (next u))))
+
+-- whether this is the role `primary`
+abbrev pub is_primary : Option Role → Bool
+is_primary (Some roles.Primary) = true
+is_primary (Some roles.Secondary) = false
+is_primary None = false
+
+-- whether the user may log in: `upsmon primary` or `upsmon secondary`
+abbrev pub may_log_in : User → Bool
+may_log_in user = is_some user.role
+
+-- whether the user may be primary: `upsmon primary`
+abbrev pub may_be_primary : User → Bool
+may_be_primary user = is_primary user.role
+
+-- whether the user may force a shutdown: `upsmon primary` or `actions = FSD`
+abbrev pub may_force : User → Bool
+may_force user = is_primary user.role || may_act actions.Fsd user
+
+-- whether the user may set variables: `actions = SET`
+abbrev pub may_set : User → Bool
+may_set user = may_act actions.Set user
+
+-- ---- what clients see of a UPS
+
+-- the value that clients see of a variable: `ups.status` begins with `FSD ` if a shutdown of the UPS was forced
+abbrev pub shown : Device → Entry → List ℕ
+shown d v = if d.forced && bytes_eq v.name (codes "ups.status") then codes "FSD " ++ v.value else v.value
+
+-- Whether a list is empty.
+abbrev pub is_empty : {A : Type 0} → List A → Bool
+is_empty [] = true
+is_empty (x ∷ xs) = false
+
+-- The kind of a variable. If it has enum values it is an enum, else if it has ranges it is a range, else if it has the
+-- flag STRING it is a text of at most `aux` bytes, else it is a number.
+abbrev pub kind_of : Entry → VariableKind
+kind_of v =
+    if not (is_empty v.enums) then kinds.Enum else
+    if not (is_empty v.ranges) then kinds.Range else
+    if v.flags.string then kinds.String v.aux else kinds.Number
+
+-- whether a login is one to the UPS u
+abbrev pub is_logged_in : ℕ → Option ℕ → Bool
+is_logged_in u None = false
+is_logged_in u (Some v) = v == u
+
+-- the connections that are logged in to the UPS u
+abbrev pub guests_of : ℕ → List Guest → List Guest
+guests_of u guests = filter (λ g. is_logged_in u g.login) guests
+
+-- ---- GET and LIST
+
+-- the answer to GET VAR, and a row of LIST VAR
+abbrev pub var_row : List ℕ → Device → Entry → Reply
+var_row ups d v = replies.Var ups v.name (shown d v)
+
+-- a row of LIST RW
+abbrev pub rw_row : List ℕ → Device → Entry → Reply
+rw_row ups d v = replies.Rw ups v.name (shown d v)
+
+-- the answer to GET TYPE
+abbrev pub type_reply : List ℕ → Entry → Reply
+type_reply ups v = replies.Type ups v.name v.flags.writable (kind_of v)
+
+-- the answer to GET UPSDESC: `UNKNOWN-UPS` if there is no UPS of this name
+abbrev pub described : List ℕ → Option Ups → Answer
+described name None = refused refusals.UnknownUps
+described name (Some ups) = Line (replies.UpsDesc name ups.description)
+
+-- the answer to LIST
+abbrev pub list_answer : Scene → ListQuery → Answer
+list_answer s queries.Ups = Listing queries.Ups (map (λ ups. replies.Ups ups.name ups.description) s.configuration.upses)
+list_answer s (queries.Var ups) = on_device s ups (λ d. Listing (queries.Var ups) (map (var_row ups d) d.table.variables))
+list_answer s (queries.Rw ups) =
+    on_device s ups (λ d. Listing (queries.Rw ups) (map (rw_row ups d) (filter (λ v. v.flags.writable) d.table.variables)))
+list_answer s (queries.Cmd ups) = on_device s ups (λ d. Listing (queries.Cmd ups) (map (λ k. replies.Cmd ups k) d.table.commands))
+list_answer s (queries.Enum ups name) =
+    on_device s ups (λ d. on_variable name d (λ v. Listing (queries.Enum ups name) (map (λ x. replies.Enum ups name x) v.enums)))
+list_answer s (queries.Range ups name) =
+    on_device s ups (λ d. on_variable name d (λ v. Listing (queries.Range ups name) (map (λ r. replies.Range ups name r.minimum r.maximum) v.ranges)))
+list_answer s (queries.Client ups) =
+    on_ups s ups (λ u. on_data s u (λ d. Listing (queries.Client ups) (map (λ g. replies.Client ups g.address) (guests_of u s.guests))))
+
+-- ---- SET and INSTCMD
+
+-- whether the number is in the range; both ends belong to it
+abbrev pub is_in_range : ℤ → Range → Bool
+is_in_range n range = int_le range.minimum n && int_le n range.maximum
+
+-- whether there is a number and it is in one of the ranges
+abbrev pub is_in_ranges : Option ℤ → List Range → Bool
+is_in_ranges None ranges = false
+is_in_ranges (Some n) ranges = list_any (is_in_range n) ranges
+
+-- why a variable doesn't allow a value that isn't too long, by the kind of the variable
+abbrev pub misfit_by : VariableKind → Entry → List ℕ → Option Refusal
+misfit_by kinds.Enum v value = if lists_enum value v.enums then None else Some refusals.InvalidValue
+misfit_by kinds.Range v value = if is_in_ranges (whole_number value) v.ranges then None else Some refusals.InvalidValue
+misfit_by (kinds.String most) v value = if nat_lt most (length value) then Some refusals.TooLong else None
+misfit_by kinds.Number v value = None
+
+-- why a variable can't be set to a value: clients may not set it, the value has more than VALUE_MAX bytes, or the
+-- variable's kind doesn't allow it
+abbrev pub misfit : Entry → List ℕ → Option Refusal
+misfit v value =
+    if not v.flags.writable then Some refusals.ReadOnly else
+    if nat_lt VALUE_MAX (length value) then Some refusals.TooLong else misfit_by (kind_of v) v value
+
+-- `OK` if the request fits behind those that wait for the driver; else the refusal
+abbrev pub handed_on : Refusal → List ℕ → Device → Answer
+handed_on refusal line d = check refusal (fits line d) (Line replies.Accepted)
+
+-- the answer to SET VAR, after the tests of the user, the UPS and its data
+abbrev pub set_answer : Device → List ℕ → List ℕ → Answer
+set_answer d name value =
+    on_variable name d (λ v. unless (misfit v value) (handed_on refusals.SetFailed (ask_line (asks.Set name value)) d))
+
+-- the answer to INSTCMD, after the tests of the user, the UPS and its data
+abbrev pub command_answer : Device → List ℕ → Answer
+command_answer d name = on_command name d (handed_on refusals.InstCmdFailed (ask_line (asks.InstCmd name)) d)
+
+-- ---- all requests
+
+-- `OK` the first time a user name, or a password, is given; after that the refusal
+abbrev pub once : Refusal → Option (List ℕ) → Answer
+once refusal None = Line replies.Accepted
+once refusal (Some given) = refused refusal
+
+-- The answer to a request: the refusal of the first test that fails, or what was asked for.
+abbrev pub answer_request : Scene → Caller → Request → Answer
+answer_request s k (requests.GetNumLogins ups) = on_ups s ups (λ u. on_data s u (λ d. Line (replies.NumLogins ups (length (guests_of u s.guests)))))
+answer_request s k (requests.GetUpsDesc ups) = described ups (ups_named ups s.configuration.upses)
+answer_request s k (requests.GetVar ups name) = on_device s ups (λ d. on_variable name d (λ v. Line (var_row ups d v)))
+answer_request s k (requests.GetType ups name) = on_device s ups (λ d. on_variable name d (λ v. Line (type_reply ups v)))
+answer_request s k (requests.GetDesc ups name) = on_device s ups (λ d. on_variable name d (λ v. Line (replies.Desc ups name (variable_description s.configuration.variable_texts name))))
+answer_request s k (requests.GetCmdDesc ups name) = on_device s ups (λ d. on_command name d (Line (replies.CmdDesc ups name (command_description s.configuration.command_texts name))))
+answer_request s k (requests.List query) = list_answer s query
+answer_request s k (requests.SetVar ups name value) = with_right s k may_set ups (λ u. on_data s u (λ d. set_answer d name value))
+answer_request s k (requests.InstCmd ups name) = with_right s k (may_command name) ups (λ u. on_data s u (λ d. command_answer d name))
+answer_request s k (requests.Username name) = once refusals.AlreadySetUsername k.user
+answer_request s k (requests.Password password) = once refusals.AlreadySetPassword k.password
+answer_request s k (requests.Login ups) = with_right s k may_log_in ups (λ u. check refusals.AlreadyLoggedIn (is_none k.login) (Line replies.Accepted))
+answer_request s k (requests.Primary ups) = with_right s k may_be_primary ups (λ u. Line replies.Accepted)
+answer_request s k (requests.Fsd ups) = with_right s k may_force ups (λ u. Line replies.FsdSet)
+answer_request s k requests.Logout = Line replies.Goodbye
+answer_request s k requests.Ver = Line replies.Version
+answer_request s k requests.NetVer = Line replies.NetworkVersion
+answer_request s k requests.Help = Line replies.Commands
+answer_request s k requests.StartTls = refused refusals.FeatureNotConfigured
+
+-- the answer to a line: nothing to a blank one, and a refusal to one whose form is wrong
+abbrev pub answer : Scene → Caller → Command → Answer
+answer s k Blank = Silence
+answer s k (Malformed refusal) = refused refusal
+answer s k (Asks request) = answer_request s k request

@@ -1,0 +1,74 @@
+-- The content of a history: what a server has to know of it. If two histories have the same content, their next events
+-- are answered alike.
+use Rattle.std.specs.Prelude.{ℕ, Bool, List, map, take, drop, Option}
+use Rattle.nut_words.specs.Lines.{LineText, rest}
+use Rattle.nut_server_spec.specs.Configuration.{Configuration}
+use Rattle.nut_server_spec.specs.Device.{Device}
+use Rattle.nut_server_spec.specs.Event.{Event, input, taken, driver_input, steps}
+use Rattle.nut_server_spec.specs.Trace.{Entry, configuration, clock, opened, open_numbers, address, user, password, login, logged_out, due, device, ups_numbers, trace}
+
+-- An open connection: what it said of itself, its unfinished line, and the bytes that wait for it.
+pub record Session : Type 0 where
+  pub number : ℕ
+  pub address : List ℕ
+  pub user : Option (List ℕ)
+  pub password : Option (List ℕ)
+  pub login : Option ℕ
+  pub logged_out : Bool
+  pub rest : LineText
+  pub waits : List ℕ
+
+-- A UPS: what its driver told, and the driver's unfinished line.
+pub record Supply : Type 0 where
+  pub device : Device
+  pub rest : LineText
+
+-- `opened` is the number of connections opened so far. `sessions` are the open ones, by rising number. `supplies` are
+-- the UPSes, in the order of their numbers.
+pub record Content : Type 0 where
+  pub configuration : Configuration
+  pub clock : ℕ
+  pub opened : ℕ
+  pub sessions : List Session
+  pub supplies : List Supply
+
+-- the past of a history: its steps, each with its answer and its requests to drivers
+abbrev pub past : Configuration → List Event → List Entry
+past first h = trace first (steps h)
+
+-- The bytes that c was sent: the first of the answers due, as many bytes as it took. The law `sent_is_received` says
+-- that it took these bytes.
+abbrev pub sent : Configuration → ℕ → List Event → List ℕ
+sent first c h = take (taken c h) (due c (past first h))
+
+-- The bytes that wait for c: the answers due, without the bytes that it took. Used of open connections only: nothing
+-- waits for a closed one.
+abbrev pub waits : Configuration → ℕ → List Event → List ℕ
+waits first c h = drop (taken c h) (due c (past first h))
+
+-- what the history h says about the connection c
+abbrev pub session : Configuration → List Event → ℕ → Session
+session first h c = record {
+  number = c;
+  address = address c (past first h);
+  user = user c (past first h);
+  password = password c (past first h);
+  login = login first c (past first h);
+  logged_out = logged_out c (past first h);
+  rest = rest (input c h);
+  waits = waits first c h;
+}
+
+-- what the history h says about the UPS u
+abbrev pub supply : Configuration → List Event → ℕ → Supply
+supply first h u = record { device = device first (past first h) u; rest = rest (driver_input u h) }
+
+-- the content of a server that was made with the configuration `first` and told the history h
+abbrev pub content : Configuration → List Event → Content
+content first h = record {
+  configuration = configuration first (past first h);
+  clock = clock (past first h);
+  opened = opened (past first h);
+  sessions = map (session first h) (open_numbers (past first h));
+  supplies = map (supply first h) (ups_numbers first (past first h));
+}

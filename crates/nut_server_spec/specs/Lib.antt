@@ -1,0 +1,14 @@
+pub mod Configuration
+pub mod Command
+pub mod Event
+pub mod Device
+pub mod Answer
+pub mod Effect
+pub mod Trace
+pub mod Content
+pub mod Acceptance
+pub mod Outcome
+pub mod MachineOutcome
+pub mod machine
+pub mod laws
+pub mod examples

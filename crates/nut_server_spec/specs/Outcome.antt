@@ -1,0 +1,118 @@
+-- How a server may answer an event, and what the history is after the answer.
+use Rattle.std.specs.Prelude.{◌≡◌, ℕ, Bool, true, false, not, ◌&&◌, ◌||◌, IsTrue, List, [], ◌∷◌, slice_get, Option, Some, None, Result, Ok, Err}
+use Rattle.std.specs.Option.{option_map_or}
+use Rattle.nut_words.specs.Lines.{LineText, Text, TooLong, lines_after}
+use Rattle.nut_words.specs.Reader.{has_backslash}
+use Rattle.nut_state.specs.Table.{Table}
+use Rattle.nut_state.specs.Step.{line_adds}
+use Rattle.nut_server_spec.specs.declared.Place.{Place}
+use Rattle.nut_server_spec.specs.declared.Place.TheVariants.{Line, Report}
+use Rattle.nut_server_spec.specs.declared.Refused.{Refused}
+use Rattle.nut_server_spec.specs.declared.Refused.TheVariants.{NoSuchConnection, NotConnected, PieceTooLong, Busy, TooMuchTaken, BadAddress, Full, Memory}
+use Rattle.nut_server_spec.specs.Command.{Command, Blank, Malformed, Asks, command_of}
+use Rattle.nut_server_spec.specs.Event.{Event, Bytes, DriverBytes}
+use Rattle.nut_server_spec.specs.Configuration.{Configuration}
+use Rattle.nut_server_spec.specs.Content.{Session, Supply, content}
+use Rattle.nut_server_spec.specs.Acceptance.{refusal, behind, behind_report, lost, lost_report, session_of, supply_of}
+
+-- ---- where memory may run out
+
+-- whether a line says nothing
+abbrev pub is_blank : Command → Bool
+is_blank Blank = true
+is_blank (Malformed refusal) = false
+is_blank (Asks request) = false
+
+-- whether a line holds a backslash; one that is too long counts as holding none
+abbrev pub with_backslash : LineText → Bool
+with_backslash (Text line) = has_backslash line
+with_backslash TooLong = false
+
+-- Whether a client's line may allocate memory: the connection is open, hasn't logged out, and the line isn't blank or
+-- holds a backslash.
+abbrev pub line_takes : LineText → Option Session → Bool
+line_takes line None = false
+line_takes line (Some k) = not k.logged_out && (not (is_blank (command_of line)) || with_backslash line)
+
+-- Whether a driver's line may allocate memory: it adds a variable, an enum value, a range or a command to the table, or
+-- holds a backslash.
+abbrev pub text_takes : LineText → Table → Bool
+text_takes (Text line) table = has_backslash line || line_adds table line
+text_takes TooLong table = false
+
+-- whether a driver's line may allocate memory, given the UPS
+abbrev pub report_takes : LineText → Option Supply → Bool
+report_takes line None = false
+report_takes line (Some d) = text_takes line d.device.table
+
+-- the unfinished line of a connection: empty if it isn't open
+abbrev pub unfinished_of : Option Session → LineText
+unfinished_of None = Text []
+unfinished_of (Some k) = k.rest
+
+-- the unfinished line of a driver: empty if there is no such UPS
+abbrev pub unfinished_report : Option Supply → LineText
+unfinished_report None = Text []
+unfinished_report (Some d) = d.rest
+
+-- the session of c, and the UPS u, as the history h says them
+abbrev pub session_in : Configuration → List Event → ℕ → Option Session
+session_in first h c = session_of c (content first h).sessions
+
+abbrev pub supply_in : Configuration → List Event → ℕ → Option Supply
+supply_in first h u = supply_of u (content first h).supplies
+
+-- The line with the number k, counted from 0, of those that a piece completes may take memory, behind the lines before it:
+-- a piece of c, and one of the driver of u.
+abbrev pub MayRunOut : Configuration → List Event → ℕ → List ℕ → ℕ → Type 0
+MayRunOut first h c piece k =
+    let lines : List LineText = lines_after (unfinished_of (session_in first h c)) piece in
+    IsTrue (option_map_or (λ line. line_takes line (session_in first (behind c piece k h) c)) (slice_get lines k) false)
+
+abbrev pub MayRunOutOf : Configuration → List Event → ℕ → List ℕ → ℕ → Type 0
+MayRunOutOf first h u piece k =
+    let lines : List LineText = lines_after (unfinished_report (supply_in first h u)) piece in
+    IsTrue (option_map_or (λ line. report_takes line (supply_in first (behind_report u piece k h) u)) (slice_get lines k) false)
+
+-- Memory can run out only in a piece, at a line that it completes and that may allocate memory. The k lines before it
+-- were done. No other event allocates memory.
+abbrev pub MayLack : Configuration → List Event → Place → Event → Type 0
+MayLack first h (Line c k) (Bytes d piece) = (c ≡ d) × MayRunOut first h d piece k
+MayLack first h (Report u k) (DriverBytes v piece) = (u ≡ v) × MayRunOutOf first h v piece k
+MayLack first h place e = ⊥
+
+-- A server that was told the history h may answer so: a refusal names the first test that refuses the event, and memory
+-- is lacking only where no test does.
+abbrev pub IsRefusal : Configuration → List Event → Event → Refused → Type 0
+IsRefusal first h e (Memory place) = (refusal (content first h) e ≡ None) × MayLack first h place e
+IsRefusal first h e NoSuchConnection = refusal (content first h) e ≡ Some NoSuchConnection
+IsRefusal first h e NotConnected = refusal (content first h) e ≡ Some NotConnected
+IsRefusal first h e PieceTooLong = refusal (content first h) e ≡ Some PieceTooLong
+IsRefusal first h e Busy = refusal (content first h) e ≡ Some Busy
+IsRefusal first h e TooMuchTaken = refusal (content first h) e ≡ Some TooMuchTaken
+IsRefusal first h e BadAddress = refusal (content first h) e ≡ Some BadAddress
+IsRefusal first h e Full = refusal (content first h) e ≡ Some Full
+
+-- A server that was told the history h may answer the event by this result.
+abbrev pub IsAnswer : {U : Type 0} → Configuration → List Event → Event → Result U Refused → Type 0
+IsAnswer first h e (Ok u) = refusal (content first h) e ≡ None
+IsAnswer first h e (Err r) = IsRefusal first h e r
+
+-- ---- what an answer leads to
+
+-- The history after memory ran out in a piece: its lines that were done, and then the connection is closed or the
+-- driver disconnected.
+abbrev pub after_lack : Place → Event → List Event → List Event
+after_lack (Line c k) (Bytes d piece) h = lost d piece k h
+after_lack (Report u k) (DriverBytes v piece) h = lost_report v piece k h
+after_lack place e h = h
+
+-- the history after a refusal: only a lack of memory changes it
+abbrev pub after_refusal : Refused → Event → List Event → List Event
+after_refusal (Memory place) e h = after_lack place e h
+after_refusal r e h = h
+
+-- the history after an event and the answer to it
+abbrev pub after : {U : Type 0} → Result U Refused → Event → List Event → List Event
+after (Ok u) e h = e ∷ h
+after (Err r) e h = after_refusal r e h

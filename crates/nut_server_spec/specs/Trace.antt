@@ -1,0 +1,294 @@
+-- The past: each step with its answer and its requests to drivers, the newest first, and what the past says. Each
+-- function here finds the newest entry that decides a value; all other entries leave the value as it was.
+use Rattle.std.specs.Prelude.{ℕ, zero, suc, ◌==◌, ◌+◌, max, Bool, true, false, not, if◌then◌else◌, List, [], ◌∷◌, ◌++◌, length, map, filter, take, drop, Option, Some, None, is_some}
+use Rattle.nut_words.specs.Lines.{LineText, Text, TooLong}
+use Rattle.nut_state.specs.Change.{heard}
+use Rattle.nut_state.specs.Step.{table_of}
+use Rattle.nut_proto.specs.declared.driver_ask.DriverAsk.TheVariants.{Ping, DumpAll}
+use Rattle.nut_proto.specs.DriverAsks.{ask_line}
+use Rattle.nut_server_spec.specs.Configuration.{Configuration}
+use Rattle.nut_server_spec.specs.Command.{Command, command_of}
+use Rattle.nut_server_spec.specs.Event.{Step, Clock, Opened, Said, Gone, Up, Reported, Drained, Down}
+use Rattle.nut_server_spec.specs.Device.{Device, needs_ping}
+use Rattle.nut_server_spec.specs.Answer.{Answer, Silence, Scene, Caller, Guest, answer}
+use Rattle.nut_server_spec.specs.Effect.{user_then, password_then, login_then, logged_out_then, due_then, target, forced_then, request_of, at_target}
+
+-- A step, the answer to it, and its request to the driver of each UPS, by the number of the UPS. The answer to a step
+-- that is no line of a client is silence.
+pub record Entry : Type 0 where
+  pub step : Step
+  pub answer : Answer
+  pub asks : ℕ → Option (List ℕ)
+
+-- ---- the server
+
+-- the configuration after a step, which never changes it
+abbrev pub reconfigured : Step → Configuration → Configuration
+reconfigured step before = before
+
+-- the configuration after this past, if the server was made with `first`
+abbrev pub configuration : Configuration → List Entry → Configuration
+configuration first [] = first
+configuration first (e ∷ past) = reconfigured e.step (configuration first past)
+
+-- the time after a step: the greatest moment so far
+abbrev pub clock_after : Step → ℕ → ℕ
+clock_after (Clock t) before = max before t
+clock_after step before = before
+
+-- the time: the greatest moment so far, or 0 before any
+abbrev pub clock : List Entry → ℕ
+clock [] = 0
+clock (e ∷ past) = clock_after e.step (clock past)
+
+-- how many connections have been opened after a step, if n had been before it
+abbrev pub opened_after : Step → ℕ → ℕ
+opened_after (Opened address) n = n + 1
+opened_after step n = n
+
+-- how many connections have been opened; the newest has this number
+abbrev pub opened : List Entry → ℕ
+opened [] = 0
+opened (e ∷ past) = opened_after e.step (opened past)
+
+-- the numbers of the open connections after a step, if n connections had been opened before it
+abbrev pub numbers_after : Step → ℕ → List ℕ → List ℕ
+numbers_after (Opened address) n numbers = numbers ++ (n + 1) ∷ []
+numbers_after (Gone c) n numbers = filter (λ d. not (d == c)) numbers
+numbers_after step n numbers = numbers
+
+-- the numbers of the open connections, rising
+abbrev pub open_numbers : List Entry → List ℕ
+open_numbers [] = []
+open_numbers (e ∷ past) = numbers_after e.step (opened past) (open_numbers past)
+
+-- ---- a connection
+
+-- the address of c after a step, if n connections had been opened before it
+abbrev pub address_after : ℕ → Step → ℕ → List ℕ → List ℕ
+address_after c (Opened address) n before = if n + 1 == c then address else before
+address_after c step n before = before
+
+-- the address that c was opened from
+abbrev pub address : ℕ → List Entry → List ℕ
+address c [] = []
+address c (e ∷ past) = address_after c e.step (opened past) (address c past)
+
+-- A value of c after a step: if the step is a line of c, `change` applied to the line's command, its answer and the
+-- value before; else the value before.
+abbrev pub after_line : {A : Type 0} → (Command → Answer → A → A) → ℕ → Step → Answer → A → A
+after_line change c (Said d line) reply before = if d == c then change (command_of line) reply before else before
+after_line change c step reply before = before
+
+-- the user name that c gave
+abbrev pub user : ℕ → List Entry → Option (List ℕ)
+user c [] = None
+user c (e ∷ past) = after_line user_then c e.step e.answer (user c past)
+
+-- the password that c gave
+abbrev pub password : ℕ → List Entry → Option (List ℕ)
+password c [] = None
+password c (e ∷ past) = after_line password_then c e.step e.answer (password c past)
+
+-- the UPS that c is logged in to
+abbrev pub login : Configuration → ℕ → List Entry → Option ℕ
+login first c [] = None
+login first c (e ∷ past) = after_line (login_then (configuration first past)) c e.step e.answer (login first c past)
+
+-- whether c has logged out
+abbrev pub logged_out : ℕ → List Entry → Bool
+logged_out c [] = false
+logged_out c (e ∷ past) = after_line logged_out_then c e.step e.answer (logged_out c past)
+
+-- the answers to the lines of c, joined: all bytes due to it
+abbrev pub due : ℕ → List Entry → List ℕ
+due c [] = []
+due c (e ∷ past) = after_line due_then c e.step e.answer (due c past)
+
+-- ---- a UPS and its driver
+
+-- whether the driver of u is connected after a step
+abbrev pub connected_after : ℕ → Step → Bool → Bool
+connected_after u (Up v) before = if v == u then true else before
+connected_after u (Down v) before = if v == u then false else before
+connected_after u step before = before
+
+-- whether the driver of u is connected
+abbrev pub connected : ℕ → List Entry → Bool
+connected u [] = false
+connected u (e ∷ past) = connected_after u e.step (connected u past)
+
+-- the lines of a driver, the newest first, with one more; a line that is too long isn't added
+abbrev pub reported : LineText → List (List ℕ) → List (List ℕ)
+reported (Text line) before = line ∷ before
+reported TooLong before = before
+
+-- the lines of the driver of u after a step, the newest first
+abbrev pub reports_after : ℕ → Step → List (List ℕ) → List (List ℕ)
+reports_after u (Up v) before = if v == u then [] else before
+reports_after u (Reported v line) before = if v == u then reported line before else before
+reports_after u step before = before
+
+-- the lines of the driver of u since it was last connected, the newest first
+abbrev pub reports : ℕ → List Entry → List (List ℕ)
+reports u [] = []
+reports u (e ∷ past) = reports_after u e.step (reports u past)
+
+-- whether a driver's line is heard: it reads as words, its first word is known, and it has as many words as that word
+-- takes
+abbrev pub is_heard : LineText → Bool
+is_heard (Text line) = is_some (heard line)
+is_heard TooLong = false
+
+-- the moment at which a line of the driver of u was last heard or it was connected, after a step
+abbrev pub heard_after : ℕ → Step → ℕ → ℕ → ℕ
+heard_after u (Up v) time before = if v == u then time else before
+heard_after u (Reported v line) time before = if v == u then (if is_heard line then time else before) else before
+heard_after u step time before = before
+
+-- the moment at which a line of the driver of u was last heard or it was connected, 0 before any
+abbrev pub heard_at : ℕ → List Entry → ℕ
+heard_at u [] = 0
+heard_at u (e ∷ past) = heard_after u e.step (clock past) (heard_at u past)
+
+-- the moment of the last PING: `time` if a PING is sent at it, else the moment before
+abbrev pub pinged_then : Option (List ℕ) → ℕ → Option ℕ → Option ℕ
+pinged_then None time before = before
+pinged_then (Some line) time before = Some time
+
+-- the moment of the last PING to the driver of u since it was connected, after a step
+abbrev pub pinged_after : ℕ → Step → Option (List ℕ) → ℕ → Option ℕ → Option ℕ
+pinged_after u (Up v) asked time before = if v == u then None else before
+pinged_after u (Clock t) asked time before = pinged_then asked (max time t) before
+pinged_after u step asked time before = before
+
+-- the moment of the last PING to the driver of u since it was connected, if there was one
+abbrev pub pinged_at : ℕ → List Entry → Option ℕ
+pinged_at u [] = None
+pinged_at u (e ∷ past) = pinged_after u e.step (e.asks u) (clock past) (pinged_at u past)
+
+-- whether a shutdown of u was forced, after a step: its FSD was answered `OK FSD-SET`
+abbrev pub forced_after : Configuration → ℕ → Step → Answer → Bool → Bool
+forced_after configuration u (Said c line) reply before =
+    at_target u (target configuration (command_of line)) (forced_then (command_of line) reply) before
+forced_after configuration u step reply before = before
+
+-- whether a shutdown of u was forced
+abbrev pub forced : Configuration → ℕ → List Entry → Bool
+forced first u [] = false
+forced first u (e ∷ past) = forced_after (configuration first past) u e.step e.answer (forced first u past)
+
+-- A value of the driver of u since it was connected: `start` when it is connected, else the value before.
+abbrev pub since_up : {A : Type 0} → A → ℕ → Step → A → A
+since_up start u (Up v) before = if v == u then start else before
+since_up start u step before = before
+
+-- the requests so far, and a further one at their end
+abbrev pub with_request : Option (List ℕ) → List ℕ → List ℕ
+with_request None before = before
+with_request (Some line) before = before ++ line
+
+-- all requests to the driver of u since it was connected, joined
+abbrev pub driver_due : ℕ → List Entry → List ℕ
+driver_due u [] = []
+driver_due u (e ∷ past) = with_request (e.asks u) (since_up [] u e.step (driver_due u past))
+
+-- how many bytes of them the driver of u has taken, after a step
+abbrev pub drained_after : ℕ → Step → ℕ → ℕ
+drained_after u (Up v) before = if v == u then 0 else before
+drained_after u (Drained v n) before = if v == u then before + n else before
+drained_after u step before = before
+
+-- how many bytes of these requests the driver of u has taken
+abbrev pub driver_taken : ℕ → List Entry → ℕ
+driver_taken u [] = 0
+driver_taken u (e ∷ past) = drained_after u e.step (driver_taken u past)
+
+-- the bytes that the driver of u was sent since it was connected: the first of the requests due, as many bytes as it
+-- took
+abbrev pub driver_sent : ℕ → List Entry → List ℕ
+driver_sent u past = take (driver_taken u past) (driver_due u past)
+
+-- the bytes that wait for the driver of u: the rest of the requests due, or none if it isn't connected
+abbrev pub driver_waits : ℕ → List Entry → List ℕ
+driver_waits u past = if connected u past then drop (driver_taken u past) (driver_due u past) else []
+
+-- The UPS u after this past. Its table is what the driver's lines lead to, step by step. The law `every_table_holds` of
+-- nut_state says what this table holds by looking back over the lines.
+abbrev pub device : Configuration → List Entry → ℕ → Device
+device first past u = record {
+  connected = connected u past;
+  table = table_of (reports u past);
+  heard_at = heard_at u past;
+  pinged_at = pinged_at u past;
+  forced = forced first u past;
+  waits = driver_waits u past;
+}
+
+-- ---- answers
+
+-- the numbers less than n, rising
+abbrev pub below : ℕ → List ℕ
+below zero = []
+below (suc n) = below n ++ n ∷ []
+
+-- the numbers of the UPSes
+abbrev pub ups_numbers : Configuration → List Entry → List ℕ
+ups_numbers first past = below (length (configuration first past).upses)
+
+-- what the server knows of the connection c when a line is answered
+abbrev pub guest : Configuration → List Entry → ℕ → Guest
+guest first past c = record { address = address c past; login = login first c past }
+
+-- what the server knows when it answers a line after this past
+abbrev pub scene : Configuration → List Entry → Scene
+scene first past = record {
+  configuration = configuration first past;
+  clock = clock past;
+  devices = map (device first past) (ups_numbers first past);
+  guests = map (guest first past) (open_numbers past);
+}
+
+-- what the server knows of the connection c when it answers a line of c
+abbrev pub caller : Configuration → List Entry → ℕ → Caller
+caller first past c = record { user = user c past; password = password c past; login = login first c past }
+
+-- the answer to a line of c after this past: silence if c has logged out
+abbrev pub answer_to : Configuration → List Entry → ℕ → LineText → Answer
+answer_to first past c line =
+    if logged_out c past then Silence else answer (scene first past) (caller first past c) (command_of line)
+
+-- the answer to a step after this past
+abbrev pub answer_at : Configuration → List Entry → Step → Answer
+answer_at first past (Said c line) = answer_to first past c line
+answer_at first past step = Silence
+
+-- PING, if it is needed
+abbrev pub ping : Bool → Option (List ℕ)
+ping needed = if needed then Some (ask_line Ping) else None
+
+-- a request, if it is for the driver of u
+abbrev pub request_for : ℕ → Option ℕ → Option (List ℕ) → Option (List ℕ)
+request_for u None request = None
+request_for u (Some v) request = if v == u then request else None
+
+-- The request of a step to the driver of u: PING at a moment if it is needed, DUMPALL when the driver is connected, and
+-- the SET or INSTCMD of a client's line.
+abbrev pub asks_at : Configuration → List Entry → Step → ℕ → Option (List ℕ)
+asks_at first past (Clock t) u =
+    ping (needs_ping (configuration first past).max_age (max (clock past) t) (device first past u))
+asks_at first past (Up v) u = if v == u then Some (ask_line DumpAll) else None
+asks_at first past (Said c line) u =
+    request_for u (target (configuration first past) (command_of line)) (request_of (command_of line) (answer_to first past c line))
+asks_at first past step u = None
+
+-- The past that these steps lead to, if the server was made with `first`: each step with its answer and its requests,
+-- which depend on the past before it.
+abbrev pub trace : Configuration → List Step → List Entry
+trace first [] = []
+trace first (s ∷ steps) =
+    record {
+      step = s;
+      answer = answer_at first (trace first steps) s;
+      asks = asks_at first (trace first steps) s;
+    } ∷ trace first steps

@@ -1,0 +1,55 @@
+-- How long an answer may be, and how many bytes may wait for a client, if the configuration is within the limits of its
+-- files.
+use Rattle.std.specs.Prelude.{◌≡◌, ℕ, ◌≤◌, true, List, length, Some}
+use Rattle.std.specs.List.{AllByRecursion}
+use Rattle.nut_conf.specs.declared.limits.TheConstants.{CONNECTIONS_MAX, DESCRIPTION_MAX, UPSES_MAX}
+use Rattle.nut_words.specs.Lines.{LineText}
+use Rattle.nut_words.specs.Name.{is_name}
+use Rattle.nut_words.specs.declared.limits.TheConstants.{UPS_NAME_MAX}
+use Rattle.nut_server_spec.specs.Configuration.{Configuration, Ups}
+use Rattle.nut_server_spec.specs.Event.{Event}
+use Rattle.nut_server_spec.specs.Answer.{text_of}
+use Rattle.nut_server_spec.specs.Trace.{answer_to}
+use Rattle.nut_server_spec.specs.Content.{Session, content, past}
+use Rattle.nut_server_spec.specs.Acceptance.{IsAccepted, session_of}
+
+-- a UPS has a name of at most UPS_NAME_MAX bytes, and a description of at most DESCRIPTION_MAX
+pub record IsUpsWithin (ups : Ups) : Type 0 where
+  pub name : is_name UPS_NAME_MAX ups.name ≡ true
+  pub description : length ups.description ≤ DESCRIPTION_MAX
+
+-- a name's text has at most 128 bytes
+abbrev pub IsTextWithin : List ℕ × List ℕ → Type 0
+IsTextWithin row = length row.1 ≤ 128
+
+-- At most UPSES_MAX UPSes, and at most CONNECTIONS_MAX connections at once: so much the files may hold.
+pub record IsWithin (configuration : Configuration) : Type 0 where
+  pub upses : length configuration.upses ≤ UPSES_MAX
+  pub each_ups : AllByRecursion IsUpsWithin configuration.upses
+  pub connections : configuration.most_connections ≤ CONNECTIONS_MAX
+  pub variable_texts : AllByRecursion IsTextWithin configuration.variable_texts
+  pub command_texts : AllByRecursion IsTextWithin configuration.command_texts
+
+-- the longest answer to one line, a LIST VAR of VARIABLES_MAX variables
+abbrev pub longest_answer : ℕ
+longest_answer = 184_930
+
+-- No answer to one line has more bytes: not the answers given in a history of accepted events, and not the answer to a
+-- further line of any connection.
+pub record AnswersAreBounded : Type 0 where
+  pub given :
+      (first : Configuration) (h : List Event) → IsWithin first → IsAccepted first h →
+      AllByRecursion (λ e. length (text_of e.answer) ≤ longest_answer) (past first h)
+  pub coming :
+      (first : Configuration) (h : List Event) (c : ℕ) (line : LineText) → IsWithin first → IsAccepted first h →
+      length (text_of (answer_to first (past first h) c line)) ≤ longest_answer
+
+-- A piece ends at most half as many lines that are answered as it has bytes. So many longest answers may wait for a client.
+abbrev pub most_waits : ℕ
+most_waits = 47_342_080
+
+-- In every history of accepted events, at most this many bytes wait for each client.
+abbrev pub WaitsAreBounded : Type 0
+WaitsAreBounded =
+    (first : Configuration) (h : List Event) → IsWithin first → IsAccepted first h →
+    (c : ℕ) (k : Session) → session_of c (content first h).sessions ≡ Some k → length k.waits ≤ most_waits

@@ -1,0 +1,200 @@
+//! What a server of UPSes is told and what it answers: the definitions, and the laws that connect the machine of a
+//! server with the histories of what it was told.
+#![tactic(auto)]
+
+ghost use Rattle.nut_server_spec.specs.machine.Machine.{KeepsContent};
+ghost use Rattle.nut_server_spec.specs.examples.Examples.{ConnectionExamples};
+ghost use Rattle.nut_server_spec.specs.examples.DriverExamples.{DriverExamples, EdgeExamples, UserExamples};
+ghost use Rattle.nut_server_spec.specs.laws.Laws.{AnswersKeepContent, BoundsHold, ClosedStaysClosed, ConnectionsAreFew, CutsAndWritesDoNotMatter, CutsDoNotMatter, DriverCutsAndWritesDoNotMatter, DriverCutsDoNotMatter, DriverSentAndWaitingIsDue, DriverSentIsReceived, LogoutIsFinal, NumbersRise, OpenedIsFresh, OtherDriversStay, OthersStay, SameStepsSameAnswers, SentAndWaitingIsDue, SentIsFrontOfDue, SentIsReceived, WaitsForOnePiece};
+ghost use Rattle.nut_server_spec.specs.laws.Limits.{AnswersAreBounded, WaitsAreBounded};
+
+mod limits;
+
+pub use limits::{ADDRESS_MAX, OPENED_MAX, connection_limits};
+use nut_state::every_table_holds;
+use thiserror::Error;
+
+/// The line at which memory could not be allocated.
+#[derive(Clone, Copy, Debug, PartialEq, Eq)]
+pub enum Place {
+    /// `Line(c, k)`: in a piece of connection `c`, at the line after the first `k` lines of the piece. Those lines stay
+    /// answered. The line itself left no trace, and the connection is closed.
+    Line(u64, usize),
+    /// `Report(u, k)`: in a piece of the driver of UPS `u`, at the line after the first `k` lines of the piece. What
+    /// those lines said stays. The line itself left no trace, and the driver counts as disconnected.
+    Report(usize, usize),
+}
+
+/// Why an event is refused. Only `Memory` changes anything.
+#[derive(Clone, Copy, Debug, PartialEq, Eq, Error)]
+pub enum Refused {
+    /// No connection with this number is open.
+    #[error("no such connection")]
+    NoSuchConnection,
+    /// No UPS has this number, or the event needs its driver to be connected and it isn't.
+    #[error("the driver isn't connected")]
+    NotConnected,
+    /// The piece has more than [`PIECE_MAX`](nut_words::PIECE_MAX) bytes.
+    #[error("the piece is too long")]
+    PieceTooLong,
+    /// Bytes wait for the connection. It has to take them first.
+    #[error("answers wait")]
+    Busy,
+    /// More bytes were taken than wait.
+    #[error("more was taken than waits")]
+    TooMuchTaken,
+    /// The address isn't one of 1 to [`ADDRESS_MAX`] bytes that may stand in a bare word.
+    #[error("not an address")]
+    BadAddress,
+    /// As many connections are open as may be, or [`OPENED_MAX`] were opened.
+    #[error("too many connections")]
+    Full,
+    /// Memory cannot be allocated at this line.
+    #[error("out of memory")]
+    Memory(Place),
+}
+
+/// States a law and does nothing when called: the machine that a server runs keeps the content of every history of
+/// accepted events.
+pub fn machine_keeps_content()
+    ensures { KeepsContent }
+{}
+
+/// States a law and does nothing when called: a connection's bytes lead to the same content whether they come as one
+/// piece or cut into two.
+pub fn cuts_do_not_matter()
+    ensures { CutsDoNotMatter }
+{}
+
+/// States a law and does nothing when called: a driver's bytes lead to the same content whether they come as one piece
+/// or cut into two.
+pub fn driver_cuts_do_not_matter()
+    ensures { DriverCutsDoNotMatter }
+{}
+
+/// States a law and does nothing when called: if two histories have the same steps, connections get the same answers in
+/// both, and drivers the same requests.
+pub fn same_steps_same_answers()
+    ensures { SameStepsSameAnswers }
+{}
+
+/// States a law and does nothing when called: however the bytes of a connection are cut, and whatever connections take
+/// between the pieces, the steps are those of all the bytes in one piece. So the answers are, too.
+pub fn cuts_and_writes_do_not_matter()
+    ensures { CutsAndWritesDoNotMatter }
+{}
+
+/// States a law and does nothing when called: however the bytes of a driver are cut, and whatever drivers take between
+/// the pieces, the result is that of all the bytes in one piece. This holds of what is known of each UPS, of the
+/// requests to each driver, and of the answers to each connection.
+pub fn driver_cuts_and_writes_do_not_matter()
+    ensures { DriverCutsAndWritesDoNotMatter }
+{}
+
+/// States a law and does nothing when called: a piece of a connection that has logged out gets no answer and sends no
+/// request to a driver. It changes only what is kept of the connection's unfinished line.
+pub fn logout_is_final()
+    ensures { LogoutIsFinal }
+{}
+
+/// States a law and does nothing when called: after any answer that a server may give to an event, what it holds is the
+/// content of the history after that answer.
+pub fn answers_keep_content()
+    ensures { AnswersKeepContent }
+{}
+
+/// States a law and does nothing when called: the numbers of the open connections rise, from at least 1 to at most the
+/// number of connections opened so far.
+pub fn numbers_rise()
+    ensures { NumbersRise }
+{}
+
+/// States a law and does nothing when called: what a connection was sent is what it took, piece by piece, of the bytes
+/// that waited for it.
+pub fn sent_is_received()
+    ensures { SentIsReceived }
+{}
+
+/// States a law and does nothing when called: what an open connection was sent, followed by what waits for it, is the
+/// answers to its lines, joined.
+pub fn sent_and_waiting_is_due()
+    ensures { SentAndWaitingIsDue }
+{}
+
+/// States a law and does nothing when called: the answers to a connection's lines begin with what it was sent, also
+/// after it is closed.
+pub fn sent_is_front_of_due()
+    ensures { SentIsFrontOfDue }
+{}
+
+/// States a law and does nothing when called: what a driver was sent since it was connected is what it took, piece by
+/// piece, of the bytes that waited for it.
+pub fn driver_sent_is_received()
+    ensures { DriverSentIsReceived }
+{}
+
+/// States a law and does nothing when called: what a connected driver was sent, followed by what waits for it, is the
+/// requests to it since it was connected, joined.
+pub fn driver_sent_and_waiting_is_due()
+    ensures { DriverSentAndWaitingIsDue }
+{}
+
+/// States a law and does nothing when called: an accepted event changes no connection except its own.
+pub fn others_stay()
+    ensures { OthersStay }
+{}
+
+/// States a law and does nothing when called: an accepted event of a driver changes no UPS except its own.
+pub fn other_drivers_stay()
+    ensures { OtherDriversStay }
+{}
+
+/// States a law and does nothing when called: a new connection has said nothing, and nothing waits for it.
+pub fn opened_is_fresh()
+    ensures { OpenedIsFresh }
+{}
+
+/// States a law and does nothing when called: a connection that was opened and closed isn't opened again.
+pub fn closed_stays_closed()
+    ensures { ClosedStaysClosed }
+{}
+
+/// States a law and does nothing when called: at most 512 bytes of an unfinished line are kept, and at most 4,096 bytes
+/// wait for a driver.
+pub fn bounds_hold()
+    ensures { BoundsHold }
+{}
+
+/// No more connections are open than the configuration allows, and no more were opened than [`OPENED_MAX`].
+pub fn connections_are_few()
+    ensures { ConnectionsAreFew }
+{}
+
+/// Where the configuration is within the limits that its files have, no answer to one line is longer than 184,930 bytes:
+/// that to a LIST VAR of as many variables as a table holds.
+pub fn answers_are_bounded()
+    ensures { AnswersAreBounded }
+{
+    every_table_holds();
+}
+
+/// States a law and does nothing when called: what waits for a client is the end of the answers to its newest piece.
+pub fn waits_for_one_piece()
+    ensures { WaitsForOnePiece }
+{}
+
+/// States a law and does nothing when called: if the configuration is within the limits of its files, at most
+/// 47,342,080 bytes wait for a client. These are the answers to 256 lines of one piece, each of at most 184,930 bytes.
+pub fn waits_are_bounded()
+    ensures { WaitsAreBounded }
+{
+    every_table_holds();
+}
+
+/// States worked examples and does nothing when called: the answers in some histories, computed from the definitions.
+pub fn worked_examples()
+    ensures connections { ConnectionExamples }
+    ensures drivers { DriverExamples }
+    ensures edges { EdgeExamples }
+    ensures users { UserExamples }
+{}

@@ -1,0 +1,13 @@
+//! How many connections a server counts, and how long their addresses are: this project's own limits.
+ghost use Rattle.std.specs.Prelude.{◌≡◌};
+
+/// The greatest number of connections that a server opens in its life, and so the greatest number of a connection.
+pub const OPENED_MAX: u64 = 4_294_967_295;
+/// The greatest length of a client's address in bytes.
+pub const ADDRESS_MAX: usize = 64;
+
+/// A law, with nothing to run: which numbers the limits are that the definitions name.
+pub fn connection_limits()
+    ensures opened { OPENED_MAX ≡ 4294967295 }
+    ensures address { ADDRESS_MAX ≡ 64 }
+{}

@@ -1,0 +1,78 @@
+//! The command line of upsd.
+
+use clap::{Arg, ArgAction, Command};
+use nut_program::{check_option, quiet_option};
+use std::alloc::{AllocError, Global};
+
+/// Returns the command line of `upsd --stdio`.
+pub fn stdio_command<'a>(alloc: Global) -> Result<Command<'a>, AllocError> {
+    bare_command(alloc)
+        .arg(stdio(alloc).required(true))?
+        .arg(conf(alloc)?)?
+        .arg(ups(alloc))
+}
+
+/// Returns the command line of upsd: `upsd --stdio`, `upsd --conf DIR -s SOCKDIR` and `upsd --check`.
+pub fn upsd_command<'a>(alloc: Global) -> Result<Command<'a>, AllocError> {
+    bare_command(alloc)
+        .arg(conf(alloc)?)?
+        .arg(sockets(alloc)?)?
+        .arg(quiet_upsd(alloc)?)?
+        .arg(check_upsd(alloc)?)?
+        .arg(stdio(alloc))?
+        .arg(ups_of_stdio(alloc)?)
+}
+
+fn bare_command<'a>(alloc: Global) -> Command<'a> {
+    Command::new(alloc, "upsd")
+        .version("profile 1.2")
+        .about("A server of the UPS Management Protocol (RFC 9271)")
+}
+
+fn stdio<'a>(alloc: Global) -> Arg<'a> {
+    Arg::new(alloc, "stdio")
+        .long("stdio")
+        .action(ArgAction::SetTrue)
+        .help("Serve one client over standard input and output, without drivers")
+}
+
+fn conf<'a>(alloc: Global) -> Result<Arg<'a>, AllocError> {
+    Arg::new(alloc, "conf")
+        .long("conf")
+        .value_name("DIR")
+        .help("The folder of ups.conf, upsd.users, upsd.conf and cmdvartab")
+        .conflicts_with("ups")
+}
+
+fn ups<'a>(alloc: Global) -> Arg<'a> {
+    Arg::new(alloc, "ups")
+        .long("ups")
+        .value_name("NAME=DESC")
+        .action(ArgAction::Append)
+        .help("A UPS and its description, parted at the first '='; may be given up to 32 times")
+}
+
+fn ups_of_stdio<'a>(alloc: Global) -> Result<Arg<'a>, AllocError> {
+    ups(alloc).requires_arg("stdio")?.conflicts_with("sockets")
+}
+
+fn sockets<'a>(alloc: Global) -> Result<Arg<'a>, AllocError> {
+    Arg::new(alloc, "sockets")
+        .short('s')
+        .value_name("SOCKDIR")
+        .help("The folder of the drivers' sockets, DRIVER-NAME for each UPS")
+        .required_unless_present("stdio")?
+        .required_unless_present("check")?
+        .conflicts_with("stdio")?
+        .requires_arg("conf")
+}
+
+fn quiet_upsd<'a>(alloc: Global) -> Result<Arg<'a>, AllocError> {
+    quiet_option(alloc, "Tell nothing of listeners, UPSes and drivers").conflicts_with("stdio")
+}
+
+fn check_upsd<'a>(alloc: Global) -> Result<Arg<'a>, AllocError> {
+    let help =
+        "Serve nothing: say the first fault of the files; without --conf of those in NUT_CONFPATH or /etc/nut";
+    check_option(alloc, help).conflicts_with("stdio")
+}

@@ -1,0 +1,14 @@
+//! What upsd runs: a server over sockets, or over standard streams.
+#![tactic(auto)]
+
+mod command_line;
+mod configuration;
+mod daemon;
+mod listeners;
+mod stdio;
+mod ups_option;
+mod upsd_fault;
+
+pub use daemon::run_upsd;
+pub use stdio::run_stdio;
+pub use ups_option::{add_ups_option, read_ups_options};

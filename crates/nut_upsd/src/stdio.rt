@@ -1,0 +1,78 @@
+//! `upsd --stdio`: one client over standard streams.
+
+use crate::command_line::stdio_command;
+use crate::configuration::read_options;
+use crate::upsd_fault::UpsdFault;
+use nut_program::Failure;
+use nut_server::{Config, Server};
+use nut_server_loop::{StreamWorld, serve};
+use std::alloc::Global;
+use std::convert::AsStr;
+use std::io::{Read, Write};
+use std::rt::Files;
+use std::sync::Wait;
+
+/// Serves one client, whose address is `stdio`, over a reader and a writer, until its LOGOUT, the end of the input, or
+/// a lack of memory at one of its pieces. Returns the exit status: 0, or 1 after a text on `err`.
+///
+/// `words` are those of the command line `upsd --stdio [--conf DIR | --ups NAME=DESC ..]`, the program's name first. If
+/// clap refuses them, its text is written to `err`, and the status is 2; the help and the version are written to `out`,
+/// with status 0.
+///
+/// With `--conf` the files ups.conf, upsd.users and upsd.conf of the folder are read, in this order, and then cmdvartab, if
+/// it is there. The first fault is told as `upsd: ups.conf:2: Repeated`, and a file that can't be read as `upsd: ups.conf: cannot read`. The values of
+/// `--ups` are read in the order given, and the first fault is told as `upsd: --ups: <fault>`. Nothing is served then.
+/// A failed read is told as `upsd: input failed`, a failed write as `upsd: output failed`, and a refused growth as
+/// `upsd: out of memory`.
+///
+/// Replies are written as soon as a piece of the input was read, so `out` should not buffer.
+pub fn run_stdio<S: AsStr, I: Read, O: Write, E: Write>(
+    rt: &(impl Wait + Files),
+    alloc: Global,
+    words: &[S],
+    input: &mut I,
+    out: &mut O,
+    err: &mut E,
+) -> u8 {
+    match serve_words(rt, alloc, words, input, out) {
+        Ok(()) => 0,
+        Err(failure) => failure.tell("upsd", out, err),
+    }
+}
+
+/// Serves one client as the words of the command line say.
+fn serve_words<S: AsStr, I: Read, O: Write>(
+    rt: &(impl Wait + Files),
+    alloc: Global,
+    words: &[S],
+    input: &mut I,
+    out: &mut O,
+) -> Result<(), Failure<UpsdFault>> {
+    let matches = stdio_command(alloc)?.try_get_matches_from(words)?;
+    let config = read_options(rt, alloc, &matches)?.into_config();
+    serve_client(rt, alloc, config, input, out)
+}
+
+/// Serves one client over a reader and a writer.
+///
+/// # Errors
+///
+/// `Memory` if memory for the server cannot be allocated, `Input` if a read failed, `Output` if a write failed.
+pub fn serve_client<I: Read, O: Write>(
+    rt: &impl Wait,
+    alloc: Global,
+    config: Config,
+    input: &mut I,
+    out: &mut O,
+) -> Result<(), Failure<UpsdFault>> {
+    let Ok(mut server) = Server::new(alloc, config) else {
+        return Err(Failure::Memory);
+    };
+    let mut world = StreamWorld::new(input, out);
+    let served = serve(rt, &mut server, &mut world);
+    if let Some(stream) = world.failed() {
+        return Err(Failure::Own(UpsdFault::from(stream)));
+    }
+    served?;
+    Ok(())
+}

@@ -1,0 +1,66 @@
+//! The faults that only upsd has.
+
+use nut_conf::FaultKind;
+use nut_program::{Failure, FileFault, OwnFault};
+use nut_server_loop::Stream;
+use std::fmt;
+
+/// The faults that only upsd has: before it serves anybody, or over standard streams.
+#[derive(Drop)]
+pub enum UpsdFault {
+    /// A value of `--ups` has this fault.
+    Ups(FaultKind),
+    /// A file gives no configuration.
+    File(FileFault<'static>),
+    /// It is impossible to listen at this address and port.
+    Listen(String, u16),
+    /// A read of standard input failed.
+    Input,
+    /// A write to standard output failed.
+    Output,
+}
+
+impl fmt::Display for UpsdFault {
+    fn fmt<W: fmt::Write>(&self, f: &mut fmt::Formatter<W>) -> fmt::Result {
+        match self {
+            UpsdFault::Ups(fault) => write!(f, "--ups: {fault}"),
+            UpsdFault::File(fault) => write!(f, "{fault}"),
+            UpsdFault::Listen(address, port) => write!(f, "cannot listen on {address}:{port}"),
+            UpsdFault::Input => write!(f, "input failed"),
+            UpsdFault::Output => write!(f, "output failed"),
+        }
+    }
+}
+
+impl OwnFault for UpsdFault {
+    fn unknown_word(&self) -> Option<&str> {
+        match self {
+            UpsdFault::File(fault) => fault.unknown_word(),
+            UpsdFault::Ups(_) | UpsdFault::Listen(..) | UpsdFault::Input | UpsdFault::Output =>
+                None,
+        }
+    }
+}
+
+impl From<FileFault<'static>> for UpsdFault {
+    fn from(fault: FileFault<'static>) -> Self {
+        UpsdFault::File(fault)
+    }
+}
+
+impl From<Stream> for UpsdFault {
+    fn from(stream: Stream) -> Self {
+        match stream {
+            Stream::Input => UpsdFault::Input,
+            Stream::Output => UpsdFault::Output,
+        }
+    }
+}
+
+/// Returns why upsd ends if a value of `--ups` has this fault.
+pub fn ups_failure(fault: FaultKind) -> Failure<UpsdFault> {
+    match fault {
+        FaultKind::Memory => Failure::Memory,
+        fault => Failure::Own(UpsdFault::Ups(fault)),
+    }
+}

@@ -1,0 +1,24 @@
+-- How soon a machine stops if its UPSes are on a low battery.
+use Rattle.std.specs.Prelude.{ℕ, suc, ◌+◌, Bool, false, ◌&&◌, not, nat_lt, if◌then◌else◌}
+use Rattle.std.specs.List.{list_any}
+use Rattle.nut_monitor_spec.specs.Configuration.{Configuration, Line}
+use Rattle.nut_in_time.specs.Pace.{Pace}
+use Rattle.nut_in_time.specs.InTime.{seen_by, secondary_by, to_halted}
+
+-- a line that feeds this machine and has another machine as its primary
+abbrev pub is_led : Line → Bool
+is_led line = not line.primary && nat_lt 0 line.power
+
+-- The seconds until its shutdown has begun, counted from when that status is first shown: nut_in_time's bound for a
+-- primary, or, if a line has another machine as its primary, that for a secondary, whatever was known before.
+abbrev pub begins_within : Configuration → Pace → ℕ
+begins_within configuration pace =
+    if list_any is_led configuration.lines then secondary_by configuration pace false 0 + suc pace.skip else seen_by configuration pace 0
+
+-- The seconds until the machine is in Halted.
+abbrev pub stops_within : Configuration → Pace → ℕ
+stops_within configuration pace = begins_within configuration pace + to_halted configuration pace
+
+-- Each answer comes within this delay, and the clock skips no second.
+abbrev pub prompt : ℕ → Pace
+prompt delay = record { delay = delay; skip = 0 }

@@ -1,0 +1,34 @@
+//! The command line of upsmon.
+
+use clap::{Arg, ArgAction, Command};
+use nut_program::{check_option, quiet_option};
+use std::alloc::{AllocError, Global};
+
+/// Returns the command line of upsmon: to watch, to check its file, and to look for POWERDOWNFLAG.
+pub fn upsmon_command<'a>(alloc: Global) -> Result<Command<'a>, AllocError> {
+    Command::new(alloc, "upsmon")
+        .version("profile 1.2")
+        .about("A monitor of UPSes that halts its machine when too few of them are left")
+        .arg(conf_of_upsmon(alloc))?
+        .arg(quiet_option(alloc, "Tell nothing of UPSes and servers"))?
+        .arg(check_option(
+            alloc,
+            "Watch nothing: say the first fault of upsmon.conf, or how soon this machine stops",
+        ))?
+        .arg(kill_power(alloc)?)
+}
+
+fn conf_of_upsmon<'a>(alloc: Global) -> Arg<'a> {
+    Arg::new(alloc, "conf").long("conf").value_name("DIR").help(
+        "The folder of upsmon.conf; unless given, that of NUT_CONFPATH or /etc/nut",
+    )
+}
+
+fn kill_power<'a>(alloc: Global) -> Result<Arg<'a>, AllocError> {
+    Arg::new(alloc, "killpower")
+        .short('K')
+        .action(ArgAction::SetTrue)
+        .help("Watch nothing: the status is 0 if POWERDOWNFLAG is set, else 1")
+        .conflicts_with("quiet")?
+        .conflicts_with("check")
+}

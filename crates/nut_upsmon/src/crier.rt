@@ -1,0 +1,104 @@
+//! Prints a monitor's notices, and runs NOTIFYCMD with them.
+
+use crate::low_runtime::LowRuntimes;
+use crate::notify_command::{Call, NotifyCommand};
+use nut_conf::{MESSAGE_MAX, TARGET_MAX, UpsmonConf};
+use nut_monitor::{Monitor, Notice};
+use nut_monitor_sockets::Herald;
+use std::alloc::{AllocError, Global};
+use std::io::Write;
+use std::process::Processes;
+
+/// The greatest length of a text in bytes: that of a message, with a target in the place of its `%s`.
+const TEXT_MAX: usize = MESSAGE_MAX + TARGET_MAX - 2;
+
+/// Prints each notice whose flags have SYSLOG or WALL as one line, and runs NOTIFYCMD with each whose flags have EXEC.
+/// A notice with IGNORE is neither printed nor handed to NOTIFYCMD, whatever else its flags have.
+///
+/// A run of the command that can't be started is let go, which is told on `err`, as is a UPS that says LB later than this
+/// machine needs to stop. From the notice of the shutdown on no UPS is asked for that any more.
+#[derive(Drop)]
+pub struct Crier<'a, R: Processes, O, E> {
+    out: O,
+    err: E,
+    text: Vec<u8>,
+    command: NotifyCommand<'a, R>,
+    runtimes: LowRuntimes<'a, R>,
+}
+
+impl<'a, R: Processes, O: Write + Drop, E: Write + Drop> Crier<'a, R, O, E> {
+    /// Makes a crier that prints on `out`. It allocates room for the longest text.
+    pub fn new(
+        processes: &'a R,
+        alloc: Global,
+        config: &UpsmonConf,
+        out: O,
+        err: E,
+    ) -> Result<Crier<'a, R, O, E>, AllocError> {
+        Ok(Crier {
+            out,
+            err,
+            text: Vec::with_capacity(alloc, TEXT_MAX)?,
+            command: NotifyCommand::new(processes, alloc, config)?,
+            runtimes: LowRuntimes::watched(processes, alloc, config)?,
+        })
+    }
+
+    /// Prints the text as a line.
+    fn print(&mut self) {
+        let _ = self.out.write_all(&self.text);
+        let _ = self.out.write_all(b"\n");
+    }
+
+    /// Runs NOTIFYCMD with the text.
+    fn call(&mut self, config: &UpsmonConf, notice: Notice) {
+        let called = self.command.call(Call {
+            kind: notice.kind.word(),
+            ups: ups_of(config, notice),
+            text: &self.text,
+        });
+        if let Err(fault) = called {
+            let _ = writeln!(&mut self.err, "upsmon: NOTIFYCMD {fault}");
+        }
+    }
+}
+
+impl<'a, R: Processes, O: Write + Drop, E: Write + Drop> Herald for Crier<'a, R, O, E> {
+    fn announce(&mut self, monitor: &Monitor, notice: Notice) {
+        if notice.line.is_none() {
+            // that of the shutdown
+            self.runtimes.end();
+        }
+        let config = monitor.config();
+        let flags = config.flags(notice.kind);
+        if flags.ignore {
+            return;
+        }
+        self.text.clear();
+        if monitor.notice_text(notice, &mut self.text).is_err() {
+            return;
+        }
+        if flags.syslog || flags.wall {
+            self.print();
+        }
+        if flags.exec {
+            self.call(config, notice);
+        }
+    }
+
+    fn second(&mut self) {
+        self.command.reap();
+        let _ = self.runtimes.step(&mut self.err);
+    }
+}
+
+/// Returns the UPS of a notice as MONITOR has it; empty for SHUTDOWN.
+fn ups_of(config: &UpsmonConf, notice: Notice) -> &[u8] {
+    let Some(line) = notice.line else {
+        return b"";
+    };
+    match config.monitors.lines.get(line) {
+        Some(monitored) => monitored.written.as_slice(),
+        None => b"",
+    }
+}

@@ -1,0 +1,208 @@
+//! Halting the machine.
+
+use crate::power_down_flag::{FlagFault, FlagState, PowerDownFlag};
+use crate::shutdown_command::ShutdownCommand;
+use linked_list_allocator::LocalHeap;
+use nut_conf::UpsmonConf;
+use nut_poll::text_of;
+use std::alloc::{AllocError, Global};
+use std::io::Write;
+use std::process::{Child, ExitStatus, Processes};
+use std::rt::Files;
+use std::time::{Clock, Duration};
+use std::{fmt, io, thread};
+
+/// The number of bytes that are reserved for starting the shell of SHUTDOWNCMD: for its words, and for a copy of an
+/// environment of up to 300 KiB, which takes up to three times that while it grows.
+const HEAP: usize = 1 << 20;
+
+/// How often a start of SHUTDOWNCMD that failed is tried again.
+const TRIES: u32 = 30;
+
+/// The pause before each of these, in seconds.
+const PAUSE: u64 = 1;
+
+/// Why SHUTDOWNCMD didn't halt the machine.
+#[derive(Drop)]
+pub enum HaltFault {
+    /// It cannot be started.
+    NotStarted(io::Error),
+    /// It cannot be waited for.
+    NotWaited(io::Error),
+    /// It ended with a status other than 0, or by a signal.
+    Ended(ExitStatus),
+}
+
+impl fmt::Display for HaltFault {
+    fn fmt<W: fmt::Write>(&self, f: &mut fmt::Formatter<W>) -> fmt::Result {
+        match self {
+            HaltFault::NotStarted(error) => write!(f, "SHUTDOWNCMD cannot be started: {error}"),
+            HaltFault::NotWaited(error) => write!(f, "SHUTDOWNCMD cannot be waited for: {error}"),
+            HaltFault::Ended(status) => match status.code() {
+                Some(code) => write!(f, "SHUTDOWNCMD ended with status {code}"),
+                None => write!(f, "SHUTDOWNCMD ended by a {status}"),
+            },
+        }
+    }
+}
+
+/// Reserves the memory that a [`Halt`] takes when it is made ready or carried out.
+///
+/// # Errors
+///
+/// `AllocError` if that memory cannot be allocated.
+pub fn halt_heap(alloc: Global) -> Result<LocalHeap, AllocError> {
+    LocalHeap::new(alloc, HEAP)
+}
+
+/// The steps that halt the machine, prepared at the start: carrying them out allocates nothing. If SHUTDOWNCMD's shell
+/// has been ended meanwhile, starting another one takes the heap's memory, and some small blocks that the C library
+/// needs to start a process.
+#[derive(Drop)]
+pub struct Halt<'r, 'h, R: Processes> {
+    rt: &'r R,
+    flag: Option<PowerDownFlag>,
+    command: Option<ShutdownCommand<'r, 'h, R>>,
+}
+
+impl<'r, 'h, R: Files + Processes + Clock> Halt<'r, 'h, R> {
+    /// Makes the halt that upsmon.conf sets, without the steps that it doesn't set.
+    pub fn prepare(
+        rt: &'r R,
+        alloc: Global,
+        heap: &'h LocalHeap,
+        config: &UpsmonConf,
+    ) -> Result<Halt<'r, 'h, R>, AllocError> {
+        Ok(Halt {
+            rt,
+            flag: PowerDownFlag::of(alloc, config)?,
+            command: shutdown_command(rt, heap, config)?,
+        })
+    }
+
+    /// Starts the shell that will run SHUTDOWNCMD. If it cannot be started, that is written to `err`, and it is tried
+    /// again at the halt.
+    pub fn make_ready<E: Write>(&mut self, err: &mut E) {
+        if let Some(command) = &mut self.command {
+            if let Err(error) = command.make_ready() {
+                let _ = writeln!(
+                    err,
+                    "upsmon: warning: the shell that is to run SHUTDOWNCMD cannot be started yet: {error}"
+                );
+            }
+        }
+    }
+
+    /// Removes POWERDOWNFLAG if an earlier shutdown left it set: otherwise the scripts of the next ordinary shutdown
+    /// would have the UPS cut its power. That it was removed is written to `err`. Anything else of that name is
+    /// reported and left unchanged.
+    pub fn clear_flag<E: Write>(&self, err: &mut E) {
+        let Some(flag) = &self.flag else {
+            return;
+        };
+        let path = flag.path();
+        let _ = match flag.clear(self.rt) {
+            Ok(FlagState::Absent) => Ok(()),
+            Ok(FlagState::Set) => writeln!(
+                err,
+                "upsmon: POWERDOWNFLAG {path} of an earlier shutdown is removed"
+            ),
+            Ok(FlagState::Foreign) => writeln!(
+                err,
+                "upsmon: warning: POWERDOWNFLAG {path} {}",
+                FlagFault::Foreign
+            ),
+            Err(error) => writeln!(
+                err,
+                "upsmon: warning: POWERDOWNFLAG {path} cannot be removed: {error}"
+            ),
+        };
+    }
+
+    /// Halts the machine. If `is_flagged`, sets POWERDOWNFLAG; then, whether or not that succeeded, runs SHUTDOWNCMD
+    /// and waits for it. A start that fails is tried again each second, thirty times. A flag that cannot be set, and
+    /// each reason why a start fails, is written to `err` once.
+    ///
+    /// # Errors
+    ///
+    /// The reason if SHUTDOWNCMD cannot be started or waited for, or ends with a status other than 0.
+    pub fn carry_out<E: Write>(&mut self, is_flagged: bool, err: &mut E) -> Result<(), HaltFault> {
+        if is_flagged {
+            self.set_flag(err);
+        }
+        match &mut self.command {
+            Some(command) => run(self.rt, command, err),
+            None => Ok(()),
+        }
+    }
+
+    /// Sets POWERDOWNFLAG, or writes to `err` why it cannot.
+    fn set_flag<E: Write>(&self, err: &mut E) {
+        if let Some(flag) = &self.flag {
+            if let Err(fault) = flag.set(self.rt) {
+                let _ = writeln!(err, "upsmon: POWERDOWNFLAG {} {fault}", flag.path());
+            }
+        }
+    }
+}
+
+/// Returns SHUTDOWNCMD if upsmon.conf sets it.
+fn shutdown_command<'r, 'h, R: Processes>(
+    processes: &'r R,
+    heap: &'h LocalHeap,
+    config: &UpsmonConf,
+) -> Result<Option<ShutdownCommand<'r, 'h, R>>, AllocError> {
+    match &config.shutdown_cmd {
+        Some(command) => {
+            let text = text_of(command.as_bytes());
+            Ok(Some(ShutdownCommand::new(processes, heap, text)?))
+        }
+        None => Ok(None),
+    }
+}
+
+/// Runs a command and waits for its end.
+fn run<R: Processes, E: Write>(
+    clock: &impl Clock,
+    command: &mut ShutdownCommand<'_, '_, R>,
+    err: &mut E,
+) -> Result<(), HaltFault> {
+    let status = match start(clock, command, err)?.wait() {
+        Ok(status) => status,
+        Err(error) => return Err(HaltFault::NotWaited(error)),
+    };
+    if status.success() {
+        Ok(())
+    } else {
+        Err(HaltFault::Ended(status))
+    }
+}
+
+/// Starts a command, trying again if it fails. Each reason why it cannot be started is written once.
+fn start<R: Processes, E: Write>(
+    clock: &impl Clock,
+    command: &mut ShutdownCommand<'_, '_, R>,
+    err: &mut E,
+) -> Result<Child<R::Started>, HaltFault> {
+    let mut told = None;
+    for _ in 0..TRIES {
+        match command.start() {
+            Ok(child) => return Ok(child),
+            Err(error) => {
+                if told != Some(error.kind()) {
+                    told = Some(error.kind());
+                    tell_failed_start(&error, err);
+                }
+            }
+        }
+        thread::sleep(clock, Duration::from_secs(PAUSE));
+    }
+    command.start().map_err(HaltFault::NotStarted)
+}
+
+fn tell_failed_start<E: Write>(error: &io::Error, err: &mut E) {
+    let _ = writeln!(
+        err,
+        "upsmon: SHUTDOWNCMD cannot be started yet: {error}; it is tried for {TRIES} seconds"
+    );
+}

@@ -1,0 +1,18 @@
+//! What upsmon runs: a monitor over sockets, the people and commands that it tells, and the halt of its machine.
+#![tactic(auto)]
+
+mod command_line;
+mod crier;
+mod halt;
+mod low_runtime;
+mod monitor;
+mod notify_command;
+mod power_down_flag;
+mod shell;
+mod shutdown_command;
+mod stopping;
+mod upsmon_fault;
+mod warning;
+
+pub use monitor::run_upsmon;
+pub use stopping::{Stopping, stops_within};

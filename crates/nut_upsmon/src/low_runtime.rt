@@ -1,0 +1,241 @@
+//! Whether the UPSes of a machine say LB early enough for it to stop.
+
+use crate::stopping::Stopping;
+use nut_conf::{Monitored, UpsmonConf};
+use nut_poll::{Question, Questions, text_of};
+use std::alloc::{AllocError, Global};
+use std::io::Write;
+use std::process::{Command, OpenProcess, Processes};
+use std::time::{Clock, Duration};
+use std::{str, thread};
+
+/// How much of an answer is read: more digits than any number of seconds has.
+const ANSWER_MAX: usize = 64;
+
+/// How many steps of 100 ms a check may take.
+const CHECK_STEPS: u8 = 100;
+
+/// How many milliseconds pass between two steps of a check.
+const CHECK_STEP: u64 = 100;
+
+/// How patiently servers are asked. Times are counted in steps.
+#[derive(Clone, Copy)]
+struct Patience {
+    /// How long a question may take.
+    question: u8,
+    /// How long to wait before each question.
+    pause: u8,
+    /// How often a server is asked that doesn't answer.
+    tries: u8,
+    /// Whether it is told that a server doesn't answer.
+    is_told: bool,
+}
+
+/// For a check that somebody waits for, with steps of 100 ms.
+const CHECK: Patience = Patience {
+    question: 50,
+    pause: 0,
+    tries: 1,
+    is_told: true,
+};
+
+/// For a monitor that goes on meanwhile, with steps of a second: its server may start later than it does.
+const WATCH: Patience = Patience {
+    question: 5,
+    pause: 30,
+    tries: 10,
+    is_told: false,
+};
+
+/// A UPS whose server is to be asked.
+#[derive(Drop)]
+struct Ups {
+    name: String,
+    /// How often its server was asked and didn't answer.
+    tries: u8,
+}
+
+/// Asks for `battery.runtime.low` of each UPS that feeds this machine, and warns where a UPS says LB later than this machine
+/// needs to stop. Each question is a process of its own, `upsc UPS battery.runtime.low`, which is killed after five seconds:
+/// nobody waits for a server.
+#[derive(Drop)]
+pub struct LowRuntimes<'r, R: Processes> {
+    alloc: Global,
+    /// How many seconds this machine needs.
+    needed: u64,
+    patience: Patience,
+    /// How many steps pass before the next question.
+    pause: u8,
+    left: Vec<Ups>,
+    questions: Questions<'r, R, Ups>,
+}
+
+impl<'r, R: Processes> LowRuntimes<'r, R> {
+    /// Those that a monitor with this configuration asks for while it watches.
+    pub fn watched(
+        processes: &'r R,
+        alloc: Global,
+        config: &UpsmonConf,
+    ) -> Result<LowRuntimes<'r, R>, AllocError> {
+        LowRuntimes::new(processes, alloc, config, WATCH)
+    }
+
+    /// None is asked for that doesn't feed this machine, and none at all where it needs no UPS.
+    fn new(
+        processes: &'r R,
+        alloc: Global,
+        config: &UpsmonConf,
+        patience: Patience,
+    ) -> Result<LowRuntimes<'r, R>, AllocError> {
+        let (needed, left) = match Stopping::of(config) {
+            Stopping::Within(needed) => (needed, upses_of(alloc, &config.monitors.lines)?),
+            Stopping::Never => (0, Vec::new(alloc)),
+        };
+        Ok(LowRuntimes {
+            alloc,
+            needed,
+            patience,
+            pause: patience.pause,
+            left,
+            questions: Questions::none(processes, alloc, patience.question),
+        })
+    }
+
+    /// Takes a step: tells an answer that came, ends questions that take too long, and asks the next. Gives whether another
+    /// step is needed.
+    pub fn step<E: Write>(&mut self, err: &mut E) -> bool {
+        if let Some(question) = self.questions.take() {
+            self.hear(question, err);
+        }
+        self.questions.step();
+        self.ask_next(err);
+        !self.left.is_empty() || !self.questions.going().is_empty()
+    }
+
+    /// Asks no more, and waits for no answer.
+    pub fn end(&mut self) {
+        self.patience.tries = 0;
+        self.left.clear();
+        self.questions.end();
+    }
+
+    /// Tells what a question was answered that has ended.
+    fn hear<E: Write>(&mut self, mut question: Question<R::Started, Ups>, err: &mut E) {
+        match answer_of(&mut question) {
+            Some(seconds) => self.compare(&question.about, seconds, err),
+            None => self.ask_again(question.about, err),
+        }
+    }
+
+    /// Warns where a UPS says LB too late.
+    fn compare<E: Write>(&self, ups: &Ups, seconds: u64, err: &mut E) {
+        if seconds < self.needed {
+            let _ = writeln!(
+                err,
+                "upsmon: warning: UPS {}: battery.runtime.low is {seconds}, and this machine stops within {} s of OB LB",
+                ups.name, self.needed
+            );
+        }
+    }
+
+    /// Has a server asked again, unless it was asked often enough.
+    fn ask_again<E: Write>(&mut self, mut ups: Ups, err: &mut E) {
+        ups.tries = ups.tries.saturating_add(1);
+        if ups.tries < self.patience.tries {
+            let _ = self.left.push(ups);
+        } else if self.patience.is_told {
+            tell_unknown(&ups, err);
+        }
+    }
+
+    /// Asks for the next one, where it is time.
+    fn ask_next<E: Write>(&mut self, err: &mut E) {
+        if self.pause > 0 {
+            self.pause -= 1;
+            return;
+        }
+        if self.left.is_empty() || !self.questions.has_room() {
+            return;
+        }
+        self.pause = self.patience.pause;
+        let ups = self.left.remove(0);
+        if let Err(ups) = self.ask(ups) {
+            self.ask_again(ups, err);
+        }
+    }
+
+    /// Begins to ask for a UPS, or gives it back.
+    fn ask(&mut self, ups: Ups) -> Result<(), Ups> {
+        match upsc(self.alloc, ups.name.as_str()) {
+            Ok(command) => self.questions.start(command, ups),
+            Err(_) => Err(ups),
+        }
+    }
+}
+
+/// Asks for each UPS of a configuration once, waits for the answers, at most ten seconds in all, and tells them.
+///
+/// # Errors
+/// Where the memory for their names isn't to be had.
+pub fn check_low_runtimes<R: Processes + Clock, E: Write>(
+    rt: &R,
+    alloc: Global,
+    config: &UpsmonConf,
+    err: &mut E,
+) -> Result<(), AllocError> {
+    let mut runtimes = LowRuntimes::new(rt, alloc, config, CHECK)?;
+    for _ in 0..CHECK_STEPS {
+        if !runtimes.step(err) {
+            break;
+        }
+        thread::sleep(rt, Duration::from_millis(CHECK_STEP));
+    }
+    for question in runtimes.questions.going() {
+        tell_unknown(&question.about, err);
+    }
+    for ups in runtimes.left.iter() {
+        tell_unknown(ups, err);
+    }
+    runtimes.end();
+    Ok(())
+}
+
+/// Tells that a UPS isn't known to say LB early enough.
+fn tell_unknown<E: Write>(ups: &Ups, err: &mut E) {
+    let _ = writeln!(
+        err,
+        "upsmon: UPS {}: battery.runtime.low isn't known",
+        ups.name
+    );
+}
+
+/// The UPSes of the lines that feed this machine.
+fn upses_of(alloc: Global, lines: &[Monitored]) -> Result<Vec<Ups>, AllocError> {
+    let mut upses = Vec::with_capacity(alloc, lines.len())?;
+    for line in lines {
+        if line.power.value > 0 {
+            let name = String::from_str(alloc, text_of(&line.written))?;
+            upses.push(Ups { name, tries: 0 })?;
+        }
+    }
+    Ok(upses)
+}
+
+/// The command that asks a server for this UPS.
+fn upsc(alloc: Global, name: &str) -> Result<Command<Global>, AllocError> {
+    let mut command = Command::new(alloc, "upsc")?;
+    command.arg(name)?.arg("battery.runtime.low")?;
+    Ok(command)
+}
+
+/// The seconds that a process printed which has ended well.
+fn answer_of<P: OpenProcess>(question: &mut Question<P, Ups>) -> Option<u64> {
+    let mut answer = [0; ANSWER_MAX];
+    seconds_in(question.answer(&mut answer)?)
+}
+
+/// The whole seconds of a number such as `120` or `120.5`, with a line feed behind it.
+fn seconds_in(answer: &[u8]) -> Option<u64> {
+    let digits = answer.split(|byte| matches!(*byte, b'.' | b'\n')).next()?;
+    str::from_utf8(digits).ok()?.parse().ok()
+}

@@ -1,0 +1,126 @@
+//! NOTIFYCMD: the command that is run with the text of a notice.
+
+use crate::shell::shell_command;
+use nut_conf::UpsmonConf;
+use nut_poll::text_of;
+use std::alloc::{AllocError, Global};
+use std::process::{Child, Command, OpenProcess, Processes};
+use std::{fmt, io};
+
+/// The largest number of commands that run at a time.
+const RUNNING_MAX: usize = 64;
+
+/// What a command is told about a notice.
+#[derive(Clone, Copy)]
+pub struct Call<'a> {
+    /// The type of the notice, as upsmon.conf has it.
+    pub kind: &'a [u8],
+    /// The UPS as MONITOR has it; empty if the notice is about none.
+    pub ups: &'a [u8],
+    /// The text of the notice.
+    pub text: &'a [u8],
+}
+
+/// Why a command isn't run.
+#[derive(Drop)]
+pub enum CallFault {
+    /// As many commands are running as may run at a time.
+    TooMany,
+    /// It cannot be started.
+    NotStarted(io::Error),
+}
+
+impl fmt::Display for CallFault {
+    fn fmt<W: fmt::Write>(&self, f: &mut fmt::Formatter<W>) -> fmt::Result {
+        match self {
+            CallFault::TooMany => write!(f, "is not run: {RUNNING_MAX} of it are running"),
+            CallFault::NotStarted(error) => write!(f, "cannot be started: {error}"),
+        }
+    }
+}
+
+/// NOTIFYCMD, and its runs that may not have ended.
+#[derive(Drop)]
+pub struct NotifyCommand<'r, R: Processes> {
+    processes: &'r R,
+    alloc: Global,
+    /// The script for the shell, if NOTIFYCMD is set.
+    script: Option<String>,
+    running: Vec<Child<R::Started>>,
+}
+
+impl<'r, R: Processes> NotifyCommand<'r, R> {
+    /// Makes the command that upsmon.conf sets. It allocates room for the runs.
+    pub fn new(
+        processes: &'r R,
+        alloc: Global,
+        config: &UpsmonConf,
+    ) -> Result<NotifyCommand<'r, R>, AllocError> {
+        let script = match &config.notify_cmd {
+            Some(command) => Some(script_of(alloc, command.as_bytes())?),
+            None => None,
+        };
+        Ok(NotifyCommand {
+            processes,
+            alloc,
+            script,
+            running: Vec::with_capacity(alloc, RUNNING_MAX)?,
+        })
+    }
+
+    /// Starts the command, if there is one, and doesn't wait for it.
+    ///
+    /// # Errors
+    ///
+    /// `TooMany` if as many commands run as may, `NotStarted` if it cannot be started.
+    pub fn call(&mut self, call: Call<'_>) -> Result<(), CallFault> {
+        let Some(script) = &self.script else {
+            return Ok(());
+        };
+        if self.running.len() >= RUNNING_MAX {
+            return Err(CallFault::TooMany);
+        }
+        match start(self.processes, self.alloc, script.as_str(), call) {
+            Ok(child) => {
+                let _ = self.running.push(child);
+                Ok(())
+            }
+            Err(error) => Err(CallFault::NotStarted(error)),
+        }
+    }
+
+    /// Forgets the runs that have ended.
+    pub fn reap(&mut self) {
+        self.running.retain_mut(|child| is_running(child));
+    }
+}
+
+/// Returns the command with the text of a notice as its first argument. The shell inserts the text itself, so that no
+/// byte of it is read as a command.
+fn script_of(alloc: Global, command: &[u8]) -> Result<String, AllocError> {
+    let command = text_of(command);
+    format!(in alloc; "{command} \"$1\"")
+}
+
+fn start<R: Processes>(
+    processes: &R,
+    alloc: Global,
+    script: &str,
+    call: Call<'_>,
+) -> io::Result<Child<R::Started>> {
+    let mut command = shell_command(alloc, script)?;
+    put_call(&mut command, call)?;
+    command.spawn(processes)
+}
+
+/// Gives a command the text as its first argument, and the rest in its environment.
+fn put_call(command: &mut Command, call: Call<'_>) -> Result<(), AllocError> {
+    command.arg("sh")?.arg(text_of(call.text))?;
+    command.env("NOTIFYTYPE", text_of(call.kind))?;
+    command.env("UPSNAME", text_of(call.ups))?;
+    Ok(())
+}
+
+fn is_running<P: OpenProcess>(child: &mut Child<P>) -> bool {
+    matches!(child.try_wait(), Ok(None))
+}

@@ -1,0 +1,163 @@
+//! POWERDOWNFLAG: the file that tells the system's scripts to have the UPS cut its power.
+
+ghost use Rattle.std.specs.Prelude.{◌≡◌, ◌↔◌, ◌⊎◌, IsTrue};
+
+use nut_conf::UpsmonConf;
+use nut_poll::text_of;
+use std::alloc::{AllocError, Global};
+use std::fs::{File, OpenFile, OpenOptions};
+use std::io::{ErrorKind, Read, Write};
+use std::os::unix::fs::OpenOptionsExt;
+use std::rt::Files;
+use std::{fmt, fs, io};
+
+/// The contents of the file.
+const LINE: &[u8] = b"upsmon-shutdown-file\n";
+
+/// The contents of the file if NUT's upsmon wrote it.
+const WORD: &[u8] = b"upsmon-shutdown-file";
+
+/// The length of the contents.
+const LENGTH: usize = 21;
+
+/// The file's mode: its owner may read and write it.
+const MODE: u32 = 0o600;
+
+/// What is found under the flag's name.
+#[derive(Clone, Copy, Debug, PartialEq, Eq)]
+pub enum FlagState {
+    /// Nothing has its name.
+    Absent,
+    /// The flag: a file with the right contents.
+    Set,
+    /// Anything else, which is left unchanged: another file, a folder, a link, a pipe.
+    Foreign,
+}
+
+/// Why a flag isn't set.
+#[derive(Drop)]
+pub enum FlagFault {
+    /// Something else has its name.
+    Foreign,
+    /// It cannot be written.
+    NotWritten(io::Error),
+}
+
+impl fmt::Display for FlagFault {
+    fn fmt<W: fmt::Write>(&self, f: &mut fmt::Formatter<W>) -> fmt::Result {
+        match self {
+            FlagFault::Foreign => write!(f, "is not a flag of upsmon, and is left as it is"),
+            FlagFault::NotWritten(error) => write!(f, "cannot be written: {error}"),
+        }
+    }
+}
+
+impl From<io::Error> for FlagFault {
+    fn from(error: io::Error) -> FlagFault {
+        FlagFault::NotWritten(error)
+    }
+}
+
+/// The flag, with the names of its file and of the new one that is to replace it.
+#[derive(Drop)]
+pub struct PowerDownFlag {
+    path: String,
+    fresh: String,
+}
+
+impl PowerDownFlag {
+    /// Returns the flag that upsmon.conf names, if it names one.
+    pub fn of(alloc: Global, config: &UpsmonConf) -> Result<Option<PowerDownFlag>, AllocError> {
+        let Some(path) = &config.power_down_flag else {
+            return Ok(None);
+        };
+        let path = text_of(path.as_bytes());
+        Ok(Some(PowerDownFlag {
+            path: String::from_str(alloc, path)?,
+            fresh: format!(in alloc; "{path}.new")?,
+        }))
+    }
+
+    /// Returns the name of its file.
+    pub fn path(&self) -> &str {
+        self.path.as_str()
+    }
+
+    /// Returns what is found under its name. Only a plain file is opened, so that no pipe blocks and no link is
+    /// followed.
+    ///
+    /// # Errors
+    ///
+    /// If that cannot be found out, for example in a folder that may not be searched.
+    pub fn state(&self, files: &impl Files) -> io::Result<FlagState> {
+        let found = match fs::symlink_metadata(files, self.path()) {
+            Ok(found) => found,
+            Err(error) if error.kind() == ErrorKind::NotFound => return Ok(FlagState::Absent),
+            Err(error) => return Err(error),
+        };
+        if found.is_file() && self.holds_flag(files, found.len())? {
+            Ok(FlagState::Set)
+        } else {
+            Ok(FlagState::Foreign)
+        }
+    }
+
+    /// Whether the file, of this length, is a flag.
+    fn holds_flag(&self, files: &impl Files, length: u64) -> io::Result<bool> {
+        if length > LENGTH as u64 {
+            return Ok(false);
+        }
+        let mut bytes = [0; LENGTH];
+        let bytes = &mut bytes[..length as usize];
+        File::open(files, self.path())?.read_exact(bytes)?;
+        Ok(is_flag(bytes))
+    }
+
+    /// Removes the file if it is the flag. Returns what was found.
+    ///
+    /// # Errors
+    ///
+    /// If what is there cannot be found out, or the flag cannot be removed.
+    pub fn clear(&self, files: &impl Files) -> io::Result<FlagState> {
+        let found = self.state(files)?;
+        if found == FlagState::Set {
+            fs::remove_file(files, self.path())?;
+        }
+        Ok(found)
+    }
+
+    /// Writes the file: a new one beside it, whose name ends in `.new`, replaces it once it is on the disk. Anything of
+    /// the new one's name is removed first. It allocates nothing.
+    ///
+    /// # Errors
+    ///
+    /// `Foreign` if something else has its name, `NotWritten` if it cannot be written. What was there is then
+    /// unchanged.
+    pub fn set(&self, files: &impl Files) -> Result<(), FlagFault> {
+        if self.state(files)? == FlagState::Foreign {
+            return Err(FlagFault::Foreign);
+        }
+        let _ = fs::remove_file(files, self.fresh.as_str());
+        self.write_fresh(files)?;
+        fs::rename(files, self.fresh.as_str(), self.path())?;
+        Ok(())
+    }
+
+    /// Writes the new file beside it.
+    fn write_fresh(&self, files: &impl Files) -> io::Result<()> {
+        let mut file = OpenOptions::new()
+            .write(true)
+            .create_new(true)
+            .mode(MODE)
+            .open(files, self.fresh.as_str())?;
+        file.write_all(LINE)?;
+        file.sync_all()
+    }
+}
+
+/// Whether these are the bytes of a flag.
+fn is_flag(bytes: &[u8]) -> bool
+    ensures { IsTrue result ↔ ((bytes.now ≡ LINE.now) ⊎ (bytes.now ≡ WORD.now)) }
+{
+    bytes == LINE || bytes == WORD
+}

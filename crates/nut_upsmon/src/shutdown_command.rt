@@ -1,0 +1,96 @@
+//! SHUTDOWNCMD, and the shell that waits to run it.
+
+ghost use Rattle.std.specs.Prelude.{OnOk, IsSome};
+ghost use Rattle.std.specs.Io.KnownBytes.{Appends};
+
+use crate::shell::shell_command;
+use linked_list_allocator::LocalHeap;
+use std::alloc::AllocError;
+use std::io;
+use std::io::{ErrorKind, Write};
+use std::process::{Child, Command, Processes, Stdio};
+
+/// The script of the shell: it waits for a line, and then becomes SHUTDOWNCMD, which is its first argument. If its
+/// input ends without a line, as when upsmon ends, it ends and runs nothing.
+const SCRIPT: &str = "read -r go && exec sh -c \"$1\" < /dev/null";
+
+/// The line that the shell waits for.
+const GO: &[u8] = b"\n";
+
+/// SHUTDOWNCMD, run by a shell that was started before. So the machine can be halted even if no process can be started
+/// any more, for example for lack of memory.
+#[derive(Drop)]
+pub struct ShutdownCommand<'r, 'h, R: Processes> {
+    processes: &'r R,
+    command: Command<&'h LocalHeap>,
+    /// The shell that waits, if one was started.
+    shell: Option<Child<R::Started>>,
+}
+
+impl<'r, 'h, R: Processes> ShutdownCommand<'r, 'h, R> {
+    /// Makes the command with this text. No shell waits to run it yet.
+    pub fn new(
+        processes: &'r R,
+        heap: &'h LocalHeap,
+        text: &str,
+    ) -> Result<ShutdownCommand<'r, 'h, R>, AllocError> {
+        let mut command = shell_command(heap, SCRIPT)?;
+        put_text(&mut command, text)?;
+        Ok(ShutdownCommand {
+            processes,
+            command,
+            shell: None,
+        })
+    }
+
+    /// Starts the shell that waits.
+    ///
+    /// # Errors
+    ///
+    /// That of the system if it cannot be started.
+    pub fn make_ready(&mut self) -> io::Result<()> {
+        self.shell = Some(self.command.spawn(self.processes)?);
+        Ok(())
+    }
+
+    /// Makes the waiting shell run the command. Starts another shell for it if there is none, or it was ended
+    /// meanwhile.
+    ///
+    /// # Errors
+    ///
+    /// That of the system if another shell cannot be started, or ends at once.
+    pub fn start(&mut self) -> io::Result<Child<R::Started>> {
+        if let Some(mut shell) = self.shell.take() {
+            if release(&mut shell.stdin).is_ok() {
+                return Ok(shell);
+            }
+        }
+        let mut shell = self.command.spawn(self.processes)?;
+        release(&mut shell.stdin)?;
+        Ok(shell)
+    }
+}
+
+/// Gives a shell a pipe to wait on, and the command's text as its first argument.
+fn put_text(command: &mut Command<&LocalHeap>, text: &str) -> Result<(), AllocError> {
+    command.stdin(Stdio::piped());
+    command.arg("sh")?.arg(text)?;
+    Ok(())
+}
+
+/// Writes the line that a shell waits for.
+fn release<W: Write>(input: &mut Option<W>) -> io::Result<()>
+    ensures { OnOk result (IsSome input.old) }
+{
+    match input {
+        Some(input) => put_line(input),
+        None => Err(io::Error::from(ErrorKind::BrokenPipe)),
+    }
+}
+
+/// Writes the line.
+fn put_line<W: Write>(input: &mut W) -> io::Result<()>
+    ensures { OnOk result (Appends (W.contents input.old) (W.contents input.new) GO.now) }
+{
+    input.write_all(GO)
+}

@@ -1,0 +1,126 @@
+//! How soon this machine stops.
+
+ghost use Rattle.std.specs.Prelude.{◌≡◌, ◌<◌, ◌^◌, max};
+ghost use Rattle.std.specs.List.{list_any};
+ghost use Rattle.nut_monitor_spec.specs.Configuration.{configuration_of, line_of};
+ghost use Rattle.nut_in_time.specs.InTime.{seen_by, to_halted};
+ghost use Rattle.nut_upsmon.specs.Stopping.{begins_within, is_led, prompt, stops_within as seconds_of};
+
+use nut_conf::{Monitored, Role, UpsmonConf};
+use nut_monitor::has_primary;
+use std::io::Write;
+use std::{fmt, io};
+
+/// The longest time for an answer, in seconds, that the bound assumes.
+const DELAY: u32 = 2;
+
+/// What an operator is told about how soon this machine stops.
+#[derive(Clone, Copy, Debug, PartialEq, Eq)]
+pub enum Stopping {
+    /// At most this many seconds after so many of its UPSes show OB and LB that the others supply too little.
+    Within(u64),
+    /// It needs none of its UPSes.
+    Never,
+}
+
+impl fmt::Display for Stopping {
+    fn fmt<W: fmt::Write>(&self, f: &mut fmt::Formatter<W>) -> fmt::Result {
+        match self {
+            Stopping::Within(seconds) => write!(
+                f,
+                "stops within {seconds} s of OB LB if each answer comes within {DELAY} s"
+            ),
+            Stopping::Never => write!(f, "never stops this machine: MINSUPPLIES is 0"),
+        }
+    }
+}
+
+impl Stopping {
+    /// Returns how soon the machine of this configuration stops.
+    pub fn of(config: &UpsmonConf) -> Stopping {
+        if config.min_supplies() == 0 {
+            return Stopping::Never;
+        }
+        Stopping::Within(stops_within(config, DELAY))
+    }
+
+    /// Writes it as a line.
+    ///
+    /// # Errors
+    ///
+    /// That of the writer.
+    pub fn tell<W: Write>(self, out: &mut W) -> io::Result<()> {
+        writeln!(out, "upsmon: {self}")
+    }
+}
+
+/// Returns how many seconds pass at most from the moment at which the server shows OB and LB for so many UPSes that the
+/// others supply too little, to the moment at which the machine is halted. It assumes that each answer of a server
+/// comes within `delay` seconds, and that upsmon's clock skips none.
+pub fn stops_within(config: &UpsmonConf, delay: u32) -> u64
+    ensures { result ≡ seconds_of (configuration_of config.now) (prompt delay) }
+{
+    begins_within(config, delay) + halts_within(config)
+}
+
+/// Returns how many of these pass at most until the shutdown has begun.
+fn begins_within(config: &UpsmonConf, delay: u32) -> u64
+    ensures seconds { result ≡ begins_within (configuration_of config.now) (prompt delay) }
+    ensures fits { result < 2 ^ 34 }
+{
+    let seen = seen_within(config, delay);
+    if is_led(config) {
+        seen + u64::from(config.host_sync()) + 1
+    } else {
+        seen
+    }
+}
+
+/// Returns how many of these pass at most until upsmon knows the status.
+fn seen_within(config: &UpsmonConf, delay: u32) -> u64
+    ensures seconds { result ≡ seen_by (configuration_of config.now) (prompt delay) 0 }
+    ensures fits { result < 2 ^ 33 }
+{
+    u64::from(greater(config.poll_freq(), delay)) + u64::from(delay)
+}
+
+fn greater(a: u32, b: u32) -> u32
+    ensures { result ≡ max a b }
+{
+    if a < b { b } else { a }
+}
+
+/// Returns how many seconds pass at most from the beginning of the shutdown to the halt, however long an answer takes.
+fn halts_within(config: &UpsmonConf) -> u64
+    ensures seconds { result ≡ to_halted (configuration_of config.now) (prompt 0) }
+    ensures fits { result < 2 ^ 34 }
+{
+    let final_delay = u64::from(config.final_delay());
+    if has_primary(config) {
+        u64::from(config.host_sync()) + 1 + final_delay
+    } else {
+        final_delay
+    }
+}
+
+/// Whether some line feeds this machine and has another machine as its primary.
+fn is_led(config: &UpsmonConf) -> bool
+    ensures { result ≡ list_any is_led (configuration_of config.now).lines }
+{
+    any_led(config.monitors.lines.as_slice())
+}
+
+fn any_led(lines: &[Monitored]) -> bool
+    ensures { result ≡ list_any (λ m. is_led (line_of m)) lines.now }
+{
+    lines.iter().any(is_led_line)
+}
+
+fn is_led_line(line: &Monitored) -> bool
+    ensures { result ≡ is_led (line_of line.now) }
+{
+    match line.role {
+        Role::Primary => false,
+        Role::Secondary => line.power.value > 0,
+    }
+}

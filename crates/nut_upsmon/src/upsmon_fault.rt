@@ -1,0 +1,44 @@
+//! The faults that only upsmon has.
+
+use crate::halt::HaltFault;
+use nut_program::{Failure, FileFault, OwnFault};
+use std::fmt;
+
+/// The faults that only upsmon has.
+#[derive(Drop)]
+pub enum UpsmonFault {
+    /// upsmon.conf gives no configuration.
+    File(FileFault<'static>),
+    /// The machine wasn't halted.
+    Halt(HaltFault),
+}
+
+impl fmt::Display for UpsmonFault {
+    fn fmt<W: fmt::Write>(&self, f: &mut fmt::Formatter<W>) -> fmt::Result {
+        match self {
+            UpsmonFault::File(fault) => write!(f, "{fault}"),
+            UpsmonFault::Halt(fault) => write!(f, "{fault}"),
+        }
+    }
+}
+
+impl OwnFault for UpsmonFault {
+    fn unknown_word(&self) -> Option<&str> {
+        match self {
+            UpsmonFault::File(fault) => fault.unknown_word(),
+            UpsmonFault::Halt(_) => None,
+        }
+    }
+}
+
+impl From<FileFault<'static>> for UpsmonFault {
+    fn from(fault: FileFault<'static>) -> Self {
+        UpsmonFault::File(fault)
+    }
+}
+
+impl From<HaltFault> for Failure<UpsmonFault> {
+    fn from(fault: HaltFault) -> Self {
+        Failure::Own(UpsmonFault::Halt(fault))
+    }
+}

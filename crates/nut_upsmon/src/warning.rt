@@ -1,0 +1,84 @@
+//! What upsmon can be started with but shouldn't be.
+
+ghost use Rattle.std.specs.Prelude.{◌↔◌, ◌≡◌, ◌<◌, IsSome, None};
+ghost use Rattle.nut_conf.specs.Upsmon.{poll_freq_of, dead_time_of, host_sync_of};
+
+use nut_conf::UpsmonConf;
+use std::fmt;
+
+/// What an operator should set otherwise. Times are in seconds.
+#[derive(Clone, Copy, Debug, PartialEq, Eq)]
+pub enum Warning {
+    /// upsmon has no command to halt the machine with.
+    NoShutdownCommand,
+    /// The status is asked for less often than a UPS on battery has to answer.
+    SlowerThanDeadTime { poll_freq: u32, dead_time: u32 },
+    /// The status is asked for less often than the machines of a UPS wait for each other.
+    SlowerThanHostSync { poll_freq: u32, host_sync: u32 },
+}
+
+impl fmt::Display for Warning {
+    fn fmt<W: fmt::Write>(&self, f: &mut fmt::Formatter<W>) -> fmt::Result {
+        match self {
+            Warning::NoShutdownCommand => {
+                write!(f, "no SHUTDOWNCMD is set: nothing will stop this machine")
+            }
+            Warning::SlowerThanDeadTime {
+                poll_freq,
+                dead_time,
+            } => write!(
+                f,
+                "POLLFREQ {poll_freq} is above DEADTIME {dead_time}: on battery a UPS will count as dead between two answers"
+            ),
+            Warning::SlowerThanHostSync {
+                poll_freq,
+                host_sync,
+            } => write!(
+                f,
+                "POLLFREQ {poll_freq} is above HOSTSYNC {host_sync}: primary and secondaries will not wait for each other"
+            ),
+        }
+    }
+}
+
+impl Warning {
+    /// Warns if no command is set to halt the machine with.
+    pub fn of_shutdown_command(config: &UpsmonConf) -> Option<Warning>
+        ensures { IsSome result ↔ (config.now.shutdown_cmd ≡ None) }
+    {
+        match config.shutdown_cmd {
+            Some(_) => None,
+            None => Some(Warning::NoShutdownCommand),
+        }
+    }
+
+    /// Warns if POLLFREQ is greater than DEADTIME.
+    pub fn of_dead_time(config: &UpsmonConf) -> Option<Warning>
+        ensures { IsSome result ↔ (dead_time_of config.now < poll_freq_of config.now) }
+    {
+        let poll_freq = config.poll_freq();
+        let dead_time = config.dead_time();
+        if poll_freq <= dead_time {
+            return None;
+        }
+        Some(Warning::SlowerThanDeadTime {
+            poll_freq,
+            dead_time,
+        })
+    }
+
+    /// Warns if POLLFREQ is greater than HOSTSYNC.
+    pub fn of_host_sync(config: &UpsmonConf) -> Option<Warning>
+        ensures { IsSome result ↔ (host_sync_of config.now < poll_freq_of config.now) }
+    {
+        let poll_freq = config.poll_freq();
+        let host_sync = config.host_sync();
+        if poll_freq <= host_sync {
+            return None;
+        }
+        Some(Warning::SlowerThanHostSync {
+            poll_freq,
+            host_sync,
+        })
+    }
+}
