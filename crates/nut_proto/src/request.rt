@@ -167,10 +167,7 @@ impl Request<'_> {
                 &[text(b"INSTCMD"), word(ups), word(command)],
             ),
             Request::Username { name } => put_line(out, &[text(b"USERNAME"), word(name)]),
-            Request::Password { password } => put_line(
-                out,
-                &[text(b"PASSWORD"), word(password)],
-            ),
+            Request::Password { password } => put_line(out, &[text(b"PASSWORD"), word(password)]),
             Request::Login { ups } => put_line(out, &[text(b"LOGIN"), word(ups)]),
             Request::Primary { ups } => put_line(out, &[text(b"PRIMARY"), word(ups)]),
             Request::Fsd { ups } => put_line(out, &[text(b"FSD"), word(ups)]),
