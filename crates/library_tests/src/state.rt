@@ -1,6 +1,7 @@
 //! What a look-up shows of a variable, lines that change nothing, and numbers. Tables are in
 //! `tests/support/table_rows.py`.
-use nut_state::{Heard, UpsState, Variable, natural, whole_number};
+use nut_state::{Heard, UpsState, Variable, whole_number};
+use nut_words::natural;
 use std::alloc::Global;
 
 /// Whether the table hears each of these lines.

@@ -3,6 +3,7 @@ pub mod Agreement
 pub mod Room
 pub mod Places
 pub mod Spelling
-pub mod RoundTrip
+pub mod Numbers
+mod RoundTrip
 pub mod Lengths
 pub mod Digits

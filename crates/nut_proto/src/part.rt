@@ -115,11 +115,7 @@ pub fn put_marked_line<O: Out>(
 }
 
 #[tactic(auto, unfolding(crate::specs::Lines::line))]
-fn append_line<O: Out>(
-    out: &mut O,
-    marks: &[Part<'_>],
-    parts: &[Part<'_>],
-) -> Result<(), O::Fault>
+fn append_line<O: Out>(out: &mut O, marks: &[Part<'_>], parts: &[Part<'_>]) -> Result<(), O::Fault>
     ensures ok { OnOk result (O.held out.new ≡ O.held out.old ++ line (marks.now ++ parts.now)) }
     ensures err { OnErr result (take (length (O.held out.old)) (O.held out.new) ≡ O.held out.old) }
     ensures fits { OnOk result (Fits O.most (length (O.held out.old ++ line (marks.now ++ parts.now)))) }

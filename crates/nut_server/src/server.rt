@@ -210,7 +210,7 @@ impl Server {
         self.config.number_of_upses()
     }
 
-    /// Returns how many bytes wait for a connection: at most 47,342,080, and 0 if it isn't open.
+    /// Returns how many bytes wait for a connection: at most 148,005,376, and 0 if it isn't open.
     pub fn waits(&self, c: u64) -> usize
         ensures value { result ≡ length (waiting_of c self.now.sessions) }
 

@@ -65,7 +65,7 @@ unfolding text_of
 fit_list query rows m n marks few most =
     omega (arith, length-append (begin_line query) (flat_map reply_line rows ++ end_line query), length-append (flat_map reply_line rows) (end_line query))
 
-rows_short : {X : Type 0} (row : X → Reply) (xs : List X) → AllByRecursion (λ x. length (reply_line (row x)) ≤ 700) xs → length (flat_map reply_line (map row xs)) ≤ 700 * length xs
+rows_short : {X : Type 0} (row : X → Reply) (xs : List X) → AllByRecursion (λ x. length (reply_line (row x)) ≤ 1200) xs → length (flat_map reply_line (map row xs)) ≤ 1200 * length xs
 rows_short row [] all = omega arith
 rows_short row (x ∷ xs) all = omega (arith, length-append (reply_line (row x)) (flat_map reply_line (map row xs)), rows_short row xs all.1, all.0)
 
@@ -141,22 +141,22 @@ ups_short name named = (name_within UPS_NAME_MAX name named).1
 
 -- ---- the values that clients see
 
-length-marked : (b : Bool) (value : List ℕ) → length value ≤ VALUE_MAX → length (quoted (if b then codes "FSD " ++ value else value)) ≤ 262
+length-marked : (b : Bool) (value : List ℕ) → length value ≤ VALUE_MAX → length (quoted (if b then codes "FSD " ++ value else value)) ≤ 1030
 length-marked true value few = omega (arith, length-quoted value)
 length-marked false value few = omega (arith, length-quoted value)
 
-length-shown : (d : Device) (v : Entry) → IsWithinLimits v → length (quoted (shown d v)) ≤ 262
+length-shown : (d : Device) (v : Entry) → IsWithinLimits v → length (quoted (shown d v)) ≤ 1030
 length-shown d v within = length-marked (d.forced && bytes_eq v.name (codes "ups.status")) v.value within.value
 
-length-plain : (d : Device) (v : Entry) → IsWithinLimits v → bytes_eq v.name (codes "ups.status") ≡ false → length (quoted (shown d v)) ≤ 258
+length-plain : (d : Device) (v : Entry) → IsWithinLimits v → bytes_eq v.name (codes "ups.status") ≡ false → length (quoted (shown d v)) ≤ 1026
 length-plain d v within other = by_forced d.forced where
-  by_forced : (b : Bool) → length (quoted (if b && bytes_eq v.name (codes "ups.status") then codes "FSD " ++ v.value else v.value)) ≤ 258
+  by_forced : (b : Bool) → length (quoted (if b && bytes_eq v.name (codes "ups.status") then codes "FSD " ++ v.value else v.value)) ≤ 1026
   by_forced true = rw other (omega (arith, length-quoted v.value, within.value))
   by_forced false = omega (arith, length-quoted v.value, within.value)
 
 -- the rows of a list of values: only that of the status may be four bytes longer
 rows_shown : (d : Device) (row : Entry → Reply) (vs : List Entry) → ((v : Entry) → IsWithinLimits v → length (reply_line (row v)) ≤ 103 + length (quoted (shown d v)))
-    → AllByRecursion IsWithinLimits vs → length (flat_map reply_line (map row vs)) ≤ 361 * length vs + 4 * length (filter (equal (λ (v : Entry). v.name) (codes "ups.status")) vs)
+    → AllByRecursion IsWithinLimits vs → length (flat_map reply_line (map row vs)) ≤ 1129 * length vs + 4 * length (filter (equal (λ (v : Entry). v.name) (codes "ups.status")) vs)
 rows_shown d row [] each all = omega arith
 rows_shown d row (v ∷ vs) each all =
     let rest = rows_shown d row vs each all.1 in
@@ -171,7 +171,7 @@ rows_shown d row (v ∷ vs) each all =
 
 variables_fit : (d : Device) (row : Entry → Reply) (vs : List Entry) → ((v : Entry) → IsWithinLimits v → length (reply_line (row v)) ≤ 103 + length (quoted (shown d v)))
     → AllByRecursion IsWithinLimits vs → length vs ≤ VARIABLES_MAX → length (filter (equal (λ (v : Entry). v.name) (codes "ups.status")) vs) ≤ 1
-    → length (flat_map reply_line (map row vs)) ≤ 184836
+    → length (flat_map reply_line (map row vs)) ≤ 578052
 variables_fit d row vs each all few one = omega (arith, rows_shown d row vs each all)
 
 one_status : (d : Device) → IsShortTable d.table → length (filter (equal (λ (v : Entry). v.name) (codes "ups.status")) d.table.variables) ≤ 1
@@ -209,46 +209,46 @@ module _ (s : Scene) (short : IsShortScene s) where
   list_fit queries.Ups =
       let upses = s.configuration.upses in
       let row : Ups → Reply = λ ups. replies.Ups ups.name ups.description in
-      fit_list queries.Ups (map row upses) 1000 22400 L.length-marks_ups
+      fit_list queries.Ups (map row upses) 1000 38400 L.length-marks_ups
       (omega (arith, short.configured.upses, rows_short row upses (all_weaker IsUpsWithin _ upses (λ ups within. L.length-ups ups.name ups.description (ups_short ups.name within.name) within.description) short.configured.each_ups)))
       (omega arith)
   list_fit (queries.Var ups) = fit_device s short ups _ (λ d named table.
       let name = name_within UPS_NAME_MAX ups named in
-      fit_list (queries.Var ups) (map (var_row ups d) d.table.variables) 94 184836 (L.length-marks_var ups name)
+      fit_list (queries.Var ups) (map (var_row ups d) d.table.variables) 94 578052 (L.length-marks_var ups name)
       (variables_fit d (var_row ups d) d.table.variables (λ v within. L.length-var ups v.name (shown d v) name (name_within NAME_MAX v.name within.name)) (all_within d table) table.in_order.variables_within (one_status d table))
       (omega arith))
   list_fit (queries.Rw ups) = fit_device s short ups _ (λ d named table.
       let name = name_within UPS_NAME_MAX ups named in
       let p : Entry → Bool = λ v. v.flags.writable in
       let vs = d.table.variables in
-      fit_list (queries.Rw ups) (map (rw_row ups d) (filter p vs)) 94 184836 (L.length-marks_rw ups name)
+      fit_list (queries.Rw ups) (map (rw_row ups d) (filter p vs)) 94 578052 (L.length-marks_rw ups name)
       (variables_fit d (rw_row ups d) (filter p vs) (λ v within. L.length-rw ups v.name (shown d v) name (name_within NAME_MAX v.name within.name)) (all_filter IsWithinLimits p vs (all_within d table))
       (omega (arith, fewer p vs, table.in_order.variables_within)) (omega (arith, fewer_both (equal (λ (v : Entry). v.name) (codes "ups.status")) p vs, one_status d table)))
       (omega arith))
   list_fit (queries.Cmd ups) = fit_device s short ups _ (λ d named table.
       let commands = d.table.commands in
       let row : List ℕ → Reply = λ k. replies.Cmd ups k in
-      fit_list (queries.Cmd ups) (map row commands) 1000 89600 (L.length-marks_cmd ups (ups_short ups named))
+      fit_list (queries.Cmd ups) (map row commands) 1000 153600 (L.length-marks_cmd ups (ups_short ups named))
       (omega (arith, table.in_order.commands_within, rows_short row commands (all_weaker (λ k. is_name NAME_MAX k ≡ true) _ commands (λ k own. L.length-cmd ups k (ups_short ups named) (name_within NAME_MAX k own).1) (all_places _ commands table.in_order.each_command))))
       (omega arith))
   list_fit (queries.Enum ups name) = fit_device s short ups _ (λ d named table. fit_variable name d _ (λ v there.
       let within = variable_within d.table name v table there in
       let own = (variable_named d.table name v table there).1 in
       let row : List ℕ → Reply = λ x. replies.Enum ups name x in
-      fit_list (queries.Enum ups name) (map row v.enums) 1000 44800 (L.length-marks_enum ups name (ups_short ups named) own)
+      fit_list (queries.Enum ups name) (map row v.enums) 1000 76800 (L.length-marks_enum ups name (ups_short ups named) own)
       (omega (arith, within.enums, rows_short row v.enums (all_weaker (λ x. length x ≤ VALUE_MAX) _ v.enums (λ x few. L.length-enum ups name x (ups_short ups named) own few) (all_places _ v.enums within.each_enum))))
       (omega arith)))
   list_fit (queries.Range ups name) = fit_device s short ups _ (λ d named table. fit_variable name d _ (λ v there.
       let within = variable_within d.table name v table there in
       let own = (variable_named d.table name v table there).1 in
       let row : Range → Reply = λ r. replies.Range ups name r.minimum r.maximum in
-      fit_list (queries.Range ups name) (map row v.ranges) 1000 11200 (L.length-marks_range ups name (ups_short ups named) own)
+      fit_list (queries.Range ups name) (map row v.ranges) 1000 19200 (L.length-marks_range ups name (ups_short ups named) own)
       (omega (arith, within.ranges, rows_short row v.ranges (all_weaker IsShortRange _ v.ranges (λ r few. L.length-range ups name r.minimum r.maximum (ups_short ups named) own few.minimum few.maximum) (table.ranges name v there))))
       (omega arith)))
   list_fit (queries.Client ups) = fit_ups s short ups _ (λ u named. fit_data s short u (λ d. Listing (queries.Client ups) (map (λ (g : Guest). replies.Client ups g.address) (guests_of u s.guests))) (λ table.
       let p : Guest → Bool = λ g. is_logged_in u g.login in
       let row : Guest → Reply = λ g. replies.Client ups g.address in
-      fit_list (queries.Client ups) (map row (filter p s.guests)) 1000 179200 (L.length-marks_client ups (ups_short ups named))
+      fit_list (queries.Client ups) (map row (filter p s.guests)) 1000 307200 (L.length-marks_client ups (ups_short ups named))
       (omega (arith, fewer p s.guests, short.few, rows_short row (filter p s.guests) (all_weaker (λ (g : Guest). length g.address ≤ ADDRESS_MAX) _ (filter p s.guests) (λ g few. L.length-client ups g.address (ups_short ups named) few) (all_filter _ p s.guests short.guests))))
       (omega arith)))
 

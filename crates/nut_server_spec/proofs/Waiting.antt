@@ -213,7 +213,7 @@ unfinished-le TooLong = omega arith
 -- answers, and each line answered took at least two of these bytes.
 record IsServed (n : ℕ) (k : Session) : Type 0 where
   lines : ℕ
-  answers : length k.waits ≤ 184930 * lines
+  answers : length k.waits ≤ 578146 * lines
   heard : 2 * lines + unfinished k.rest ≤ n
 
 length-silence : length (text_of Silence) ≡ 0

@@ -159,7 +159,7 @@ pub fn closed_stays_closed()
     ensures { ClosedStaysClosed }
 {}
 
-/// States a law and does nothing when called: at most 512 bytes of an unfinished line are kept, and at most 4,096 bytes
+/// States a law and does nothing when called: at most 2,048 bytes of an unfinished line are kept, and at most 4,096 bytes
 /// wait for a driver.
 pub fn bounds_hold()
     ensures { BoundsHold }
@@ -170,7 +170,7 @@ pub fn connections_are_few()
     ensures { ConnectionsAreFew }
 {}
 
-/// Where the configuration is within the limits that its files have, no answer to one line is longer than 184,930 bytes:
+/// Where the configuration is within the limits that its files have, no answer to one line is longer than 578,146 bytes:
 /// that to a LIST VAR of as many variables as a table holds.
 pub fn answers_are_bounded()
     ensures { AnswersAreBounded }
@@ -184,7 +184,7 @@ pub fn waits_for_one_piece()
 {}
 
 /// States a law and does nothing when called: if the configuration is within the limits of its files, at most
-/// 47,342,080 bytes wait for a client. These are the answers to 256 lines of one piece, each of at most 184,930 bytes.
+/// 148,005,376 bytes wait for a client. These are the answers to 256 lines of one piece, each of at most 578,146 bytes.
 pub fn waits_are_bounded()
     ensures { WaitsAreBounded }
 {
