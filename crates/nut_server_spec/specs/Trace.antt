@@ -9,9 +9,14 @@ use Rattle.nut_proto.specs.DriverAsks.{ask_line}
 use Rattle.nut_server_spec.specs.Configuration.{Configuration}
 use Rattle.nut_server_spec.specs.Command.{Command, command_of}
 use Rattle.nut_server_spec.specs.Event.{Step, Clock, Opened, Said, Gone, Up, Reported, Drained, Down}
+use Rattle.std.specs.Option.{option_map_or}
+use Rattle.nut_proto.specs.declared.tracking.TrackingStatus.{TrackingStatus}
+use Rattle.nut_proto.specs.declared.tracking.TrackingStatus.TheVariants.{Pending, Unknown}
+use Rattle.nut_server_spec.specs.declared.limits.TheConstants.{TRACKED_MAX}
+use Rattle.nut_server_spec.specs.Tracking.{Tracked, told_in, ended_by, abandoned}
 use Rattle.nut_server_spec.specs.Device.{Device, needs_ping}
 use Rattle.nut_server_spec.specs.Answer.{Answer, Silence, Scene, Caller, Guest, answer}
-use Rattle.nut_server_spec.specs.Effect.{user_then, password_then, login_then, logged_out_then, due_then, target, forced_then, request_of, at_target}
+use Rattle.nut_server_spec.specs.Effect.{user_then, password_then, login_then, logged_out_then, tracking_then, number_in, due_then, target, forced_then, request_of, at_target}
 
 -- A step, the answer to it, and its request to the driver of each UPS, by the number of the UPS. The answer to a step
 -- that is no line of a client is silence.
@@ -62,6 +67,15 @@ abbrev pub open_numbers : List Entry → List ℕ
 open_numbers [] = []
 open_numbers (e ∷ past) = numbers_after e.step (opened past) (open_numbers past)
 
+-- how many numbers have been given to requests, if n had been before this answer
+abbrev pub given_then : Answer → ℕ → ℕ
+given_then reply n = option_map_or (λ number. n + 1) (number_in reply) n
+
+-- how many numbers have been given to requests; the newest is this one
+abbrev pub given : List Entry → ℕ
+given [] = 0
+given (e ∷ past) = given_then e.answer (given past)
+
 -- ---- a connection
 
 -- the address of c after a step, if n connections had been opened before it
@@ -99,6 +113,11 @@ login first c (e ∷ past) = after_line (login_then (configuration first past)) 
 abbrev pub logged_out : ℕ → List Entry → Bool
 logged_out c [] = false
 logged_out c (e ∷ past) = after_line logged_out_then c e.step e.answer (logged_out c past)
+
+-- whether the requests of c are tracked
+abbrev pub tracking : ℕ → List Entry → Bool
+tracking c [] = false
+tracking c (e ∷ past) = after_line tracking_then c e.step e.answer (tracking c past)
 
 -- the answers to the lines of c, joined: all bytes due to it
 abbrev pub due : ℕ → List Entry → List ℕ
@@ -178,6 +197,44 @@ abbrev pub forced : Configuration → ℕ → List Entry → Bool
 forced first u [] = false
 forced first u (e ∷ past) = forced_after (configuration first past) u e.step e.answer (forced first u past)
 
+-- the numbers of requests, and the one that an answer gives, before them
+abbrev pub with_number : Answer → List ℕ → List ℕ
+with_number reply before = option_map_or (λ number. number ∷ before) (number_in reply) before
+
+-- the numbers of the tracked requests to u after a step, the newest first
+abbrev pub numbers_on_after : Configuration → ℕ → Step → Answer → List ℕ → List ℕ
+numbers_on_after configuration u (Said c line) reply before =
+    at_target u (target configuration (command_of line)) (with_number reply) before
+numbers_on_after configuration u step reply before = before
+
+-- the numbers of the tracked requests to u, the newest first
+abbrev pub numbers_on : Configuration → ℕ → List Entry → List ℕ
+numbers_on first u [] = []
+numbers_on first u (e ∷ past) = numbers_on_after (configuration first past) u e.step e.answer (numbers_on first u past)
+
+-- how the request n ended, by an answer: one that was just given its number is pending
+abbrev pub begun_by : Answer → ℕ → TrackingStatus → TrackingStatus
+begun_by reply n before = option_map_or (λ number. if number == n then Pending else before) (number_in reply) before
+
+-- How the request n to u ended, after a step: it begins where it is given its number; then the first line of the driver
+-- that tells of it decides, unless the driver is disconnected or connected anew before that, and then it failed.
+abbrev pub status_after : Configuration → ℕ → ℕ → Step → Answer → TrackingStatus → TrackingStatus
+status_after configuration u n (Said c line) reply before =
+    at_target u (target configuration (command_of line)) (begun_by reply n) before
+status_after configuration u n (Reported v line) reply before = if v == u then ended_by (told_in line) n before else before
+status_after configuration u n (Up v) reply before = if v == u then abandoned before else before
+status_after configuration u n (Down v) reply before = if v == u then abandoned before else before
+status_after configuration u n step reply before = before
+
+-- how the request n to u ended; `Unknown` if it was given no such number
+abbrev pub status : Configuration → ℕ → ℕ → List Entry → TrackingStatus
+status first u n [] = Unknown
+status first u n (e ∷ past) = status_after (configuration first past) u n e.step e.answer (status first u n past)
+
+-- the newest tracked requests to u, the newest first, at most TRACKED_MAX
+abbrev pub tracked : Configuration → ℕ → List Entry → List Tracked
+tracked first u past = map (λ n. record { number = n; status = status first u n past }) (take TRACKED_MAX (numbers_on first u past))
+
 -- A value of the driver of u since it was connected: `start` when it is connected, else the value before.
 abbrev pub since_up : {A : Type 0} → A → ℕ → Step → A → A
 since_up start u (Up v) before = if v == u then start else before
@@ -223,6 +280,7 @@ device first past u = record {
   pinged_at = pinged_at u past;
   forced = forced first u past;
   waits = driver_waits u past;
+  tracked = tracked first u past;
 }
 
 -- ---- answers
@@ -245,13 +303,14 @@ abbrev pub scene : Configuration → List Entry → Scene
 scene first past = record {
   configuration = configuration first past;
   clock = clock past;
+  given = given past;
   devices = map (device first past) (ups_numbers first past);
   guests = map (guest first past) (open_numbers past);
 }
 
 -- what the server knows of the connection c when it answers a line of c
 abbrev pub caller : Configuration → List Entry → ℕ → Caller
-caller first past c = record { user = user c past; password = password c past; login = login first c past }
+caller first past c = record { user = user c past; password = password c past; login = login first c past; tracking = tracking c past }
 
 -- the answer to a line of c after this past: silence if c has logged out
 abbrev pub answer_to : Configuration → List Entry → ℕ → LineText → Answer

@@ -10,7 +10,7 @@ ghost use Rattle.nut_server_spec.specs.laws.Limits.{AnswersAreBounded, WaitsAreB
 
 mod limits;
 
-pub use limits::{ADDRESS_MAX, OPENED_MAX, connection_limits};
+pub use limits::{ADDRESS_MAX, OPENED_MAX, TRACKED_MAX, connection_limits};
 use nut_state::every_table_holds;
 use thiserror::Error;
 

@@ -1,6 +1,6 @@
 -- The server as a machine over its content: how an accepted event changes the content. The machine doesn't keep the
 -- past. The law `machine_keeps_content` says that it keeps the content of every history.
-use Rattle.std.specs.Prelude.{ℕ, zero, suc, true, false, not, ◌==◌, ◌≡◌, max, if◌then◌else◌, ◌+◌, List, [], ◌∷◌, ◌++◌, filter, map, drop, Option, Some, None}
+use Rattle.std.specs.Prelude.{ℕ, zero, suc, true, false, not, ◌==◌, ◌≡◌, max, if◌then◌else◌, ◌+◌, List, [], ◌∷◌, ◌++◌, filter, map, drop, take, Option, Some, None}
 use Rattle.nut_words.specs.Bytes.{line_feed}
 use Rattle.nut_words.specs.Lines.{LineText, Text, TooLong, joined}
 use Rattle.nut_state.specs.Table.{Table, empty}
@@ -10,10 +10,14 @@ use Rattle.nut_proto.specs.DriverAsks.{ask_line}
 use Rattle.nut_server_spec.specs.Configuration.{Configuration}
 use Rattle.nut_server_spec.specs.Command.{Command, command_of}
 use Rattle.nut_server_spec.specs.Event.{Event, Moment, Open, Bytes, Took, Close, WriteFailed, DriverUp, DriverBytes, DriverTook, DriverDown}
+use Rattle.std.specs.Option.{option_map_or}
+use Rattle.nut_proto.specs.declared.tracking.TrackingStatus.TheVariants.{Pending}
+use Rattle.nut_server_spec.specs.declared.limits.TheConstants.{TRACKED_MAX}
+use Rattle.nut_server_spec.specs.Tracking.{Tracked, told_in, ended_by, abandoned}
 use Rattle.nut_server_spec.specs.Device.{Device, needs_ping}
 use Rattle.nut_server_spec.specs.Answer.{Answer, Silence, Guest, Scene, Caller, answer}
-use Rattle.nut_server_spec.specs.Effect.{user_then, password_then, login_then, logged_out_then, due_then, target, forced_then, request_of}
-use Rattle.nut_server_spec.specs.Trace.{is_heard, with_request}
+use Rattle.nut_server_spec.specs.Effect.{user_then, password_then, login_then, logged_out_then, tracking_then, number_in, due_then, target, forced_then, request_of}
+use Rattle.nut_server_spec.specs.Trace.{given_then, is_heard, with_request}
 use Rattle.nut_server_spec.specs.Content.{Session, Supply, Content, content}
 use Rattle.nut_server_spec.specs.Acceptance.{IsAccepted, session_of}
 
@@ -44,13 +48,14 @@ guest_of k = record { address = k.address; login = k.login }
 
 -- what the server knows of a session when it answers a line of it
 abbrev pub caller_of : Session → Caller
-caller_of k = record { user = k.user; password = k.password; login = k.login }
+caller_of k = record { user = k.user; password = k.password; login = k.login; tracking = k.tracking }
 
 -- what the server knows when it answers a line
 abbrev pub scene_of : Content → Scene
 scene_of s = record {
   configuration = s.configuration;
   clock = s.clock;
+  given = s.given;
   devices = map (λ d. d.device) s.supplies;
   guests = map guest_of s.sessions;
 }
@@ -68,6 +73,7 @@ answered configuration command reply k = record {
   password = password_then command reply k.password;
   login = login_then configuration command reply k.login;
   logged_out = logged_out_then command reply k.logged_out;
+  tracking = tracking_then command reply k.tracking;
   rest = k.rest;
   waits = due_then command reply k.waits;
 }
@@ -75,6 +81,17 @@ answered configuration command reply k = record {
 -- the requests that wait for a driver, with one more at their end if there is one and the driver is connected
 abbrev pub requested : Option (List ℕ) → Device → List ℕ
 requested request d = if d.connected then with_request request d.waits else d.waits
+
+-- the newest tracked requests, with the one to which an answer gives a number before them
+abbrev pub with_tracked : Answer → List Tracked → List Tracked
+with_tracked reply before = option_map_or (λ number. take TRACKED_MAX (record { number = number; status = Pending } ∷ before)) (number_in reply) before
+
+-- tracked requests after what a driver's line tells, and after the driver is gone
+abbrev pub all_ended_by : LineText → List Tracked → List Tracked
+all_ended_by line before = map (λ t. record { number = t.number; status = ended_by (told_in line) t.number t.status }) before
+
+abbrev pub all_abandoned : List Tracked → List Tracked
+all_abandoned before = map (λ t. record { number = t.number; status = abandoned t.status }) before
 
 -- a UPS after an answer to a command that acts on it
 abbrev pub acted : Command → Answer → Supply → Supply
@@ -86,6 +103,7 @@ acted command reply d = record {
     pinged_at = d.device.pinged_at;
     forced = forced_then command reply d.device.forced;
     waits = requested (request_of command reply) d.device;
+    tracked = with_tracked reply d.device.tracked;
   };
   rest = d.rest;
 }
@@ -104,6 +122,7 @@ abbrev pub after_answer : ℕ → Command → Answer → Content → Content
 after_answer c command reply s = record s {
   sessions = update c (λ k. with_rest (Text []) (answered s.configuration command reply k)) s.sessions;
   supplies = act_on (target s.configuration command) (acted command reply) s.supplies;
+  given = given_then reply s.given;
 }
 
 -- the content after a command of c, if c is open
@@ -140,6 +159,7 @@ fresh number address = record {
   password = None;
   login = None;
   logged_out = false;
+  tracking = false;
   rest = Text [];
   waits = [];
 }
@@ -154,7 +174,7 @@ told TooLong table = table
 -- a UPS after a line of its driver at this moment
 abbrev pub reported_by : ℕ → LineText → Supply → Supply
 reported_by time line d = record {
-  device = record d.device { table = told line d.device.table; heard_at = if is_heard line then time else d.device.heard_at };
+  device = record d.device { table = told line d.device.table; heard_at = if is_heard line then time else d.device.heard_at; tracked = all_ended_by line d.device.tracked };
   rest = Text [];
 }
 
@@ -177,13 +197,14 @@ up time d = record {
     pinged_at = None;
     forced = d.device.forced;
     waits = ask_line DumpAll;
+    tracked = all_abandoned d.device.tracked;
   };
   rest = Text [];
 }
 
 -- a UPS whose driver is disconnected
 abbrev pub down : Supply → Supply
-down d = record { device = record d.device { connected = false; waits = [] }; rest = Text [] }
+down d = record { device = record d.device { connected = false; waits = []; tracked = all_abandoned d.device.tracked }; rest = Text [] }
 
 -- a UPS whose driver took n bytes
 abbrev pub drained : ℕ → Supply → Supply
