@@ -93,20 +93,26 @@ impl Teller {
             None => Ok(()),
             Some(DriverAsk::Ping) => self.outbox.push(b"PONG\n"),
             Some(DriverAsk::DumpAll) => self.dump(),
-            Some(DriverAsk::Set {
-                variable,
-                value,
-                number,
-            }) => self.change(
+            Some(
+                DriverAsk::Set {
+                    variable,
+                    value,
+                    number,
+                },
+            ) => self.change(
                 &Change::Assigning {
                     name: variable.as_bytes(),
                     value: value.as_bytes(),
                 },
                 number,
             ),
-            Some(DriverAsk::InstCmd {
-                command, number, ..
-            }) => match Command::of(command.as_bytes()) {
+            Some(
+                DriverAsk::InstCmd {
+                    command,
+                    number,
+                    ..
+                },
+            ) => match Command::of(command.as_bytes()) {
                 Some(command) => self.change(
                     &Change::Doing {
                         name: command.variable(),

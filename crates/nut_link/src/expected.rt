@@ -81,7 +81,9 @@ fn is_line(heading: &Heading, more: More, words: &Rest<'_>) -> bool
 fn is_numbered(words: &Rest<'_>) -> bool
     ensures { result ≡ is_numbered words.now }
 {
-    words.len() == 2 && words.get(0) == b"TRACKING" && tracking_number(words.get(1)).is_some()
+    words.len() == 2
+        && words.get(0) == b"TRACKING".as_slice()
+        && tracking_number(words.get(1)).is_some()
 }
 
 impl Expected {
