@@ -1,8 +1,8 @@
 //! The lines that tell of all variables, in their order.
 ghost use Rattle.std.specs.Prelude.{◌≡◌, ◌++◌, true, map, OnOk};
-ghost use Rattle.std.specs.List.{flat_map};
+ghost use Rattle.std.specs.List.{flat_map, list_any};
 ghost use Rattle.nut_dummy.specs.Telling.{text, closing_messages};
-ghost use Rattle.nut_dummy.specs.machine.Teller.{says, followed, lines_of, dump, dumped, ended, is_done, untold};
+ghost use Rattle.nut_dummy.specs.machine.Teller.{says, followed, lines_of, dump, dumped, ended, is_assigned, is_done, untold};
 ghost use Rattle.nut_dummy.specs.inside.Changes.{change_of};
 
 use crate::variable::{Change, Variable};
@@ -28,14 +28,21 @@ pub fn say_all(
     Ok(())
 }
 
+/// Whether a client sets one of the variables by this.
+fn is_obeyed(name: &[u8], value: &[u8], variables: &[Variable]) -> bool
+    ensures { result ≡ list_any (λ v. is_assigned name.now value.now v.name v.value) variables.now }
+{
+    variables
+        .iter()
+        .any(|variable| variable.is_assigned(name, value))
+}
+
 /// Whether a change is what was asked for: a client's SET is, if a variable may be set to the value.
 pub fn is_done(change: &Change<'_>, variables: &[Variable]) -> bool
     ensures { result ≡ is_done (change_of change.now) variables.now }
 {
     match change {
-        Change::Assigning { name, value } => variables
-            .iter()
-            .any(|variable| variable.is_assigned(name, value)),
+        Change::Assigning { name, value } => is_obeyed(name, value, variables),
         Change::Passing { .. } | Change::Doing { .. } => true,
     }
 }

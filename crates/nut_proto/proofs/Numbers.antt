@@ -1,5 +1,5 @@
 -- The number of a tracked request is read as it was written.
-use Rattle.std.proofs.Common.{◌≡◌, ℕ, ◌+◌, ◌-◌, ◌*◌, ◌<◌, ◌≤◌, ◌==◌, ◌^◌, ◌&&◌, Bool, true, false, List, [], ◌∷◌, length, fold, get_or, decimal, arith, refl, ap, ◌∙◌, Option, Some, None, IsTrue, if◌then◌else◌}
+use Rattle.std.proofs.Common.{◌≡◌, ℕ, ◌+◌, ◌-◌, ◌*◌, ◌<◌, ◌≤◌, ◌==◌, ◌&&◌, Bool, true, false, List, [], ◌∷◌, length, fold, get_or, decimal, arith, refl, ap, ◌∙◌, Some}
 use Rattle.std.specs.Prelude.{nat_lt, nat_le}
 use Rattle.std.specs.List.{list_all}
 use Rattle.std.specs.Char.{is_ascii_digit}
@@ -8,7 +8,6 @@ use Rattle.std.proofs.lemmas.Bool.Decides.{nat_tests}
 use Rattle.std.proofs.lemmas.Fmt.{digits_decimal, digits_value-decimal, first_decimal, decimal_nonempty, length-decimal-le}
 use Rattle.std.proofs.lemmas.Str.Parse.{IsDigitsTest, FoldsDigits, numerals_by_fold, IsNumeralModel}
 use Rattle.nut_words.specs.Number.{digits_value, is_natural, natural}
-use Rattle.nut_proto.specs.declared.limits.TheConstants.{TRACKING_NUMBER_MAX}
 use Rattle.nut_proto.specs.Tracking.{IsTrackingNumber, tracking_number}
 
 digit_parts : (c : ℕ) (others : Bool) → (is_ascii_digit c && others) ≡ true → IsInRange 48 57 c × (others ≡ true)
@@ -33,7 +32,7 @@ folds = record {
   more = λ n c cs k. ap (λ (m : ℕ). fold (λ m digit. 10 * m + (digit - 48)) m cs) (omega arith);
 }
 
-model : IsNumeralModel (λ ds. list_all is_ascii_digit ds ≡ true) digits_value
+pub model : IsNumeralModel (λ ds. list_all is_ascii_digit ds ≡ true) digits_value
 model = numerals_by_fold _ tells _ folds
 
 natural_back : (n : ℕ) → IsTrackingNumber n → natural (decimal n) ≡ Some n

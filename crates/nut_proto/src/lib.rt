@@ -26,7 +26,7 @@ pub use answer::{Answer, AnswerFault, ErrorName, Rest, read_answer};
 pub use description::{command_description, variable_description};
 pub use driver_ask::DriverAsk;
 pub use examples::worked_examples;
-pub use laws::{messages_are_read, replies_are_bounded};
+pub use laws::{messages_are_read, read_requests_are_readable, replies_are_bounded};
 pub use limits::{ROWS_MAX, TRACKING_NUMBER_MAX, message_limits};
 pub use number::decimal;
 pub use reading::read;

@@ -29,6 +29,7 @@ session_from first t rests takes c = record {
   password = password c t;
   login = login first c t;
   logged_out = logged_out c t;
+  tracking = tracking c t;
   rest = rests c;
   waits = drop (takes c) (due c t);
 }
@@ -41,6 +42,7 @@ content_from first t rests takes reports = record {
   configuration = configuration first t;
   clock = clock t;
   opened = opened t;
+  given = given t;
   sessions = map (session_from first t rests takes) (open_numbers t);
   supplies = map (supply_from first t reports) (ups_numbers first t);
 }
@@ -169,6 +171,7 @@ abbrev supply_said : Configuration → List Entry → Command → Answer → Opt
 supply_said first t command reply goal reports u = record {
   device = record (device first t u) {
     forced = at_target u goal (forced_then command reply) (forced first u t);
+    tracked = at_target u goal (with_tracked (number_in reply)) (tracked first u t);
     waits = if connected u t then drop (driver_taken u t) (with_request (request_for u goal (request_of command reply)) (driver_due u t)) else [];
   };
   rest = reports u;
@@ -182,7 +185,7 @@ supplies_said first t command reply (Some v) reports covered =
     update-below v (length (configuration first t).upses) (supply_from first t reports) (supply_said first t command reply (Some v) reports) (acted command reply)
     (λ d differ. rw (eqb_turn d v differ) refl)
     (rw (eq-eqb v v refl) (ap (λ w. record {
-      device = record (device first t v) { forced = forced_then command reply (forced first v t); waits = w };
+      device = record (device first t v) { forced = forced_then command reply (forced first v t); waits = w; tracked = with_tracked (number_in reply) (tracked first v t) };
       rest = reports v;
     }) (waits-asked (connected v t) (driver_taken v t) (driver_due v t) (request_of command reply) (covered v))))
 

@@ -7,7 +7,7 @@ use Rattle.std.specs.List.{AllByRecursion}
 use Rattle.std.specs.Str.{bytes_eq}
 use Rattle.std.proofs.lemmas.Fmt.{length-decimal-le, length_signed_le}
 use Rattle.nut_conf.specs.declared.limits.TheConstants.{CONNECTIONS_MAX, DESCRIPTION_MAX}
-use Rattle.nut_words.specs.Quoting.{quoted}
+use Rattle.nut_words.specs.Quoting.{quoted, word_text}
 use Rattle.nut_words.specs.declared.limits.TheConstants.{NAME_MAX, UPS_NAME_MAX, VALUE_MAX}
 use Rattle.nut_proto.specs.declared.part.Part.TheVariants.{Word, Quoted, Number, QuotedNumber}
 use Rattle.nut_proto.specs.declared.refusal.Refusal.{Refusal}
@@ -16,6 +16,10 @@ use Rattle.nut_proto.specs.declared.reply.Reply.TheVariants as replies
 use Rattle.nut_proto.specs.declared.reply.VariableKind.{VariableKind}
 use Rattle.nut_proto.specs.declared.reply.VariableKind.TheVariants as kinds
 use Rattle.nut_proto.specs.declared.request.ListQuery.TheVariants as queries
+use Rattle.nut_proto.specs.declared.limits.TheConstants.{TRACKING_NUMBER_MAX}
+use Rattle.nut_proto.specs.declared.tracking.TrackingStatus.{TrackingStatus}
+use Rattle.nut_proto.specs.declared.tracking.TrackingStatus.TheVariants as statuses
+use Rattle.nut_proto.specs.Tracking.{status_word}
 use Rattle.nut_proto.specs.laws.Bounds.{IsName}
 use Rattle.nut_proto.specs.Descriptions.{described_variables, described_commands, beside, told, variable_description, command_description}
 use Rattle.nut_proto.specs.Lines.{line, part_text}
@@ -57,6 +61,28 @@ length-refused r = omega (arith, length-line (Word (codes "ERR")) (Word (refusal
 pub length-accepted : length (reply_line replies.Accepted) ≤ 200
 unfolding reply_line line
 length-accepted = omega arith
+
+pub length-accepted_as : (n : ℕ) → n ≤ TRACKING_NUMBER_MAX → length (reply_line (replies.AcceptedAs n)) ≤ 200
+unfolding reply_line
+length-accepted_as n few =
+    omega (arith, length-line (Word (codes "OK")) (Word (codes "TRACKING") ∷ Number n ∷ []), length-word (decimal n), length-decimal-le 9 n (omega arith) (omega arith) (omega arith))
+
+pub length-tracking_is : (on : Bool) → length (reply_line (replies.TrackingIs on)) ≤ 200
+unfolding reply_line line
+length-tracking_is true = omega arith
+length-tracking_is false = omega arith
+
+length-status : (status : TrackingStatus) → length (word_text (status_word status)) ≤ 7
+length-status statuses.Pending = omega arith
+length-status statuses.Success = omega arith
+length-status statuses.Failed = omega arith
+length-status statuses.Unknown = omega arith
+
+pub length-tracking : (n : ℕ) (status : TrackingStatus) → n ≤ TRACKING_NUMBER_MAX → length (reply_line (replies.Tracking n status)) ≤ 200
+unfolding reply_line
+length-tracking n status few =
+    omega (arith, length-line (Word (codes "TRACKING")) (Number n ∷ Word (status_word status) ∷ []), length-word (decimal n), length-status status,
+    length-decimal-le 9 n (omega arith) (omega arith) (omega arith))
 
 pub length-fsd_set : length (reply_line replies.FsdSet) ≤ 200
 unfolding reply_line line

@@ -10,10 +10,7 @@ use Rattle.nut_server_spec.specs.Configuration.{Configuration}
 use Rattle.nut_server_spec.specs.Command.{Command, command_of}
 use Rattle.nut_server_spec.specs.Event.{Step, Clock, Opened, Said, Gone, Up, Reported, Drained, Down}
 use Rattle.std.specs.Option.{option_map_or}
-use Rattle.nut_proto.specs.declared.tracking.TrackingStatus.{TrackingStatus}
-use Rattle.nut_proto.specs.declared.tracking.TrackingStatus.TheVariants.{Pending, Unknown}
-use Rattle.nut_server_spec.specs.declared.limits.TheConstants.{TRACKED_MAX}
-use Rattle.nut_server_spec.specs.Tracking.{Tracked, told_in, ended_by, abandoned}
+use Rattle.nut_server_spec.specs.Tracking.{Tracked, told_in, with_tracked, all_ended_by, all_abandoned}
 use Rattle.nut_server_spec.specs.Device.{Device, needs_ping}
 use Rattle.nut_server_spec.specs.Answer.{Answer, Silence, Scene, Caller, Guest, answer}
 use Rattle.nut_server_spec.specs.Effect.{user_then, password_then, login_then, logged_out_then, tracking_then, number_in, due_then, target, forced_then, request_of, at_target}
@@ -197,43 +194,20 @@ abbrev pub forced : Configuration → ℕ → List Entry → Bool
 forced first u [] = false
 forced first u (e ∷ past) = forced_after (configuration first past) u e.step e.answer (forced first u past)
 
--- the numbers of requests, and the one that an answer gives, before them
-abbrev pub with_number : Answer → List ℕ → List ℕ
-with_number reply before = option_map_or (λ number. number ∷ before) (number_in reply) before
-
--- the numbers of the tracked requests to u after a step, the newest first
-abbrev pub numbers_on_after : Configuration → ℕ → Step → Answer → List ℕ → List ℕ
-numbers_on_after configuration u (Said c line) reply before =
-    at_target u (target configuration (command_of line)) (with_number reply) before
-numbers_on_after configuration u step reply before = before
-
--- the numbers of the tracked requests to u, the newest first
-abbrev pub numbers_on : Configuration → ℕ → List Entry → List ℕ
-numbers_on first u [] = []
-numbers_on first u (e ∷ past) = numbers_on_after (configuration first past) u e.step e.answer (numbers_on first u past)
-
--- how the request n ended, by an answer: one that was just given its number is pending
-abbrev pub begun_by : Answer → ℕ → TrackingStatus → TrackingStatus
-begun_by reply n before = option_map_or (λ number. if number == n then Pending else before) (number_in reply) before
-
--- How the request n to u ended, after a step: it begins where it is given its number; then the first line of the driver
--- that tells of it decides, unless the driver is disconnected or connected anew before that, and then it failed.
-abbrev pub status_after : Configuration → ℕ → ℕ → Step → Answer → TrackingStatus → TrackingStatus
-status_after configuration u n (Said c line) reply before =
-    at_target u (target configuration (command_of line)) (begun_by reply n) before
-status_after configuration u n (Reported v line) reply before = if v == u then ended_by (told_in line) n before else before
-status_after configuration u n (Up v) reply before = if v == u then abandoned before else before
-status_after configuration u n (Down v) reply before = if v == u then abandoned before else before
-status_after configuration u n step reply before = before
-
--- how the request n to u ended; `Unknown` if it was given no such number
-abbrev pub status : Configuration → ℕ → ℕ → List Entry → TrackingStatus
-status first u n [] = Unknown
-status first u n (e ∷ past) = status_after (configuration first past) u n e.step e.answer (status first u n past)
+-- The tracked requests to u after a step. One is added where it is given its number. The first line of the driver that
+-- tells of it says how it ended; if the driver is disconnected or connected anew before that, the request failed.
+abbrev pub tracked_after : Configuration → ℕ → Step → Answer → List Tracked → List Tracked
+tracked_after configuration u (Said c line) reply before =
+    at_target u (target configuration (command_of line)) (with_tracked (number_in reply)) before
+tracked_after configuration u (Reported v line) reply before = if v == u then all_ended_by (told_in line) before else before
+tracked_after configuration u (Up v) reply before = if v == u then all_abandoned before else before
+tracked_after configuration u (Down v) reply before = if v == u then all_abandoned before else before
+tracked_after configuration u step reply before = before
 
 -- the newest tracked requests to u, the newest first, at most TRACKED_MAX
 abbrev pub tracked : Configuration → ℕ → List Entry → List Tracked
-tracked first u past = map (λ n. record { number = n; status = status first u n past }) (take TRACKED_MAX (numbers_on first u past))
+tracked first u [] = []
+tracked first u (e ∷ past) = tracked_after (configuration first past) u e.step e.answer (tracked first u past)
 
 -- A value of the driver of u since it was connected: `start` when it is connected, else the value before.
 abbrev pub since_up : {A : Type 0} → A → ℕ → Step → A → A

@@ -1,10 +1,11 @@
 -- Requests that are tracked: their numbers, and how they ended (NUT developer guide, chapter 9: TRACKING).
-use Rattle.std.specs.Prelude.{ℕ, ◌==◌, Option, Some, None, if◌then◌else◌}
+use Rattle.std.specs.Prelude.{ℕ, ◌==◌, List, ◌∷◌, map, take, Option, Some, None, if◌then◌else◌}
 use Rattle.std.specs.Option.{option_map_or}
 use Rattle.nut_words.specs.Lines.{LineText, Text, TooLong}
 use Rattle.nut_state.specs.Change.{Change, heard, tracking}
 use Rattle.nut_proto.specs.declared.tracking.TrackingStatus.{TrackingStatus}
 use Rattle.nut_proto.specs.declared.tracking.TrackingStatus.TheVariants.{Pending, Success, Failed}
+use Rattle.nut_server_spec.specs.declared.limits.TheConstants.{TRACKED_MAX}
 
 -- a request that is tracked: its number, and how it ended
 pub record Tracked : Type 0 where
@@ -35,3 +36,18 @@ ended_by (Some told) n before = if told.0 == n then judged told.1 before else be
 abbrev pub abandoned : TrackingStatus → TrackingStatus
 abandoned Pending = Failed
 abandoned before = before
+
+-- ---- the newest requests that are tracked, the newest first
+
+-- with the one that is given this number, if one is; at most TRACKED_MAX are remembered
+abbrev pub with_tracked : Option ℕ → List Tracked → List Tracked
+with_tracked None before = before
+with_tracked (Some n) before = take TRACKED_MAX (record { number = n; status = Pending } ∷ before)
+
+-- after what a driver's line tells
+abbrev pub all_ended_by : Option (ℕ × ℕ) → List Tracked → List Tracked
+all_ended_by told before = map (λ t. record { number = t.number; status = ended_by told t.number t.status }) before
+
+-- after the driver is gone
+abbrev pub all_abandoned : List Tracked → List Tracked
+all_abandoned before = map (λ t. record { number = t.number; status = abandoned t.status }) before

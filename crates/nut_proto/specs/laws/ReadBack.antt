@@ -1,5 +1,5 @@
 -- What one side writes, the other reads as it was meant.
-use Rattle.std.specs.Prelude.{◌≡◌, ◌≤◌, List, [], ◌∷◌, length, Ok, Some, codes, decimal, IsTrue}
+use Rattle.std.specs.Prelude.{◌≡◌, ℕ, ◌≤◌, List, [], ◌∷◌, length, Ok, Some, codes, decimal, IsTrue}
 use Rattle.nut_words.specs.Reader.{spelled}
 use Rattle.nut_words.specs.declared.limits.TheConstants.{WORDS_MAX}
 use Rattle.nut_proto.specs.declared.part.Part.{Part}
@@ -40,6 +40,10 @@ RequestsAreRead =
     (request : Request) → AreWritable (request_parts request) → IsReadable request →
     (spelled (message (request_parts request)) ≡ Ok (message_words (request_parts request))) ×
     (meaning (message_words (request_parts request)) ≡ Ok request)
+
+-- The request that words mean is readable.
+abbrev pub ReadRequestsAreReadable : Type 0
+ReadRequestsAreReadable = (words : List (List ℕ)) (request : Request) → meaning words ≡ Ok request → IsReadable request
 
 -- what a reply is read as: a success, the name of a refusal, or else a row
 abbrev pub answer_to : Reply → Answer

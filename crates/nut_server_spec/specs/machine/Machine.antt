@@ -1,6 +1,6 @@
 -- The server as a machine over its content: how an accepted event changes the content. The machine doesn't keep the
 -- past. The law `machine_keeps_content` says that it keeps the content of every history.
-use Rattle.std.specs.Prelude.{ℕ, zero, suc, true, false, not, ◌==◌, ◌≡◌, max, if◌then◌else◌, ◌+◌, List, [], ◌∷◌, ◌++◌, filter, map, drop, take, Option, Some, None}
+use Rattle.std.specs.Prelude.{ℕ, zero, suc, true, false, not, ◌==◌, ◌≡◌, max, if◌then◌else◌, ◌+◌, List, [], ◌∷◌, ◌++◌, filter, map, drop, Option, Some, None}
 use Rattle.nut_words.specs.Bytes.{line_feed}
 use Rattle.nut_words.specs.Lines.{LineText, Text, TooLong, joined}
 use Rattle.nut_state.specs.Table.{Table, empty}
@@ -10,10 +10,7 @@ use Rattle.nut_proto.specs.DriverAsks.{ask_line}
 use Rattle.nut_server_spec.specs.Configuration.{Configuration}
 use Rattle.nut_server_spec.specs.Command.{Command, command_of}
 use Rattle.nut_server_spec.specs.Event.{Event, Moment, Open, Bytes, Took, Close, WriteFailed, DriverUp, DriverBytes, DriverTook, DriverDown}
-use Rattle.std.specs.Option.{option_map_or}
-use Rattle.nut_proto.specs.declared.tracking.TrackingStatus.TheVariants.{Pending}
-use Rattle.nut_server_spec.specs.declared.limits.TheConstants.{TRACKED_MAX}
-use Rattle.nut_server_spec.specs.Tracking.{Tracked, told_in, ended_by, abandoned}
+use Rattle.nut_server_spec.specs.Tracking.{told_in, with_tracked, all_ended_by, all_abandoned}
 use Rattle.nut_server_spec.specs.Device.{Device, needs_ping}
 use Rattle.nut_server_spec.specs.Answer.{Answer, Silence, Guest, Scene, Caller, answer}
 use Rattle.nut_server_spec.specs.Effect.{user_then, password_then, login_then, logged_out_then, tracking_then, number_in, due_then, target, forced_then, request_of}
@@ -82,17 +79,6 @@ answered configuration command reply k = record {
 abbrev pub requested : Option (List ℕ) → Device → List ℕ
 requested request d = if d.connected then with_request request d.waits else d.waits
 
--- the newest tracked requests, with the one to which an answer gives a number before them
-abbrev pub with_tracked : Answer → List Tracked → List Tracked
-with_tracked reply before = option_map_or (λ number. take TRACKED_MAX (record { number = number; status = Pending } ∷ before)) (number_in reply) before
-
--- tracked requests after what a driver's line tells, and after the driver is gone
-abbrev pub all_ended_by : LineText → List Tracked → List Tracked
-all_ended_by line before = map (λ t. record { number = t.number; status = ended_by (told_in line) t.number t.status }) before
-
-abbrev pub all_abandoned : List Tracked → List Tracked
-all_abandoned before = map (λ t. record { number = t.number; status = abandoned t.status }) before
-
 -- a UPS after an answer to a command that acts on it
 abbrev pub acted : Command → Answer → Supply → Supply
 acted command reply d = record {
@@ -103,7 +89,7 @@ acted command reply d = record {
     pinged_at = d.device.pinged_at;
     forced = forced_then command reply d.device.forced;
     waits = requested (request_of command reply) d.device;
-    tracked = with_tracked reply d.device.tracked;
+    tracked = with_tracked (number_in reply) d.device.tracked;
   };
   rest = d.rest;
 }
@@ -174,7 +160,7 @@ told TooLong table = table
 -- a UPS after a line of its driver at this moment
 abbrev pub reported_by : ℕ → LineText → Supply → Supply
 reported_by time line d = record {
-  device = record d.device { table = told line d.device.table; heard_at = if is_heard line then time else d.device.heard_at; tracked = all_ended_by line d.device.tracked };
+  device = record d.device { table = told line d.device.table; heard_at = if is_heard line then time else d.device.heard_at; tracked = all_ended_by (told_in line) d.device.tracked };
   rest = Text [];
 }
 
