@@ -1,16 +1,18 @@
 -- Worked examples: histories of drivers and users, and the answers in them, computed from the definitions.
-use Rattle.std.specs.Prelude.{◌≡◌, ℕ, ◌+◌, true, false, List, [], ◌∷◌, ◌++◌, codes, Some, None}
+use Rattle.std.specs.Prelude.{◌≡◌, ℕ, ◌+◌, Bool, true, false, List, [], ◌∷◌, ◌++◌, codes, Option, Some, None}
 use Rattle.nut_words.specs.declared.limits.TheConstants.{PIECE_MAX, VALUE_MAX}
 use Rattle.nut_conf.specs.declared.users.Action.TheVariants as actions
 use Rattle.nut_conf.specs.declared.users.Role.TheVariants as roles
 use Rattle.nut_proto.specs.declared.refusal.Refusal.TheVariants.{SetFailed}
-use Rattle.nut_proto.specs.declared.reply.Reply.TheVariants.{Accepted}
+use Rattle.nut_proto.specs.declared.reply.Reply.TheVariants.{Accepted, AcceptedAs}
+use Rattle.nut_proto.specs.declared.driver_ask.DriverAsk.{DriverAsk}
+use Rattle.nut_proto.specs.declared.driver_ask.DriverAsk.TheVariants as asks
 use Rattle.nut_server_spec.specs.declared.Refused.TheVariants.{NotConnected, PieceTooLong, TooMuchTaken}
 use Rattle.nut_server_spec.specs.Configuration.{Configuration}
 use Rattle.nut_server_spec.specs.Device.{Device, absent, fits, needs_ping}
-use Rattle.nut_server_spec.specs.Answer.{Line, handed_on, refused}
+use Rattle.nut_server_spec.specs.Answer.{Caller, Line, handed_on, refused}
 use Rattle.nut_server_spec.specs.Event.{Event, Moment, Open, Bytes, Close, DriverUp, DriverBytes, DriverTook, DriverDown}
-use Rattle.nut_server_spec.specs.Trace.{due, driver_sent, driver_waits}
+use Rattle.nut_server_spec.specs.Trace.{due, driver_sent, driver_waits, scene}
 use Rattle.nut_server_spec.specs.Content.{content, past}
 use Rattle.nut_server_spec.specs.Acceptance.{refusal, IsAccepted}
 use Rattle.nut_server_spec.specs.examples.Examples.{many}
@@ -115,14 +117,24 @@ pub record DriverExamples : Type 0 where
 abbrev pub laden : ℕ → Device
 laden n = record absent { connected = true; waits = many n 65 }
 
+-- a connection that has said nothing but whether its requests are tracked
+abbrev pub nobody : Bool → Caller
+nobody tracking = record { user = None; password = None; login = None; tracking = tracking }
+
+-- a request of 17 bytes, or with the number 1 of 28
+abbrev pub sets_id : Option ℕ → DriverAsk
+sets_id number = asks.Set (codes "ups.id") (codes "abc") number
+
 -- what just fits into the 4,096 bytes that may wait, and what doesn't; and a third of a MAXAGE that three doesn't
 -- divide
 pub record EdgeExamples : Type 0 where
   pub most_fits : fits (many 28 65) (laden 4068) ≡ true
   pub one_byte_more : fits (many 29 65) (laden 4068) ≡ false
   pub one_byte_waits_more : fits (many 28 65) (laden 4069) ≡ false
-  pub last_set_is_handed_on : handed_on SetFailed (many 28 65) (laden 4068) ≡ Line Accepted
-  pub first_set_is_refused : handed_on SetFailed (many 28 65) (laden 4069) ≡ refused SetFailed
+  pub last_set_is_handed_on : handed_on SetFailed (scene room []) (nobody false) sets_id (laden 4079) ≡ Line Accepted
+  pub first_set_is_refused : handed_on SetFailed (scene room []) (nobody false) sets_id (laden 4080) ≡ refused SetFailed
+  pub last_numbered_set : handed_on SetFailed (scene room []) (nobody true) sets_id (laden 4068) ≡ Line (AcceptedAs 1)
+  pub first_numbered_set_is_refused : handed_on SetFailed (scene room []) (nobody true) sets_id (laden 4069) ≡ refused SetFailed
   pub last_ping : needs_ping 15 6 (laden 4091) ≡ true
   pub first_ping_left_out : needs_ping 15 6 (laden 4092) ≡ false
   pub third_is_rounded_down : needs_ping 11 4 (laden 0) ≡ true
