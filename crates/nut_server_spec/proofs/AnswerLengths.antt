@@ -59,6 +59,10 @@ fit_line : (r : Reply) → length (reply_line r) ≤ 1000 → IsFit (Line r)
 unfolding text_of
 fit_line r short = omega arith
 
+fit_long : (r : Reply) → length (reply_line r) ≤ 2000 → IsFit (Line r)
+unfolding text_of
+fit_long r short = omega arith
+
 fit_refused : (r : Refusal) → IsFit (refused r)
 fit_refused r = fit_line (replies.Refused r) (omega (arith, L.length-refused r))
 
@@ -94,7 +98,7 @@ unfolding text_of
 fit_list query rows m n marks few most =
     omega (arith, length-append (begin_line query) (flat_map reply_line rows ++ end_line query), length-append (flat_map reply_line rows) (end_line query))
 
-rows_short : {X : Type 0} (row : X → Reply) (xs : List X) → AllByRecursion (λ x. length (reply_line (row x)) ≤ 1200) xs → length (flat_map reply_line (map row xs)) ≤ 1200 * length xs
+rows_short : {X : Type 0} (row : X → Reply) (xs : List X) → AllByRecursion (λ x. length (reply_line (row x)) ≤ 1300) xs → length (flat_map reply_line (map row xs)) ≤ 1300 * length xs
 rows_short row [] all = omega arith
 rows_short row (x ∷ xs) all = omega (arith, length-append (reply_line (row x)) (flat_map reply_line (map row xs)), rows_short row xs all.1, all.0)
 
@@ -238,7 +242,7 @@ module _ (s : Scene) (short : IsShortScene s) where
   list_fit queries.Ups =
       let upses = s.configuration.upses in
       let row : Ups → Reply = λ ups. replies.Ups ups.name ups.description in
-      fit_list queries.Ups (map row upses) 1000 38400 L.length-marks_ups
+      fit_list queries.Ups (map row upses) 1000 41600 L.length-marks_ups
       (omega (arith, short.configured.upses, rows_short row upses (all_weaker IsUpsWithin _ upses (λ ups within. L.length-ups ups.name ups.description (ups_short ups.name within.name) within.description) short.configured.each_ups)))
       (omega arith)
   list_fit (queries.Var ups) = fit_device s short ups _ (λ d named table.
@@ -257,27 +261,27 @@ module _ (s : Scene) (short : IsShortScene s) where
   list_fit (queries.Cmd ups) = fit_device s short ups _ (λ d named table.
       let commands = d.table.commands in
       let row : List ℕ → Reply = λ k. replies.Cmd ups k in
-      fit_list (queries.Cmd ups) (map row commands) 1000 153600 (L.length-marks_cmd ups (ups_short ups named))
+      fit_list (queries.Cmd ups) (map row commands) 1000 166400 (L.length-marks_cmd ups (ups_short ups named))
       (omega (arith, table.in_order.commands_within, rows_short row commands (all_weaker (λ k. is_name NAME_MAX k ≡ true) _ commands (λ k own. L.length-cmd ups k (ups_short ups named) (name_within NAME_MAX k own).1) (all_places _ commands table.in_order.each_command))))
       (omega arith))
   list_fit (queries.Enum ups name) = fit_device s short ups _ (λ d named table. fit_variable name d _ (λ v there.
       let within = variable_within d.table name v table there in
       let own = (variable_named d.table name v table there).1 in
       let row : List ℕ → Reply = λ x. replies.Enum ups name x in
-      fit_list (queries.Enum ups name) (map row v.enums) 1000 76800 (L.length-marks_enum ups name (ups_short ups named) own)
+      fit_list (queries.Enum ups name) (map row v.enums) 1000 83200 (L.length-marks_enum ups name (ups_short ups named) own)
       (omega (arith, within.enums, rows_short row v.enums (all_weaker (λ x. length x ≤ VALUE_MAX) _ v.enums (λ x few. L.length-enum ups name x (ups_short ups named) own few) (all_places _ v.enums within.each_enum))))
       (omega arith)))
   list_fit (queries.Range ups name) = fit_device s short ups _ (λ d named table. fit_variable name d _ (λ v there.
       let within = variable_within d.table name v table there in
       let own = (variable_named d.table name v table there).1 in
       let row : Range → Reply = λ r. replies.Range ups name r.minimum r.maximum in
-      fit_list (queries.Range ups name) (map row v.ranges) 1000 19200 (L.length-marks_range ups name (ups_short ups named) own)
+      fit_list (queries.Range ups name) (map row v.ranges) 1000 20800 (L.length-marks_range ups name (ups_short ups named) own)
       (omega (arith, within.ranges, rows_short row v.ranges (all_weaker IsShortRange _ v.ranges (λ r few. L.length-range ups name r.minimum r.maximum (ups_short ups named) own few.minimum few.maximum) (table.ranges name v there))))
       (omega arith)))
   list_fit (queries.Client ups) = fit_ups s short ups _ (λ u named. fit_data s short u (λ d. Listing (queries.Client ups) (map (λ (g : Guest). replies.Client ups g.address) (guests_of u s.guests))) (λ table.
       let p : Guest → Bool = λ g. is_logged_in u g.login in
       let row : Guest → Reply = λ g. replies.Client ups g.address in
-      fit_list (queries.Client ups) (map row (filter p s.guests)) 1000 307200 (L.length-marks_client ups (ups_short ups named))
+      fit_list (queries.Client ups) (map row (filter p s.guests)) 1000 332800 (L.length-marks_client ups (ups_short ups named))
       (omega (arith, fewer p s.guests, short.few, rows_short row (filter p s.guests) (all_weaker (λ (g : Guest). length g.address ≤ ADDRESS_MAX) _ (filter p s.guests) (λ g few. L.length-client ups g.address (ups_short ups named) few) (all_filter _ p s.guests short.guests))))
       (omega arith)))
 
@@ -288,7 +292,7 @@ module _ (s : Scene) (short : IsShortScene s) where
   request_fit k (requests.GetUpsDesc ups) readable = described_fit ups s.configuration.upses short.configured.each_ups
   request_fit k (requests.GetVar ups name) readable = fit_device s short ups _ (λ d named table. fit_variable name d _ (λ v there.
       let within = variable_within d.table name v table there in
-      fit_line (var_row ups d v) (omega (arith, L.length-var ups v.name (shown d v) (name_within UPS_NAME_MAX ups named) (name_within NAME_MAX v.name within.name), length-shown d v within))))
+      fit_long (var_row ups d v) (omega (arith, L.length-var ups v.name (shown d v) (name_within UPS_NAME_MAX ups named) (name_within NAME_MAX v.name within.name), length-shown d v within))))
   request_fit k (requests.GetType ups name) readable = fit_device s short ups _ (λ d named table. fit_variable name d _ (λ v there.
       let within = variable_within d.table name v table there in
       fit_line (type_reply ups v) (L.length-type ups v.name v.flags.writable (kind_of v) (ups_short ups named) (name_within NAME_MAX v.name within.name).1 (λ m is. kind_few v m within.aux is))))

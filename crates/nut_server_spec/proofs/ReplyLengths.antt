@@ -187,21 +187,21 @@ unfolding reply_line
 length-rw ups name value u n =
     omega (arith, length-line (Word (codes "RW")) (Word ups ∷ Word name ∷ Quoted value ∷ []), length-name UPS_NAME_MAX ups u, length-name NAME_MAX name n)
 
-pub length-ups : (ups text : List ℕ) → length ups ≤ UPS_NAME_MAX → length text ≤ DESCRIPTION_MAX → length (reply_line (replies.Ups ups text)) ≤ 1200
+pub length-ups : (ups text : List ℕ) → length ups ≤ UPS_NAME_MAX → length text ≤ DESCRIPTION_MAX → length (reply_line (replies.Ups ups text)) ≤ 1300
 unfolding reply_line
 length-ups ups text u t = omega (arith, length-line (Word (codes "UPS")) (Word ups ∷ Quoted text ∷ []), length-word ups, length-quoted text)
 
-pub length-cmd : (ups name : List ℕ) → length ups ≤ UPS_NAME_MAX → length name ≤ NAME_MAX → length (reply_line (replies.Cmd ups name)) ≤ 1200
+pub length-cmd : (ups name : List ℕ) → length ups ≤ UPS_NAME_MAX → length name ≤ NAME_MAX → length (reply_line (replies.Cmd ups name)) ≤ 1300
 unfolding reply_line
 length-cmd ups name u n = omega (arith, length-line (Word (codes "CMD")) (Word ups ∷ Word name ∷ []), length-word ups, length-word name)
 
-pub length-enum : (ups name value : List ℕ) → length ups ≤ UPS_NAME_MAX → length name ≤ NAME_MAX → length value ≤ VALUE_MAX → length (reply_line (replies.Enum ups name value)) ≤ 1200
+pub length-enum : (ups name value : List ℕ) → length ups ≤ UPS_NAME_MAX → length name ≤ NAME_MAX → length value ≤ VALUE_MAX → length (reply_line (replies.Enum ups name value)) ≤ 1300
 unfolding reply_line
 length-enum ups name value u n v =
     omega (arith, length-line (Word (codes "ENUM")) (Word ups ∷ Word name ∷ Quoted value ∷ []), length-word ups, length-word name, length-quoted value)
 
 pub length-range : (ups name : List ℕ) (low high : ℤ) → length ups ≤ UPS_NAME_MAX → length name ≤ NAME_MAX → mag low < 10 ^ 9 → mag high < 10 ^ 9
-    → length (reply_line (replies.Range ups name low high)) ≤ 1200
+    → length (reply_line (replies.Range ups name low high)) ≤ 1300
 unfolding reply_line
 length-range ups name low high u n l h =
     omega (
@@ -215,7 +215,7 @@ length-range ups name low high u n l h =
       length_signed_le 10 high (omega arith) (omega arith),
     )
 
-pub length-client : (ups address : List ℕ) → length ups ≤ UPS_NAME_MAX → length address ≤ ADDRESS_MAX → length (reply_line (replies.Client ups address)) ≤ 1200
+pub length-client : (ups address : List ℕ) → length ups ≤ UPS_NAME_MAX → length address ≤ ADDRESS_MAX → length (reply_line (replies.Client ups address)) ≤ 1300
 unfolding reply_line
 length-client ups address u a = omega (arith, length-line (Word (codes "CLIENT")) (Word ups ∷ Word address ∷ []), length-word ups, length-word address)
 

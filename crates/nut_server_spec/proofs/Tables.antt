@@ -157,7 +157,10 @@ verbs_short = (
                           λ ws name r is. absurd (cc),
                           (
                             λ ws name r is. absurd (cc),
-                            tt,
+                            (
+                              λ ws name r is. absurd (cc),
+                              tt,
+                            ),
                           ),
                         ),
                       ),

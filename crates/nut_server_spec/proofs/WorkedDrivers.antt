@@ -64,13 +64,15 @@ drivers = record {
 }
 
 pub edges : EdgeExamples
-unfolding ask_line line
+unfolding ask_line line digits
 edges = record {
   most_fits = refl;
   one_byte_more = refl;
   one_byte_waits_more = refl;
   last_set_is_handed_on = refl;
   first_set_is_refused = refl;
+  last_numbered_set = refl;
+  first_numbered_set_is_refused = refl;
   last_ping = refl;
   first_ping_left_out = refl;
   third_is_rounded_down = refl;
