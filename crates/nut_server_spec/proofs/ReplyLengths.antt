@@ -81,8 +81,13 @@ length-status statuses.Unknown = omega arith
 pub length-tracking : (n : ℕ) (status : TrackingStatus) → n ≤ TRACKING_NUMBER_MAX → length (reply_line (replies.Tracking n status)) ≤ 200
 unfolding reply_line
 length-tracking n status few =
-    omega (arith, length-line (Word (codes "TRACKING")) (Number n ∷ Word (status_word status) ∷ []), length-word (decimal n), length-status status,
-    length-decimal-le 9 n (omega arith) (omega arith) (omega arith))
+    omega (
+      arith,
+      length-line (Word (codes "TRACKING")) (Number n ∷ Word (status_word status) ∷ []),
+      length-word (decimal n),
+      length-status status,
+      length-decimal-le 9 n (omega arith) (omega arith) (omega arith),
+    )
 
 pub length-fsd_set : length (reply_line replies.FsdSet) ≤ 200
 unfolding reply_line line

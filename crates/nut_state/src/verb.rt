@@ -86,7 +86,8 @@ impl Verb {
         ensures { result ≡ takes self count }
     {
         match self {
-            Verb::SetInfo | Verb::AddEnum | Verb::DelEnum | Verb::SetAux | Verb::Tracking => count == 3,
+            Verb::SetInfo | Verb::AddEnum | Verb::DelEnum | Verb::SetAux | Verb::Tracking => count
+                == 3,
             Verb::DelInfo | Verb::AddCommand | Verb::DelCommand => count == 2,
             Verb::AddRange | Verb::DelRange => count == 4,
             Verb::SetFlags => count >= 2,
