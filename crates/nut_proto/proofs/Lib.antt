@@ -5,6 +5,6 @@ pub mod Places
 pub mod Spelling
 pub mod Numbers
 pub mod Readable
-mod RoundTrip
+pub mod RoundTrip
 pub mod Lengths
 pub mod Digits

@@ -1,5 +1,5 @@
 -- Examples, computed from the definitions.
-use Rattle.std.specs.Prelude.{◌≡◌, ◌⊎◌, ◌<◌, ℕ, List, length, [], ◌∷◌, codes, Option, Some, Result, Ok, Err}
+use Rattle.std.specs.Prelude.{◌≡◌, ◌⊎◌, ◌<◌, ℕ, List, length, [], ◌∷◌, codes, Option, Some, None, Result, Ok, Err}
 use Rattle.clap.specs.declared.error.kind.ErrorKind.TheVariants as kinds
 use Rattle.nut_client.specs.CommandLine.{CommandLine, target_of, upsc_line, upsrw_line, upscmd_line}
 use Rattle.nut_client.specs.Script.{Script, script}
