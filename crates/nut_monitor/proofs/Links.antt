@@ -206,9 +206,9 @@ nm_row heading count rows words true true = tt
 nm_row heading count rows words true false = tt
 nm_row heading count rows words false b = tt
 
-nm_either : (b : Bool) (p q : Outcome) → Fed (if b then Ok (Complete p) else Ok (Complete q))
-nm_either true p q = tt
-nm_either false p q = tt
+nm_any : (b : Bool) (p q : Outcome) → Fed (if b then Ok (Complete p) else Ok (Complete q))
+nm_any true p q = tt
+nm_any false p q = tt
 
 nm_first : (e : Expected) (a : Answer) → Fed (first e a)
 nm_first expects.Success (answers.Ok words) = tt
@@ -216,7 +216,7 @@ nm_first expects.Success (answers.Err name) = tt
 nm_first expects.Success (answers.Begin words) = tt
 nm_first expects.Success (answers.End words) = tt
 nm_first expects.Success (answers.Row words) = tt
-nm_first expects.NumberedSuccess (answers.Ok words) = nm_either (is_numbered words) (outcomes.Said (drop 1 words)) outcomes.Done
+nm_first expects.NumberedSuccess (answers.Ok words) = nm_any (is_numbered words) (outcomes.Said (drop 1 words)) outcomes.Done
 nm_first expects.NumberedSuccess (answers.Err name) = tt
 nm_first expects.NumberedSuccess (answers.Begin words) = tt
 nm_first expects.NumberedSuccess (answers.End words) = tt
