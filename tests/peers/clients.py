@@ -133,7 +133,7 @@ class Tests:
             names = ["beeper.disable", "beeper.enable", "load.off", "load.on", "test.battery.start", "test.battery.stop"]
             found = room.pynut("sorted(client.GetUPSCommands('su700'))")
             expect(found[:6], names, "GetUPSCommands")
-            expect(room.pynut("client.ver()"), "Network UPS Tools upsd profile 1.2\n", "ver")
+            expect(room.pynut("client.ver()"), "Network UPS Tools upsd profile 1.3\n", "ver")
             expect(room.pynut("client.help()")[:20], "Commands: GET LIST S", "help")
             for call in ("GetUPSVars", "GetUPSCommands", "GetRWVars"):
                 expect(room.pynut(f"client.{call}('x')"), ("refused", "ERR UNKNOWN-UPS"), call)

@@ -124,6 +124,37 @@ class Tests:
                 expect(room.ask(STATUS), ONLINE, "still live")
                 time.sleep(0.1)
 
+    def test_dummy_ups_of_nut_tells_how_requests_ended(self):
+        with self.room() as room:
+            driver = needed("dummy-ups", "nut-server")
+            room.configure_nut()
+            room.start_nut(driver, "-a", "su700")
+            room.upsd()
+            room.until(STATUS, ONLINE)
+            with room.client() as client:
+                client.log_in()
+                expect(client.ask(b"SET TRACKING ON\n"), b"OK\n", "SET TRACKING")
+                expect(client.ask(b'SET VAR su700 battery.charge "50"\n'), b"OK TRACKING 1\n", "a SET")
+                room.until(b"GET TRACKING 1\n", b"TRACKING 1 SUCCESS\n")
+                # NUT's dummy driver has this command, and refuses it
+                expect(client.ask(b"INSTCMD su700 load.off 5\n"), b"OK TRACKING 2\n", "a command")
+                room.until(b"GET TRACKING 2\n", b"TRACKING 2 FAILED\n")
+
+    def test_tools_of_nut_that_wait(self):
+        """They take the number of a request for the end of the answer, and don't wait."""
+        with self.room() as room:
+            for tool in ("upscmd", "upsrw"):
+                needed(tool, "nut-client")
+            room.dummy()
+            room.upsd()
+            room.until(STATUS, ONLINE)
+            expect(room.tool("upscmd", "-w", "-u", "admin", "-p", "pw", "ROOM", "load.off"), (0, ""), "a command")
+            expect(room.tool("upsrw", "-w", "-s", "ups.id=y", "-u", "admin", "-p", "pw", "ROOM"), (0, ""), "a SET")
+            room.until(b"GET TRACKING 1\n", b"TRACKING 1 SUCCESS\n")
+            room.until(b"GET TRACKING 2\n", b"TRACKING 2 SUCCESS\n")
+            expect(room.tool("upscmd", "-u", "admin", "-p", "pw", "ROOM", "load.on", "5"), (0, ""), "a command with a parameter")
+            room.until(STATUS, ONLINE)
+
     def test_upsd_of_nut_and_this_dummy_ups(self):
         with self.room() as room:
             server = needed("upsd", "nut-server")

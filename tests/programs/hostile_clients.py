@@ -24,7 +24,10 @@ from tests.support.room import NOT_CONNECTED, ONLINE, SOON, STATUS, VERSION, Cli
 # the default of MAXCONN
 MOST = 256
 # the longest table that a dummy driver tells: every byte of a value takes two in an answer
-LONGEST = b"ups.status: OL\n" + b"".join(b"%s.%03d: %s\n" % (b"x" * 60, i, b'"' * 128) for i in range(508))
+LONGEST = b"ups.status: OL\n" + b"".join(b"%s.%03d: %s\n" % (b"x" * 60, i, b'"' * 512) for i in range(508))
+# what the server takes at most if every client asks for that table and takes nothing: for each the longest list, 64 KiB
+# beyond it, and some room
+GREEDY_MAX_KIB = MOST * (570 + 64 + 32)
 # a table whose list has 27 KB
 LONG = b"ups.status: OL\n" + b"".join(b"ambient.%d.status: %s\n" % (i, b"x" * 100) for i in range(200))
 STALE = b"ERR DATA-STALE\n"
@@ -159,7 +162,7 @@ class Tests:
                     client.socket.settimeout(60)
                     expect(client.ask(STATUS), ONLINE, "beside greedy clients")
                     until(lambda: is_quiet(upsd.pid), "nothing is left to do for clients that take nothing", 60)
-                    ensure(resident(upsd.pid) < 64 * 1024, f"{resident(upsd.pid)} KiB are resident")
+                    ensure(resident(upsd.pid) < GREEDY_MAX_KIB, f"{resident(upsd.pid)} KiB are resident")
                     listed = client.list(b"LIST VAR su700\n")
                     expect(len(listed), 511, "the lines of the longest list")
 

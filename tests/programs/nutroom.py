@@ -152,7 +152,7 @@ class Tests:
             status, out, err = self.run(*words)
             expect((status, out), (2, ""), words)
             ensure(err.startswith("usage: nutroom "), f"{words}: {err!r}")
-        expect(self.printed("--version"), "nutroom profile 1.2\n", "the version")
+        expect(self.printed("--version"), "nutroom profile 1.3\n", "the version")
 
     def test_the_manual_page_has_every_option(self):
         options = set(re.findall(r"(?<![\w-])--?[A-Za-z][a-z]*", re.split("[Oo]ption[a-z ]*:\n", self.printed("--help"))[1]))

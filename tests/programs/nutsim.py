@@ -403,7 +403,7 @@ class Tests:
             done = subprocess.run([self.program, *words], capture_output=True, timeout=60)
             expect((done.returncode, done.stdout), (status, b""), words)
             ensure(b"Usage: nutsim" in done.stderr, f"{words}: {done.stderr!r}")
-        for word, text in (("--help", b"Usage: nutsim <DIR> <SCHEDULE> <MONCONF>..."), ("--version", b"nutsim profile 1.2")):
+        for word, text in (("--help", b"Usage: nutsim <DIR> <SCHEDULE> <MONCONF>..."), ("--version", b"nutsim profile 1.3")):
             done = subprocess.run([self.program, word], capture_output=True, timeout=60)
             expect((done.returncode, done.stderr), (0, b""), word)
             ensure(text in done.stdout, f"{word}: {done.stdout!r}")

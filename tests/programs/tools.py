@@ -16,6 +16,7 @@ import threading
 import time
 
 from tests.support.harness import Failed, build_shim, expect, refusals, run_tests
+from tests.support.model import LINE_MAX
 
 # every byte that a value may have
 EVERY = bytes(range(0x20, 0x7F))
@@ -30,7 +31,7 @@ ANSWERS = {
     b"LIST VAR stale": b"ERR DATA-STALE\n",
     b"LIST VAR wrong": b"BEGIN LIST VAR su700\nEND LIST VAR su700\n",
     b"LIST VAR quoted": b'"BEGIN\n',
-    b"LIST VAR long": b"BEGIN LIST VAR long\nVAR long a " + b"x" * 600 + b"\nEND LIST VAR long\n",
+    b"LIST VAR long": b"BEGIN LIST VAR long\nVAR long a " + b"x" * LINE_MAX + b"\nEND LIST VAR long\n",
     b"LIST VAR past": "BEGIN LIST VAR past\nVAR past a \"caf\u00e9\"\nEND LIST VAR past\n".encode(),
     b"LIST VAR every": b'BEGIN LIST VAR every\nVAR every a "' + EVERY.replace(b"\\", b"\\\\").replace(b'"', b'\\"') + b'"\nEND LIST VAR every\n',
     b"LIST VAR none": b"BEGIN LIST VAR none\nEND LIST VAR none\n",
@@ -109,7 +110,7 @@ BAD = [
     ("upsc", ["quoted@AT"], [b"LIST VAR quoted"], b"bad answer", 1),
     ("upsc", ["long@AT"], [b"LIST VAR long"], b"bad answer", 1),
     ("upsc", ["su700@AT", "\u00e9"], [], b"bad query", 1),
-    ("upsc", ["su700@AT", "v" * 600], [], b"bad query", 1),
+    ("upsc", ["su700@AT", "v" * LINE_MAX], [], b"bad query", 1),
     ("upsrw", ["-s", "ups.mfr=y", *ADMIN, "su700@AT"], [*LOGIN, b'SET VAR su700 ups.mfr "y"'], b"READONLY", 1),
     ("upsrw", ["-s", "ups.id=y", "-u", "x", "-p", "pw", "su700@AT"], [b"USERNAME x"], b"UNKNOWN-COMMAND", 1),
     ("upscmd", [*ADMIN, "su700@AT", "beep"], [*LOGIN, b"INSTCMD su700 beep"], b"CMD-NOT-SUPPORTED", 1),
@@ -284,7 +285,7 @@ class Tests:
             status, output, text = self.run(tool, [option, "su700@AT"])
             expect((status, output, text != b""), (2, b"", True), f"{tool} {option}")
         for tool in ("upsc", "upsrw", "upscmd"):
-            expect(self.run(tool, ["--version"]), (0, f"{tool} profile 1.2\n".encode(), b""), f"{tool} --version")
+            expect(self.run(tool, ["--version"]), (0, f"{tool} profile 1.3\n".encode(), b""), f"{tool} --version")
             status, output, text = self.run(tool, ["--help"])
             expect((status, tool.encode() in output, text), (0, True, b""), f"{tool} --help")
 

@@ -149,6 +149,42 @@ class Tests:
                     time.sleep(0.005)
                 room.until(b"GET VAR su700 ups.id\n", b'VAR su700 ups.id "c"\n')
 
+    def test_requests_are_tracked(self):
+        with self.room() as room:
+            driver = room.dummy()
+            room.upsd()
+            room.until(STATUS, ONLINE)
+            with room.client() as client:
+                client.log_in()
+                expect(client.ask(b"SET TRACKING ON\n"), b"OK\n", "SET TRACKING")
+                expect(client.ask(b'SET VAR su700 ups.id "new"\n'), b"OK TRACKING 1\n", "SET")
+                room.until(b"GET TRACKING 1\n", b"TRACKING 1 SUCCESS\n")
+                expect(room.ask(b"GET VAR su700 ups.id\n"), b'VAR su700 ups.id "new"\n', "a value before its success is told")
+                expect(client.ask(b"INSTCMD su700 load.off now\n"), b"OK TRACKING 2\n", "INSTCMD with a parameter")
+                room.until(b"GET TRACKING 2\n", b"TRACKING 2 SUCCESS\n")
+                driver.send_signal(signal.SIGSTOP)
+                expect(client.ask(b"INSTCMD su700 load.on\n"), b"OK TRACKING 3\n", "a driver that is stopped")
+                expect(client.ask(b"GET TRACKING 3\n"), b"TRACKING 3 PENDING\n", "a driver that is stopped")
+                driver.kill()
+                room.until(b"GET TRACKING 3\n", b"TRACKING 3 FAILED\n")
+                expect(client.ask(b"GET TRACKING 2\n"), b"TRACKING 2 SUCCESS\n", "what was told before")
+
+    def test_driver_that_says_how_requests_ended(self):
+        with self.room() as room, room.driver() as listener:
+            room.upsd()
+            driver, _ = listener.accept()
+            with driver, room.client() as client, driver.makefile("rb") as asked:
+                driver.sendall(b'SETINFO ups.status "OL"\nADDCMD load.off\nDATAOK\nDUMPDONE\n')
+                room.until(STATUS, ONLINE)
+                client.log_in()
+                expect(client.ask(b"SET TRACKING ON\n"), b"OK\n", "SET TRACKING")
+                for number, status, word in ((1, b"0", b"SUCCESS"), (2, b"1", b"FAILED"), (3, b"000", b"SUCCESS"), (4, b"42", b"FAILED")):
+                    expect(client.ask(b"INSTCMD su700 load.off x\n"), b"OK TRACKING %d\n" % number, "INSTCMD")
+                    until(lambda: asked.readline() == b'INSTCMD load.off "x" TRACKING %d\n' % number, "the request")
+                    expect(client.ask(b"GET TRACKING %d\n" % number), b"TRACKING %d PENDING\n" % number, "before it is told")
+                    driver.sendall(b"TRACKING %d %s\n" % (number, status))
+                    room.until(b"GET TRACKING %d\n" % number, b"TRACKING %d %s\n" % (number, word))
+
     def test_driver_that_is_killed(self):
         with self.room() as room:
             driver = room.dummy()

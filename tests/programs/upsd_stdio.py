@@ -18,7 +18,7 @@ from tests.support.harness import build_shim, expect, Failed, Missing, refusals,
 ROOM = ["--stdio", "--ups", "su700=Server room"]
 EXAMPLES = ["--stdio", "--conf", os.path.join(ROOT, "examples")]
 
-VERSION = b"Network UPS Tools upsd profile 1.2\n"
+VERSION = b"Network UPS Tools upsd profile 1.3\n"
 LIST = b'BEGIN LIST UPS\nUPS su700 "Server room"\nEND LIST UPS\n'
 # the descriptions that NUT has, where Debian's package puts them
 NUT_DESCRIPTIONS = "/usr/share/nut/cmdvartab"
@@ -170,8 +170,8 @@ class Tests:
 
     def test_long_lines(self):
         invalid = error("INVALID-ARGUMENT")
-        expect(self.run(ROOM, b"VER" + b" " * 509 + b"\n"), (0, VERSION, b""), "512 bytes")
-        expect(self.run(ROOM, b"VER" + b" " * 510 + b"\nVER\n"), (0, invalid + VERSION, b""), "513 bytes")
+        expect(self.run(ROOM, b"VER" + b" " * 2045 + b"\n"), (0, VERSION, b""), "2,048 bytes")
+        expect(self.run(ROOM, b"VER" + b" " * 2046 + b"\nVER\n"), (0, invalid + VERSION, b""), "2,049 bytes")
         expect(self.run(ROOM, b"a" * 100_000 + b"\nVER\n"), (0, invalid + VERSION, b""), "100,000 bytes")
 
     def test_bytes_without_sense(self):

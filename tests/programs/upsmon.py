@@ -418,7 +418,7 @@ class Tests:
         for words in (["--conf"], [*conf, "more"], [*conf, "-c", "fsd"], ["--none"], [*conf, "-K", "-q"], [*conf, "-K", "--check"]):
             done = subprocess.run([self.upsmon, *words], capture_output=True, timeout=60)
             expect((done.returncode, done.stdout, done.stderr != b""), (2, b"", True), f"{words}")
-        for word, shown in (("--help", b"upsmon.conf"), ("--version", b"upsmon profile 1.2\n")):
+        for word, shown in (("--help", b"upsmon.conf"), ("--version", b"upsmon profile 1.3\n")):
             done = subprocess.run([self.upsmon, word], capture_output=True, timeout=60)
             expect((done.returncode, shown in done.stdout, done.stderr), (0, True, b""), word)
 

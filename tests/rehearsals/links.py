@@ -97,19 +97,20 @@ class Tests:
     def test_queries_that_are_not_asked(self):
         lines = self.stage.play(
             [
-                *(("link new",), ("link ask", b"LOGIN " + b"a" * 506), ("link new",), ("link ask", b"LOGIN " + b"a" * 507)),
+                *(("link new",), ("link ask", b"LOGIN " + b"a" * (LINE_MAX - 6)), ("link new",), ("link ask", b"LOGIN " + b"a" * (LINE_MAX - 5))),
                 *(("link ask", b'LOGIN "\\\\\\""'), ("link ask", b"VER"), ("link took", 11), ("link take",)),
                 *(("link ask", b"VER"), ("link bytes", b"OK\n"), ("link ask", b"VER"), ("link took", 0), ("link took", 1)),
             ]
         )
-        wanted = ["ok waits=0", "ok waits=513", "ok waits=0", "BadQuery waits=0", "ok waits=13", "OutOfOrder waits=13"]
+        wanted = ["ok waits=0", f"ok waits={LINE_MAX + 1}", "ok waits=0", "BadQuery waits=0", "ok waits=13", "OutOfOrder waits=13"]
         wanted += ["ok waits=2", escaped(b'"\n').decode(), "OutOfOrder waits=0", "ok waits=0", "OutOfOrder waits=0"]
         wanted += ["ok waits=0", "TooMuchTaken waits=0"]
         expect([line.decode() for line in lines], wanted, "queries that aren't asked")
 
     def test_limits_of_answers(self):
-        for length, fault in ((512, None), (513, "BadLine")):
-            lines = self.stage.play([*asking(b"VER"), ("link bytes", b"a" * length), ("link bytes", b"\n")])
+        for length, fault in ((LINE_MAX, None), (LINE_MAX + 1, "BadLine")):
+            pieces = pieces_of(b"a" * length + b"\n", 512)
+            lines = self.stage.play([*asking(b"VER"), *(("link bytes", piece) for piece in pieces)])
             heard(lines[3:], fault)
         rows = [("link bytes", b"CMD u k\n")] * 513
         lines = self.stage.play([*asking(b"LIST CMD u"), ("link bytes", b"BEGIN LIST CMD u\n"), *rows])
@@ -117,7 +118,7 @@ class Tests:
         expect(lines[-1], b"BadLine waits=0", "a 513th row")
 
     def test_an_answer_before_its_query_was_taken(self):
-        lines = self.stage.play([("link new",), ("link ask", b"VER"), ("link took", 3), ("link bytes", b"1.2\n"), ("link answer",)])
+        lines = self.stage.play([("link new",), ("link ask", b"VER"), ("link took", 3), ("link bytes", b"1.3\n"), ("link answer",)])
         expect((lines[2], lines[3].split(b" ")[0], lines[4]), (b"ok waits=1", b"OutOfOrder", b"none"), "an early answer")
 
     def test_10000_pieces_without_sense(self):

@@ -228,7 +228,7 @@ class Tests:
     def test_endless_line(self):
         steps = [("open", b"a"), *[("bytes", 1, b"a" * 500)] * 4000, ("bytes", 1, b"\n"), ("take", 1)]
         schedule, _ = self.rehearse(Config(UPSES, USERS), steps)
-        kept = [b"ok waits=0 kept=%d reads=true leaves=false\n" % it for it in [500] + [0] * 3999]
+        kept = [b"ok waits=0 kept=%d reads=true leaves=false\n" % it for it in [500, 1000, 1500, 2000] + [0] * 3996]
         expect(schedule.due[HEAD + 1 : HEAD + 4001], kept, "pieces of a line of 2,000,000 bytes")
         expect(schedule.due[HEAD + 4002], b"ERR INVALID-ARGUMENT%0A\n", "the answer to it")
 

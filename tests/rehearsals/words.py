@@ -58,9 +58,9 @@ FAULTS = [
     (b'\x80 a"b', "BadByte"),
 ]
 
-# lines of 512 and of 513 bytes, empty lines, a line, and an unfinished line; and how they are read
-STREAM = b"a" * 512 + b"\n" + b"b" * 513 + b"\n\nVER\n\nGE"
-STREAM_LINES = [b"a" * 512, None, b"", b"VER", b""]
+# lines of the greatest length and of one byte more, empty lines, a line, and an unfinished line; and how they are read
+STREAM = b"a" * LINE_MAX + b"\n" + b"b" * (LINE_MAX + 1) + b"\n\nVER\n\nGE"
+STREAM_LINES = [b"a" * LINE_MAX, None, b"", b"VER", b""]
 
 
 def shown_words(words):
@@ -101,13 +101,15 @@ class Tests:
 
     def test_streams_in_pieces(self):
         wanted = (shown_lines(STREAM_LINES), b"2")
-        for at in range(len(STREAM) + 1):
+        # near each end of a line, and now and then between them
+        ends = {at + near for at, byte in enumerate(STREAM) if byte == 10 for near in range(-3, 4)}
+        for at in sorted({*range(0, len(STREAM), 16), *ends, len(STREAM)} & {*range(len(STREAM) + 1)}):
             expect(self.fed([STREAM[:at], STREAM[at:]]), wanted, f"a stream cut at {at}")
         expect(self.fed([bytes([byte]) for byte in STREAM]), wanted, "a stream byte by byte")
 
     def test_kept_bytes(self):
-        pieces = [b"VE", b"R\nGET", b" " * 509, b" ", b"\n"]
-        wanted = [b" kept=2", b"[VER] kept=3", b" kept=512", b" kept=0", b"[!] kept=0"]
+        pieces = [b"VE", b"R\nGET", b" " * (LINE_MAX - 3), b" ", b"\n"]
+        wanted = [b" kept=2", b"[VER] kept=3", b" kept=%d" % LINE_MAX, b" kept=0", b"[!] kept=0"]
         expect(self.stage.play([("words new",), *map(feed, pieces)])[1:], wanted, "what is kept")
 
     def test_what_takes_no_memory(self):

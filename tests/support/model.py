@@ -6,16 +6,19 @@ texts are bytes."""
 import copy
 import re
 
-LINE_MAX = 512
+LINE_MAX = 2048
 PIECE_MAX = 512
 WORDS_MAX = 32
 NAME_MAX = 64
-VALUE_MAX = 128
+VALUE_MAX = 512
+CREDENTIAL_MAX = 128
 VARIABLES_MAX = 512
 COMMANDS_MAX = 128
 ENUMS_MAX = 64
 RANGES_MAX = 16
 ASKS_MAX = 4096
+TRACKED_MAX = 64
+TRACKING_NUMBER_MAX = 999_999_999
 
 VARIABLES_DESCRIBED = {
     b"battery.charge": b"Battery charge (percent)",
@@ -51,6 +54,7 @@ NAME = re.compile(rb"[A-Za-z0-9._-]{1,64}")
 ADDRESS = re.compile(rb"[!$-<>-\[\]-~]{1,64}")
 WHOLE = re.compile(rb"-?[0-9]{1,9}")
 COUNT = re.compile(rb"[0-9]{1,9}")
+TRACKING_NUMBER = re.compile(rb"[1-9][0-9]{0,8}")
 
 
 def fits(pattern, text):
@@ -162,6 +166,8 @@ class Ups:
         self.description = description
         self.is_forced = False
         self.is_connected = False
+        # the statuses of tracked requests by their numbers, the oldest first
+        self.tracked = {}
         self.forget()
 
     def forget(self):
@@ -259,6 +265,19 @@ class Ups:
     def pong(self):
         pass
 
+    def tracking(self, number, status):
+        if fits(COUNT, number) and fits(COUNT, status) and self.tracked.get(int(number)) == b"PENDING":
+            self.tracked[int(number)] = b"FAILED" if int(status) else b"SUCCESS"
+
+    def abandon(self):
+        """Fails the tracked requests whose outcome the driver hasn't told."""
+        self.tracked = {number: b"FAILED" if status == b"PENDING" else status for number, status in self.tracked.items()}
+
+    def track(self, number):
+        self.tracked[number] = b"PENDING"
+        if len(self.tracked) > TRACKED_MAX:
+            del self.tracked[min(self.tracked)]
+
     def ask(self, line):
         """Puts a request in the driver's queue. Returns whether it fitted."""
         if len(self.asks) + len(line) > ASKS_MAX:
@@ -283,6 +302,7 @@ DRIVER_LINES = {
     b"DATAOK": (lambda n: n == 0, Ups.data_ok),
     b"DATASTALE": (lambda n: n == 0, Ups.data_stale),
     b"PONG": (lambda n: n == 0, Ups.pong),
+    b"TRACKING": (lambda n: n == 2, Ups.tracking),
 }
 
 
@@ -293,6 +313,7 @@ class Connection:
         self.password = None
         self.login = None
         self.is_logged_out = False
+        self.is_tracking = False
         self.rest = b""
         self.waits = b""
 
@@ -309,6 +330,7 @@ class Server:
         self.config = config
         self.now = 0
         self.opened = 0
+        self.given = 0
         self.connections = {}
         self.upses = [Ups(name, description) for name, description in config.upses]
 
@@ -388,6 +410,7 @@ class Server:
         if number >= len(self.upses):
             return "NotConnected"
         ups = self.upses[number]
+        ups.abandon()
         ups.forget()
         ups.is_connected = True
         ups.last_heard = self.now
@@ -421,6 +444,7 @@ class Server:
         ups = self.connected(number)
         if ups is None:
             return "NotConnected"
+        ups.abandon()
         ups.forget()
         ups.is_connected = False
 
@@ -469,7 +493,7 @@ class Server:
         else:
             raise error("UNKNOWN-COMMAND")
         form = FORMS.get(key)
-        if form is None or form[0] != len(rest):
+        if form is None or len(rest) not in form[0]:
             raise error("INVALID-ARGUMENT")
         return form[1](self, connection, *rest)
 
@@ -580,21 +604,51 @@ class Server:
         ups = self.permitted(connection, u, "SET")
         self.refuse_unless_live(ups)
         self.variable(ups, v).refuse(x)
-        if not ups.ask(b"SET %s %s\n" % (v, quoted(x))):
-            raise error("SET-FAILED")
+        return self.hand_on(connection, ups, b"SET %s %s" % (v, quoted(x)), "SET-FAILED")
+
+    def hand_on(self, connection, ups, request, refusal):
+        """Hands a request on to a driver, under the next number if the client's requests are tracked."""
+        if not connection.is_tracking:
+            if not ups.ask(request + b"\n"):
+                raise error(refusal)
+            return b"OK\n"
+        number = self.given + 1
+        if number > TRACKING_NUMBER_MAX or not ups.ask(b"%s TRACKING %d\n" % (request, number)):
+            raise error(refusal)
+        self.given = number
+        ups.track(number)
+        return b"OK TRACKING %d\n" % number
+
+    def set_tracking(self, connection, word):
+        if word.upper() not in (b"ON", b"OFF"):
+            raise error("INVALID-ARGUMENT")
+        if connection.user is None:
+            raise error("USERNAME-REQUIRED")
+        if connection.password is None:
+            raise error("PASSWORD-REQUIRED")
+        connection.is_tracking = word.upper() == b"ON"
         return b"OK\n"
 
-    def instcmd(self, connection, u, k):
+    def get_tracking(self, connection, number=None):
+        if number is None:
+            return b"TRACKING %s\n" % (b"ON" if connection.is_tracking else b"OFF")
+        if not fits(TRACKING_NUMBER, number):
+            raise error("INVALID-ARGUMENT")
+        statuses = [it.tracked[int(number)] for it in self.upses if int(number) in it.tracked]
+        return b"TRACKING %s %s\n" % (number, statuses[0] if statuses else b"UNKNOWN")
+
+    def instcmd(self, connection, u, k, x=None):
         ups = self.permitted(connection, u, "INSTCMD", k)
         self.refuse_unless_live(ups)
         if k not in ups.commands:
             raise error("CMD-NOT-SUPPORTED")
-        if not ups.ask(b"INSTCMD %s\n" % k):
-            raise error("INSTCMD-FAILED")
-        return b"OK\n"
+        if x is not None and len(x) > VALUE_MAX:
+            raise error("TOO-LONG")
+        parameter = b"" if x is None else b" " + quoted(x)
+        return self.hand_on(connection, ups, b"INSTCMD " + k + parameter, "INSTCMD-FAILED")
 
     def username(self, connection, x):
-        if not 1 <= len(x) <= VALUE_MAX:
+        if not 1 <= len(x) <= CREDENTIAL_MAX:
             raise error("INVALID-ARGUMENT")
         if connection.user is not None:
             raise error("ALREADY-SET-USERNAME")
@@ -602,7 +656,7 @@ class Server:
         return b"OK\n"
 
     def password(self, connection, x):
-        if not 1 <= len(x) <= VALUE_MAX:
+        if not 1 <= len(x) <= CREDENTIAL_MAX:
             raise error("INVALID-ARGUMENT")
         if connection.password is not None:
             raise error("ALREADY-SET-PASSWORD")
@@ -630,10 +684,10 @@ class Server:
         return b"OK Goodbye\n"
 
     def ver(self, _):
-        return b"Network UPS Tools upsd profile 1.2\n"
+        return b"Network UPS Tools upsd profile 1.3\n"
 
     def netver(self, _):
-        return b"1.2\n"
+        return b"1.3\n"
 
     def help(self, _):
         return HELP + b"\n"
@@ -642,32 +696,34 @@ class Server:
         raise error("FEATURE-NOT-CONFIGURED")
 
 
-# how many words follow the words of a form, and the method that answers it
+# how many words may follow the words of a form, and the method that answers it
 FORMS = {
-    b"GET NUMLOGINS": (1, Server.get_numlogins),
-    b"GET UPSDESC": (1, Server.get_upsdesc),
-    b"GET VAR": (2, Server.get_var),
-    b"GET TYPE": (2, Server.get_type),
-    b"GET DESC": (2, Server.get_desc),
-    b"GET CMDDESC": (2, Server.get_cmddesc),
-    b"LIST UPS": (0, Server.list_ups),
-    b"LIST VAR": (1, Server.list_var),
-    b"LIST RW": (1, Server.list_rw),
-    b"LIST CMD": (1, Server.list_cmd),
-    b"LIST ENUM": (2, Server.list_enum),
-    b"LIST RANGE": (2, Server.list_range),
-    b"LIST CLIENT": (1, Server.list_client),
-    b"SET VAR": (3, Server.set_var),
-    b"INSTCMD": (2, Server.instcmd),
-    b"USERNAME": (1, Server.username),
-    b"PASSWORD": (1, Server.password),
-    b"LOGIN": (1, Server.login),
-    b"PRIMARY": (1, Server.primary),
-    b"FSD": (1, Server.fsd),
-    b"LOGOUT": (0, Server.logout),
-    b"VER": (0, Server.ver),
-    b"NETVER": (0, Server.netver),
-    b"HELP": (0, Server.help),
-    b"STARTTLS": (0, Server.starttls),
+    b"GET NUMLOGINS": ((1,), Server.get_numlogins),
+    b"GET UPSDESC": ((1,), Server.get_upsdesc),
+    b"GET VAR": ((2,), Server.get_var),
+    b"GET TYPE": ((2,), Server.get_type),
+    b"GET DESC": ((2,), Server.get_desc),
+    b"GET CMDDESC": ((2,), Server.get_cmddesc),
+    b"LIST UPS": ((0,), Server.list_ups),
+    b"LIST VAR": ((1,), Server.list_var),
+    b"LIST RW": ((1,), Server.list_rw),
+    b"LIST CMD": ((1,), Server.list_cmd),
+    b"LIST ENUM": ((2,), Server.list_enum),
+    b"LIST RANGE": ((2,), Server.list_range),
+    b"LIST CLIENT": ((1,), Server.list_client),
+    b"GET TRACKING": ((0, 1), Server.get_tracking),
+    b"SET VAR": ((3,), Server.set_var),
+    b"SET TRACKING": ((1,), Server.set_tracking),
+    b"INSTCMD": ((2, 3), Server.instcmd),
+    b"USERNAME": ((1,), Server.username),
+    b"PASSWORD": ((1,), Server.password),
+    b"LOGIN": ((1,), Server.login),
+    b"PRIMARY": ((1,), Server.primary),
+    b"FSD": ((1,), Server.fsd),
+    b"LOGOUT": ((0,), Server.logout),
+    b"VER": ((0,), Server.ver),
+    b"NETVER": ((0,), Server.netver),
+    b"HELP": ((0,), Server.help),
+    b"STARTTLS": ((0,), Server.starttls),
 }
 FIRST_WORDS = {key.split()[0] for key in FORMS}

@@ -141,6 +141,7 @@ NOCOMM = ("Nocomm", 0, b"UPS su700@localhost is unavailable")
 SHUTDOWN = ("Shutdown", None, b"Auto logout and shutdown proceeding")
 LONG = b"A" * 513
 WHOLE = b"A" * 512
+WHOLE_LINE = [tell("bytes", 0, WHOLE)] * 4
 PATIENT = b"MONITOR su700@localhost 1 mon m1 secondary\nNOCOMMWARNTIME 1000000\n"
 OTHER_NOCOMM = ("Nocomm", 1, b"UPS su900@localhost is unavailable")
 PRIMARIES = b"MONITOR su700@localhost 1 mon m1 primary\nMONITOR su900@localhost 1 mon m1 primary\n"
@@ -173,7 +174,7 @@ REFUSAL_RUNS = [
         [
             tell("linked", 0), refuse("TooMuchTaken", "took", 0, 14), refuse("PieceTooLong", "bytes", 0, LONG),
             waits(0, b"USERNAME mon\n"), tell("took", 0, 12), refuse("TooMuchTaken", "took", 0, 2), waits(0, b"\n"),
-            tell("took", 0, 1), tell("bytes", 0, WHOLE), links(0, True), tell("bytes", 0, b"\n"), links(0, False),
+            tell("took", 0, 1), *WHOLE_LINE, links(0, True), tell("bytes", 0, b"\n"), links(0, False),
         ],
     ),
     Run(

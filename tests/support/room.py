@@ -11,7 +11,7 @@ from tests.support.harness import Failed, expect
 
 DEVICE = b"ups.status: OL\nups.id: x\nbattery.charge: 100\n"
 USERS = b'[admin]\npassword = pw\nactions = SET\ninstcmds = ALL\n[mon]\npassword = m1\nupsmon primary\n'
-VERSION = b"Network UPS Tools upsd profile 1.2\n"
+VERSION = b"Network UPS Tools upsd profile 1.3\n"
 STATUS = b"GET VAR su700 ups.status\n"
 ONLINE = b'VAR su700 ups.status "OL"\n'
 NOT_CONNECTED = b"ERR DRIVER-NOT-CONNECTED\n"

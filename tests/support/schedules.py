@@ -20,11 +20,11 @@ VARIABLES = [*model.VARIABLES_DESCRIBED, b"load.off", b"a", b"A", b"ups.mfr", b"
 COMMANDS = [*model.COMMANDS_DESCRIBED, b"ups.id", b"k", b"K", b"k" * 64]
 VALUES = [
     b"OL", b"OB LB", b"", b"x", b"low", b"medium", b"high", b"50", b"-0", b"007", b"-5", b"1000000000",
-    b'a "b" \\c # d = e', b"y" * 128, b"y" * 129, b"\t",
+    b'a "b" \\c # d = e', b"y" * 512, b"y" * 513, b"\t",
 ]
 NUMBERS = [
     b"0", b"-0", b"1", b"-1", b"5", b"10", b"100", b"-999999999", b"999999999", b"1000000000", b"x", b"",
-    b"1.5", b"+1", b"00016", b"128", b"129",
+    b"1.5", b"+1", b"00016", b"512", b"513",
 ]
 FLAGS = [b"RW", b"rw", b"STRING", b"String", b"NUMBER", b"OTHER", b""]
 ADDRESSES = [b"10.0.0.1", b"::1", b"a" * 64, b"!~", b"192.0.2.7%eth0"]
@@ -86,9 +86,9 @@ class ScheduleMaker:
             lambda: line + b"\\",
             lambda: line + b" =",
             lambda: line + b' ="x"',
-            lambda: line.ljust(512),
-            lambda: line.ljust(513),
-            lambda: line + b"#" + b"z" * self.random.randrange(1500),
+            lambda: line.ljust(model.LINE_MAX),
+            lambda: line.ljust(model.LINE_MAX + 1),
+            lambda: line + b"#" + b"z" * self.random.randrange(3000),
             lambda: b" ".join([line, *[b"w"] * (32 - len(words))]),
             lambda: b" ".join([line, *[b"w"] * (33 - len(words))]),
             lambda: b"",
@@ -117,6 +117,11 @@ class ScheduleMaker:
             lambda: (b"SET", b"VAR", self.ups(), self.variable(), self.pick(VALUES)),
             lambda: (b"SET", b"VAR", self.ups(), self.variable(), self.pick(VALUES)),
             lambda: (b"INSTCMD", self.ups(), self.pick(COMMANDS)),
+            lambda: (b"INSTCMD", self.ups(), self.pick(COMMANDS), self.pick(VALUES)),
+            lambda: (b"SET", b"TRACKING", self.pick([b"ON", b"on", b"ON", b"OFF", b"maybe"])),
+            lambda: (b"GET", b"TRACKING"),
+            lambda: (b"GET", b"TRACKING", self.number()),
+            lambda: (b"GET", b"TRACKING", self.number()),
             lambda: (b"LOGIN", self.ups()),
             lambda: (b"PRIMARY", self.ups()),
             lambda: self.who(),
@@ -140,11 +145,18 @@ class ScheduleMaker:
         ups = next(it for it in self.server.upses if it.name == u)
         named = [v for v, it in ups.variables.items() if "RW" in it.flags]
         if not named or self.chance(0.2):
-            return b"INSTCMD", u, self.pick(sorted(ups.commands) or COMMANDS)
+            parameter = [self.pick(VALUES[:-3])] if self.chance(0.3) else []
+            return b"INSTCMD", u, self.pick(sorted(ups.commands) or COMMANDS), *parameter
         v = self.pick(named)
         variable = ups.variables[v]
         value = self.pick(variable.enums or [b"%d" % self.pick(it) for it in variable.ranges] or VALUES[:-3])
         return b"SET", b"VAR", u, v, value
+
+    def number(self):
+        """Returns the number of a tracked request, sometimes one that was never given."""
+        if self.chance(0.2):
+            return self.pick(NUMBERS)
+        return b"%d" % max(0, self.server.given - int(self.random.expovariate(1 / 60)))
 
     def who(self):
         return self.pick([(b"USERNAME", self.pick([*USERS, b"nobody", b"", b"u" * 129])), (b"PASSWORD", self.pick([b"pw", b"m1", b"", b"x", b"q" * 128]))])
@@ -161,6 +173,7 @@ class ScheduleMaker:
         name = self.pick(list(USERS))
         password = USERS[name].password or b"pw"
         lines = [b"USERNAME " + self.spelled(name), b"PASSWORD " + self.spelled(password if self.chance(0.9) else b"wrong")]
+        lines += [b"SET TRACKING ON"] if self.chance(0.5) else []
         return lines + ([b"LOGIN " + self.ups()] if self.chance(0.6) else [])
 
     def report(self):
@@ -178,6 +191,8 @@ class ScheduleMaker:
             lambda: (b"SETFLAGS", self.variable(), *(self.pick(FLAGS) for _ in range(self.random.randrange(4)))),
             lambda: (self.pick([b"ADDCMD", b"ADDCMD", b"DELCMD"]), self.pick([*COMMANDS, b"", b"k" * 65, b"a b"])),
             lambda: (b"ADDCMD", b"many.%d" % self.random.randrange(200)),
+            lambda: (b"TRACKING", self.number(), self.pick([b"0", b"0", b"1", b"00", b"x"])),
+            lambda: (b"TRACKING", self.number(), self.pick([b"0", b"0", b"1", b"00", b"x"])),
             lambda: (self.pick([b"DUMPDONE", b"DATAOK", b"DATAOK", b"DATAOK", b"PONG"]),),
             lambda: (self.pick([b"DATASTALE", b"FOO", b"SETFLAGS", b"="]),) if self.chance(0.2) else (b"DATAOK",),
         ]

@@ -1,6 +1,6 @@
 """Worked rows: what a server is told, and what a client or a driver takes afterwards. The answers are written by hand."""
 
-from tests.support.model import Config, User
+from tests.support.model import LINE_MAX, PIECE_MAX, Config, User
 
 LIVE = b'SETINFO ups.status "OL"\nDATAOK\nDUMPDONE\n'
 UPS = [(b"su700", b"Server room")]
@@ -8,8 +8,13 @@ USERS = {b"admin": User(b"pw", ("SET",), (b"all",)), b"mon": User(b"m1", (), (),
 ROOM = Config(UPS, USERS)
 
 
+def pieces_of(data):
+    """Returns data in pieces of the greatest length."""
+    return [data[at : at + PIECE_MAX] for at in range(0, len(data), PIECE_MAX)]
+
+
 def told(*lines):
-    return [("driver", 0, line + b"\n") for line in lines]
+    return [("driver", 0, piece) for line in lines for piece in pieces_of(line + b"\n")]
 
 
 def live(*lines):
@@ -47,7 +52,7 @@ class Row:
 
 OPEN = [("open", b"10.0.0.1")]
 GUEST = [("open", b"10.0.0.2")]
-VERSION = b"Network UPS Tools upsd profile 1.2"
+VERSION = b"Network UPS Tools upsd profile 1.3"
 HELP = b"Commands: GET LIST SET INSTCMD USERNAME PASSWORD LOGIN PRIMARY FSD LOGOUT VER NETVER HELP STARTTLS"
 STATUS = b"GET VAR su700 ups.status"
 ONLINE = b'VAR su700 ups.status "OL"'
@@ -69,6 +74,9 @@ KINDS += [b'ADDENUM input.sensitivity ""', b"SETINFO a 1"]
 SET_ID = b'SET VAR su700 ups.id "abc"'
 ASKED_ID = b'SET ups.id "abc"\n'
 SET_CHARGE = b'SET VAR su700 battery.charge "50"'
+# the greatest line, in pieces of the greatest length
+LONG_LINE = [("bytes", 1, piece) for piece in pieces_of(b"VER".ljust(LINE_MAX))]
+TRACK = ask(1, b"SET TRACKING ON", b"OK")
 # 8 bytes of DUMPALL, and 240 times 17
 FULL_QUEUE = live(*ID) + OPEN + ADMIN + ask(1, SET_ID, b"OK") * 240
 
@@ -139,7 +147,7 @@ ROWS = [
         + OPEN
         + ask(
             1,
-            *(b"HELP", HELP, b"NETVER", b"1.2", b"STARTTLS", err("FEATURE-NOT-CONFIGURED"), b"FOO", err("UNKNOWN-COMMAND")),
+            *(b"HELP", HELP, b"NETVER", b"1.3", b"STARTTLS", err("FEATURE-NOT-CONFIGURED"), b"FOO", err("UNKNOWN-COMMAND")),
             *(b"GET UPSDESC x", err("UNKNOWN-UPS"), b"GET VAR su700 x", err("VAR-NOT-SUPPORTED")),
             *(b"GET TYPE su700 battery.charge", b"TYPE su700 battery.charge RANGE", b"GET TYPE su700 a", b"TYPE su700 a NUMBER"),
             *(b"GET DESC su700 battery.charge", b'DESC su700 battery.charge "Battery charge (percent)"'),
@@ -230,8 +238,8 @@ ROWS = [
     Row(
         "long lines",
         OPEN
-        + [("bytes", 1, b"VER".ljust(512)), ("bytes", 1, b"\n"), (("take", 1), VERSION + b"\n")]
-        + [("bytes", 1, b"VER".ljust(512)), ("bytes", 1, b" \nVER\n")]
+        + [*LONG_LINE, ("bytes", 1, b"\n"), (("take", 1), VERSION + b"\n")]
+        + [*LONG_LINE, ("bytes", 1, b" \nVER\n")]
         + [(("take", 1), err("INVALID-ARGUMENT") + b"\n" + VERSION + b"\n")],
     ),
     Row(
@@ -284,6 +292,125 @@ ROWS = [
         + [(("driver-take", 0), b"INSTCMD load.off\n")]
         + ask(1, b"LIST CMD su700", listed(b"CMD su700", b"CMD su700 load.off"))
         + ask(1, b"GET CMDDESC su700 load.off", b'CMDDESC su700 load.off "Turn off the load"'),
+    ),
+    Row(
+        "a command with a parameter",
+        live(b"ADDCMD load.off")
+        + OPEN
+        + ADMIN
+        + [(("driver-take", 0), b"DUMPALL\n")]
+        + ask(1, b"INSTCMD su700 load.off x", b"OK", b'INSTCMD su700 load.off ""', b"OK")
+        + [(("driver-take", 0), b'INSTCMD load.off "x"\nINSTCMD load.off ""\n')]
+        + ask(1, b"INSTCMD su700 load.on x", err("CMD-NOT-SUPPORTED"), b"INSTCMD su700 load.off x y", err("INVALID-ARGUMENT"))
+        + [("bytes", 1, piece) for piece in pieces_of(b"INSTCMD su700 load.off " + b"x" * 512 + b"\n")]
+        + [(("take", 1), b"OK\n")]
+        + [(("driver-take", 0), b'INSTCMD load.off "' + b"x" * 512 + b'"\n')]
+        + [("bytes", 1, piece) for piece in pieces_of(b"INSTCMD su700 load.off " + b"x" * 513 + b"\n")]
+        + [(("take", 1), err("TOO-LONG") + b"\n"), (("driver-take", 0), b"")],
+        [b"Memory(Line(1, 0))"],
+    ),
+    Row(
+        "tracked requests",
+        live(*ID, b"ADDCMD load.off")
+        + OPEN
+        + ADMIN
+        + [(("driver-take", 0), b"DUMPALL\n")]
+        + ask(1, b"GET TRACKING", b"TRACKING OFF")
+        + TRACK
+        + ask(1, b"GET TRACKING", b"TRACKING ON", SET_ID, b"OK TRACKING 1")
+        + [(("driver-take", 0), b'SET ups.id "abc" TRACKING 1\n')]
+        + ask(1, b"GET TRACKING 1", b"TRACKING 1 PENDING")
+        + told(b"TRACKING 1 0")
+        + ask(1, b"GET TRACKING 1", b"TRACKING 1 SUCCESS", b"GET TRACKING 2", b"TRACKING 2 UNKNOWN")
+        + ask(1, b'SET VAR su700 ups.id "abd"', b"OK TRACKING 2", b"INSTCMD su700 load.off x", b"OK TRACKING 3")
+        + [(("driver-take", 0), b'SET ups.id "abd" TRACKING 2\nINSTCMD load.off "x" TRACKING 3\n')]
+        + told(b"TRACKING 003 007", b"TRACKING 3 0")
+        + ask(1, b"GET TRACKING 3", b"TRACKING 3 FAILED", b"GET TRACKING 2", b"TRACKING 2 PENDING")
+        + [("down", 0)]
+        + ask(1, b"GET TRACKING 2", b"TRACKING 2 FAILED", b"SET TRACKING off", b"OK", b"get tracking", b"TRACKING OFF")
+        + live(*ID)
+        + told(b"TRACKING 2 0")
+        + ask(1, b"GET TRACKING 2", b"TRACKING 2 FAILED", SET_ID, b"OK")
+        + [(("driver-take", 0), b"DUMPALL\n" + ASKED_ID)]
+        + GUEST
+        + ask(2, b"GET TRACKING", b"TRACKING OFF", b"GET TRACKING 1", b"TRACKING 1 SUCCESS"),
+        [b"Memory(Line(1, 0))", b"Memory(Report(0, 0))"],
+    ),
+    Row(
+        "who may track requests, and how",
+        live()
+        + OPEN
+        + ask(1, b"SET TRACKING maybe", err("INVALID-ARGUMENT"), b"SET TRACKING", err("INVALID-ARGUMENT"))
+        + ask(1, b"SET TRACKING ON OFF", err("INVALID-ARGUMENT"), b"SET TRACKING ON", err("USERNAME-REQUIRED"))
+        + ask(1, b"USERNAME nobody", b"OK", b"SET TRACKING OFF", err("PASSWORD-REQUIRED"), b"PASSWORD x", b"OK")
+        + ask(1, b"SET TRACKING oN", b"OK", b"GET TRACKING", b"TRACKING ON", b"GET TRACKING 0", err("INVALID-ARGUMENT"))
+        + ask(1, b"GET TRACKING 01", err("INVALID-ARGUMENT"), b"GET TRACKING 1234567890", err("INVALID-ARGUMENT"))
+        + ask(1, b"GET TRACKING -1", err("INVALID-ARGUMENT"), b'GET TRACKING ""', err("INVALID-ARGUMENT"))
+        + ask(1, b"GET TRACKING 1 2", err("INVALID-ARGUMENT"), b"GET TRACKING 999999999", b"TRACKING 999999999 UNKNOWN"),
+    ),
+    # a refusal takes no number, and a request that fits without its number may not fit with it
+    Row(
+        "numbers of requests",
+        live(*ID, b"ADDCMD k")
+        + OPEN
+        + ADMIN
+        + TRACK
+        + ask(1, b'SET VAR su700 ups.id "abcd"', err("TOO-LONG"), b"INSTCMD su700 j", err("CMD-NOT-SUPPORTED"))
+        + ask(1, b"SET TRACKING OFF", b"OK", *[SET_ID, b"OK"] * 239)
+        # 4,071 bytes wait: 25 are left
+        + TRACK
+        + ask(1, b'SET VAR su700 ups.id "a"', err("SET-FAILED"), b"INSTCMD su700 k", b"OK TRACKING 1")
+        + ask(1, b"SET TRACKING OFF", b"OK", b"INSTCMD su700 k", err("INSTCMD-FAILED"), b"GET TRACKING 1", b"TRACKING 1 PENDING"),
+    ),
+    Row(
+        "64 later numbers",
+        live(*ID)
+        + OPEN
+        + ADMIN
+        + TRACK
+        + ask(1, SET_ID, b"OK TRACKING 1")
+        + told(b"TRACKING 1 0")
+        + [("driver-take", 0)]
+        + [step for n in range(2, 65) for step in ask(1, SET_ID, b"OK TRACKING %d" % n)]
+        + ask(1, b"GET TRACKING 1", b"TRACKING 1 SUCCESS", SET_ID, b"OK TRACKING 65", b"GET TRACKING 1", b"TRACKING 1 UNKNOWN")
+        + ask(1, b"GET TRACKING 2", b"TRACKING 2 PENDING"),
+    ),
+    Row(
+        "the numbers of two UPSes",
+        [("up", 0), ("driver", 0, LIVE), ("up", 1), ("driver", 1, LIVE)]
+        + [step for u in (0, 1) for it in ID for step in [("driver", u, it + b"\n")]]
+        + OPEN
+        + ADMIN
+        + TRACK
+        + ask(1, SET_ID, b"OK TRACKING 1", b'SET VAR b ups.id "abc"', b"OK TRACKING 2")
+        + [("driver", 1, b"TRACKING 1 0\n"), ("driver", 0, b"TRACKING 2 1\n")]
+        + ask(1, b"GET TRACKING 1", b"TRACKING 1 PENDING", b"GET TRACKING 2", b"TRACKING 2 PENDING")
+        + [("driver", 1, b"TRACKING 2 0\n"), ("up", 0)]
+        + ask(1, b"GET TRACKING 1", b"TRACKING 1 FAILED", b"GET TRACKING 2", b"TRACKING 2 SUCCESS"),
+        config=Config([*UPS, (b"b", b"")], USERS),
+    ),
+    Row(
+        "lines of a driver that tell of no request",
+        live(*ID)
+        + OPEN
+        + ADMIN
+        + TRACK
+        + ask(1, SET_ID, b"OK TRACKING 1")
+        + told(b"TRACKING", b"TRACKING 1", b"TRACKING 1 0 0", b"TRACKING x 0", b"TRACKING 1 x", b"TRACKING 1 -1", b'TRACKING 1 ""')
+        + told(b"TRACKING 1000000001 0", b"TRACKING 2 0", b"TRACKING 1 1234567890")
+        + ask(1, b"GET TRACKING 1", b"TRACKING 1 PENDING")
+        + told(b"tracking 0000001 000")
+        + ask(1, b"GET TRACKING 1", b"TRACKING 1 SUCCESS"),
+    ),
+    # a line of three words is heard, whatever its numbers
+    Row(
+        "TRACKING shows that a driver is alive",
+        live()
+        + OPEN
+        + [("moment", 10), *told(b"TRACKING x y"), ("moment", 25)]
+        + ask(1, STATUS, ONLINE)
+        + [*told(b"TRACKING 1"), ("moment", 26)]
+        + ask(1, STATUS, err("DATA-STALE")),
     ),
     Row(
         "a driver that answers a PING, and one whose data is stale",

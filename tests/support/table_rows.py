@@ -1,6 +1,6 @@
 """Worked tables: what a driver tells, and what its server then lists. Both are written by hand."""
 
-LONG_NAME, LONG_TEXT = "a" * 64, "a" * 128
+LONG_NAME, LONG_TEXT = "a" * 64, "a" * 512
 
 
 def variable(name, value, kind="NUMBER", *, rw=False, enums=(), ranges=()):
@@ -88,9 +88,9 @@ TABLES = [
     Table("a length before its variable", ["SETAUX a 5", "SETINFO a x", "SETFLAGS a STRING"], variable("a", "x", "STRING:0")),
     Table(
         "lengths at their limit, past it, and none",
-        ["SETINFO a x", "SETFLAGS a STRING", "SETAUX a 000000128"]
-        + ["SETAUX a 129", "SETAUX a 0000000001", "SETAUX a -1", 'SETAUX a ""', "SETAUX a 1x"],
-        variable("a", "x", "STRING:128"),
+        ["SETINFO a x", "SETFLAGS a STRING", "SETAUX a 000000512"]
+        + ["SETAUX a 513", "SETAUX a 0000000001", "SETAUX a -1", 'SETAUX a ""', "SETAUX a 1x"],
+        variable("a", "x", "STRING:512"),
     ),
     Table("a length of 0", ["SETINFO a x", "SETFLAGS a STRING", "SETAUX a 128", "SETAUX a 0"], variable("a", "x", "STRING:0")),
     Table("511 variables", each("SETINFO v", range(511), " x"), numbered(range(511))),

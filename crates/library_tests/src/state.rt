@@ -1,6 +1,7 @@
 //! What a look-up shows of a variable, lines that change nothing, and numbers. Tables are in
 //! `tests/support/table_rows.py`.
-use nut_state::{Heard, UpsState, Variable, natural, whole_number};
+use nut_state::{Heard, UpsState, Variable, whole_number};
+use nut_words::natural;
 use std::alloc::Global;
 
 /// Whether the table hears each of these lines.
@@ -152,4 +153,20 @@ fn first_other_number(rows: &[(&[u8], Option<u32>, Option<i32>)]) -> Option<usiz
 #[test]
 fn numbers(rt: HostRuntime) {
     assert_eq!(rt; first_other_number(&NUMBERS), None);
+}
+
+fn tells_of_requests(state: &mut UpsState) -> bool {
+    let told = Heard::Tracked {
+        number: 7,
+        status: 0,
+    };
+    state.apply(b"TRACKING 007 0") == Ok(told)
+        && state.apply(b"TRACKING 7 x") == Ok(Heard::Heard)
+        && state.apply(b"TRACKING 7") == Ok(Heard::Ignored)
+        && is_empty(state)
+}
+
+#[test]
+fn outcomes_of_requests(rt: HostRuntime) {
+    assert!(rt; tells_of_requests(&mut UpsState::new(rt.alloc())));
 }

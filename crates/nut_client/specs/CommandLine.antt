@@ -38,7 +38,7 @@ unfoldable pub upsrw_tool : App
 upsrw_tool = tool (codes "upsrw") (valued (codes "setting") 115 ∷ valued (codes "user") 117 ∷ valued (codes "password") 112 ∷ argument (codes "name") ∷ [])
 
 unfoldable pub upscmd_tool : App
-upscmd_tool = tool (codes "upscmd") (flag (codes "list") 108 ∷ valued (codes "user") 117 ∷ valued (codes "password") 112 ∷ argument (codes "name") ∷ argument (codes "command") ∷ [])
+upscmd_tool = tool (codes "upscmd") (flag (codes "list") 108 ∷ valued (codes "user") 117 ∷ valued (codes "password") 112 ∷ argument (codes "name") ∷ argument (codes "command") ∷ argument (codes "parameter") ∷ [])
 
 -- what a command line asks for: this, of the UPS of this name, at this host and port
 pub record Options : Type 0 where
@@ -95,11 +95,12 @@ upsrw_wanted None None None = Some wanteds.Settings
 upsrw_wanted (Some setting) (Some user) (Some password) = option_map (λ p. wanteds.Does user password (deeds.Set p.0 p.1)) (parted 61 setting)
 upsrw_wanted setting user password = None
 
--- A list takes neither a command nor a user, and a command needs a user and a password.
-abbrev pub upscmd_wanted : Bool → Option (List ℕ) → Option (List ℕ) → Option (List ℕ) → Option Wanted
-upscmd_wanted true None None None = Some wanteds.Commands
-upscmd_wanted false (Some command) (Some user) (Some password) = Some (wanteds.Does user password (deeds.Command command))
-upscmd_wanted list command user password = None
+-- A list takes neither a command nor a user, and a command, with a parameter or without one, needs a user and a
+-- password.
+abbrev pub upscmd_wanted : Bool → Option (List ℕ) → Option (List ℕ) → Option (List ℕ) → Option (List ℕ) → Option Wanted
+upscmd_wanted true None None None None = Some wanteds.Commands
+upscmd_wanted false (Some command) parameter (Some user) (Some password) = Some (wanteds.Does user password (deeds.Command command parameter))
+upscmd_wanted list command parameter user password = None
 
 abbrev pub upsc_options : List Row → Result Options Failure
 upsc_options rows =
@@ -114,7 +115,7 @@ upsrw_options rows =
 
 abbrev pub upscmd_options : List Row → Result Options Failure
 upscmd_options rows =
-    options_of (upscmd_wanted (is_given (codes "list") rows) (first_of (codes "command") rows) (first_of (codes "user") rows) (first_of (codes "password") rows))
+    options_of (upscmd_wanted (is_given (codes "list") rows) (first_of (codes "command") rows) (first_of (codes "parameter") rows) (first_of (codes "user") rows) (first_of (codes "password") rows))
     (first_of (codes "name") rows)
 
 -- what clap's matches ask for, if clap finds no fault

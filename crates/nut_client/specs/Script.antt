@@ -44,7 +44,7 @@ on_words next (outcomes.List rows) = Fails failures.BadAnswer
 abbrev pub on_done : Script → Outcome → Script
 on_done next outcomes.Done = next
 on_done next (outcomes.Refused name) = Fails (failures.Refused name)
-on_done next (outcomes.Said words) = Fails failures.BadAnswer
+on_done next (outcomes.Said words) = next
 on_done next (outcomes.List rows) = Fails failures.BadAnswer
 
 -- the word with this number, counted from 0; empty if there is none
@@ -107,7 +107,7 @@ commands ups text (row ∷ rows) =
 -- the query that makes the UPS do something
 abbrev pub deed_query : List ℕ → Deed → Request
 deed_query ups (deeds.Set variable value) = requests.SetVar ups variable value
-deed_query ups (deeds.Command command) = requests.InstCmd ups command
+deed_query ups (deeds.Command command parameter) = requests.InstCmd ups command parameter
 
 abbrev pub does : List ℕ → Deed → Script
 does ups deed = Asks (deed_query ups deed) (on_done (Prints (line (codes "OK" ∷ []))))

@@ -96,9 +96,10 @@ fn deed_query<'t>(ups: &'t Word<'_>, deed: &'t Deed<'_>) -> Request<'t>
             variable: again(variable),
             value: again(value),
         },
-        Deed::Command(command) => Request::InstCmd {
+        Deed::Command(command, parameter) => Request::InstCmd {
             ups: again(ups),
             command: again(command),
+            parameter: parameter.as_ref().map(again),
         },
     }
 }
@@ -168,14 +169,14 @@ fn words_of(outcome: Outcome) -> Result<Fields, Failure>
     }
 }
 
-/// Succeeds if the server answered `OK`, else returns the failure.
+/// Succeeds if the server answered `OK`, be it with a number or without one, else returns the failure.
 fn done_of(outcome: Outcome) -> Result<(), Failure>
     ensures { IsDone outcome result }
 {
     match outcome {
-        Outcome::Done => Ok(()),
+        Outcome::Done | Outcome::Said(_) => Ok(()),
         Outcome::Refused(name) => Err(Failure::Refused(name)),
-        Outcome::Said(_) | Outcome::List(_) => Err(Failure::BadAnswer),
+        Outcome::List(_) => Err(Failure::BadAnswer),
     }
 }
 

@@ -107,7 +107,7 @@ fn command<'a>(alloc: Global) -> Result<Command<'a>, AllocError>
     ensures { IfOk result (λ c. app_of c ≡ upsc_tool) }
 {
     Command::new(alloc, "upsc")
-        .version("profile 1.2")
+        .version("profile 1.3")
         .about("Shows the variables of a UPS, or the UPSes of a server")
         .arg(flag(
             alloc,

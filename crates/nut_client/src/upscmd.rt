@@ -72,26 +72,29 @@ fn options_in<'a>(matches: &ArgMatches<'a>) -> Result<Options<'a>, Failure>
     let wanted = wanted_by(
         is_given(matches, "list"),
         value(matches, "command"),
+        value(matches, "parameter"),
         value(matches, "user"),
         value(matches, "password"),
     );
     options_of(wanted, value(matches, "name"))
 }
 
-/// Returns what the options ask for. A list takes neither a user nor a command, and a command needs a user and a
-/// password.
+/// Returns what the options ask for. A list takes neither a user nor a command, and a command, with a parameter or
+/// without one, needs a user and a password.
 fn wanted_by<'a>(
     list: bool,
     command: Option<&'a str>,
+    parameter: Option<&'a str>,
     user: Option<&'a str>,
     password: Option<&'a str>,
 ) -> Option<Wanted<'a>>
-    ensures { result ≡ upscmd_wanted list (option_map (λ s. s.now) command.entry) (option_map (λ s. s.now) user.entry) (option_map (λ s. s.now) password.entry) }
+    ensures { result ≡ upscmd_wanted list (option_map (λ s. s.now) command.entry) (option_map (λ s. s.now) parameter.entry) (option_map (λ s. s.now) user.entry) (option_map (λ s. s.now) password.entry) }
 {
-    match (list, command, user, password) {
-        (true, None, None, None) => Some(Wanted::Commands),
-        (false, Some(command), Some(user), Some(password)) => {
-            let deed = Deed::Command(Word::new(command.as_bytes()));
+    match (list, command, parameter, user, password) {
+        (true, None, None, None, None) => Some(Wanted::Commands),
+        (false, Some(command), parameter, Some(user), Some(password)) => {
+            let parameter = parameter.map(|text| Word::new(text.as_bytes()));
+            let deed = Deed::Command(Word::new(command.as_bytes()), parameter);
             Some(deed_by(user, password, deed))
         }
         _ => None,
@@ -103,7 +106,7 @@ fn command<'a>(alloc: Global) -> Result<Command<'a>, AllocError>
     ensures { IfOk result (λ c. app_of c ≡ upscmd_tool) }
 {
     Command::new(alloc, "upscmd")
-        .version("profile 1.2")
+        .version("profile 1.3")
         .about("Lists the commands of a UPS, or has it do one")
         .arg(flag(
             alloc,
@@ -119,5 +122,11 @@ fn command<'a>(alloc: Global) -> Result<Command<'a>, AllocError>
             "command",
             "CMD",
             "The command that the UPS is to do; needs -u and -p",
+        ))?
+        .arg(argument(
+            alloc,
+            "parameter",
+            "PARAM",
+            "What the command is told, if it takes a parameter",
         ))
 }

@@ -97,7 +97,7 @@ fn command<'a>(alloc: Global) -> Result<Command<'a>, AllocError>
     ensures { IfOk result (λ c. app_of c ≡ upsrw_tool) }
 {
     Command::new(alloc, "upsrw")
-        .version("profile 1.2")
+        .version("profile 1.3")
         .about("Shows the variables of a UPS that may be set, or sets one")
         .arg(valued(
             alloc,

@@ -29,6 +29,6 @@ pub enum Wanted<'a> {
 pub enum Deed<'a> {
     /// Set this variable to this value.
     Set(Word<'a>, Word<'a>),
-    /// Carry out this instant command.
-    Command(Word<'a>),
+    /// Carry out this instant command, with this parameter if there is one.
+    Command(Word<'a>, Option<Word<'a>>),
 }

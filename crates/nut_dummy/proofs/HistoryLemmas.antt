@@ -13,16 +13,16 @@ use Rattle.nut_dummy.specs.declared.dummy.DummyFault.TheVariants as faults
 use Rattle.nut_dummy.specs.declared.command.Command.{Command}
 use Rattle.nut_dummy.specs.Command.{variable_set, value_set, command_of}
 use Rattle.nut_dummy.specs.Script.{Script, Timeline}
-use Rattle.nut_dummy.specs.machine.Teller.{Teller, Change, Passing, Assigning, Doing, followed, dumped, untold, changed, dumped_all, commanded, answered, heard_all, relinked, asked_by}
+use Rattle.nut_dummy.specs.machine.Teller.{Teller, Change, Passing, Assigning, Doing, followed, dumped, untold, changed, dumped_all, commanded, answered, ended, heard_all, relinked, asked_by}
 use Rattle.nut_dummy.specs.machine.Dummy.{Content, bytes_refusal, cut_behind, moment_refusal, passed, told_bytes, took_refusal, waits_of}
-use Rattle.nut_dummy.specs.History.{Deed, Fresh, Changes, Dumps, Pongs, has_asked, seen, owed, told, by_command, by_ask, by_lines, Call, Linked, Moment, Bytes, Lost, Took, clock, input, count_taken, deeds, driver, step, refusal, IsAccepted, told_by, is_linked, left_by_cut, received, timelines, Stands, LooksBack}
+use Rattle.nut_dummy.specs.History.{Deed, Fresh, Changes, Fails, Dumps, Pongs, has_asked, seen, owed, told, by_command, by_ask, by_lines, Call, Linked, Moment, Bytes, Lost, Took, clock, input, count_taken, deeds, driver, step, refusal, IsAccepted, told_by, is_linked, left_by_cut, received, timelines, Stands, LooksBack}
 
 map_map : {A B C : Type 0} (f : B → C) (g : A → B) (xs : List A) → map f (map g xs) ≡ map (λ x. f (g x)) xs
 map_map f g [] = refl
 map_map f g (x ∷ xs) = ap (λ ys. f (g x) ∷ ys) (map_map f g xs)
 
 -- while nothing was told and DUMPALL wasn't asked, a change tells nothing
-untold_change : (ts : List Timeline) (past : List Deed) (change : Change) → told ts past ≡ [] → has_asked past ≡ false → told ts (Changes change ∷ past) ≡ []
+untold_change : (ts : List Timeline) (past : List Deed) (change : Change) → told ts past ≡ [] → has_asked past ≡ false → told ts (Changes None change ∷ past) ≡ []
 untold_change ts past change nothing unasked = rw (unasked, nothing) refl
 
 module _ (ts : List Timeline) where
@@ -30,41 +30,45 @@ module _ (ts : List Timeline) where
   fresh_is past n = ap (λ vs. record { variables = vs; asked = false; waits = [] }) (map_map untold (seen past) ts)
 
   module _ (past : List Deed) (n : ℕ) (room : n ≤ length (told ts past)) where
-    change_is : (change : Change) → changed change (told_by ts past n) ≡ told_by ts (Changes change ∷ past) n
-    change_is change =
-        ap (λ vs. record { variables = vs; asked = has_asked past; waits = drop n (told ts past) ++ owed ts (Changes change) past }) (map_map (followed (has_asked past) change) (seen past) ts)
-        ∙ ap (λ w. record { variables = map (seen (Changes change ∷ past)) ts; asked = has_asked past; waits = w }) (sym (drop-append-le n (told ts past) (owed ts (Changes change) past) room))
+    change_is : (number : Option ℕ) (change : Change) → changed number change (told_by ts past n) ≡ told_by ts (Changes number change ∷ past) n
+    change_is number change =
+        ap (λ vs. record { variables = vs; asked = has_asked past; waits = drop n (told ts past) ++ owed ts (Changes number change) past }) (map_map (followed (has_asked past) change) (seen past) ts)
+        ∙ ap (λ w. record { variables = map (seen (Changes number change ∷ past)) ts; asked = has_asked past; waits = w }) (sym (drop-append-le n (told ts past) (owed ts (Changes number change) past) room))
 
     dump_is : dumped_all (told_by ts past n) ≡ told_by ts (Dumps ∷ past) n
     dump_is =
         ap (λ vs. record { variables = vs; asked = true; waits = drop n (told ts past) ++ owed ts Dumps past }) (map_map dumped (seen past) ts)
         ∙ ap (λ w. record { variables = map (seen (Dumps ∷ past)) ts; asked = true; waits = w }) (sym (drop-append-le n (told ts past) (owed ts Dumps past) room))
 
-    command_is : (command : Option Command) → commanded command (told_by ts past n) ≡ told_by ts (by_command command past) n
-    command_is None = refl
-    command_is (Some c) = change_is (Doing (variable_set c) (value_set c))
+    fails_is : (number : Option ℕ) → commanded number None (told_by ts past n) ≡ told_by ts (Fails number ∷ past) n
+    fails_is number =
+        ap (λ w. record { variables = map (seen past) ts; asked = has_asked past; waits = w }) (sym (drop-append-le n (told ts past) (ended number false) room))
+
+    command_is : (number : Option ℕ) (command : Option Command) → commanded number command (told_by ts past n) ≡ told_by ts (by_command number command past) n
+    command_is number None = fails_is number
+    command_is number (Some c) = change_is number (Doing (variable_set c) (value_set c))
 
     ask_is : (ask : Option DriverAsk) → answered ask (told_by ts past n) ≡ told_by ts (by_ask ask past) n
     ask_is None = refl
     ask_is (Some asks.Ping) =
         ap (λ w. record { variables = map (seen past) ts; asked = has_asked past; waits = w }) (sym (drop-append-le n (told ts past) (codes "PONG\n") room))
     ask_is (Some asks.DumpAll) = dump_is
-    ask_is (Some (asks.Set name value)) = change_is (Assigning name value)
-    ask_is (Some (asks.InstCmd name)) = command_is (command_of name)
+    ask_is (Some (asks.Set name value number)) = change_is number (Assigning name value)
+    ask_is (Some (asks.InstCmd name parameter number)) = command_is number (command_of name)
 
-    command_room : (command : Option Command) → n ≤ length (told ts (by_command command past))
-    command_room None = room
-    command_room (Some c) = omega (arith, room, length-append (told ts past) (owed ts (Changes (Doing (variable_set c) (value_set c))) past))
+    command_room : (number : Option ℕ) (command : Option Command) → n ≤ length (told ts (by_command number command past))
+    command_room number None = omega (arith, room, length-append (told ts past) (ended number false))
+    command_room number (Some c) = omega (arith, room, length-append (told ts past) (owed ts (Changes number (Doing (variable_set c) (value_set c))) past))
 
-    change_room : (change : Change) → n ≤ length (told ts (Changes change ∷ past))
-    change_room change = omega (arith, room, length-append (told ts past) (owed ts (Changes change) past))
+    change_room : (number : Option ℕ) (change : Change) → n ≤ length (told ts (Changes number change ∷ past))
+    change_room number change = omega (arith, room, length-append (told ts past) (owed ts (Changes number change) past))
 
     ask_room : (ask : Option DriverAsk) → n ≤ length (told ts (by_ask ask past))
     ask_room None = room
     ask_room (Some asks.Ping) = omega (arith, room, length-append (told ts past) (codes "PONG\n"))
     ask_room (Some asks.DumpAll) = omega (arith, room, length-append (told ts past) (owed ts Dumps past))
-    ask_room (Some (asks.Set name value)) = change_room (Assigning name value)
-    ask_room (Some (asks.InstCmd name)) = command_room (command_of name)
+    ask_room (Some (asks.Set name value number)) = change_room number (Assigning name value)
+    ask_room (Some (asks.InstCmd name parameter number)) = command_room number (command_of name)
 
   lines_are : (ls : List LineText) (past : List Deed) (n : ℕ) → n ≤ length (told ts past) → heard_all ls (told_by ts past n) ≡ told_by ts (by_lines ls past) n
   lines_are [] past n room = refl
@@ -76,16 +80,16 @@ module _ (ts : List Timeline) where
   lines_room (l ∷ ls) past n room = lines_room ls (by_ask (asked_by l) past) n (ask_room past n room (asked_by l))
 
   -- what lines owe is appended to what was told before them
-  command_tells : (command : Option Command) (past : List Deed) → (more : List ℕ) × (told ts (by_command command past) ≡ told ts past ++ more)
-  command_tells None past = ([], sym (append-nil (told ts past)))
-  command_tells (Some c) past = (owed ts (Changes (Doing (variable_set c) (value_set c))) past, refl)
+  command_tells : (number : Option ℕ) (command : Option Command) (past : List Deed) → (more : List ℕ) × (told ts (by_command number command past) ≡ told ts past ++ more)
+  command_tells number None past = (ended number false, refl)
+  command_tells number (Some c) past = (owed ts (Changes number (Doing (variable_set c) (value_set c))) past, refl)
 
   ask_tells : (ask : Option DriverAsk) (past : List Deed) → (more : List ℕ) × (told ts (by_ask ask past) ≡ told ts past ++ more)
   ask_tells None past = ([], sym (append-nil (told ts past)))
   ask_tells (Some asks.Ping) past = (owed ts Pongs past, refl)
   ask_tells (Some asks.DumpAll) past = (owed ts Dumps past, refl)
-  ask_tells (Some (asks.Set name value)) past = (owed ts (Changes (Assigning name value)) past, refl)
-  ask_tells (Some (asks.InstCmd name)) past = command_tells (command_of name) past
+  ask_tells (Some (asks.Set name value number)) past = (owed ts (Changes number (Assigning name value)) past, refl)
+  ask_tells (Some (asks.InstCmd name parameter number)) past = command_tells number (command_of name) past
 
   lines_tell : (ls : List LineText) (past : List Deed) → (more : List ℕ) × (told ts (by_lines ls past) ≡ told ts past ++ more)
   lines_tell [] past = ([], sym (append-nil (told ts past)))
@@ -171,10 +175,10 @@ module _ (script : Script) (start : ℕ) where
         rounds = b.rounds;
         clock_is = ap (λ c. max c t) b.clock_is;
         rest_is = b.rest_is;
-        teller_is = ap (λ c. changed c s.teller) same ∙ ap (changed change) b.teller_is ∙ change_is vs (deeds script.round start h) (count_taken h) b.room change;
-        room = change_room vs (deeds script.round start h) (count_taken h) b.room change;
+        teller_is = ap (λ c. changed None c s.teller) same ∙ ap (changed None change) b.teller_is ∙ change_is vs (deeds script.round start h) (count_taken h) b.room None change;
+        room = change_room vs (deeds script.round start h) (count_taken h) b.room None change;
         linked_is = b.linked_is;
-        on_link = λ e. b.on_link e ∙ sym (take-append-le (count_taken h) (told vs (deeds script.round start h)) (owed vs (Changes change) (deeds script.round start h)) b.room);
+        on_link = λ e. b.on_link e ∙ sym (take-append-le (count_taken h) (told vs (deeds script.round start h)) (owed vs (Changes None change) (deeds script.round start h)) b.room);
         cut_off = b.cut_off;
         nothing = λ e. untold_change vs (deeds script.round start h) change (b.nothing e) (b.unasked e);
         unasked = b.unasked;

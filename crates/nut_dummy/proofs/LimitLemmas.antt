@@ -15,7 +15,7 @@ use Rattle.nut_words.specs.Spelling.{is_comment, is_printing}
 use Rattle.nut_words.specs.declared.limits.TheConstants.{NAME_MAX, VALUE_MAX}
 use Rattle.nut_proto.specs.declared.driver_ask.DriverAsk.{DriverAsk}
 use Rattle.nut_proto.specs.declared.driver_ask.DriverAsk.TheVariants as asks
-use Rattle.nut_state.specs.Number.{natural}
+use Rattle.nut_words.specs.Number.{natural}
 use Rattle.nut_state.specs.Sorted.{put, IsAscending}
 use Rattle.nut_state.specs.Text.{is_name}
 use Rattle.nut_state.proofs.PutLemmas.{All-put, All-named, ascending-put, length-put, length-put_found}
@@ -292,8 +292,8 @@ module _ (f : Variable → Variable) (same_name : (v : Variable) → (f v).name 
     each = each_kept variables h.each;
   }
 
-changed_sound : (change : Change) (t : Teller) → IsProper change → AreSound t.variables → AreSound (changed change t).variables
-changed_sound change t proper h =
+changed_sound : (number : Option ℕ) (change : Change) (t : Teller) → IsProper change → AreSound t.variables → AreSound (changed number change t).variables
+changed_sound number change t proper h =
     kept (followed t.asked change) (λ v. refl) (λ v s. (s.0, s.1, after_valued change v.name v.steps v.value proper s.1 s.2)) t.variables h
 
 proper_command : (c : Command) → is_value (value_set c) ≡ true
@@ -306,16 +306,16 @@ proper_command BatteryTestStop = refl
 proper_command FailureStart = refl
 proper_command FailureStop = refl
 
-commanded_sound : (command : Option Command) (t : Teller) → AreSound t.variables → AreSound (commanded command t).variables
-commanded_sound None t h = h
-commanded_sound (Some c) t h = changed_sound (Doing (variable_set c) (value_set c)) t (proper_command c) h
+commanded_sound : (number : Option ℕ) (command : Option Command) (t : Teller) → AreSound t.variables → AreSound (commanded number command t).variables
+commanded_sound number None t h = h
+commanded_sound number (Some c) t h = changed_sound number (Doing (variable_set c) (value_set c)) t (proper_command c) h
 
 pub answered_sound : (ask : Option DriverAsk) (t : Teller) → AreSound t.variables → AreSound (answered ask t).variables
 answered_sound None t h = h
 answered_sound (Some asks.Ping) t h = h
 answered_sound (Some asks.DumpAll) t h = kept dumped (λ v. refl) (λ v s. s) t.variables h
-answered_sound (Some (asks.Set name value)) t h = changed_sound (Assigning name value) t tt h
-answered_sound (Some (asks.InstCmd name)) t h = commanded_sound (command_of name) t h
+answered_sound (Some (asks.Set name value number)) t h = changed_sound number (Assigning name value) t tt h
+answered_sound (Some (asks.InstCmd name parameter number)) t h = commanded_sound number (command_of name) t h
 
 pub heard_all_sound : (lines : List LineText) (t : Teller) → AreSound t.variables → AreSound (heard_all lines t).variables
 heard_all_sound [] t h = h
@@ -348,7 +348,7 @@ driver_sound kind text script start [] is = beginning_sound script start (script
 driver_sound kind text script start (Linked ∷ h) is = relinked_sound (driver script start h).teller (driver_sound kind text script start h is)
 driver_sound kind text script start (Moment t ∷ h) is =
     let s = driver script start h in
-    changed_sound (Passing s.round (s.clock - s.start) (max s.clock t - s.start)) s.teller tt (driver_sound kind text script start h is)
+    changed_sound None (Passing s.round (s.clock - s.start) (max s.clock t - s.start)) s.teller tt (driver_sound kind text script start h is)
 driver_sound kind text script start (Bytes piece ∷ h) is =
     heard_all_sound (brought piece (driver script start h)) (driver script start h).teller (driver_sound kind text script start h is)
 driver_sound kind text script start (Lost k piece ∷ h) is =

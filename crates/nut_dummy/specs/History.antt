@@ -11,15 +11,17 @@ use Rattle.nut_dummy.specs.declared.command.Command.{Command}
 use Rattle.nut_dummy.specs.Command.{variable_set, value_set, command_of, command_variables}
 use Rattle.nut_dummy.specs.Due.{at_start}
 use Rattle.nut_dummy.specs.Script.{Script, Timeline}
-use Rattle.nut_dummy.specs.machine.Teller.{Variable, Teller, Change, Passing, Assigning, Doing, value_after, is_told, says, dump, asked_by}
+use Rattle.nut_dummy.specs.machine.Teller.{Variable, Teller, Change, Passing, Assigning, Doing, value_after, is_told, is_done, says, ended, dump, asked_by}
 use Rattle.nut_dummy.specs.machine.Dummy.{Content, all_declared, beginning, linked, passed, told_bytes, cut_behind, taken, waits_of, moment_refusal, bytes_refusal, took_refusal}
 
 -- ---- deeds
 
--- What calls and lines do: they make or cut a link, change values, dump, or answer PING.
+-- What calls and lines do: they make or cut a link, change values, ask for a command that the driver doesn't know, dump,
+-- or answer PING. A request with a number asks how it ended.
 pub data Deed : Type 0 where
   Fresh : Deed
-  Changes : (change : Change) → Deed
+  Changes : (number : Option ℕ) (change : Change) → Deed
+  Fails : (number : Option ℕ) → Deed
   Dumps : Deed
   Pongs : Deed
 
@@ -27,35 +29,41 @@ pub data Deed : Type 0 where
 abbrev pub has_asked : List Deed → Bool
 has_asked [] = false
 has_asked (Fresh ∷ past) = false
-has_asked (Changes change ∷ past) = has_asked past
+has_asked (Changes number change ∷ past) = has_asked past
 has_asked (Dumps ∷ past) = true
 has_asked (Pongs ∷ past) = has_asked past
+has_asked (Fails number ∷ past) = has_asked past
 
 -- The value of a variable: the newest of its steps that became due, the SETs and the commands, in the order of the
 -- deeds; before any, the one that is due at the start.
 abbrev pub value : Timeline → List Deed → Option (List ℕ)
 value t [] = at_start t.steps
 value t (Fresh ∷ past) = value t past
-value t (Changes change ∷ past) = value_after change t.name t.steps (value t past)
+value t (Changes number change ∷ past) = value_after change t.name t.steps (value t past)
 value t (Dumps ∷ past) = value t past
 value t (Pongs ∷ past) = value t past
+value t (Fails number ∷ past) = value t past
 
 -- whether a variable was told on this link
 abbrev pub was_told : Timeline → List Deed → Bool
 was_told t [] = false
 was_told t (Fresh ∷ past) = false
-was_told t (Changes change ∷ past) = was_told t past || (has_asked past && is_told change t.name t.steps (value t past))
+was_told t (Changes number change ∷ past) = was_told t past || (has_asked past && is_told change t.name t.steps (value t past))
 was_told t (Dumps ∷ past) = was_told t past || is_some (value t past)
 was_told t (Pongs ∷ past) = was_told t past
+was_told t (Fails number ∷ past) = was_told t past
 
 -- a variable as looking back shows it
 abbrev pub seen : List Deed → Timeline → Variable
 seen past t = record { name = t.name; steps = t.steps; value = value t past; told = was_told t past }
 
--- The bytes that a deed owes the link. A change is told only once DUMPALL was asked.
+-- The bytes that a deed owes the link. A change is told only once DUMPALL was asked; how a request with a number ended
+-- is told in any case.
 abbrev pub owed : List Timeline → Deed → List Deed → List ℕ
 owed ts Fresh past = []
-owed ts (Changes change) past = if has_asked past then flat_map (says change) (map (seen past) ts) else []
+owed ts (Changes number change) past =
+    (if has_asked past then flat_map (says change) (map (seen past) ts) else []) ++ ended number (is_done change (map (seen past) ts))
+owed ts (Fails number) past = ended number false
 owed ts Dumps past = dump (map (seen past) ts)
 owed ts Pongs past = codes "PONG\n"
 
@@ -63,23 +71,24 @@ owed ts Pongs past = codes "PONG\n"
 abbrev pub told : List Timeline → List Deed → List ℕ
 told ts [] = []
 told ts (Fresh ∷ past) = []
-told ts (Changes change ∷ past) = told ts past ++ owed ts (Changes change) past
+told ts (Changes number change ∷ past) = told ts past ++ owed ts (Changes number change) past
+told ts (Fails number ∷ past) = told ts past ++ owed ts (Fails number) past
 told ts (Dumps ∷ past) = told ts past ++ owed ts Dumps past
 told ts (Pongs ∷ past) = told ts past ++ owed ts Pongs past
 
 -- ---- what calls do
 
 -- the deeds after one that was asked
-abbrev pub by_command : Option Command → List Deed → List Deed
-by_command None past = past
-by_command (Some c) past = Changes (Doing (variable_set c) (value_set c)) ∷ past
+abbrev pub by_command : Option ℕ → Option Command → List Deed → List Deed
+by_command number None past = Fails number ∷ past
+by_command number (Some c) past = Changes number (Doing (variable_set c) (value_set c)) ∷ past
 
 abbrev pub by_ask : Option DriverAsk → List Deed → List Deed
 by_ask None past = past
 by_ask (Some asks.Ping) past = Pongs ∷ past
 by_ask (Some asks.DumpAll) past = Dumps ∷ past
-by_ask (Some (asks.Set name text)) past = Changes (Assigning name text) ∷ past
-by_ask (Some (asks.InstCmd name)) past = by_command (command_of name) past
+by_ask (Some (asks.Set name text number)) past = Changes number (Assigning name text) ∷ past
+by_ask (Some (asks.InstCmd name parameter number)) past = by_command number (command_of name) past
 
 abbrev pub by_lines : List LineText → List Deed → List Deed
 by_lines [] past = past
@@ -124,7 +133,7 @@ count_taken (Bytes piece ∷ h) = count_taken h
 abbrev pub deeds : ℕ → ℕ → List Call → List Deed
 deeds round start [] = []
 deeds round start (Linked ∷ h) = Fresh ∷ deeds round start h
-deeds round start (Moment t ∷ h) = Changes (Passing round (clock start h - start) (max (clock start h) t - start)) ∷ deeds round start h
+deeds round start (Moment t ∷ h) = Changes None (Passing round (clock start h - start) (max (clock start h) t - start)) ∷ deeds round start h
 deeds round start (Bytes piece ∷ h) = by_lines (lines_after (rest (input h)) piece) (deeds round start h)
 deeds round start (Lost k piece ∷ h) = Fresh ∷ by_lines (take k (lines_after (rest (input h)) piece)) (deeds round start h)
 deeds round start (Took n ∷ h) = deeds round start h

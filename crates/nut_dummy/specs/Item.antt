@@ -7,7 +7,7 @@ use Rattle.nut_words.specs.Bytes.{hash}
 use Rattle.nut_words.specs.declared.words.WordFault.{WordFault}
 use Rattle.nut_words.specs.Reader.{spelled}
 use Rattle.nut_words.specs.Spelling.{is_blank, is_comment, is_printing}
-use Rattle.nut_state.specs.Number.{natural}
+use Rattle.nut_words.specs.Number.{natural}
 use Rattle.nut_words.specs.Name.{is_name_byte}
 use Rattle.nut_words.specs.declared.limits.TheConstants.{NAME_MAX, VALUE_MAX}
 use Rattle.nut_dummy.specs.declared.fault.ScriptFaultKind.{ScriptFaultKind}

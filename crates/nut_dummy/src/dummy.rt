@@ -125,7 +125,7 @@ impl Dummy {
             after: u128::from(self.clock - self.start),
             until: u128::from(clock - self.start),
         };
-        if self.teller.change(&change).is_err() {
+        if self.teller.change(&change, None).is_err() {
             return Err(DummyFault::Memory(0));
         }
         self.clock = clock;

@@ -31,7 +31,7 @@ pub fn dump_is_the_table()
 
 /// States a law and does nothing when called: the numbers behind the limits that the definitions name.
 pub fn script_limits()
-    ensures line { SCRIPT_LINE_MAX ≡ 512 }
+    ensures line { SCRIPT_LINE_MAX ≡ 2048 }
     ensures timer { TIMER_MAX ≡ 86400 }
     ensures variables { SCRIPT_VARIABLES_MAX ≡ 509 }
     ensures steps { STEPS_MAX ≡ 4096 }

@@ -8,7 +8,7 @@ ghost use Rattle.nut_dummy.specs.inside.Changes.{change_of};
 ghost use Rattle.nut_dummy.specs.machine.Dummy.{IsRest};
 
 use crate::command::Command;
-use crate::telling::{dump, follow_all, forget_link, mark_all_dumped, say_all};
+use crate::telling::{dump, ended, follow_all, forget_link, is_done, mark_all_dumped, say_all};
 use crate::variable::{Change, Variable};
 use nut_proto::DriverAsk;
 use nut_queue::Outbox;
@@ -53,17 +53,20 @@ impl Teller {
         &self.variables
     }
 
-    /// Applies a change to all variables. The lines that tell it are made first, so that nothing changes if memory
-    /// cannot be allocated.
-    pub fn change(&mut self, change: &Change<'_>) -> Result<(), AllocError>
-        ensures ok { OnOk result (self.new ≡ changed (change_of change.now) self.old) }
+    /// Applies a change to all variables, and tells how the request with this number ended. The lines are made first, so
+    /// that nothing changes if memory cannot be allocated.
+    pub fn change(&mut self, change: &Change<'_>, number: Option<u32>) -> Result<(), AllocError>
+        ensures ok { OnOk result (self.new ≡ changed number (change_of change.now) self.old) }
         ensures err { OnErr result (self.new ≡ self.old) }
     {
+        self.scratch.clear();
         if self.asked {
-            self.scratch.clear();
             say_all(&mut self.scratch, &self.variables, change)?;
-            self.outbox.push(self.scratch.as_slice())?;
         }
+        let done = is_done(change, &self.variables);
+        self.scratch
+            .extend_from_slice(ended(number, done).as_slice())?;
+        self.outbox.push(self.scratch.as_slice())?;
         follow_all(&mut self.variables, change, self.asked);
         Ok(())
     }
@@ -90,16 +93,34 @@ impl Teller {
             None => Ok(()),
             Some(DriverAsk::Ping) => self.outbox.push(b"PONG\n"),
             Some(DriverAsk::DumpAll) => self.dump(),
-            Some(DriverAsk::Set { variable, value }) => self.change(&Change::Assigning {
-                name: variable.as_bytes(),
-                value: value.as_bytes(),
-            }),
-            Some(DriverAsk::InstCmd { command }) => match Command::of(command.as_bytes()) {
-                Some(command) => self.change(&Change::Doing {
-                    name: command.variable(),
-                    value: command.value(),
-                }),
-                None => Ok(()),
+            Some(
+                DriverAsk::Set {
+                    variable,
+                    value,
+                    number,
+                },
+            ) => self.change(
+                &Change::Assigning {
+                    name: variable.as_bytes(),
+                    value: value.as_bytes(),
+                },
+                number,
+            ),
+            Some(
+                DriverAsk::InstCmd {
+                    command,
+                    number,
+                    ..
+                },
+            ) => match Command::of(command.as_bytes()) {
+                Some(command) => self.change(
+                    &Change::Doing {
+                        name: command.variable(),
+                        value: command.value(),
+                    },
+                    number,
+                ),
+                None => self.outbox.push(ended(number, false).as_slice()),
             },
         }
     }

@@ -1,11 +1,13 @@
 //! The lines that tell of all variables, in their order.
 ghost use Rattle.std.specs.Prelude.{◌≡◌, ◌++◌, true, map, OnOk};
-ghost use Rattle.std.specs.List.{flat_map};
+ghost use Rattle.std.specs.List.{flat_map, list_any};
 ghost use Rattle.nut_dummy.specs.Telling.{text, closing_messages};
-ghost use Rattle.nut_dummy.specs.machine.Teller.{says, followed, lines_of, dump, dumped, untold};
+ghost use Rattle.nut_dummy.specs.machine.Teller.{says, followed, lines_of, dump, dumped, ended, is_assigned, is_done, untold};
 ghost use Rattle.nut_dummy.specs.inside.Changes.{change_of};
 
 use crate::variable::{Change, Variable};
+use arrayvec::ArrayVec;
+use nut_proto::decimal;
 use std::alloc::AllocError;
 
 /// The end of a dump: the commands, that the data are current, and that the dump is done.
@@ -24,6 +26,39 @@ pub fn say_all(
         variable.say(out, change)?;
     }
     Ok(())
+}
+
+/// Whether a client sets one of the variables by this.
+fn is_obeyed(name: &[u8], value: &[u8], variables: &[Variable]) -> bool
+    ensures { result ≡ list_any (λ v. is_assigned name.now value.now v.name v.value) variables.now }
+{
+    variables
+        .iter()
+        .any(|variable| variable.is_assigned(name, value))
+}
+
+/// Whether a change is what was asked for: a client's SET is, if a variable may be set to the value.
+pub fn is_done(change: &Change<'_>, variables: &[Variable]) -> bool
+    ensures { result ≡ is_done (change_of change.now) variables.now }
+{
+    match change {
+        Change::Assigning { name, value } => is_obeyed(name, value, variables),
+        Change::Passing { .. } | Change::Doing { .. } => true,
+    }
+}
+
+/// Returns the line that tells how a request ended, if the request has a number.
+pub fn ended(number: Option<u32>, done: bool) -> ArrayVec<u8, 32>
+    ensures { result.items ≡ ended number done }
+{
+    let mut line = ArrayVec::new();
+    if let Some(number) = number {
+        let status: &[u8] = if done { b" 0\n" } else { b" 1\n" };
+        let _ = line.try_extend_from_slice(b"TRACKING ");
+        let _ = line.try_extend_from_slice(decimal(number).as_slice());
+        let _ = line.try_extend_from_slice(status);
+    }
+    line
 }
 
 /// Applies a change to all variables.

@@ -150,7 +150,7 @@ impl Variable {
     }
 
     /// Whether a client sets it by this: it has this name and a value, and may be set to the new one.
-    fn is_assigned(&self, name: &[u8], value: &[u8]) -> bool
+    pub(crate) fn is_assigned(&self, name: &[u8], value: &[u8]) -> bool
         ensures assigned { result ≡ is_assigned name.now value.now self.now.name self.now.value }
         ensures valued { IsTrue result → IsTrue (is_value value.now) }
     {

@@ -203,7 +203,7 @@ fn command<'a>(alloc: Global) -> Result<Command<'a>, AllocError> {
         .required(true)
         .help("Where a server connects: SOCKDIR/dummy-ups-UPS for upsd's -s SOCKDIR");
     Command::new(alloc, "dummy-ups")
-        .version("profile 1.2")
+        .version("profile 1.3")
         .about("A driver that tells a script in place of a device")
         .arg(file)?
         .arg(socket)

@@ -25,7 +25,7 @@ use Rattle.nut_link.specs.Bounds.{IsBounded, IsStageBounded, rows_in, rows_of}
 use Rattle.nut_link.specs.Hearing.{Feeds, RunsOut}
 use Rattle.nut_link.specs.laws.Laws.{BoundsStay}
 use Rattle.nut_link.specs.Link.{LinkValue, asked, fed, heard, is_idle, left_of, lines_heard, link_with, moved, on_answer, on_line, on_read, or_else, progress_of, stage_after, stage_taken, stage_without, take_fault, taken, taken_out}
-use Rattle.nut_link.specs.Matching.{Progress, Listing, Complete, first, is_heading, is_line, is_row, next, progress}
+use Rattle.nut_link.specs.Matching.{Progress, Listing, Complete, first, is_heading, is_line, is_numbered, is_row, next, progress}
 use Rattle.nut_link.specs.inside.Rests.{IsRest}
 use Rattle.nut_link.proofs.Writable.{length_line}
 use Rattle.nut_proto.specs.declared.limits.TheConstants.{ROWS_MAX}
@@ -47,6 +47,7 @@ few_if false p q x y = y
 few_first : (e : Expected) (answer : Answer) → HasFew (first e answer)
 few_first e (answers.Err name) = none
 few_first expects.Success (answers.Ok words) = none
+few_first expects.NumberedSuccess (answers.Ok words) = few_if (is_numbered words) _ _ (λ is. none) none
 few_first (expects.Line heading more) (answers.Row words) = few_if (is_line heading more words) _ _ (λ is. none) tt
 few_first expects.AnyLine (answers.Row words) = none
 few_first (expects.Listing heading count) (answers.Begin words) = few_if (is_heading heading words) _ _ (λ is. none) tt

@@ -9,11 +9,12 @@ use Rattle.nut_proto.specs.declared.answer.AnswerFault.{AnswerFault}
 use Rattle.nut_link.specs.declared.exchange.Exchange.{Exchange}
 use Rattle.nut_link.specs.declared.fault.LinkFault.{LinkFault}
 use Rattle.nut_link.specs.declared.fault.LinkFault.TheVariants.{Memory}
+use Rattle.nut_link.specs.Matching.{is_numbered}
 use Rattle.nut_link.specs.Link.{LinkValue, answer_by, failed, fed, heard, lines_heard}
 
 -- whether words of the answer may have to be kept
 abbrev pub keeps_words : Answer → Bool
-keeps_words (answers.Ok words) = false
+keeps_words (answers.Ok words) = is_numbered words
 keeps_words (answers.Err name) = true
 keeps_words (answers.Begin words) = false
 keeps_words (answers.End words) = false
@@ -23,8 +24,8 @@ abbrev pub keeps_read : Result Answer AnswerFault → Bool
 keeps_read (Ok answer) = keeps_words answer
 keeps_read (Err fault) = false
 
--- Whether a line may allocate: it has a backslash, or it names an error, or it is none of `OK` and the beginning and
--- the end of a list.
+-- Whether a line may allocate: it has a backslash, or it names an error or gives a number, or it is none of `OK` and the
+-- beginning and the end of a list.
 abbrev pub may_take_memory : LineText → Bool
 may_take_memory (Text text) = has_backslash text || keeps_read (answer_in text)
 may_take_memory TooLong = false

@@ -1,5 +1,5 @@
 -- What answer a request expects, and when a line matches it (RFC 9271).
-use Rattle.std.specs.Prelude.{ℕ, ◌+◌, ◌==◌, ◌&&◌, nat_le, nat_lt, Bool, true, false, List, [], ◌∷◌, ◌++◌, length, drop, Option, Some, None, Result, Ok, Err, codes, if◌then◌else◌}
+use Rattle.std.specs.Prelude.{ℕ, ◌+◌, ◌==◌, ◌&&◌, nat_le, nat_lt, Bool, true, false, List, [], ◌∷◌, ◌++◌, length, drop, Option, Some, None, is_some, Result, Ok, Err, codes, decimal, if◌then◌else◌}
 use Rattle.std.specs.Char.{is_ascii_digit}
 use Rattle.std.specs.List.{list_all}
 use Rattle.std.specs.Str.{bytes_eq}
@@ -10,6 +10,8 @@ use Rattle.nut_proto.specs.declared.request.ListQuery.{ListQuery}
 use Rattle.nut_proto.specs.declared.request.ListQuery.TheVariants as queries
 use Rattle.nut_proto.specs.declared.request.Request.{Request}
 use Rattle.nut_proto.specs.declared.request.Request.TheVariants as requests
+use Rattle.nut_proto.specs.Positions.{word_at}
+use Rattle.nut_proto.specs.Tracking.{tracking_number}
 use Rattle.nut_link.specs.declared.expected.Expected.{Expected}
 use Rattle.nut_link.specs.declared.expected.Expected.TheVariants as expects
 use Rattle.nut_link.specs.declared.expected.More.{More}
@@ -32,7 +34,8 @@ listing (queries.Range ups variable) = expects.Listing (codes "RANGE" ∷ ups �
 listing (queries.Client ups) = expects.Listing (codes "CLIENT" ∷ ups ∷ []) 1
 
 -- What a request expects. A GET: the words behind GET and one more, which for NUMLOGINS is a number; for TYPE one or
--- more. The commands that are answered `OK`: that. VER, NETVER and HELP: any line.
+-- more. The commands that are answered `OK`: that, for SET VAR and INSTCMD perhaps with the number under which they are
+-- tracked. VER, NETVER and HELP: any line.
 abbrev pub expected : Request → Expected
 expected (requests.GetNumLogins ups) = expects.Line (codes "NUMLOGINS" ∷ ups ∷ []) mores.Number
 expected (requests.GetUpsDesc ups) = expects.Line (codes "UPSDESC" ∷ ups ∷ []) mores.One
@@ -40,9 +43,12 @@ expected (requests.GetVar ups variable) = expects.Line (codes "VAR" ∷ ups ∷ 
 expected (requests.GetType ups variable) = expects.Line (codes "TYPE" ∷ ups ∷ variable ∷ []) mores.OneOrMore
 expected (requests.GetDesc ups variable) = expects.Line (codes "DESC" ∷ ups ∷ variable ∷ []) mores.One
 expected (requests.GetCmdDesc ups command) = expects.Line (codes "CMDDESC" ∷ ups ∷ command ∷ []) mores.One
+expected requests.GetTracking = expects.Line (codes "TRACKING" ∷ []) mores.One
+expected (requests.GetTrackingOf number) = expects.Line (codes "TRACKING" ∷ decimal number ∷ []) mores.One
 expected (requests.List query) = listing query
-expected (requests.SetVar ups variable value) = expects.Success
-expected (requests.InstCmd ups command) = expects.Success
+expected (requests.SetVar ups variable value) = expects.NumberedSuccess
+expected (requests.SetTracking on) = expects.Success
+expected (requests.InstCmd ups command parameter) = expects.NumberedSuccess
 expected (requests.Username name) = expects.Success
 expected (requests.Password password) = expects.Success
 expected (requests.Login ups) = expects.Success
@@ -70,6 +76,10 @@ has_more mores.One words = length words == 1
 has_more mores.Number words = length words == 1 && list_all is_count words
 has_more mores.OneOrMore words = nat_le 1 (length words)
 
+-- whether the words behind OK are `TRACKING` and a number
+abbrev pub is_numbered : List (List ℕ) → Bool
+is_numbered words = length words == 2 && bytes_eq (word_at words 0) (codes "TRACKING") && is_some (tracking_number (word_at words 1))
+
 -- What a line that matches does to a query: its list goes on, with these rows so far, or it is complete.
 pub data Progress : Type 0 where
   Listing : List (List (List ℕ)) → Progress
@@ -91,6 +101,8 @@ is_line heading more words = begins heading words && has_more more (drop (length
 abbrev pub first : Expected → Answer → Result Progress LinkFault
 first e (answers.Err name) = Ok (Complete (outcomes.Refused name))
 first expects.Success (answers.Ok words) = Ok (Complete outcomes.Done)
+first expects.NumberedSuccess (answers.Ok words) =
+    if is_numbered words then Ok (Complete (outcomes.Said (drop 1 words))) else Ok (Complete outcomes.Done)
 first (expects.Line heading more) (answers.Row words) =
     if is_line heading more words then Ok (Complete (outcomes.Said (drop (length heading) words))) else Err NotMine
 first expects.AnyLine (answers.Row words) = Ok (Complete (outcomes.Said words))

@@ -6,13 +6,13 @@ ghost use Rattle.nut_proto.specs.Lines.{message_words};
 ghost use Rattle.nut_proto.specs.Requests.{query_parts, request_parts};
 ghost use Rattle.nut_proto.specs.declared.answer.Answer.TheVariants as answers;
 ghost use Rattle.nut_link.specs.inside.Parts.{Gives};
-ghost use Rattle.nut_link.specs.Matching.{expected, first, listing, has_more, is_count, is_line, is_long};
+ghost use Rattle.nut_link.specs.Matching.{expected, first, listing, has_more, is_count, is_line, is_long, is_numbered};
 
 use crate::copied::Fields;
 use crate::fault::LinkFault;
 use crate::heading::Heading;
 use crate::outcome::Outcome;
-use nut_proto::{ListQuery, Request, Rest};
+use nut_proto::{ListQuery, Request, Rest, decimal, tracking_number};
 use std::alloc::Global;
 
 /// How many words follow those of the query in the answer to a GET.
@@ -31,6 +31,8 @@ pub enum More {
 pub enum Expected {
     /// `OK`, whatever follows.
     Success,
+    /// `OK`, whatever follows. If `TRACKING` and a number follow, the number is what the server said.
+    NumberedSuccess,
     /// A line that begins with these words and has further words.
     Line(Heading, More),
     /// Any line but `OK`, a refusal, and the beginning and the end of a list.
@@ -75,6 +77,15 @@ fn is_line(heading: &Heading, more: More, words: &Rest<'_>) -> bool
     heading.begins(words) && more.fits(words, heading.len())
 }
 
+/// Whether the words behind `OK` are `TRACKING` and a number.
+fn is_numbered(words: &Rest<'_>) -> bool
+    ensures { result ≡ is_numbered words.now }
+{
+    words.len() == 2
+        && words.get(0) == b"TRACKING".as_slice()
+        && tracking_number(words.get(1)).is_some()
+}
+
 impl Expected {
     /// Takes in a line that is neither `OK`, a refusal, nor the beginning or the end of a list, as the first line of
     /// the answer.
@@ -93,18 +104,27 @@ impl Expected {
                 let fields = Fields::copy(alloc, words, 0)?;
                 Ok(Some(Outcome::Said(fields)))
             }
-            Expected::Success | Expected::Listing(_, _) | Expected::Refusal => Err(
-                LinkFault::NotMine,
-            ),
+            Expected::Success
+            | Expected::NumberedSuccess
+            | Expected::Listing(_, _)
+            | Expected::Refusal => Err(LinkFault::NotMine),
         }
     }
 
     /// Takes in `OK` as the first line.
-    pub(crate) fn succeed(&self, words: &Rest<'_>) -> Result<Option<Outcome>, LinkFault>
+    pub(crate) fn succeed(
+        &self,
+        alloc: Global,
+        words: &Rest<'_>,
+    ) -> Result<Option<Outcome>, LinkFault>
         ensures { Gives (first self.now (answers.Ok words.now)) (answers.Ok words.now) result [] }
     {
         match self {
-            Expected::Success => Ok(Some(Outcome::Done)),
+            Expected::NumberedSuccess if is_numbered(words) => {
+                let number = Fields::copy(alloc, words, 1)?;
+                Ok(Some(Outcome::Said(number)))
+            }
+            Expected::Success | Expected::NumberedSuccess => Ok(Some(Outcome::Done)),
             Expected::Line(_, _)
             | Expected::AnyLine
             | Expected::Listing(_, _)
@@ -120,6 +140,7 @@ impl Expected {
             Expected::Listing(heading, _) if heading.is_heading(words) => Ok(None),
             Expected::Listing(_, _)
             | Expected::Success
+            | Expected::NumberedSuccess
             | Expected::Line(_, _)
             | Expected::AnyLine
             | Expected::Refusal => Err(LinkFault::NotMine),
@@ -157,9 +178,14 @@ pub(crate) fn expected_of(request: &Request<'_>) -> Option<Expected>
             Heading::copy(&[b"CMDDESC", ups.as_bytes(), command.as_bytes()])?,
             More::One,
         ),
+        Request::GetTracking => Expected::Line(Heading::copy(&[b"TRACKING"])?, More::One),
+        Request::GetTrackingOf { number } => Expected::Line(
+            Heading::copy(&[b"TRACKING", decimal(*number).as_slice()])?,
+            More::One,
+        ),
         Request::List(query) => listing_of(query)?,
-        Request::SetVar { .. }
-        | Request::InstCmd { .. }
+        Request::SetVar { .. } | Request::InstCmd { .. } => Expected::NumberedSuccess,
+        Request::SetTracking { .. }
         | Request::Username { .. }
         | Request::Password { .. }
         | Request::Login { .. }
@@ -171,7 +197,7 @@ pub(crate) fn expected_of(request: &Request<'_>) -> Option<Expected>
     })
 }
 
-/// Returns what a LIST expects. `None` only if a word of it is longer than 512 bytes. It allocates nothing.
+/// Returns what a LIST expects. `None` only if a word of it is longer than a line may be. It allocates nothing.
 fn listing_of(query: &ListQuery<'_>) -> Option<Expected>
     ensures some { IfSome result (λ e. e ≡ listing query.now) }
     ensures none { IfNone result (IsTrue (list_any is_long (message_words (query_parts query.now)))) }

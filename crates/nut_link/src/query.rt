@@ -127,7 +127,7 @@ fn hear_first(
             let name = Text::copy(alloc, name.as_bytes())?;
             Ok(Some(Outcome::Refused(name)))
         }
-        Answer::Ok(words) => expected.succeed(words),
+        Answer::Ok(words) => expected.succeed(alloc, words),
         Answer::Row(words) => expected.say(alloc, words),
         Answer::Begin(words) => expected.begin(words),
         Answer::End(_) => Err(LinkFault::NotMine),

@@ -10,7 +10,7 @@ use Rattle.nut_proto.specs.declared.answer.AnswerFault.{AnswerFault}
 use Rattle.nut_link.specs.Asking.{Asked}
 use Rattle.nut_link.specs.Hearing.{Feeds, RunsOut}
 use Rattle.nut_link.specs.Link.{LinkValue, answer_by, failed, fed, heard, left_of, lines_heard, moved, on_line, on_read, outcome_in, outcome_of, progress_of, stage_after, stage_without, taken_out, with_exchange}
-use Rattle.nut_link.specs.Matching.{Progress, Listing, Complete, begins, first, has_more, is_count, is_heading, is_line, is_row, next, progress}
+use Rattle.nut_link.specs.Matching.{Progress, Listing, Complete, begins, first, has_more, is_count, is_heading, is_line, is_numbered, is_row, next, progress}
 use Rattle.nut_link.specs.declared.exchange.Exchange.{Exchange}
 use Rattle.nut_link.specs.declared.exchange.Stage.{Stage}
 use Rattle.nut_link.specs.declared.exchange.Stage.TheVariants as stages
@@ -206,12 +206,21 @@ nm_row heading count rows words true true = tt
 nm_row heading count rows words true false = tt
 nm_row heading count rows words false b = tt
 
+nm_any : (b : Bool) (p q : Outcome) → Fed (if b then Ok (Complete p) else Ok (Complete q))
+nm_any true p q = tt
+nm_any false p q = tt
+
 nm_first : (e : Expected) (a : Answer) → Fed (first e a)
 nm_first expects.Success (answers.Ok words) = tt
 nm_first expects.Success (answers.Err name) = tt
 nm_first expects.Success (answers.Begin words) = tt
 nm_first expects.Success (answers.End words) = tt
 nm_first expects.Success (answers.Row words) = tt
+nm_first expects.NumberedSuccess (answers.Ok words) = nm_any (is_numbered words) (outcomes.Said (drop 1 words)) outcomes.Done
+nm_first expects.NumberedSuccess (answers.Err name) = tt
+nm_first expects.NumberedSuccess (answers.Begin words) = tt
+nm_first expects.NumberedSuccess (answers.End words) = tt
+nm_first expects.NumberedSuccess (answers.Row words) = tt
 nm_first (expects.Line heading more) (answers.Ok words) = tt
 nm_first (expects.Line heading more) (answers.Err name) = tt
 nm_first (expects.Line heading more) (answers.Begin words) = tt
@@ -239,6 +248,11 @@ nm_next expects.Success rows (answers.Err name) = tt
 nm_next expects.Success rows (answers.Begin words) = tt
 nm_next expects.Success rows (answers.End words) = tt
 nm_next expects.Success rows (answers.Row words) = tt
+nm_next expects.NumberedSuccess rows (answers.Ok words) = tt
+nm_next expects.NumberedSuccess rows (answers.Err name) = tt
+nm_next expects.NumberedSuccess rows (answers.Begin words) = tt
+nm_next expects.NumberedSuccess rows (answers.End words) = tt
+nm_next expects.NumberedSuccess rows (answers.Row words) = tt
 nm_next (expects.Line heading more) rows (answers.Ok words) = tt
 nm_next (expects.Line heading more) rows (answers.Err name) = tt
 nm_next (expects.Line heading more) rows (answers.Begin words) = tt

@@ -4,7 +4,7 @@ use Rattle.std.specs.Option.{option_and_then, option_map}
 use Rattle.std.specs.Str.{bytes_eq}
 use Rattle.nut_words.specs.declared.words.WordFault.{WordFault}
 use Rattle.nut_words.specs.Reader.{spelled, has_backslash}
-use Rattle.nut_state.specs.Number.{natural}
+use Rattle.nut_words.specs.Number.{natural}
 use Rattle.nut_play.specs.declared.reading.StepFault.{StepFault}
 use Rattle.nut_play.specs.declared.reading.StepFault.TheVariants.{BadStep, Memory}
 use Rattle.nut_play.specs.declared.verb.Verb.{Verb}

@@ -1,7 +1,7 @@
 //! The steps that the lines of a schedule spell.
 
 ghost use Rattle.std.specs.Prelude.{◌≡◌, Err, IsTrue};
-ghost use Rattle.nut_state.specs.Number.{natural};
+ghost use Rattle.nut_words.specs.Number.{natural};
 ghost use Rattle.nut_play.specs.declared.reading.StepFault.{StepFault};
 ghost use Rattle.nut_play.specs.Lines.{Gives, form, is_of_driver, meant, one_number, said, said_by_driver, takes_memory, three_numbers, two_numbers};
 ghost use Rattle.nut_play.specs.Steps.{step_of};
@@ -9,8 +9,7 @@ ghost use Rattle.nut_play.specs.Steps.{step_of};
 use crate::limits::STEP_LINE_MAX;
 use crate::types::Step;
 use crate::verb::Verb;
-use nut_state::natural;
-use nut_words::{WordFault, Words, split};
+use nut_words::{WordFault, Words, natural, split};
 use std::alloc::Global;
 use thiserror::Error;
 

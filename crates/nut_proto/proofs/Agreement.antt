@@ -23,6 +23,8 @@ get_agrees (Some subjects.Var) s words e = rw e (alone _)
 get_agrees (Some subjects.Type) s words e = rw e (alone _)
 get_agrees (Some subjects.Desc) s words e = rw e (alone _)
 get_agrees (Some subjects.CmdDesc) s words e = rw e (alone _)
+get_agrees (Some subjects.Tracking) s [] e = rw e refl
+get_agrees (Some subjects.Tracking) s (number ∷ words) e = rw e (alone _)
 get_agrees _ s words e = rw e refl
 
 list_agrees : (k : Option Subject) (s : List ℕ) (words : List (List ℕ)) → subject_of s ≡ k → list_about k words ≡ first_fit forms commands.List (s ∷ words)
@@ -37,6 +39,7 @@ list_agrees _ s words e = rw e refl
 
 set_agrees : (k : Option Subject) (s : List ℕ) (words : List (List ℕ)) → subject_of s ≡ k → set_about k words ≡ first_fit forms commands.Set (s ∷ words)
 set_agrees (Some subjects.Var) s words e = rw e (alone _)
+set_agrees (Some subjects.Tracking) s words e = rw e (alone _)
 set_agrees _ s words e = rw e refl
 
 fits : (command : Command) (words : List (List ℕ)) → request_of command words ≡ first_fit forms command words
@@ -46,7 +49,11 @@ fits commands.List [] = refl
 fits commands.List (s ∷ words) = list_agrees (subject_of s) s words refl
 fits commands.Set [] = refl
 fits commands.Set (s ∷ words) = set_agrees (subject_of s) s words refl
-fits commands.InstCmd words = alone _
+fits commands.InstCmd [] = refl
+fits commands.InstCmd (ups ∷ []) = refl
+fits commands.InstCmd (ups ∷ command ∷ []) = refl
+fits commands.InstCmd (ups ∷ command ∷ parameter ∷ []) = refl
+fits commands.InstCmd (ups ∷ command ∷ parameter ∷ other ∷ words) = refl
 fits commands.Username words = alone _
 fits commands.Password words = alone _
 fits commands.Login words = alone _

@@ -66,7 +66,7 @@ unfolding end_line
 length-end ups u =
     omega (arith, length-line (Word (codes "END")) (Word (codes "LIST") ∷ Word (codes "VAR") ∷ Word ups ∷ []), length-name 32 ups u)
 
-length-rows : (ups : List ℕ) (rows : List (List ℕ × List ℕ)) → IsName UPS_NAME_MAX ups → AllByRecursion IsVariable rows → length (variable_rows ups rows) ≤ 361 * length rows
+length-rows : (ups : List ℕ) (rows : List (List ℕ × List ℕ)) → IsName UPS_NAME_MAX ups → AllByRecursion IsVariable rows → length (variable_rows ups rows) ≤ 1129 * length rows
 length-rows ups [] u h = omega arith
 length-rows ups (row ∷ rows) u h =
     omega (arith, length-append (reply_line (replies.Var ups row.0 row.1)) (variable_rows ups rows), rows_are_bounded ups row.0 row.1 u h.0, length-rows ups rows u h.1)
@@ -86,7 +86,7 @@ lists_are_bounded ups rows u h most = omega (arith, length-list ups rows u, leng
 
 -- the length of the rows, if one value has `FSD ` before it
 length-forced_rows : (ups name value : List ℕ) (before after : List (List ℕ × List ℕ)) → IsName UPS_NAME_MAX ups → AllByRecursion IsVariable before → IsVariable (name, value) → AllByRecursion IsVariable after →
-    length (variable_rows ups (before ++ (name, codes "FSD " ++ value) ∷ after)) ≤ 361 * (length before + length after) + 365
+    length (variable_rows ups (before ++ (name, codes "FSD " ++ value) ∷ after)) ≤ 1129 * (length before + length after) + 1133
 length-forced_rows ups name value [] after u h v k =
     omega (
       arith,

@@ -3,6 +3,8 @@ pub mod Agreement
 pub mod Room
 pub mod Places
 pub mod Spelling
+pub mod Numbers
+pub mod Readable
 pub mod RoundTrip
 pub mod Lengths
 pub mod Digits

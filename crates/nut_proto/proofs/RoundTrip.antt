@@ -1,8 +1,9 @@
 -- The words in which a message is written are read as what was meant.
-use Rattle.std.proofs.Common.{◌≡◌, ℕ, ◌≤◌, Bool, true, false, List, length, IsTrue, refl, ◌∙◌, cond, ap, arith, Some, None, Ok, codes}
+use Rattle.std.proofs.Common.{◌≡◌, ℕ, ◌≤◌, Bool, true, false, List, [], ◌∷◌, length, IsTrue, refl, ◌∙◌, cond, ap, arith, Option, Some, None, Ok, codes, decimal}
 use Rattle.std.specs.Option.{option_map, option_or, ok_or}
 use Rattle.nut_words.specs.Quoting.{IsPrintable}
 use Rattle.nut_proto.specs.declared.refusal.Refusal.{Refusal}
+use Rattle.nut_proto.specs.declared.refusal.Refusal.TheVariants.{InvalidArgument}
 use Rattle.nut_proto.specs.declared.request.Request.{Request}
 use Rattle.nut_proto.specs.declared.request.Request.TheVariants as requests
 use Rattle.nut_proto.specs.declared.request.ListQuery.{ListQuery}
@@ -18,10 +19,12 @@ use Rattle.nut_proto.specs.Rules.{is_credential}
 use Rattle.nut_proto.specs.Forms.{meaning}
 use Rattle.nut_proto.specs.Requests.{request_parts, query_parts, begin_parts, end_parts}
 use Rattle.nut_proto.specs.Replies.{reply_parts}
-use Rattle.nut_proto.specs.DriverAsks.{ask_parts, ask_of}
+use Rattle.nut_proto.specs.DriverAsks.{ask_parts, ask_of, number_of}
 use Rattle.nut_proto.specs.Answers.{answer_of, answer_for}
-use Rattle.nut_proto.specs.laws.ReadBack.{IsReadable, RequestsAreRead, RepliesAreRead, ListsAreRead, AsksAreRead, answer_to}
+use Rattle.nut_proto.specs.laws.ReadBack.{IsReadable, IsNumbered, RequestsAreRead, RepliesAreRead, ListsAreRead, AsksAreRead, answer_to}
+use Rattle.nut_proto.specs.Tracking.{IsTrackingNumber}
 use Rattle.nut_proto.proofs.Spelling.{message_spelled}
+use Rattle.nut_proto.proofs.Numbers.{number_back}
 
 accepted : (b : Bool) (x : List ℕ) (request : List ℕ → Request) (refusal : Refusal) → IsTrue b → ok_or (option_or (option_map (λ y. request y) (cond b (Some x) None)) None) refusal ≡ Ok (request x)
 accepted true x request refusal h = refl
@@ -43,7 +46,12 @@ meaning_back (requests.List (queries.Enum ups variable)) h = refl
 meaning_back (requests.List (queries.Range ups variable)) h = refl
 meaning_back (requests.List (queries.Client ups)) h = refl
 meaning_back (requests.SetVar ups variable value) h = refl
-meaning_back (requests.InstCmd ups command) h = refl
+meaning_back requests.GetTracking h = refl
+meaning_back (requests.GetTrackingOf number) h = ap (λ (read : Option ℕ). ok_or (option_or (option_map (λ n. requests.GetTrackingOf n) read) None) InvalidArgument) (number_back number h)
+meaning_back (requests.SetTracking true) h = refl
+meaning_back (requests.SetTracking false) h = refl
+meaning_back (requests.InstCmd ups command None) h = refl
+meaning_back (requests.InstCmd ups command (Some parameter)) h = refl
 meaning_back (requests.Login ups) h = refl
 meaning_back (requests.Primary ups) h = refl
 meaning_back (requests.Fsd ups) h = refl
@@ -66,6 +74,8 @@ short_query (queries.Client ups) = omega arith
 
 short_request : (request : Request) → length (request_parts request) ≤ 32
 short_request (requests.List query) = omega (arith, short_query query)
+short_request (requests.InstCmd ups command None) = omega arith
+short_request (requests.InstCmd ups command (Some parameter)) = omega arith
 short_request request = omega arith
 
 pub requests_are_read : RequestsAreRead
@@ -108,18 +118,29 @@ lists_are_read query writable = (
   ap answer_for (message_spelled (end_parts query) (end_writable, (list_writable, writable)) (omega (arith, short_query query))) ∙ end_back query,
 )
 
-ask_back : (ask : DriverAsk) → ask_of (message_words (ask_parts ask)) ≡ Some ask
+numbered_back : (number : ℕ) → IsTrackingNumber number → number_of (codes "TRACKING" ∷ decimal number ∷ []) ≡ Some (Some number)
+numbered_back number h = ap (λ (read : Option ℕ). option_map (λ n. Some n) read) (number_back number h)
+
+ask_back : (ask : DriverAsk) → IsNumbered ask → ask_of (message_words (ask_parts ask)) ≡ Some ask
 unfolding ask_of
-ask_back asks.Ping = refl
-ask_back asks.DumpAll = refl
-ask_back (asks.Set variable value) = refl
-ask_back (asks.InstCmd command) = refl
+ask_back asks.Ping h = refl
+ask_back asks.DumpAll h = refl
+ask_back (asks.Set variable value None) h = refl
+ask_back (asks.Set variable value (Some number)) h = ap (λ (read : Option (Option ℕ)). option_map (λ n. asks.Set variable value n) read) (numbered_back number h)
+ask_back (asks.InstCmd command None None) h = refl
+ask_back (asks.InstCmd command (Some parameter) None) h = refl
+ask_back (asks.InstCmd command None (Some number)) h = ap (λ (read : Option (Option ℕ)). option_map (λ n. asks.InstCmd command None n) read) (numbered_back number h)
+ask_back (asks.InstCmd command (Some parameter) (Some number)) h = ap (λ (read : Option (Option ℕ)). option_map (λ n. asks.InstCmd command (Some parameter) n) read) (numbered_back number h)
 
 short_ask : (ask : DriverAsk) → length (ask_parts ask) ≤ 32
 short_ask asks.Ping = omega arith
 short_ask asks.DumpAll = omega arith
-short_ask (asks.Set variable value) = omega arith
-short_ask (asks.InstCmd command) = omega arith
+short_ask (asks.Set variable value None) = omega arith
+short_ask (asks.Set variable value (Some number)) = omega arith
+short_ask (asks.InstCmd command None None) = omega arith
+short_ask (asks.InstCmd command (Some parameter) None) = omega arith
+short_ask (asks.InstCmd command None (Some number)) = omega arith
+short_ask (asks.InstCmd command (Some parameter) (Some number)) = omega arith
 
 pub asks_are_read : AsksAreRead
-asks_are_read ask writable = (message_spelled (ask_parts ask) writable (short_ask ask), ask_back ask)
+asks_are_read ask writable numbered = (message_spelled (ask_parts ask) writable (short_ask ask), ask_back ask numbered)

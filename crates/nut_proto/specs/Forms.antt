@@ -11,7 +11,7 @@ use Rattle.nut_proto.specs.declared.keyword.Command.TheVariants as commands
 use Rattle.nut_proto.specs.declared.keyword.Subject.{Subject}
 use Rattle.nut_proto.specs.declared.keyword.Subject.TheVariants as subjects
 use Rattle.nut_proto.specs.Keywords.{command_of, subject_of, is_command, is_subject}
-use Rattle.nut_proto.specs.Rules.{none, one, two, three, credential}
+use Rattle.nut_proto.specs.Rules.{none, one, two, three, credential, numbered, switched}
 
 -- the request that the words after a command word make, if they make one
 abbrev pub Rule : Type 0
@@ -38,6 +38,8 @@ forms =
     form commands.Get (about subjects.Type (two requests.GetType)) ∷
     form commands.Get (about subjects.Desc (two requests.GetDesc)) ∷
     form commands.Get (about subjects.CmdDesc (two requests.GetCmdDesc)) ∷
+    form commands.Get (about subjects.Tracking (none requests.GetTracking)) ∷
+    form commands.Get (about subjects.Tracking (numbered requests.GetTrackingOf)) ∷
     form commands.List (about subjects.Ups (none (requests.List queries.Ups))) ∷
     form commands.List (about subjects.Var (one (λ ups. requests.List (queries.Var ups)))) ∷
     form commands.List (about subjects.Rw (one (λ ups. requests.List (queries.Rw ups)))) ∷
@@ -46,7 +48,9 @@ forms =
     form commands.List (about subjects.Range (two (λ ups variable. requests.List (queries.Range ups variable)))) ∷
     form commands.List (about subjects.Client (one (λ ups. requests.List (queries.Client ups)))) ∷
     form commands.Set (about subjects.Var (three requests.SetVar)) ∷
-    form commands.InstCmd (two requests.InstCmd) ∷
+    form commands.Set (about subjects.Tracking (switched requests.SetTracking)) ∷
+    form commands.InstCmd (two (λ ups command. requests.InstCmd ups command None)) ∷
+    form commands.InstCmd (three (λ ups command parameter. requests.InstCmd ups command (Some parameter))) ∷
     form commands.Username (credential requests.Username) ∷
     form commands.Password (credential requests.Password) ∷
     form commands.Login (one requests.Login) ∷

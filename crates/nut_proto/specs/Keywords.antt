@@ -40,11 +40,12 @@ subject_name subjects.Cmd = codes "CMD"
 subject_name subjects.Enum = codes "ENUM"
 subject_name subjects.Range = codes "RANGE"
 subject_name subjects.Client = codes "CLIENT"
+subject_name subjects.Tracking = codes "TRACKING"
 
 abbrev pub all_subjects : List Subject
 all_subjects =
     subjects.NumLogins ∷ subjects.UpsDesc ∷ subjects.Ups ∷ subjects.Var ∷ subjects.Type ∷ subjects.Desc ∷ subjects.CmdDesc ∷
-    subjects.Rw ∷ subjects.Cmd ∷ subjects.Enum ∷ subjects.Range ∷ subjects.Client ∷ []
+    subjects.Rw ∷ subjects.Cmd ∷ subjects.Enum ∷ subjects.Range ∷ subjects.Client ∷ subjects.Tracking ∷ []
 
 -- Whether the word is `name`. Command words are compared without regard to ASCII case.
 abbrev pub is_named : List ℕ → List ℕ → Bool

@@ -1,5 +1,6 @@
 pub mod Keywords
 pub mod Refusals
+pub mod Tracking
 pub mod Rules
 pub mod Forms
 pub mod Lines

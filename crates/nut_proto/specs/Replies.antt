@@ -9,11 +9,12 @@ use Rattle.nut_proto.specs.declared.part.Part.TheVariants.{Word, Quoted, Number,
 use Rattle.nut_proto.specs.Keywords.{all_commands, command_name}
 use Rattle.nut_proto.specs.Lines.{line}
 use Rattle.nut_proto.specs.Refusals.{refusal_name}
+use Rattle.nut_proto.specs.Tracking.{status_word, switch_word}
 
 -- the answer to VER
 abbrev pub version_parts : List Part
 version_parts =
-    Word (codes "Network") ∷ Word (codes "UPS") ∷ Word (codes "Tools") ∷ Word (codes "upsd") ∷ Word (codes "profile") ∷ Word (codes "1.2") ∷ []
+    Word (codes "Network") ∷ Word (codes "UPS") ∷ Word (codes "Tools") ∷ Word (codes "upsd") ∷ Word (codes "profile") ∷ Word (codes "1.3") ∷ []
 
 -- the answer to HELP
 abbrev pub commands_parts : List Part
@@ -35,11 +36,12 @@ type_parts ups variable writable kind =
 
 abbrev pub reply_parts : Reply → List Part
 reply_parts replies.Accepted = Word (codes "OK") ∷ []
+reply_parts (replies.AcceptedAs number) = Word (codes "OK") ∷ Word (codes "TRACKING") ∷ Number number ∷ []
 reply_parts replies.FsdSet = Word (codes "OK") ∷ Word (codes "FSD-SET") ∷ []
 reply_parts replies.Goodbye = Word (codes "OK") ∷ Word (codes "Goodbye") ∷ []
 reply_parts (replies.Refused refusal) = Word (codes "ERR") ∷ Word (refusal_name refusal) ∷ []
 reply_parts replies.Version = version_parts
-reply_parts replies.NetworkVersion = Word (codes "1.2") ∷ []
+reply_parts replies.NetworkVersion = Word (codes "1.3") ∷ []
 reply_parts replies.Commands = commands_parts
 reply_parts (replies.NumLogins ups count) = Word (codes "NUMLOGINS") ∷ Word ups ∷ Number count ∷ []
 reply_parts (replies.UpsDesc ups description) = Word (codes "UPSDESC") ∷ Word ups ∷ Quoted description ∷ []
@@ -47,6 +49,8 @@ reply_parts (replies.Type ups variable writable kind) = type_parts ups variable 
 reply_parts (replies.Desc ups variable description) = Word (codes "DESC") ∷ Word ups ∷ Word variable ∷ Quoted description ∷ []
 reply_parts (replies.CmdDesc ups command description) = Word (codes "CMDDESC") ∷ Word ups ∷ Word command ∷ Quoted description ∷ []
 reply_parts (replies.Var ups variable value) = Word (codes "VAR") ∷ Word ups ∷ Word variable ∷ Quoted value ∷ []
+reply_parts (replies.TrackingIs on) = Word (codes "TRACKING") ∷ Word (switch_word on) ∷ []
+reply_parts (replies.Tracking number status) = Word (codes "TRACKING") ∷ Number number ∷ Word (status_word status) ∷ []
 reply_parts (replies.Ups ups description) = Word (codes "UPS") ∷ Word ups ∷ Quoted description ∷ []
 reply_parts (replies.Rw ups variable value) = Word (codes "RW") ∷ Word ups ∷ Word variable ∷ Quoted value ∷ []
 reply_parts (replies.Cmd ups command) = Word (codes "CMD") ∷ Word ups ∷ Word command ∷ []

@@ -2,6 +2,7 @@
 use Rattle.std.specs.Prelude.{ℕ, Bool, ◌&&◌, List, [], ◌∷◌, length, Option, Some, None, nat_le, if◌then◌else◌}
 use Rattle.std.specs.Option.{option_and, option_and_then, option_map}
 use Rattle.nut_words.specs.declared.limits.TheConstants.{CREDENTIAL_MAX}
+use Rattle.nut_proto.specs.Tracking.{switch, tracking_number}
 
 -- The words, if there are exactly none, one, two or three of them; else `None`.
 abbrev pub no_word : List (List ℕ) → Option (Unit {0})
@@ -26,6 +27,12 @@ three_words (x ∷ y ∷ []) = None
 three_words (x ∷ y ∷ z ∷ []) = Some (x, y, z)
 three_words (x ∷ y ∷ z ∷ w ∷ ws) = None
 
+-- The words, if there is at most one of them; else `None`.
+abbrev pub optional_word : List (List ℕ) → Option (Option (List ℕ))
+optional_word [] = Some None
+optional_word (x ∷ []) = Some (Some x)
+optional_word (x ∷ y ∷ ys) = None
+
 -- A user name or a password has 1 to CREDENTIAL_MAX bytes.
 abbrev pub is_credential : List ℕ → Bool
 is_credential x = nat_le 1 (length x) && nat_le (length x) CREDENTIAL_MAX
@@ -34,7 +41,16 @@ is_credential x = nat_le 1 (length x) && nat_le (length x) CREDENTIAL_MAX
 abbrev pub credential_word : List (List ℕ) → Option (List ℕ)
 credential_word words = option_and_then (λ x. if is_credential x then Some x else None) (one_word words)
 
--- What the words make, if there are exactly none, one, two or three of them, or one user name or password; else `None`.
+-- the one word, as the number of a tracked request
+abbrev pub number_word : List (List ℕ) → Option ℕ
+number_word words = option_and_then tracking_number (one_word words)
+
+-- the one word, as ON or OFF
+abbrev pub on_or_off : List (List ℕ) → Option Bool
+on_or_off words = option_and_then switch (one_word words)
+
+-- What the words make, if there are exactly none, one, two or three of them, or one user name or password, one number
+-- of a request, or ON or OFF; else `None`.
 abbrev pub none : {A : Type 0} → A → List (List ℕ) → Option A
 none made words = option_and (no_word words) (Some made)
 
@@ -49,3 +65,9 @@ three made words = option_map (λ x. made x.0 x.1 x.2) (three_words words)
 
 abbrev pub credential : {A : Type 0} → (List ℕ → A) → List (List ℕ) → Option A
 credential made words = option_map (λ x. made x) (credential_word words)
+
+abbrev pub numbered : {A : Type 0} → (ℕ → A) → List (List ℕ) → Option A
+numbered made words = option_map (λ n. made n) (number_word words)
+
+abbrev pub switched : {A : Type 0} → (Bool → A) → List (List ℕ) → Option A
+switched made words = option_map (λ on. made on) (on_or_off words)

@@ -1,7 +1,8 @@
 //! Takes the words of a line one after the other.
-ghost use Rattle.std.specs.Prelude.{◌≡◌, ◌≤◌, List, ℕ, [], ◌∷◌, length, drop, MatchOption};
-ghost use Rattle.nut_proto.specs.Rules.{no_word, one_word, two_words, three_words, credential_word};
+ghost use Rattle.std.specs.Prelude.{◌≡◌, ◌≤◌, ◌==◌, List, ℕ, [], ◌∷◌, length, drop, MatchOption};
+ghost use Rattle.nut_proto.specs.Rules.{no_word, one_word, two_words, three_words, optional_word, credential_word, number_word, on_or_off};
 
+use crate::tracking::{switch, tracking_number};
 use crate::word::Word;
 use nut_words::{CREDENTIAL_MAX, Words};
 use std::marker::Model;
@@ -27,6 +28,20 @@ impl<'a, 'l> Cursor<'a, 'l> {
         ensures { result ≡ words.now }
     {
         Cursor { words, next: 0 }
+    }
+
+    /// Returns how many words are left.
+    pub fn len(&self) -> usize
+        ensures { result ≡ length self.now }
+    {
+        self.words.len() - self.next
+    }
+
+    /// Whether no word is left.
+    pub fn is_empty(&self) -> bool
+        ensures { result ≡ (length self.now == 0) }
+    {
+        self.next == self.words.len()
     }
 
     /// Takes the next word, if there is one.
@@ -61,6 +76,15 @@ impl<'a, 'l> Cursor<'a, 'l> {
         Some(word)
     }
 
+    /// Returns the word that is left, or none; `None` if more words are left.
+    pub fn optional(mut self) -> Option<Option<Word<'a>>>
+        ensures { result ≡ optional_word self.entry }
+    {
+        let word = self.next();
+        self.end()?;
+        Some(word)
+    }
+
     /// Returns the words that are left, if exactly two are.
     pub fn two(mut self) -> Option<(Word<'a>, Word<'a>)>
         ensures { result ≡ two_words self.entry }
@@ -77,6 +101,22 @@ impl<'a, 'l> Cursor<'a, 'l> {
         let first = self.next()?;
         let (second, third) = self.two()?;
         Some((first, second, third))
+    }
+
+    /// Returns the number of a tracked request, if it is the one word that is left.
+    pub fn tracking_number(self) -> Option<u32>
+        ensures { result ≡ number_word self.entry }
+    {
+        let word = self.one()?;
+        tracking_number(word.as_bytes())
+    }
+
+    /// Returns what the one word that is left says: ON or OFF.
+    pub fn switch(self) -> Option<bool>
+        ensures { result ≡ on_or_off self.entry }
+    {
+        let word = self.one()?;
+        switch(word.as_bytes())
     }
 
     /// The last word, where exactly one is left, of 1 to [`CREDENTIAL_MAX`] bytes.

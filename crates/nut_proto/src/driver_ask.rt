@@ -1,11 +1,12 @@
 //! The requests that the server sends to a driver.
 ghost use Rattle.std.specs.Prelude.{◌≡◌, ◌++◌, length, OnOk, OnErr};
 ghost use Rattle.nut_words.specs.Out.{Fits, Exceeds};
-ghost use Rattle.nut_proto.specs.DriverAsks.{ask_line, ask_of};
+ghost use Rattle.nut_proto.specs.DriverAsks.{ask_line, ask_of, command_of, number_of, number_parts, set_of};
+ghost use Rattle.nut_proto.specs.Lines.{line};
 
 use crate::cursor::Cursor;
 use crate::keyword::is_named;
-use crate::part::{put_line, quoted, text, word};
+use crate::part::{Part, put_line, put_marked_line, quoted, text, word};
 use crate::word::Word;
 use nut_words::{Out, Words};
 
@@ -16,10 +17,18 @@ pub enum DriverAsk<'a> {
     Ping,
     /// Asks the driver to report all that it knows.
     DumpAll,
-    /// Asks the driver to set a variable.
-    Set { variable: Word<'a>, value: Word<'a> },
-    /// Asks the driver to run a command.
-    InstCmd { command: Word<'a> },
+    /// Asks the driver to set a variable. If the request has a number, the driver is to tell how it ended.
+    Set {
+        variable: Word<'a>,
+        value: Word<'a>,
+        number: Option<u32>,
+    },
+    /// Asks the driver to run a command. If the request has a number, the driver is to tell how it ended.
+    InstCmd {
+        command: Word<'a>,
+        parameter: Option<Word<'a>>,
+        number: Option<u32>,
+    },
 }
 
 impl<'a> DriverAsk<'a> {
@@ -40,13 +49,10 @@ impl<'a> DriverAsk<'a> {
             return rest.end().and(Some(DriverAsk::DumpAll));
         }
         if is_named(name, b"SET") {
-            let (variable, value) = rest.two()?;
-            return Some(DriverAsk::Set { variable, value });
+            return read_set(rest);
         }
         if is_named(name, b"INSTCMD") {
-            return Some(DriverAsk::InstCmd {
-                command: rest.one()?,
-            });
+            return read_command(rest);
         }
         None
     }
@@ -66,11 +72,86 @@ impl<'a> DriverAsk<'a> {
         match self {
             DriverAsk::Ping => put_line(out, &[text(b"PING")]),
             DriverAsk::DumpAll => put_line(out, &[text(b"DUMPALL")]),
-            DriverAsk::Set { variable, value } => put_line(
+            DriverAsk::Set {
+                variable,
+                value,
+                number,
+            } => put_numbered(out, &[text(b"SET"), word(variable), quoted(value)], *number),
+            DriverAsk::InstCmd {
+                command,
+                parameter: None,
+                number,
+            } => put_numbered(out, &[text(b"INSTCMD"), word(command)], *number),
+            DriverAsk::InstCmd {
+                command,
+                parameter: Some(parameter),
+                number,
+            } => put_numbered(
                 out,
-                &[text(b"SET"), word(variable), quoted(value)],
+                &[text(b"INSTCMD"), word(command), quoted(parameter)],
+                *number,
             ),
-            DriverAsk::InstCmd { command } => put_line(out, &[text(b"INSTCMD"), word(command)]),
         }
     }
+}
+
+/// Appends the line of a request of these parts, and of its number, if it has one. It fails as [`put_line`] does.
+fn put_numbered<O: Out>(
+    out: &mut O,
+    parts: &[Part<'_>],
+    number: Option<u32>,
+) -> Result<(), O::Fault>
+    ensures ok { OnOk result (O.held out.new ≡ O.held out.old ++ line (parts.now ++ number_parts number)) }
+    ensures err { OnErr result (O.held out.new ≡ O.held out.old) }
+    ensures fits { OnOk result (Fits O.most (length (O.held out.old ++ line (parts.now ++ number_parts number)))) }
+    ensures full { OnErr result (Exceeds O.most (length (O.held out.old ++ line (parts.now ++ number_parts number)))) }
+{
+    match number {
+        None => put_marked_line(out, parts, &[]),
+        Some(number) => put_marked_line(out, parts, &[text(b"TRACKING"), Part::Number(number)]),
+    }
+}
+
+/// Reads the words after SET.
+fn read_set<'a>(mut rest: Cursor<'a, '_>) -> Option<DriverAsk<'a>>
+    ensures { result ≡ set_of rest.entry }
+{
+    let variable = rest.next()?;
+    let value = rest.next()?;
+    let number = read_number(rest)?;
+    Some(DriverAsk::Set {
+        variable,
+        value,
+        number,
+    })
+}
+
+/// Reads the words after INSTCMD.
+fn read_command<'a>(mut rest: Cursor<'a, '_>) -> Option<DriverAsk<'a>>
+    ensures { result ≡ command_of rest.entry }
+{
+    let command = rest.next()?;
+    // a number takes two words
+    let has_parameter = matches!(rest.len(), 1 | 3);
+    let parameter = if has_parameter { rest.next() } else { None };
+    let number = read_number(rest)?;
+    Some(DriverAsk::InstCmd {
+        command,
+        parameter,
+        number,
+    })
+}
+
+/// Reads the number at the end of a request, if words are left there.
+fn read_number(mut rest: Cursor<'_, '_>) -> Option<Option<u32>>
+    ensures { result ≡ number_of rest.entry }
+{
+    let Some(word) = rest.next() else {
+        return Some(None);
+    };
+    if !is_named(word.as_bytes(), b"TRACKING") {
+        return None;
+    }
+    let number = rest.tracking_number()?;
+    Some(Some(number))
 }

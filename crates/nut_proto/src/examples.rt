@@ -11,6 +11,7 @@ ghost use Rattle.nut_proto.specs.declared.driver_ask.DriverAsk.TheVariants as as
 ghost use Rattle.nut_proto.specs.declared.refusal.Refusal.TheVariants as refusals;
 ghost use Rattle.nut_proto.specs.declared.reply.Reply.TheVariants as replies;
 ghost use Rattle.nut_proto.specs.declared.reply.VariableKind.TheVariants as kinds;
+ghost use Rattle.nut_proto.specs.declared.tracking.TrackingStatus.TheVariants as statuses;
 ghost use Rattle.nut_proto.specs.declared.request.ListQuery.TheVariants as queries;
 ghost use Rattle.nut_proto.specs.declared.request.Request.TheVariants as requests;
 
@@ -35,13 +36,27 @@ pub fn worked_examples()
     ensures begin_of_list { begin_line (queries.Var (codes "su700")) ≡ codes "BEGIN LIST VAR su700\n" }
     ensures end_of_list { end_line (queries.Var (codes "su700")) ≡ codes "END LIST VAR su700\n" }
 
+    // The words ON and OFF have no case either; a number has no 0 before it.
+    ensures switched { meaning (codes "set" ∷ codes "tracking" ∷ codes "On" ∷ []) ≡ Ok (requests.SetTracking true) }
+    ensures not_switched { meaning (codes "SET" ∷ codes "TRACKING" ∷ codes "YES" ∷ []) ≡ Err refusals.InvalidArgument }
+    ensures tracked { meaning (codes "GET" ∷ codes "TRACKING" ∷ codes "12" ∷ []) ≡ Ok (requests.GetTrackingOf 12) }
+    ensures not_tracked { meaning (codes "GET" ∷ codes "TRACKING" ∷ codes "012" ∷ []) ≡ Err refusals.InvalidArgument }
+    ensures numbered { reply_line (replies.AcceptedAs 12) ≡ codes "OK TRACKING 12\n" }
+    ensures ended { reply_line (replies.Tracking 12 statuses.Failed) ≡ codes "TRACKING 12 FAILED\n" }
+
     ensures success { answer_in (codes "OK FSD-SET") ≡ Ok (answers.Ok (codes "FSD-SET" ∷ [])) }
     ensures error { answer_in (codes "ERR DATA-STALE now") ≡ Ok (answers.Err (codes "DATA-STALE")) }
     ensures row { answer_in (codes "ok") ≡ Ok (answers.Row (codes "ok" ∷ [])) }
     ensures unreadable { answer_in (codes "OK \"") ≡ Err faults.Unreadable }
     ensures empty { answer_in (codes " # OK") ≡ Err faults.Empty }
 
-    ensures asked { ask_line (asks.Set (codes "ups.id") (codes "abc")) ≡ codes "SET ups.id \"abc\"\n" }
+    ensures asked { ask_line (asks.Set (codes "ups.id") (codes "abc") None) ≡ codes "SET ups.id \"abc\"\n" }
+    ensures asked_as { ask_line (asks.InstCmd (codes "load.off") (Some (codes "5")) (Some 12))
+        ≡ codes "INSTCMD load.off \"5\" TRACKING 12\n" }
+    ensures parameter { ask_of (codes "INSTCMD" ∷ codes "load.off" ∷ codes "5" ∷ [])
+        ≡ Some (asks.InstCmd (codes "load.off") (Some (codes "5")) None) }
+    ensures number { ask_of (codes "INSTCMD" ∷ codes "load.off" ∷ codes "tracking" ∷ codes "5" ∷ [])
+        ≡ Some (asks.InstCmd (codes "load.off") None (Some 5)) }
     ensures understood { ask_of (codes "dumpall" ∷ []) ≡ Some asks.DumpAll }
     ensures not_understood { ask_of (codes "PING" ∷ codes "x" ∷ []) ≡ None }
 {}

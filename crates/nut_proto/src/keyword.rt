@@ -36,6 +36,7 @@ pub enum Subject {
     Enum,
     Range,
     Client,
+    Tracking,
 }
 
 const COMMANDS: [Command; 14] = [
@@ -55,7 +56,7 @@ const COMMANDS: [Command; 14] = [
     Command::StartTls,
 ];
 
-const SUBJECTS: [Subject; 12] = [
+const SUBJECTS: [Subject; 13] = [
     Subject::NumLogins,
     Subject::UpsDesc,
     Subject::Ups,
@@ -68,6 +69,7 @@ const SUBJECTS: [Subject; 12] = [
     Subject::Enum,
     Subject::Range,
     Subject::Client,
+    Subject::Tracking,
 ];
 
 /// Whether the word is `name`, without regard to ASCII case.
@@ -139,6 +141,7 @@ impl Subject {
             Subject::Enum => b"ENUM",
             Subject::Range => b"RANGE",
             Subject::Client => b"CLIENT",
+            Subject::Tracking => b"TRACKING",
         }
     }
 }

@@ -1,6 +1,6 @@
 //! Laws over all messages: what is written is read back, and how long it is.
 ghost use Rattle.nut_proto.specs.laws.Bounds.{RowsAreBounded, ListsAreBounded, ForcedListsAreBounded};
-ghost use Rattle.nut_proto.specs.laws.ReadBack.{MessagesSpell, RequestsAreRead, RepliesAreRead, ListsAreRead, AsksAreRead};
+ghost use Rattle.nut_proto.specs.laws.ReadBack.{MessagesSpell, ReadRequestsAreReadable, RequestsAreRead, RepliesAreRead, ListsAreRead, AsksAreRead};
 
 /// States a law and does nothing when called: each line that one side writes is read by the other as what was meant.
 ///
@@ -11,6 +11,12 @@ pub fn messages_are_read()
     ensures replies { RepliesAreRead }
     ensures lists { ListsAreRead }
     ensures asks { AsksAreRead }
+{}
+
+/// States a law and does nothing when called: the names, passwords and numbers of a request that was read are within
+/// their bounds.
+pub fn read_requests_are_readable()
+    ensures { ReadRequestsAreReadable }
 {}
 
 /// States a law and does nothing when called: how long the rows and the whole of a reply to LIST VAR can be.

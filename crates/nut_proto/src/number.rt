@@ -20,7 +20,7 @@ fn push_digits(out: &mut ArrayVec<u8, 11>, number: u32)
     out.push(b'0' + (number % 10) as u8);
 }
 
-/// Returns the decimal digits of a number.
+/// Returns the decimal digits of a number, as messages have them.
 #[tactic(auto, using(crate::proofs::Digits::fits_ten))]
 pub fn decimal(number: u32) -> ArrayVec<u8, 11>
     ensures { result.items ≡ decimal number }

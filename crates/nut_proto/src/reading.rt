@@ -1,7 +1,7 @@
 //! Reads what a client's line asks for.
 ghost use Rattle.std.specs.Prelude.{◌≡◌};
 ghost use Rattle.nut_proto.specs.Forms.{meaning};
-ghost use Rattle.nut_proto.specs.inside.Steps.{get_about, get_request, list_about, list_request, request_of, set_request};
+ghost use Rattle.nut_proto.specs.inside.Steps.{get_about, get_request, get_tracking, inst_cmd, list_about, list_request, request_of, set_about, set_request};
 
 use crate::cursor::Cursor;
 use crate::keyword::{Command, Subject};
@@ -39,10 +39,7 @@ fn request_of<'a>(command: Command, rest: Cursor<'a, '_>) -> Option<Request<'a>>
         Command::Get => get_request(rest),
         Command::List => list_request(rest),
         Command::Set => set_request(rest),
-        Command::InstCmd => {
-            let (ups, command) = rest.two()?;
-            Some(Request::InstCmd { ups, command })
-        }
+        Command::InstCmd => inst_cmd(rest),
         Command::Username => Some(Request::Username {
             name: rest.credential()?,
         }),
@@ -90,6 +87,7 @@ fn get_about<'a>(subject: Subject, rest: Cursor<'a, '_>) -> Option<Request<'a>>
             let (ups, command) = rest.two()?;
             Some(Request::GetCmdDesc { ups, command })
         }
+        Subject::Tracking => get_tracking(rest),
         Subject::Ups
         | Subject::Rw
         | Subject::Cmd
@@ -97,6 +95,17 @@ fn get_about<'a>(subject: Subject, rest: Cursor<'a, '_>) -> Option<Request<'a>>
         | Subject::Range
         | Subject::Client => None,
     }
+}
+
+fn get_tracking<'a>(rest: Cursor<'a, '_>) -> Option<Request<'a>>
+    ensures { result ≡ get_tracking rest.entry }
+{
+    if rest.is_empty() {
+        return Some(Request::GetTracking);
+    }
+    Some(Request::GetTrackingOf {
+        number: rest.tracking_number()?,
+    })
 }
 
 fn list_request<'a>(mut rest: Cursor<'a, '_>) -> Option<Request<'a>>
@@ -124,8 +133,12 @@ fn list_about<'a>(subject: Subject, rest: Cursor<'a, '_>) -> Option<Request<'a>>
             Some(Request::List(ListQuery::Range { ups, variable }))
         }
         Subject::Client => Some(Request::List(ListQuery::Client { ups: rest.one()? })),
-        Subject::NumLogins | Subject::UpsDesc | Subject::Type | Subject::Desc | Subject::CmdDesc =>
-            None,
+        Subject::NumLogins
+        | Subject::UpsDesc
+        | Subject::Type
+        | Subject::Desc
+        | Subject::CmdDesc
+        | Subject::Tracking => None,
     }
 }
 
@@ -133,13 +146,46 @@ fn set_request<'a>(mut rest: Cursor<'a, '_>) -> Option<Request<'a>>
     ensures { result ≡ set_request rest.entry }
 {
     let word = rest.next()?;
-    if !matches!(Subject::of(word.as_bytes()), Some(Subject::Var)) {
-        return None;
+    let subject = Subject::of(word.as_bytes())?;
+    set_about(subject, rest)
+}
+
+fn set_about<'a>(subject: Subject, rest: Cursor<'a, '_>) -> Option<Request<'a>>
+    ensures { result ≡ set_about (Some subject) rest.entry }
+{
+    match subject {
+        Subject::Var => {
+            let (ups, variable, value) = rest.three()?;
+            Some(Request::SetVar {
+                ups,
+                variable,
+                value,
+            })
+        }
+        Subject::Tracking => Some(Request::SetTracking { on: rest.switch()? }),
+        Subject::NumLogins
+        | Subject::UpsDesc
+        | Subject::Ups
+        | Subject::Type
+        | Subject::Desc
+        | Subject::CmdDesc
+        | Subject::Rw
+        | Subject::Cmd
+        | Subject::Enum
+        | Subject::Range
+        | Subject::Client => None,
     }
-    let (ups, variable, value) = rest.three()?;
-    Some(Request::SetVar {
+}
+
+fn inst_cmd<'a>(mut rest: Cursor<'a, '_>) -> Option<Request<'a>>
+    ensures { result ≡ inst_cmd rest.entry }
+{
+    let ups = rest.next()?;
+    let command = rest.next()?;
+    let parameter = rest.optional()?;
+    Some(Request::InstCmd {
         ups,
-        variable,
-        value,
+        command,
+        parameter,
     })
 }

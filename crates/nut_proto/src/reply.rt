@@ -5,6 +5,7 @@ ghost use Rattle.nut_proto.specs.Replies.{reply_line, version_parts, commands_pa
 
 use crate::part::{Part, put_line, quoted, text, word};
 use crate::refusal::Refusal;
+use crate::tracking::{TrackingStatus, switch_word};
 use crate::word::Word;
 use nut_words::Out;
 
@@ -28,6 +29,10 @@ pub enum VariableKind {
 pub enum Reply<'a> {
     /// `OK`: the answer to SET, INSTCMD, USERNAME, PASSWORD, LOGIN and PRIMARY.
     Accepted,
+    /// `OK TRACKING n`: the answer to a SET or an INSTCMD that is tracked under this number.
+    AcceptedAs {
+        number: u32,
+    },
     /// `OK FSD-SET`: the answer to FSD.
     FsdSet,
     /// `OK Goodbye`: the answer to LOGOUT.
@@ -74,6 +79,15 @@ pub enum Reply<'a> {
         ups: Word<'a>,
         variable: Word<'a>,
         value: Word<'a>,
+    },
+    /// The answer to GET TRACKING: whether the connection's requests are tracked.
+    TrackingIs {
+        on: bool,
+    },
+    /// The answer to GET TRACKING of a number: how the request with this number ended.
+    Tracking {
+        number: u32,
+        status: TrackingStatus,
     },
     /// A row of LIST UPS.
     Ups {
@@ -127,11 +141,15 @@ impl Reply<'_> {
     {
         match self {
             Reply::Accepted => put_line(out, &[text(b"OK")]),
+            Reply::AcceptedAs { number } => put_line(
+                out,
+                &[text(b"OK"), text(b"TRACKING"), Part::Number(*number)],
+            ),
             Reply::FsdSet => put_line(out, &[text(b"OK"), text(b"FSD-SET")]),
             Reply::Goodbye => put_line(out, &[text(b"OK"), text(b"Goodbye")]),
             Reply::Refused(refusal) => put_line(out, &[text(b"ERR"), text(refusal.name())]),
             Reply::Version => put_version(out),
-            Reply::NetworkVersion => put_line(out, &[text(b"1.2")]),
+            Reply::NetworkVersion => put_line(out, &[text(b"1.3")]),
             Reply::Commands => put_commands(out),
             Reply::NumLogins { ups, count } => put_line(
                 out,
@@ -180,6 +198,15 @@ impl Reply<'_> {
             } => put_line(
                 out,
                 &[text(b"VAR"), word(ups), word(variable), quoted(value)],
+            ),
+            Reply::TrackingIs { on } => put_line(out, &[text(b"TRACKING"), text(switch_word(*on))]),
+            Reply::Tracking { number, status } => put_line(
+                out,
+                &[
+                    text(b"TRACKING"),
+                    Part::Number(*number),
+                    text(status.word()),
+                ],
             ),
             Reply::Ups { ups, description } => put_line(
                 out,
@@ -230,7 +257,7 @@ fn put_version<O: Out>(out: &mut O) -> Result<(), O::Fault>
     ensures ok { OnOk result (O.held out.new ≡ O.held out.old ++ line version_parts) }
     ensures err { OnErr result (O.held out.new ≡ O.held out.old) }
 {
-    out.append(b"Network UPS Tools upsd profile 1.2\n")
+    out.append(b"Network UPS Tools upsd profile 1.3\n")
 }
 
 #[tactic(auto, unfolding(crate::specs::Lines::line))]

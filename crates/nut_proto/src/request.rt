@@ -5,6 +5,7 @@ ghost use Rattle.nut_proto.specs.Lines.{line};
 ghost use Rattle.nut_proto.specs.Requests.{request_line, query_parts, begin_line, end_line};
 
 use crate::part::{Part, put_line, put_marked_line, quoted, text, word};
+use crate::tracking::switch_word;
 use crate::word::Word;
 use nut_words::Out;
 
@@ -42,6 +43,12 @@ pub enum Request<'a> {
         ups: Word<'a>,
         command: Word<'a>,
     },
+    /// `GET TRACKING`: asks whether the connection's requests are tracked.
+    GetTracking,
+    /// `GET TRACKING n`: asks how the tracked request with this number ended.
+    GetTrackingOf {
+        number: u32,
+    },
     /// `LIST`: asks for several rows between a first and a last line.
     List(ListQuery<'a>),
     /// `SET VAR`: asks to set a variable.
@@ -50,10 +57,15 @@ pub enum Request<'a> {
         variable: Word<'a>,
         value: Word<'a>,
     },
-    /// `INSTCMD`: asks the UPS to run a command at once.
+    /// `SET TRACKING`: asks to track the connection's requests from now on, or no longer.
+    SetTracking {
+        on: bool,
+    },
+    /// `INSTCMD`: asks the UPS to run a command at once, some with a parameter.
     InstCmd {
         ups: Word<'a>,
         command: Word<'a>,
+        parameter: Option<Word<'a>>,
     },
     /// `USERNAME`, of 1 to [`CREDENTIAL_MAX`](nut_words::CREDENTIAL_MAX) bytes where it was read.
     Username {
@@ -109,8 +121,8 @@ pub enum ListQuery<'a> {
 impl Request<'_> {
     /// Appends the request's line with its line feed.
     ///
-    /// Words are written bare if they can be, the value of SET always in quotes. Words of bytes 0x20 to 0x7E are read
-    /// back as they were.
+    /// Words are written bare if they can be, the value of SET and the parameter of INSTCMD always in quotes. Words of
+    /// bytes 0x20 to 0x7E are read back as they were.
     ///
     /// # Errors
     ///
@@ -147,6 +159,11 @@ impl Request<'_> {
                 out,
                 &[text(b"GET"), text(b"CMDDESC"), word(ups), word(command)],
             ),
+            Request::GetTracking => put_line(out, &[text(b"GET"), text(b"TRACKING")]),
+            Request::GetTrackingOf { number } => put_line(
+                out,
+                &[text(b"GET"), text(b"TRACKING"), Part::Number(*number)],
+            ),
             Request::List(query) => query.put_marked(out, &[text(b"LIST")]),
             Request::SetVar {
                 ups,
@@ -162,9 +179,27 @@ impl Request<'_> {
                     quoted(value),
                 ],
             ),
-            Request::InstCmd { ups, command } => put_line(
+            Request::SetTracking { on } => put_line(
                 out,
-                &[text(b"INSTCMD"), word(ups), word(command)],
+                &[text(b"SET"), text(b"TRACKING"), text(switch_word(*on))],
+            ),
+            Request::InstCmd {
+                ups,
+                command,
+                parameter: None,
+            } => put_line(out, &[text(b"INSTCMD"), word(ups), word(command)]),
+            Request::InstCmd {
+                ups,
+                command,
+                parameter: Some(parameter),
+            } => put_line(
+                out,
+                &[
+                    text(b"INSTCMD"),
+                    word(ups),
+                    word(command),
+                    quoted(parameter),
+                ],
             ),
             Request::Username { name } => put_line(out, &[text(b"USERNAME"), word(name)]),
             Request::Password { password } => put_line(out, &[text(b"PASSWORD"), word(password)]),

@@ -5,6 +5,7 @@ use Rattle.std.proofs.lemmas.Bool.{cases_Bool}
 use Rattle.nut_server_spec.specs.Content.{Supply}
 use Rattle.nut_server_spec.specs.Device.{Device, absent}
 use Rattle.nut_server_spec.specs.machine.Machine.{act_on, requested, update_at}
+use Rattle.nut_server_spec.specs.Tracking.{with_tracked}
 use Rattle.nut_server.specs.inside.Effects.{requesting}
 
 pub requested_none : (d : Device) → requested None d ≡ d.waits
@@ -41,5 +42,6 @@ device_there [] u d lt is = absurd (omega arith)
 device_there (x ∷ ds) zero d lt is = ap (λ d. d.device) (sym is)
 device_there (x ∷ ds) (suc u) d lt is = device_there ds u d (omega arith) is
 
-pub requesting_connected : (line : List ℕ) (d : Supply) → d.device.connected ≡ true → requesting line d ≡ record d { device = record d.device { waits = d.device.waits ++ line } }
-requesting_connected line d is = rw is refl
+pub requesting_connected : (line : List ℕ) (number : Option ℕ) (d : Supply) → d.device.connected ≡ true
+    → requesting line number d ≡ record d { device = record d.device { waits = d.device.waits ++ line; tracked = with_tracked number d.device.tracked } }
+requesting_connected line number d is = rw is refl

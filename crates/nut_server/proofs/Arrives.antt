@@ -1,5 +1,5 @@
 -- What an arrival changes.
-use Rattle.std.proofs.Common.{◌≡◌, ℕ, zero, suc, ◌+◌, ◌<◌, ◌≤◌, List, [], ◌∷◌, map, length, length-append, refl, sym, ◌∙◌, ap, subst, inl, inr, eqb, Option, Some, None, IfSome, Result, Ok, Err, slice_set, slice_index_or, arith}
+use Rattle.std.proofs.Common.{◌≡◌, ℕ, zero, suc, ◌<◌, ◌≤◌, List, [], ◌∷◌, length, length-append, refl, sym, ◌∙◌, ap, subst, inl, inr, eqb, Option, Some, None, IfSome, Result, Ok, Err, slice_set, slice_index_or, arith}
 use Rattle.std.specs.Prelude.{IsTrue}
 use Rattle.std.specs.Option.{option_map_or}
 use Rattle.nut_conf.specs.declared.text.Number.{Number}
@@ -38,30 +38,6 @@ numbers-length (k ∷ ks) = ap suc (numbers-length ks)
 pub fewer : (c : ℕ) (ks : List Session) → length (without c ks) ≤ length ks
 fewer c [] = omega arith
 fewer c (k ∷ ks) = elim (cases_Bool (eqb k.number c)) [ inl e ↦ rw e (omega (arith, fewer c ks)) | inr e ↦ rw e (omega (arith, fewer c ks)) ]
-
--- the list with its first n elements changed
-abbrev pub front_mapped : (Supply → Supply) → ℕ → List Supply → List Supply
-front_mapped f zero ds = ds
-front_mapped f (suc n) [] = []
-front_mapped f (suc n) (d ∷ ds) = f d ∷ front_mapped f n ds
-
-pub front_more : (f : Supply → Supply) (n : ℕ) (ds : List Supply) (d : Supply) → n < length ds → d ≡ slice_index_or (front_mapped f n ds) n d → slice_set (front_mapped f n ds) n (f d) ≡ front_mapped f (n + 1) ds
-front_more f n [] d lt is = absurd (omega arith)
-front_more f zero (x ∷ ds) d lt is = ap (λ y. f y ∷ ds) is
-front_more f (suc n) (x ∷ ds) d lt is =
-    let next : front_mapped f (suc n + 1) (x ∷ ds) ≡ f x ∷ front_mapped f (n + 1) ds = let e : suc n + 1 ≡ suc (n + 1) = omega arith in ap (λ m. front_mapped f m (x ∷ ds)) e in
-    rw next (ap (λ ys. f x ∷ ys) (front_more f n ds d (omega arith) is))
-
-pub front_whole : (f : Supply → Supply) (n : ℕ) (ds : List Supply) → n ≡ length ds → front_mapped f n ds ≡ map f ds
-front_whole f zero [] is = refl
-front_whole f (suc n) [] is = absurd (omega arith)
-front_whole f zero (d ∷ ds) is = absurd (omega arith)
-front_whole f (suc n) (d ∷ ds) is = ap (λ ys. f d ∷ ys) (front_whole f n ds (omega arith))
-
-pub length-front : (f : Supply → Supply) (n : ℕ) (ds : List Supply) → length (front_mapped f n ds) ≡ length ds
-length-front f zero ds = refl
-length-front f (suc n) [] = refl
-length-front f (suc n) (d ∷ ds) = ap suc (length-front f n ds)
 
 -- a UPS that is changed, and whose driver is then disconnected
 pub gone_after : (u : ℕ) (change : Supply → Supply) (ds : List Supply) (d d' : Supply) → u < length ds → d ≡ slice_index_or ds u d → d' ≡ down (change d) → slice_set ds u d' ≡ update_at u down (update_at u change ds)

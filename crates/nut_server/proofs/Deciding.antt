@@ -1,24 +1,26 @@
 -- The decision on a request is what its answer requires.
-use Rattle.std.proofs.Common.{◌≡◌, ℕ, ◌<◌, suc, zero, true, false, List, [], ◌∷◌, refl, sym, ◌∙◌, ap, arith, length, Result, Ok, Err, None, inl, inr, slice_index_or, Some}
+use Rattle.std.proofs.Common.{◌≡◌, ℕ, ◌<◌, suc, zero, true, false, List, [], ◌∷◌, refl, sym, ◌∙◌, ap, arith, length, Result, Ok, Err, Option, None, inl, inr, slice_index_or, Some}
 use Rattle.std.specs.Prelude.{MatchResult, map}
 use Rattle.std.proofs.lemmas.Bool.{cases_Bool}
+use Rattle.nut_state.specs.Table.{Entry, variable, has_command}
 use Rattle.nut_proto.specs.declared.refusal.Refusal.{Refusal}
 use Rattle.nut_proto.specs.declared.reply.Reply.{Reply}
-use Rattle.nut_server_spec.specs.Answer.{Answer, Scene, Caller, Line, refused, device_at, on_data, unless}
+use Rattle.nut_server_spec.specs.Answer.{Answer, Scene, Caller, Line, accepted, command_answer, refused, device_at, handed_on, misfit, on_data, parameter_misfit, set_answer, unless}
 use Rattle.nut_server_spec.specs.Command.{Command, Blank, Asks}
 use Rattle.nut_server_spec.specs.Content.{Supply}
-use Rattle.nut_proto.specs.declared.refusal.Refusal.TheVariants.{DriverNotConnected}
+use Rattle.nut_proto.specs.declared.refusal.Refusal.TheVariants.{DriverNotConnected, InstCmdFailed, SetFailed}
 use Rattle.nut_proto.specs.declared.reply.Reply.TheVariants as replies
 use Rattle.nut_proto.specs.declared.request.Request.TheVariants as requests
 use Rattle.nut_proto.specs.declared.driver_ask.DriverAsk.TheVariants as asks
 use Rattle.nut_proto.specs.DriverAsks.{ask_line}
-use Rattle.nut_server_spec.specs.Configuration.{Configuration, number_of_ups}
+use Rattle.nut_server_spec.specs.Configuration.{number_of_ups}
 use Rattle.nut_server_spec.specs.Effect.{target}
 use Rattle.nut_server_spec.specs.Device.{Device, absent, trouble}
 use Rattle.nut_server_spec.specs.machine.Machine.{acted, requested}
 use Rattle.nut_server.specs.inside.Answers.{given}
-use Rattle.nut_server.specs.inside.Decisions.{Answers, Decides, Grants}
+use Rattle.nut_server.specs.inside.Decisions.{Answers, Decides, Grants, HandsOn, IsNextNumber}
 use Rattle.nut_server.specs.inside.Effects.{Does, forced}
+use Rattle.nut_server.specs.declared.changes.HandedOn.{HandedOn}
 use Rattle.nut_server.specs.declared.decision.Decision.{Decision}
 use Rattle.nut_server.specs.declared.effect.Effect.{Effect}
 use Rattle.nut_server.specs.declared.effect.Effect.TheVariants as effects
@@ -27,18 +29,26 @@ use Rattle.nut_server.proofs.Quiet.{IsQuiet}
 
 -- A quiet answer to a line that changes nothing.
 pub tells : (s : Scene) (d : Decision) (reply : Answer) (line : List ℕ) → given d.answer ≡ reply → d.effect ≡ effects.Nothing → IsQuiet reply → Answers s Blank reply d line
-tells s d reply line is none quiet = (is, rw none (λ k. rw (quiet.0 k.logged_out, quiet.1 s.configuration k.login) refl, λ supplies. refl), rw none tt)
+tells s d reply line is none quiet =
+    (is, rw none (λ k. rw (quiet.0 k.logged_out, quiet.1 s.configuration k.login) refl, λ supplies. refl, rw quiet.2 refl), rw none tt)
 
 -- A request that changes nothing if it is refused.
-abbrev pub IsRefusable : Configuration → Command → Type 0
-IsRefusable configuration command = (r : Refusal) (line : List ℕ) → Does configuration command (refused r) effects.Nothing line
+abbrev pub IsRefusable : Scene → Command → Type 0
+IsRefusable s command = (r : Refusal) (line : List ℕ) → Does s command (refused r) effects.Nothing line
 
 -- A request that is granted or refused.
 pub grants : (s : Scene) (k : Caller) (command : Command) (reply : Reply) (outcome : Result Effect Refusal) (d : Decision) (line : List ℕ)
     → MatchResult outcome (λ effect. (given d.answer ≡ Line reply) × (d.effect ≡ effect)) (λ r. (given d.answer ≡ refused r) × (d.effect ≡ effects.Nothing))
-    → IsRefusable s.configuration command → Grants s k command reply outcome line → Decides s k command d line
+    → IsRefusable s command → Grants s k command reply outcome line → Decides s k command d line
 grants s k command reply (Ok effect) d line made refusable granted = (made.0 ∙ sym granted.0, rw (made.1, granted.0) granted.1, rw made.1 granted.2)
 grants s k command reply (Err r) d line made refusable is = (made.0 ∙ sym is, rw (made.1, is) (refusable r line), rw made.1 tt)
+
+-- A request that is handed on to a driver or refused.
+pub hands_on : (s : Scene) (k : Caller) (command : Command) (outcome : Result HandedOn Refusal) (d : Decision) (line : List ℕ)
+    → MatchResult outcome (λ request. (given d.answer ≡ accepted request.number) × (d.effect ≡ effects.Ask request.ups request.number)) (λ r. (given d.answer ≡ refused r) × (d.effect ≡ effects.Nothing))
+    → IsRefusable s command → HandsOn s k command outcome line → Decides s k command d line
+hands_on s k command (Ok request) d line made refusable granted = (made.0 ∙ sym granted.0, rw (made.1, granted.0) granted.1, rw made.1 granted.2)
+hands_on s k command (Err r) d line made refusable is = (made.0 ∙ sym is, rw (made.1, is) (refusable r line), rw made.1 tt)
 
 -- A UPS stays as it is if nothing is forced and nothing asked.
 pub at_rest : (d : Supply) → record d { device = record d.device { waits = requested None d.device } } ≡ d
@@ -46,36 +56,51 @@ at_rest d = ap (λ w. record d { device = record d.device { waits = w } }) (requ
 
 -- ---- the requests that act on a UPS
 
-pub refusable_set : (configuration : Configuration) (ups variable value : List ℕ) → IsRefusable configuration (Asks (requests.SetVar ups variable value))
-refusable_set configuration ups variable value r line =
+pub refusable_set : (s : Scene) (ups variable value : List ℕ) → IsRefusable s (Asks (requests.SetVar ups variable value))
+refusable_set s ups variable value r line =
     let command = Asks (requests.SetVar ups variable value) in
-    (λ k. refl, λ supplies. sym (act_idle (target configuration command) (acted command (refused r)) supplies at_rest))
+    (λ k. refl, λ supplies. sym (act_idle (target s.configuration command) (acted command (refused r)) supplies at_rest), refl)
 
-pub refusable_command : (configuration : Configuration) (ups name : List ℕ) → IsRefusable configuration (Asks (requests.InstCmd ups name))
-refusable_command configuration ups name r line =
-    let command = Asks (requests.InstCmd ups name) in
-    (λ k. refl, λ supplies. sym (act_idle (target configuration command) (acted command (refused r)) supplies at_rest))
+pub refusable_command : (s : Scene) (ups name : List ℕ) (parameter : Option (List ℕ)) → IsRefusable s (Asks (requests.InstCmd ups name parameter))
+refusable_command s ups name parameter r line =
+    let command = Asks (requests.InstCmd ups name parameter) in
+    (λ k. refl, λ supplies. sym (act_idle (target s.configuration command) (acted command (refused r)) supplies at_rest), refl)
 
-pub refusable_fsd : (configuration : Configuration) (ups : List ℕ) → IsRefusable configuration (Asks (requests.Fsd ups))
-refusable_fsd configuration ups r line =
+pub refusable_fsd : (s : Scene) (ups : List ℕ) → IsRefusable s (Asks (requests.Fsd ups))
+refusable_fsd s ups r line =
     let command = Asks (requests.Fsd ups) in
-    (λ k. refl, λ supplies. sym (act_idle (target configuration command) (acted command (refused r)) supplies at_rest))
+    (λ k. refl, λ supplies. sym (act_idle (target s.configuration command) (acted command (refused r)) supplies at_rest), refl)
 
-pub sets : (configuration : Configuration) (ups variable value : List ℕ) (u : ℕ) (line : List ℕ) → number_of_ups ups configuration.upses ≡ Some u → line ≡ ask_line (asks.Set variable value)
-    → Does configuration (Asks (requests.SetVar ups variable value)) (Line replies.Accepted) (effects.Ask u) line
-sets configuration ups variable value u line number is = (λ k. refl, λ supplies. rw (number, is) refl)
+pub sets : (s : Scene) (ups variable value : List ℕ) (u : ℕ) (number : Option ℕ) (line : List ℕ) → number_of_ups ups s.configuration.upses ≡ Some u
+    → line ≡ ask_line (asks.Set variable value number) → IsNextNumber s number
+    → Does s (Asks (requests.SetVar ups variable value)) (accepted number) (effects.Ask u number) line
+sets s ups variable value u None line there is next = (λ k. refl, λ supplies. rw (there, is) refl, next)
+sets s ups variable value u (Some number) line there is next = (λ k. refl, λ supplies. rw (there, is) refl, next)
 
-pub commands : (configuration : Configuration) (ups name : List ℕ) (u : ℕ) (line : List ℕ) → number_of_ups ups configuration.upses ≡ Some u → line ≡ ask_line (asks.InstCmd name)
-    → Does configuration (Asks (requests.InstCmd ups name)) (Line replies.Accepted) (effects.Ask u) line
-commands configuration ups name u line number is = (λ k. refl, λ supplies. rw (number, is) refl)
+pub commands : (s : Scene) (ups name : List ℕ) (parameter : Option (List ℕ)) (u : ℕ) (number : Option ℕ) (line : List ℕ) → number_of_ups ups s.configuration.upses ≡ Some u
+    → line ≡ ask_line (asks.InstCmd name parameter number) → IsNextNumber s number
+    → Does s (Asks (requests.InstCmd ups name parameter)) (accepted number) (effects.Ask u number) line
+commands s ups name parameter u None line there is next = (λ k. refl, λ supplies. rw (there, is) refl, next)
+commands s ups name parameter u (Some number) line there is next = (λ k. refl, λ supplies. rw (there, is) refl, next)
 
-pub forces : (configuration : Configuration) (ups : List ℕ) (u : ℕ) (line : List ℕ) → number_of_ups ups configuration.upses ≡ Some u
-    → Does configuration (Asks (requests.Fsd ups)) (Line replies.FsdSet) (effects.Force u) line
-forces configuration ups u line number = (
+pub forces : (s : Scene) (ups : List ℕ) (u : ℕ) (line : List ℕ) → number_of_ups ups s.configuration.upses ≡ Some u
+    → Does s (Asks (requests.Fsd ups)) (Line replies.FsdSet) (effects.Force u) line
+forces s ups u line number = (
   λ k. refl,
   λ supplies. rw number (update_at_same u forced (acted (Asks (requests.Fsd ups)) (Line replies.FsdSet)) supplies
       (λ d. ap (λ w. record d { device = record d.device { forced = true; waits = w } }) (sym (requested_none d.device)))),
+  refl,
 )
+
+-- the answer to SET VAR once the variable allows the value
+pub before_set : (s : Scene) (k : Caller) (d : Device) (name value : List ℕ) (v : Entry) → variable d.table name ≡ Some v → misfit v value ≡ None
+    → set_answer s k d name value ≡ handed_on SetFailed s k (λ number. asks.Set name value number) d
+before_set s k d name value v there fit = rw (there, fit) refl
+
+-- the answer to INSTCMD once the UPS has the command and its parameter isn't too long
+pub before_command : (s : Scene) (k : Caller) (d : Device) (name : List ℕ) (parameter : Option (List ℕ)) → has_command d.table name ≡ true → parameter_misfit parameter ≡ None
+    → command_answer s k d name parameter ≡ handed_on InstCmdFailed s k (λ number. asks.InstCmd name parameter number) d
+before_command s k d name parameter there fit = rw (there, fit) refl
 
 -- the answer about a UPS whose data can be relied on
 pub on_told : (s : Scene) (u : ℕ) (d : Device) (next : Device → Answer) (reply : Answer) → device_at s u ≡ d → trouble s.configuration.max_age s.clock (device_at s u) ≡ None → next d ≡ reply

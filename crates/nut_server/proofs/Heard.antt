@@ -1,16 +1,16 @@
 -- How a connection's piece is handled while its cutter is taken out.
-use Rattle.std.proofs.Common.{◌≡◌, ℕ, zero, suc, eqb, List, [], ◌∷◌, refl, sym, ◌∙◌, ap, subst, Option, Some, slice_get}
-use Rattle.std.specs.Prelude.{option_map, IsTrue}
+use Rattle.std.proofs.Common.{◌≡◌, ℕ, zero, suc, eqb, List, [], ◌∷◌, refl, sym, ◌∙◌, ap, subst, Some, slice_get}
 use Rattle.nut_words.specs.Lines.{LineText, Text}
 use Rattle.nut_server_spec.specs.Answer.{Answer}
 use Rattle.nut_server_spec.specs.Command.{Command}
 use Rattle.nut_server_spec.specs.Content.{Session, Content}
 use Rattle.nut_server_spec.specs.Effect.{target}
+use Rattle.nut_server_spec.specs.Trace.{given_then}
 use Rattle.nut_server_spec.specs.Acceptance.{session_of}
 use Rattle.nut_server_spec.specs.Event.{Close}
 use Rattle.nut_server_spec.specs.machine.Machine.{update, with_rest, with_sessions, answered, act_on, acted, after_answer, without, advance}
 use Rattle.nut_server_spec.proofs.Hearing.{update-update, with_unfinished, with_unfinished-same}
-use Rattle.nut_server_spec.proofs.Sessions.{KeepsNumber, session_of-update, without-update}
+use Rattle.nut_server_spec.proofs.Sessions.{KeepsNumber, without-update}
 use Rattle.nut_server.specs.inside.Effects.{answered_by}
 use Rattle.nut_server.specs.inside.Place.{IsPlace, Stands}
 use Rattle.nut_server.proofs.Places.{place_within, place_session, found_session}
@@ -41,7 +41,7 @@ cutter_out c s s' k cutter found is out =
 -- a line was answered, and no byte of it is left
 pub answered_then : (c : ℕ) (command : Command) (reply : Answer) (s : Content) → with_unfinished c (Text []) (answered_by c command reply s) ≡ after_answer c command reply s
 answered_then c command reply s =
-    ap (λ sessions. record s { sessions = sessions; supplies = act_on (target s.configuration command) (acted command reply) s.supplies })
+    ap (λ sessions. record s { sessions = sessions; supplies = act_on (target s.configuration command) (acted command reply) s.supplies; given = given_then reply s.given })
     (update-update c (λ k. answered s.configuration command reply k) (with_rest (Text [])) s.sessions (λ k. refl))
 
 -- the connection is closed, whatever its unfinished line

@@ -4,11 +4,14 @@ pub mod RowTexts
 pub mod Asks
 pub mod Logins
 pub mod Results
+pub mod Swept
+pub mod Told
 pub mod Feeds
 pub mod Reports
 pub mod Places
 pub mod Orderly
 pub mod Searching
+mod Remembered
 pub mod Entries
 pub mod Acting
 pub mod Quiet

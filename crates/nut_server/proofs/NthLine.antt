@@ -1,5 +1,5 @@
 -- The k-th line that a piece completes, and when memory may run out at it.
-use Rattle.std.proofs.Common.{◌≡◌, ℕ, zero, suc, ◌<◌, Bool, true, false, cond, eqb, List, [], ◌∷◌, ◌++◌, length, refl, sym, ◌∙◌, ap, subst, arith, inl, inr, Option, Some, None, slice_get, map}
+use Rattle.std.proofs.Common.{◌≡◌, ℕ, zero, suc, ◌<◌, Bool, true, false, cond, eqb, List, [], ◌∷◌, ◌++◌, refl, sym, ◌∙◌, ap, subst, arith, inl, inr, Option, Some, slice_get, map}
 use Rattle.std.specs.Prelude.{◌==◌, if◌then◌else◌, option_map, IsTrue}
 use Rattle.std.specs.List.{onto_first}
 use Rattle.std.specs.Option.{option_map_or}

@@ -8,9 +8,9 @@ use Rattle.nut_server_spec.specs.Configuration.{Configuration}
 use Rattle.nut_server_spec.specs.Answer.{Answer, Silence, text_of}
 use Rattle.nut_server_spec.specs.Content.{Session, Supply, Content}
 use Rattle.nut_server_spec.specs.Effect.{target}
-use Rattle.nut_server_spec.specs.machine.Machine.{update, acted, answer_in, answered}
+use Rattle.nut_server_spec.specs.machine.Machine.{act_on, update, acted, answer_in, answered, scene_of}
 use Rattle.nut_server.specs.declared.effect.Effect.{Effect}
-use Rattle.nut_server.specs.inside.Effects.{affected, acting, said, Does, answered_by}
+use Rattle.nut_server.specs.inside.Effects.{affected, acting, said, number_of, given_with, Does, answered_by}
 use Rattle.nut_server.proofs.Acting.{act_idle}
 use Rattle.nut_server.proofs.Deciding.{at_rest}
 
@@ -35,7 +35,8 @@ stands_still configuration (Asks (requests.Password password)) = (λ k. refl, at
 stands_still configuration (Asks (requests.Login ups)) = (λ k. refl, at_rest)
 stands_still configuration (Asks (requests.Fsd ups)) = (λ k. refl, at_rest)
 stands_still configuration (Asks (requests.SetVar ups variable value)) = (λ k. refl, at_rest)
-stands_still configuration (Asks (requests.InstCmd ups name)) = (λ k. refl, at_rest)
+stands_still configuration (Asks (requests.SetTracking on)) = (λ k. refl, at_rest)
+stands_still configuration (Asks (requests.InstCmd ups name parameter)) = (λ k. refl, at_rest)
 stands_still configuration command = (λ k. refl, at_rest)
 
 pub silent : (c : ℕ) (command : Command) (v : Content) → v ≡ answered_by c command Silence v
@@ -47,15 +48,17 @@ silent c command v =
     ∙ ap (λ ds. record v { sessions = update c (λ k. answered v.configuration command Silence k) v.sessions; supplies = ds }) (sym (act_idle (target v.configuration command) (acted command Silence) v.supplies still.1))
 
 -- Queueing the answer and applying the effect does what the answer does.
-pub answered_all : (v : Content) (ks : List Session) (ds : List Supply) (c : ℕ) (command : Command) (reply : Answer) (effect : Effect) (line text : List ℕ)
-    → text ≡ text_of reply → Does v.configuration command reply effect line
-    → ks ≡ update c (λ k. affected effect (said text k)) v.sessions → ds ≡ acting effect line v.supplies
-    → record v { sessions = ks; supplies = ds } ≡ answered_by c command reply v
-answered_all v ks ds c command reply effect line text is does changed acted_on =
+pub answered_all : (v : Content) (ks : List Session) (ds : List Supply) (given : ℕ) (c : ℕ) (command : Command) (reply : Answer) (effect : Effect) (line text : List ℕ)
+    → text ≡ text_of reply → Does (scene_of v) command reply effect line
+    → ks ≡ update c (λ k. affected effect (said text k)) v.sessions → ds ≡ acting effect line v.supplies → given ≡ given_with (number_of effect) v.given
+    → record v { sessions = ks; supplies = ds; given = given } ≡ answered_by c command reply v
+answered_all v ks ds given c command reply effect line text is does changed acted_on counted =
     let each : (k : Session) → affected effect (said text k) ≡ answered v.configuration command reply k = λ k.
     does.0 (said text k) ∙ ap (λ t. record (answered v.configuration command reply k) { waits = k.waits ++ t }) is in
-    ap (λ ks. record v { sessions = ks; supplies = ds }) (changed ∙ update_same c (λ k. affected effect (said text k)) (λ k. answered v.configuration command reply k) v.sessions each)
-    ∙ ap (λ ds. record v { sessions = update c (λ k. answered v.configuration command reply k) v.sessions; supplies = ds }) (acted_on ∙ does.1 v.supplies)
+    let sessions = update c (λ k. answered v.configuration command reply k) v.sessions in
+    ap (λ ks. record v { sessions = ks; supplies = ds; given = given }) (changed ∙ update_same c (λ k. affected effect (said text k)) (λ k. answered v.configuration command reply k) v.sessions each)
+    ∙ ap (λ ds. record v { sessions = sessions; supplies = ds; given = given }) (acted_on ∙ does.1 v.supplies)
+    ∙ ap (λ n. record v { sessions = sessions; supplies = act_on (target v.configuration command) (acted command reply) v.supplies; given = n }) (counted ∙ does.2)
 
 pub silent_out : (c : ℕ) (command : Command) (v : Content) (k : Session) → k.logged_out ≡ true → v ≡ answered_by c command (answer_in v command k) v
 silent_out c command v k out = let is : answer_in v command k ≡ Silence = rw out refl in silent c command v ∙ ap (λ r. answered_by c command r v) (sym is)

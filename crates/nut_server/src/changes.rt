@@ -1,15 +1,15 @@
 //! Requests that change something, and why each is refused (RFC 9271).
 
-ghost use Rattle.std.specs.Prelude.{◌≡◌, ◌≤◌, ℕ, List, length, true, MatchResult, OnOk};
+ghost use Rattle.std.specs.Prelude.{◌≡◌, ◌≤◌, ℕ, List, Option, length, true, MatchResult, IfOk, OnOk, option_map};
 ghost use Rattle.nut_proto.specs.declared.driver_ask.DriverAsk.TheVariants as asks;
 ghost use Rattle.nut_proto.specs.declared.reply.Reply.TheVariants as replies;
 ghost use Rattle.nut_proto.specs.declared.request.Request.TheVariants as requests;
 ghost use Rattle.nut_proto.specs.DriverAsks.{ask_line};
-ghost use Rattle.nut_server_spec.specs.Answer.{Line, Scene, command_answer, refused, set_answer};
+ghost use Rattle.nut_server_spec.specs.Answer.{Answer, Scene, accepted, command_answer, numbered, refused, set_answer};
 ghost use Rattle.nut_server_spec.specs.Command.{Asks};
 ghost use Rattle.nut_server_spec.specs.Device.{fits};
 ghost use Rattle.nut_server_spec.specs.machine.Machine.{caller_of};
-ghost use Rattle.nut_server.specs.inside.Decisions.{Grants};
+ghost use Rattle.nut_server.specs.inside.Decisions.{Grants, HandsOn, IsNextNumber};
 
 use crate::access::{Right, authorize};
 use crate::connection::Connection;
@@ -18,59 +18,118 @@ use crate::device::Device;
 use crate::effect::Effect;
 use crate::queries::variable_of;
 use crate::scene::Scene;
-use crate::setting::{misfit, put_ask};
+use crate::setting::{misfit, parameter_misfit, put_ask};
 use arrayvec::ArrayVec;
-use nut_proto::{DriverAsk, Refusal, Word};
+use nut_proto::{DriverAsk, Refusal, TRACKING_NUMBER_MAX, Word};
 use nut_queue::ASKS_MAX;
 use nut_words::CREDENTIAL_MAX;
+
+/// A request that is handed on to the driver of a UPS.
+#[derive(Drop)]
+pub struct HandedOn {
+    /// The number of the UPS.
+    pub ups: usize,
+    /// The number of the request, if it is tracked.
+    pub number: Option<u32>,
+}
+
+/// Returns the number of the caller's next request to a driver, if its requests are tracked, or the refusal if all
+/// numbers are given.
+fn next_number(
+    scene: &Scene<'_>,
+    caller: &Connection,
+    refusal: Refusal,
+) -> Result<Option<u32>, Refusal>
+    ensures answer { (next : Option ℕ → Answer) → MatchResult result
+        (λ number. numbered refusal scene.now (caller_of caller.now) next ≡ next number)
+        (λ refused_by. (refused_by ≡ refusal) × (numbered refusal scene.now (caller_of caller.now) next ≡ refused refusal)) }
+    ensures next { IfOk result (IsNextNumber scene.now) }
+{
+    if !caller.tracks_requests() {
+        return Ok(None);
+    }
+    if scene.given >= TRACKING_NUMBER_MAX {
+        return Err(refusal);
+    }
+    Ok(Some(scene.given + 1))
+}
 
 /// Writes the request to set a variable into `line`, if the variable allows the value and the line fits behind what
 /// waits for the driver. Otherwise returns the refusal.
 fn ask_to_set(
+    scene: &Scene<'_>,
+    caller: &Connection,
     device: &Device,
     name: &[u8],
     value: &[u8],
     line: &mut ArrayVec<u8, ASKS_MAX>,
-) -> Result<(), Refusal>
+) -> Result<Option<u32>, Refusal>
     ensures answer { MatchResult result
-        (λ done. set_answer device.now.device name.now value.now ≡ Line replies.Accepted)
-        (λ refusal. set_answer device.now.device name.now value.now ≡ refused refusal) }
-    ensures line { OnOk result (line.new.items ≡ ask_line (asks.Set name.now value.now)) }
+        (λ number. set_answer scene.now (caller_of caller.now) device.now.device name.now value.now ≡ accepted number)
+        (λ refusal. set_answer scene.now (caller_of caller.now) device.now.device name.now value.now ≡ refused refusal) }
+    ensures line { IfOk result (λ number. line.new.items ≡ ask_line (asks.Set name.now value.now number)) }
     ensures fits { OnOk result (fits line.new.items device.now.device ≡ true) }
+    ensures next { IfOk result (IsNextNumber scene.now) }
 {
     let variable = variable_of(device, name)?;
     if let Some(refusal) = misfit(variable, value) {
         return Err(refusal);
     }
+    let number = next_number(scene, caller, Refusal::SetFailed)?;
     let ask = DriverAsk::Set {
         variable: Word::new(name),
         value: Word::new(value),
+        number,
     };
     if !put_ask(line, &ask, device) {
         return Err(Refusal::SetFailed);
     }
-    Ok(())
+    Ok(number)
 }
 
-/// Writes the request to run a command into `line`, if the UPS has the command and the line fits behind what waits for
-/// the driver. Otherwise returns the refusal.
-fn ask_to_do(device: &Device, name: &[u8], line: &mut ArrayVec<u8, ASKS_MAX>) -> Result<(), Refusal>
+/// Returns the parameter as a word.
+fn word_of(parameter: Option<&[u8]>) -> Option<Word<'_>>
+    ensures { result ≡ option_map (λ text. text.now) parameter.entry }
+{
+    match parameter {
+        Some(text) => Some(Word::new(text)),
+        None => None,
+    }
+}
+
+/// Writes the request to run a command into `line`, if the UPS has the command, the parameter isn't too long and the
+/// line fits behind what waits for the driver. Otherwise returns the refusal.
+fn ask_to_do(
+    scene: &Scene<'_>,
+    caller: &Connection,
+    device: &Device,
+    name: &[u8],
+    parameter: Option<&[u8]>,
+    line: &mut ArrayVec<u8, ASKS_MAX>,
+) -> Result<Option<u32>, Refusal>
     ensures answer { MatchResult result
-        (λ done. command_answer device.now.device name.now ≡ Line replies.Accepted)
-        (λ refusal. command_answer device.now.device name.now ≡ refused refusal) }
-    ensures line { OnOk result (line.new.items ≡ ask_line (asks.InstCmd name.now)) }
+        (λ number. command_answer scene.now (caller_of caller.now) device.now.device name.now (option_map (λ text. text.now) parameter.entry) ≡ accepted number)
+        (λ refusal. command_answer scene.now (caller_of caller.now) device.now.device name.now (option_map (λ text. text.now) parameter.entry) ≡ refused refusal) }
+    ensures line { IfOk result (λ number. line.new.items ≡ ask_line (asks.InstCmd name.now (option_map (λ text. text.now) parameter.entry) number)) }
     ensures fits { OnOk result (fits line.new.items device.now.device ≡ true) }
+    ensures next { IfOk result (IsNextNumber scene.now) }
 {
     if !device.table().has_cmd(name) {
         return Err(Refusal::CmdNotSupported);
     }
+    if let Some(refusal) = parameter_misfit(parameter) {
+        return Err(refusal);
+    }
+    let number = next_number(scene, caller, Refusal::InstCmdFailed)?;
     let ask = DriverAsk::InstCmd {
         command: Word::new(name),
+        parameter: word_of(parameter),
+        number,
     };
     if !put_ask(line, &ask, device) {
         return Err(Refusal::InstCmdFailed);
     }
-    Ok(())
+    Ok(number)
 }
 
 /// Decides on SET VAR: the driver is asked to set the variable, by a request that is written into `line`.
@@ -79,8 +138,8 @@ fn ask_to_do(device: &Device, name: &[u8], line: &mut ArrayVec<u8, ASKS_MAX>) ->
 ///
 /// The errors of [`authorize`](crate::access::authorize); then `DriverNotConnected` or `DataStale` if the data of the
 /// UPS can't be relied on, `VarNotSupported` if it has no such variable, `ReadOnly`, `TooLong` or `InvalidValue` if the
-/// variable can't be set to the value, and `SetFailed` if the request doesn't fit behind those that wait for the
-/// driver.
+/// variable can't be set to the value, and `SetFailed` if all numbers of tracked requests are given, or if the request
+/// doesn't fit behind those that wait for the driver.
 pub fn set_variable(
     scene: &Scene<'_>,
     caller: &Connection,
@@ -88,13 +147,13 @@ pub fn set_variable(
     name: &[u8],
     value: &[u8],
     line: &mut ArrayVec<u8, ASKS_MAX>,
-) -> Result<Effect<'static>, Refusal>
-    ensures { Grants scene.now (caller_of caller.now) (Asks (requests.SetVar ups.now name.now value.now)) replies.Accepted
-        result line.new.items }
+) -> Result<HandedOn, Refusal>
+    ensures { HandsOn scene.now (caller_of caller.now) (Asks (requests.SetVar ups.now name.now value.now)) result
+        line.new.items }
 {
     let u = authorize(scene, caller, Right::Set, ups)?;
-    ask_to_set(scene.data_of(u)?, name, value, line)?;
-    Ok(Effect::Ask(u))
+    let number = ask_to_set(scene, caller, scene.data_of(u)?, name, value, line)?;
+    Ok(HandedOn { ups: u, number })
 }
 
 /// Decides on INSTCMD: the driver is asked to run the command, by a request that is written into `line`.
@@ -102,21 +161,42 @@ pub fn set_variable(
 /// # Errors
 ///
 /// The errors of [`authorize`](crate::access::authorize); then `DriverNotConnected` or `DataStale` if the data of the
-/// UPS can't be relied on, `CmdNotSupported` if it has no such command, and `InstCmdFailed` if the request doesn't fit
-/// behind those that wait for the driver.
+/// UPS can't be relied on, `CmdNotSupported` if it has no such command, `TooLong` if the parameter has more than
+/// [`VALUE_MAX`](nut_words::VALUE_MAX) bytes, and `InstCmdFailed` if all numbers of tracked requests are given, or if
+/// the request doesn't fit behind those that wait for the driver.
 pub fn give_command(
     scene: &Scene<'_>,
     caller: &Connection,
     ups: &[u8],
     name: &[u8],
+    parameter: Option<&[u8]>,
     line: &mut ArrayVec<u8, ASKS_MAX>,
-) -> Result<Effect<'static>, Refusal>
-    ensures { Grants scene.now (caller_of caller.now) (Asks (requests.InstCmd ups.now name.now)) replies.Accepted
+) -> Result<HandedOn, Refusal>
+    ensures { HandsOn scene.now (caller_of caller.now) (Asks (requests.InstCmd ups.now name.now (option_map (λ text. text.now) parameter.entry)))
         result line.new.items }
 {
     let u = authorize(scene, caller, Right::Command(name), ups)?;
-    ask_to_do(scene.data_of(u)?, name, line)?;
-    Ok(Effect::Ask(u))
+    let number = ask_to_do(scene, caller, scene.data_of(u)?, name, parameter, line)?;
+    Ok(HandedOn { ups: u, number })
+}
+
+/// Decides on SET TRACKING: the client's requests are tracked from now on, or no longer. Any client may say so that
+/// gave a user name and a password.
+///
+/// # Errors
+///
+/// `UsernameRequired` if the client has given no user name, then `PasswordRequired` if it has given no password.
+pub fn switch_tracking(caller: &Connection, on: bool) -> Result<Effect<'static>, Refusal>
+    ensures { (s : Scene) (line : List ℕ) → Grants s (caller_of caller.now) (Asks (requests.SetTracking on)) replies.Accepted
+        result line }
+{
+    if caller.user().is_none() {
+        return Err(Refusal::UsernameRequired);
+    }
+    if caller.password().is_none() {
+        return Err(Refusal::PasswordRequired);
+    }
+    Ok(Effect::Tracking(on))
 }
 
 /// Decides on USERNAME: the client may give a user name once.

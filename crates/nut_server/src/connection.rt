@@ -30,6 +30,7 @@ pub struct Connection {
     password: Option<Credential>,
     login: Option<usize>,
     logged_out: bool,
+    tracking: bool,
     cutter: LineCutter,
     outbox: Outbox,
 }
@@ -47,6 +48,7 @@ impl Model for Connection {
       password = k.password;
       login = k.login;
       logged_out = k.logged_out;
+      tracking = k.tracking;
       rest = k.cutter;
       waits = k.outbox;
     } };
@@ -66,6 +68,7 @@ impl Connection {
             password: None,
             login: None,
             logged_out: false,
+            tracking: false,
             cutter: LineCutter::new(),
             outbox: Outbox::new(alloc),
         }
@@ -129,6 +132,13 @@ impl Connection {
         self.logged_out
     }
 
+    /// Whether the client's requests are tracked.
+    pub fn tracks_requests(&self) -> bool
+        ensures { result ≡ self.now.tracking }
+    {
+        self.tracking
+    }
+
     /// Returns how many bytes wait for the client.
     pub fn waits(&self) -> usize
         ensures { result ≡ length self.now.waits }
@@ -189,10 +199,11 @@ impl Connection {
         ensures value { self.new ≡ affected effect.now self.old }
     {
         match effect {
-            Effect::Nothing | Effect::Force(_) | Effect::Ask(_) => {}
+            Effect::Nothing | Effect::Force(_) | Effect::Ask(_, _) => {}
             Effect::User(user) => self.user = Some(user.copied()),
             Effect::Password(password) => self.password = Some(password.copied()),
             Effect::Login(u) => self.login = Some(*u),
+            Effect::Tracking(on) => self.tracking = *on,
             Effect::Logout => {
                 self.login = None;
                 self.logged_out = true;

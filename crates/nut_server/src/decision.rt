@@ -1,8 +1,8 @@
 //! Decides on requests: the answer to each, and what it changes.
 
-ghost use Rattle.std.specs.Prelude.{◌≡◌, length, MatchResult};
+ghost use Rattle.std.specs.Prelude.{◌≡◌, length, option_map, MatchResult};
 ghost use Rattle.nut_proto.specs.declared.refusal.Refusal.TheVariants as refusals;
-ghost use Rattle.nut_server_spec.specs.Answer.{refused};
+ghost use Rattle.nut_server_spec.specs.Answer.{accepted, refused};
 ghost use Rattle.nut_server_spec.specs.Answer as definitions;
 ghost use Rattle.nut_server_spec.specs.Command.{Asks, asked};
 ghost use Rattle.nut_server_spec.specs.machine.Machine.{caller_of};
@@ -13,7 +13,8 @@ ghost use Rattle.nut_server.specs.declared.effect.Effect.TheVariants as effects;
 
 use crate::answer::Answer;
 use crate::changes::{
-    become_primary, force, give_command, give_password, give_user, log_in, set_variable,
+    HandedOn, become_primary, force, give_command, give_password, give_user, log_in, set_variable,
+    switch_tracking,
 };
 use crate::connection::Connection;
 use crate::effect::Effect;
@@ -23,7 +24,7 @@ use crate::queries::{
 };
 use crate::scene::Scene;
 use arrayvec::ArrayVec;
-use nut_proto::{Refusal, Reply, Request};
+use nut_proto::{Refusal, Reply, Request, Word};
 use nut_queue::ASKS_MAX;
 
 /// What is decided on a request.
@@ -73,6 +74,41 @@ fn grant<'a, 'l>(reply: Reply<'a>, granted: Result<Effect<'l>, Refusal>) -> Deci
     }
 }
 
+/// Returns the reply to a request that is handed on to a driver: `OK`, with the number of the request if it is tracked.
+fn accepted(number: Option<u32>) -> Reply<'static>
+    ensures { definitions.Line result ≡ accepted number }
+{
+    match number {
+        Some(number) => Reply::AcceptedAs { number },
+        None => Reply::Accepted,
+    }
+}
+
+/// Returns the decision on a request to a driver: it is handed on, or refused.
+fn hand_on<'a>(granted: Result<HandedOn, Refusal>) -> Decision<'a, 'static>
+    ensures { MatchResult granted
+        (λ request. (given result.answer ≡ accepted request.number) × (result.effect ≡ effects.Ask request.ups request.number))
+        (λ refusal. (given result.answer ≡ refused refusal) × (result.effect ≡ effects.Nothing)) }
+{
+    match granted {
+        Ok(HandedOn { ups, number }) => Decision {
+            answer: Answer::Line(accepted(number)),
+            effect: Effect::Ask(ups, number),
+        },
+        Err(refusal) => tell(Err(refusal)),
+    }
+}
+
+/// Returns the bytes of a parameter, if there is one.
+fn bytes_of<'a>(parameter: &Option<Word<'a>>) -> Option<&'a [u8]>
+    ensures { option_map (λ text. text.now) result ≡ parameter.now }
+{
+    match parameter {
+        Some(word) => Some(word.as_bytes()),
+        None => None,
+    }
+}
+
 /// Decides on a request.
 fn decide_request<'a, 'l>(
     scene: &'a Scene<'_>,
@@ -107,26 +143,39 @@ fn decide_request<'a, 'l>(
             ups.as_bytes(),
             command.as_bytes(),
         )),
+        Request::GetTracking => only(Answer::Line(Reply::TrackingIs {
+            on: caller.tracks_requests(),
+        })),
+        Request::GetTrackingOf { number } => only(Answer::Line(Reply::Tracking {
+            number: *number,
+            status: scene.status_of(*number),
+        })),
         Request::List(query) => tell(list_answer(scene, query)),
         Request::SetVar {
             ups,
             variable,
             value,
-        } => grant(
-            Reply::Accepted,
-            set_variable(
-                scene,
-                caller,
-                ups.as_bytes(),
-                variable.as_bytes(),
-                value.as_bytes(),
-                line,
-            ),
-        ),
-        Request::InstCmd { ups, command } => grant(
-            Reply::Accepted,
-            give_command(scene, caller, ups.as_bytes(), command.as_bytes(), line),
-        ),
+        } => hand_on(set_variable(
+            scene,
+            caller,
+            ups.as_bytes(),
+            variable.as_bytes(),
+            value.as_bytes(),
+            line,
+        )),
+        Request::SetTracking { on } => grant(Reply::Accepted, switch_tracking(caller, *on)),
+        Request::InstCmd {
+            ups,
+            command,
+            parameter,
+        } => hand_on(give_command(
+            scene,
+            caller,
+            ups.as_bytes(),
+            command.as_bytes(),
+            bytes_of(parameter),
+            line,
+        )),
         Request::Username { name } => grant(Reply::Accepted, give_user(caller, name.as_bytes())),
         Request::Password { password } => grant(
             Reply::Accepted,

@@ -1,6 +1,6 @@
 //! A UPS and its driver.
 
-ghost use Rattle.std.specs.Prelude.{◌≡◌, ◌≤◌, ◌<◌, [], ◌++◌, Some, None, IfOk, IfErr, IsTrue, OnOk, OnErr, length, true};
+ghost use Rattle.std.specs.Prelude.{◌≡◌, ◌≤◌, ◌<◌, ℕ, Option, [], ◌++◌, Some, None, IfOk, IfErr, IsTrue, OnOk, OnErr, find, length, option_map, true, ◌==◌};
 ghost use Rattle.std.specs.Option.{option_map_or};
 ghost use Rattle.nut_queue.specs.Front.{IsFrontPart};
 ghost use Rattle.nut_words.specs.Lines.{Text};
@@ -9,9 +9,11 @@ ghost use Rattle.nut_server_spec.specs.Acceptance.{front, line_feeds};
 ghost use Rattle.nut_server_spec.specs.Device.{absent, fits, is_past, needs_ping, trouble};
 ghost use Rattle.nut_server_spec.specs.machine.Machine.{up, down, drained, ticked, reported_by, bytes_reported};
 ghost use Rattle.nut_server_spec.specs.Outcome.{report_takes};
+ghost use Rattle.nut_server_spec.specs.Tracking.{with_tracked};
 ghost use Rattle.nut_server_spec.specs.MachineOutcome.{RunsOutOf};
 
-use nut_proto::Refusal;
+use crate::tracked::TrackedRequests;
+use nut_proto::{Refusal, TrackingStatus};
 use nut_queue::{ASKS_MAX, AskRing};
 use nut_state::{Heard, StateFault, UpsState};
 use nut_words::{Line, LineCutter};
@@ -25,7 +27,8 @@ const DUMP_ALL: &[u8] = b"DUMPALL\n";
 /// The request to a driver to show that it is alive.
 const PING: &[u8] = b"PING\n";
 
-/// A UPS: what its driver has reported, the driver's unfinished line, and the requests that wait for it.
+/// A UPS: what its driver has reported, the driver's unfinished line, the requests that wait for it, and the newest
+/// requests that are tracked.
 #[derive(Drop)]
 pub struct Device {
     connected: bool,
@@ -34,6 +37,7 @@ pub struct Device {
     pinged_at: Option<u64>,
     forced: bool,
     asks: AskRing,
+    tracked: TrackedRequests,
     cutter: LineCutter,
 }
 
@@ -51,6 +55,7 @@ impl Model for Device {
         pinged_at = d.pinged_at;
         forced = d.forced;
         waits = d.asks;
+        tracked = d.tracked;
       };
       rest = d.cutter;
     } };
@@ -72,6 +77,7 @@ impl Device {
             pinged_at: None,
             forced: false,
             asks,
+            tracked: TrackedRequests::new(),
             cutter: LineCutter::new(),
         })
     }
@@ -170,12 +176,13 @@ impl Device {
         ensures { self.new ≡ ticked max_age time self.old }
     {
         if self.needs_ping(max_age, time) {
-            self.ask(PING);
+            self.push(PING);
             self.pinged_at = Some(time);
         }
     }
 
-    /// Connects the driver at this time: clears what was reported before, and asks for all that the driver knows.
+    /// Connects the driver at this time: clears what was reported before, fails the tracked requests that are pending,
+    /// and asks for all that the driver knows.
     #[tactic(auto, using(crate::proofs::Asks::dump_all_is))]
     pub fn up(&mut self, time: u64)
         ensures { self.new ≡ up time self.old }
@@ -185,16 +192,18 @@ impl Device {
         self.heard_at = time;
         self.pinged_at = None;
         self.asks.clear();
+        self.tracked.abandon();
         self.cutter = LineCutter::new();
-        self.ask(DUMP_ALL);
+        self.push(DUMP_ALL);
     }
 
-    /// Disconnects the driver.
+    /// Disconnects the driver, which fails the tracked requests that are pending.
     pub fn down(&mut self)
         ensures { self.new ≡ down self.old }
     {
         self.connected = false;
         self.asks.clear();
+        self.tracked.abandon();
         self.cutter = LineCutter::new();
     }
 
@@ -213,17 +222,40 @@ impl Device {
         self.forced = true;
     }
 
-    /// Queues a request to the driver. It fits behind those that wait.
-    pub fn ask(&mut self, line: &[u8])
+    /// Queues bytes for the driver. They fit behind those that wait.
+    fn push(&mut self, line: &[u8])
         requires { IsTrue (fits line.now self.old.device) }
         ensures { self.new ≡ record self.old { device = record self.old.device { waits = self.old.device.waits ++ line.now } } }
     {
         self.asks.push(line);
     }
 
-    /// Handles a line of the driver. If memory cannot be allocated, nothing changes.
+    /// Queues a request to the driver, which is tracked if it has a number. It fits behind those that wait.
+    pub fn ask(&mut self, line: &[u8], number: Option<u32>)
+        requires { IsTrue (fits line.now self.old.device) }
+        ensures { self.new ≡ record self.old {
+          device = record self.old.device {
+            waits = self.old.device.waits ++ line.now;
+            tracked = with_tracked number self.old.device.tracked;
+          };
+        } }
+    {
+        self.push(line);
+        if let Some(number) = number {
+            self.tracked.begin(number);
+        }
+    }
+
+    /// Returns how the tracked request with this number ended, if it was one to this UPS and is remembered.
+    pub fn status_of(&self, number: u32) -> Option<TrackingStatus>
+        ensures { result ≡ option_map (λ t. t.status) (find (λ t. t.number == number) self.now.device.tracked) }
+    {
+        self.tracked.status_of(number)
+    }
+
+    /// Handles a line of the driver, which its cutter no longer holds. If memory cannot be allocated, nothing changes.
     fn hear_line(&mut self, time: u64, line: Line<'_>) -> Result<(), StateFault>
-        ensures ok { OnOk result (self.new ≡ reported_by time (line_of line.entry) self.old) }
+        ensures ok { OnOk result (self.new ≡ record (reported_by time (line_of line.entry) self.old) { rest = self.old.rest }) }
         ensures err { OnErr result (self.new ≡ self.old) }
         ensures memory { OnErr result (IsTrue (report_takes (line_of line.entry) (Some self.old))) }
     {
@@ -231,10 +263,14 @@ impl Device {
             Line::Text(text) => self.table.apply(text)?,
             Line::TooLong => Heard::Ignored,
         };
-        if heard == Heard::Heard {
-            self.heard_at = time;
+        match heard {
+            Heard::Heard => self.heard_at = time,
+            Heard::Tracked { number, status } => {
+                self.heard_at = time;
+                self.tracked.end(number, status);
+            }
+            Heard::Ignored => {}
         }
-        self.cutter = LineCutter::new();
         Ok(())
     }
 

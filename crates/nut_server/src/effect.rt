@@ -1,7 +1,7 @@
 //! The effects of requests, apart from their answers.
 
 ghost use Rattle.std.specs.Prelude.{◌≡◌, length, map};
-ghost use Rattle.nut_server.specs.inside.Effects.{acting, IsPossible};
+ghost use Rattle.nut_server.specs.inside.Effects.{acting, given_with, number_of, IsPossible};
 
 use crate::credential::LentCredential;
 use crate::device::Device;
@@ -21,8 +21,11 @@ pub enum Effect<'l> {
     Logout,
     /// The client forced a shutdown of the UPS with this number.
     Force(usize),
-    /// The driver of the UPS with this number is asked something. The request to it is in a line of its own.
-    Ask(usize),
+    /// The requests of the client are tracked from now on, or no longer.
+    Tracking(bool),
+    /// The driver of the UPS with this number is asked something. The request to it is in a line of its own. The second
+    /// is the number of the request, if it is tracked.
+    Ask(usize, Option<u32>),
 }
 
 impl Effect<'_> {
@@ -34,12 +37,30 @@ impl Effect<'_> {
     {
         match self {
             Effect::Force(u) => devices[*u].force(),
-            Effect::Ask(u) => devices[*u].ask(line),
+            Effect::Ask(u, number) => devices[*u].ask(line, *number),
             Effect::Nothing
             | Effect::User(_)
             | Effect::Password(_)
             | Effect::Login(_)
-            | Effect::Logout => {}
+            | Effect::Logout
+            | Effect::Tracking(_) => {}
+        }
+    }
+
+    /// Returns how many numbers of requests are given after the effect, if this many were given before it.
+    pub fn given_after(&self, before: u32) -> u32
+        ensures { result ≡ given_with (number_of self.now) before }
+    {
+        match self {
+            Effect::Ask(_, Some(number)) => *number,
+            Effect::Ask(_, None)
+            | Effect::Nothing
+            | Effect::User(_)
+            | Effect::Password(_)
+            | Effect::Login(_)
+            | Effect::Logout
+            | Effect::Force(_)
+            | Effect::Tracking(_) => before,
         }
     }
 }

@@ -20,6 +20,7 @@ mod scene;
 mod server;
 mod setting;
 mod text;
+mod tracked;
 
 pub use arrival::Arrival;
 pub use config::{Config, Ups, User};

@@ -2,21 +2,22 @@
 
 ghost use Rattle.std.specs.Prelude.{◌≡◌, ◌<◌, None, Some, MatchResult, length};
 ghost use Rattle.nut_proto.specs.declared.refusal.Refusal.TheVariants as refusals;
-ghost use Rattle.nut_server_spec.specs.Answer.{ups_number, device_at};
+ghost use Rattle.nut_server_spec.specs.Answer.{ups_number, device_at, status_of};
 ghost use Rattle.nut_server_spec.specs.Device.{trouble};
 
 use crate::config::Config;
 use crate::connections::Connections;
 use crate::device::Device;
-use nut_proto::Refusal;
+use nut_proto::{Refusal, TrackingStatus};
 use std::marker::Model;
 
-/// The configuration, the time in seconds since the start, the UPSes in the order of their numbers, and the open
-/// connections.
+/// The configuration, the time in seconds since the start, how many numbers were given to requests, the UPSes in the
+/// order of their numbers, and the open connections.
 #[derive(Drop)]
 pub struct Scene<'a> {
     pub config: &'a Config,
     pub clock: u64,
+    pub given: u32,
     pub devices: &'a [Device],
     pub connections: &'a Connections,
 }
@@ -31,6 +32,7 @@ impl<'a> Model for Scene<'a> {
     ghost view = { λ s. record {
       configuration = s.config.now;
       clock = s.clock;
+      given = s.given;
       devices = map (λ d. d.device) s.devices.now;
       guests = map guest_of s.connections.now;
     } };
@@ -60,5 +62,17 @@ impl<'a> Scene<'a> {
             Some(refusal) => Err(refusal),
             None => Ok(device),
         }
+    }
+
+    /// Returns how the tracked request with this number ended: `Unknown` if no UPS remembers it.
+    pub fn status_of(&self, number: u32) -> TrackingStatus
+        ensures { result ≡ status_of number self.now.devices }
+    {
+        for device in self.devices {
+            if let Some(status) = device.status_of(number) {
+                return status;
+            }
+        }
+        TrackingStatus::Unknown
     }
 }

@@ -54,6 +54,8 @@ pub struct Server {
     config: Config,
     clock: u64,
     opened: u64,
+    /// How many numbers were given to tracked requests: the number of the newest.
+    given: u32,
     devices: Vec<Device>,
     connections: Connections,
     /// The answer to a request, while it is being handled.
@@ -73,6 +75,7 @@ impl Model for Server {
       configuration = a.config;
       clock = a.clock;
       opened = a.opened;
+      given = a.given;
       sessions = a.connections;
       supplies = a.devices.items;
     } };
@@ -107,6 +110,7 @@ impl Server {
             config,
             clock: 0,
             opened: 0,
+            given: 0,
             devices,
             connections,
             scratch: Vec::new(alloc),
@@ -210,7 +214,7 @@ impl Server {
         self.config.number_of_upses()
     }
 
-    /// Returns how many bytes wait for a connection: at most 47,342,080, and 0 if it isn't open.
+    /// Returns how many bytes wait for a connection: at most 148,005,376, and 0 if it isn't open.
     pub fn waits(&self, c: u64) -> usize
         ensures value { result ≡ length (waiting_of c self.now.sessions) }
 

@@ -1,11 +1,11 @@
 //! Which values a variable allows, and requests to drivers.
 
-ghost use Rattle.std.specs.Prelude.{◌≡◌};
+ghost use Rattle.std.specs.Prelude.{◌≡◌, option_map};
 ghost use Rattle.std.specs.Bool.{OnTrue};
 ghost use Rattle.std.specs.List.{list_any};
 ghost use Rattle.nut_proto.specs.DriverAsks.{ask_line};
 ghost use Rattle.nut_state.specs.Attribute.{lists_enum};
-ghost use Rattle.nut_server_spec.specs.Answer.{is_in_range, is_in_ranges, kind_of, misfit, misfit_by};
+ghost use Rattle.nut_server_spec.specs.Answer.{is_in_range, is_in_ranges, kind_of, misfit, misfit_by, parameter_misfit};
 ghost use Rattle.nut_server_spec.specs.Device.{fits};
 
 use crate::device::Device;
@@ -84,6 +84,16 @@ pub fn misfit(variable: &Variable, value: &[u8]) -> Option<Refusal>
         return Some(Refusal::TooLong);
     }
     misfit_by(kind_of(variable), variable, value)
+}
+
+/// Returns why a command can't be given a parameter: it has more than [`VALUE_MAX`] bytes.
+pub fn parameter_misfit(parameter: Option<&[u8]>) -> Option<Refusal>
+    ensures { result ≡ parameter_misfit (option_map (λ text. text.now) parameter.entry) }
+{
+    match parameter {
+        Some(text) if text.len() > VALUE_MAX => Some(Refusal::TooLong),
+        Some(_) | None => None,
+    }
 }
 
 /// Writes a request to a driver into `line`. Returns whether it fits behind what waits for the driver. Allocates no

@@ -16,7 +16,7 @@ use Rattle.nut_server_spec.specs.Content.{Session, past, session}
 use Rattle.nut_server_spec.specs.Acceptance.{IsAccepted}
 use Rattle.nut_server_spec.specs.laws.Limits.{IsWithin, AnswersAreBounded, longest_answer}
 use Rattle.nut_server_spec.proofs.Alls.{all_map}
-use Rattle.nut_server_spec.proofs.AnswerLengths.{IsFit, IsShortScene, answer_fit, fit_silence}
+use Rattle.nut_server_spec.proofs.AnswerLengths.{IsFit, IsShortScene, answer_fit, fit_silence, readable-command}
 use Rattle.nut_server_spec.proofs.Tables.{IsShortTable, table_short}
 use Rattle.nut_server_spec.proofs.Waiting.{configuration_stays, few_history}
 use Rattle.nut_server_spec.specs.declared.limits.TheConstants.{ADDRESS_MAX}
@@ -52,7 +52,7 @@ module _ (every : EveryTableHolds) (first : Configuration) (within : IsWithin fi
   answer_short t c line short = by_test (logged_out c t) where
     by_test : (b : Bool) → IsFit (if b then Silence else answer (scene first t) (caller first t c) (command_of line))
     by_test true = fit_silence
-    by_test false = answer_fit (scene first t) (scene_short t short) (caller first t c) (command_of line)
+    by_test false = answer_fit (scene first t) (scene_short t short) (caller first t c) (command_of line) (readable-command line)
 
   lines_fit : (c : ℕ) (ls : List LineText) (s : List Step) → IsShortPast (trace first s) → AreFit (trace first s) → AreFit (trace first (with_lines c ls s))
   lines_fit c [] s short fit = fit

@@ -1,5 +1,5 @@
 -- How long answers are, if what the server knows is within its limits.
-use Rattle.std.proofs.Common.{◌≡◌, ℕ, zero, suc, ◌+◌, ◌*◌, ◌<◌, ◌≤◌, Bool, true, false, List, [], ◌∷◌, ◌++◌, length, map, refl, sym, subst, ◌∙◌, arith, inl, inr, Option, Some, None, codes, length-append}
+use Rattle.std.proofs.Common.{◌≡◌, ℕ, zero, suc, ◌+◌, ◌*◌, ◌<◌, ◌≤◌, Bool, true, false, List, [], ◌∷◌, ◌++◌, length, map, refl, sym, subst, ◌∙◌, arith, inl, inr, Option, Some, None, Result, Ok, Err, codes, length-append}
 use Rattle.std.specs.Prelude.{◌&&◌, if◌then◌else◌, filter, not, slice_index_or, is_none, nat_lt}
 use Rattle.std.specs.List.{AllByRecursion, flat_map, position_or_len}
 use Rattle.std.specs.Str.{bytes_eq}
@@ -26,18 +26,23 @@ use Rattle.nut_proto.specs.declared.reply.Reply.TheVariants as replies
 use Rattle.nut_proto.specs.declared.reply.VariableKind.TheVariants as kinds
 use Rattle.nut_proto.specs.declared.driver_ask.DriverAsk.TheVariants as asks
 use Rattle.nut_proto.specs.Descriptions.{variable_description, command_description}
-use Rattle.nut_proto.specs.DriverAsks.{ask_line}
 use Rattle.nut_proto.specs.Replies.{reply_line}
 use Rattle.nut_proto.specs.Requests.{begin_line, end_line}
 use Rattle.nut_server_spec.specs.Configuration.{Ups, ups_named, number_of_ups, may_command}
-use Rattle.nut_server_spec.specs.Command.{Command, Blank, Malformed, Asks}
-use Rattle.nut_server_spec.specs.Device.{Device, absent, trouble, fits}
-use Rattle.nut_server_spec.specs.Answer.{Answer, Silence, Line, Listing, text_of, Guest, Scene, Caller, refused, ups_number, device_at, on_ups, on_data, on_device, on_variable, on_command, may_set, may_log_in, may_be_primary, may_force, shown, kind_of, is_empty, guests_of, is_logged_in, var_row, rw_row, type_reply, described, list_answer, misfit, set_answer, command_answer, once, answer_request, answer}
+use Rattle.nut_proto.specs.Forms.{meaning}
+use Rattle.nut_proto.specs.laws.ReadBack.{IsReadable}
+use Rattle.nut_proto.proofs.Readable.{read_requests_are_readable}
+use Rattle.nut_words.specs.Lines.{LineText, Text, TooLong}
+use Rattle.nut_words.specs.Reader.{spelled}
+use Rattle.nut_words.specs.declared.words.WordFault.{WordFault}
+use Rattle.nut_server_spec.specs.Command.{Command, Blank, Malformed, Asks, asked, command_in, command_of}
+use Rattle.nut_server_spec.specs.Device.{Device, absent, trouble}
+use Rattle.nut_server_spec.specs.Answer.{Answer, Silence, Line, Listing, text_of, Guest, Scene, Caller, refused, ups_number, device_at, on_ups, on_data, on_device, on_variable, on_command, may_set, may_log_in, may_be_primary, may_force, shown, kind_of, is_empty, guests_of, is_logged_in, var_row, rw_row, type_reply, described, list_answer, misfit, parameter_misfit, accepted, status_of, set_answer, command_answer, once, answer_request, answer}
 use Rattle.nut_server_spec.specs.laws.Limits.{IsUpsWithin, IsWithin, longest_answer}
 use Rattle.nut_server_spec.proofs.Alls.{all_weaker, all_filter, all_places}
 use Rattle.nut_server_spec.proofs.Lengths.{length-quoted, name_within}
 use Rattle.nut_server_spec.proofs.ReplyLengths as L
-use Rattle.nut_server_spec.proofs.Requests.{require-case, check-case, unless-case, with_right-case}
+use Rattle.nut_server_spec.proofs.Requests.{IsNext, require-case, check-case, unless-case, with_right-case, handed_on-case}
 use Rattle.nut_server_spec.proofs.Tables.{IsShortRange, IsShortTable, variable_within, variable_named, command_named}
 use Rattle.nut_server_spec.specs.declared.limits.TheConstants.{ADDRESS_MAX}
 
@@ -53,11 +58,38 @@ fit_line : (r : Reply) → length (reply_line r) ≤ 1000 → IsFit (Line r)
 unfolding text_of
 fit_line r short = omega arith
 
+fit_long : (r : Reply) → length (reply_line r) ≤ 2000 → IsFit (Line r)
+unfolding text_of
+fit_long r short = omega arith
+
 fit_refused : (r : Refusal) → IsFit (refused r)
 fit_refused r = fit_line (replies.Refused r) (omega (arith, L.length-refused r))
 
 fit_accepted : IsFit (Line replies.Accepted)
 fit_accepted = fit_line replies.Accepted (omega (arith, L.length-accepted))
+
+fit_accepted_as : (s : Scene) (number : Option ℕ) → IsNext s number → IsFit (accepted number)
+fit_accepted_as s None next = fit_accepted
+fit_accepted_as s (Some number) next = fit_line (replies.AcceptedAs number) (omega (arith, L.length-accepted_as number next.1))
+
+-- what a client asks for is within its own bounds
+abbrev pub IsReadableCommand : Command → Type 0
+IsReadableCommand Blank = Unit {0}
+IsReadableCommand (Malformed refusal) = Unit {0}
+IsReadableCommand (Asks request) = IsReadable request
+
+readable-asked : (words : List (List ℕ)) (r : Result Request Refusal) → meaning words ≡ r → IsReadableCommand (asked r)
+readable-asked words (Ok request) is = read_requests_are_readable words request is
+readable-asked words (Err refusal) is = tt
+
+readable-in : (r : Result (List (List ℕ)) WordFault) → IsReadableCommand (command_in r)
+readable-in (Ok []) = tt
+readable-in (Ok (word ∷ words)) = readable-asked (word ∷ words) (meaning (word ∷ words)) refl
+readable-in (Err fault) = tt
+
+pub readable-command : (line : LineText) → IsReadableCommand (command_of line)
+readable-command (Text bytes) = readable-in (spelled bytes)
+readable-command TooLong = tt
 
 fit_list : (query : ListQuery) (rows : List Reply) (m n : ℕ) → length (begin_line query) + length (end_line query) ≤ m → length (flat_map reply_line rows) ≤ n → m + n ≤ longest_answer
     → IsFit (Listing query rows)
@@ -65,7 +97,7 @@ unfolding text_of
 fit_list query rows m n marks few most =
     omega (arith, length-append (begin_line query) (flat_map reply_line rows ++ end_line query), length-append (flat_map reply_line rows) (end_line query))
 
-rows_short : {X : Type 0} (row : X → Reply) (xs : List X) → AllByRecursion (λ x. length (reply_line (row x)) ≤ 700) xs → length (flat_map reply_line (map row xs)) ≤ 700 * length xs
+rows_short : {X : Type 0} (row : X → Reply) (xs : List X) → AllByRecursion (λ x. length (reply_line (row x)) ≤ 1300) xs → length (flat_map reply_line (map row xs)) ≤ 1300 * length xs
 rows_short row [] all = omega arith
 rows_short row (x ∷ xs) all = omega (arith, length-append (reply_line (row x)) (flat_map reply_line (map row xs)), rows_short row xs all.1, all.0)
 
@@ -141,22 +173,22 @@ ups_short name named = (name_within UPS_NAME_MAX name named).1
 
 -- ---- the values that clients see
 
-length-marked : (b : Bool) (value : List ℕ) → length value ≤ VALUE_MAX → length (quoted (if b then codes "FSD " ++ value else value)) ≤ 262
+length-marked : (b : Bool) (value : List ℕ) → length value ≤ VALUE_MAX → length (quoted (if b then codes "FSD " ++ value else value)) ≤ 1030
 length-marked true value few = omega (arith, length-quoted value)
 length-marked false value few = omega (arith, length-quoted value)
 
-length-shown : (d : Device) (v : Entry) → IsWithinLimits v → length (quoted (shown d v)) ≤ 262
+length-shown : (d : Device) (v : Entry) → IsWithinLimits v → length (quoted (shown d v)) ≤ 1030
 length-shown d v within = length-marked (d.forced && bytes_eq v.name (codes "ups.status")) v.value within.value
 
-length-plain : (d : Device) (v : Entry) → IsWithinLimits v → bytes_eq v.name (codes "ups.status") ≡ false → length (quoted (shown d v)) ≤ 258
+length-plain : (d : Device) (v : Entry) → IsWithinLimits v → bytes_eq v.name (codes "ups.status") ≡ false → length (quoted (shown d v)) ≤ 1026
 length-plain d v within other = by_forced d.forced where
-  by_forced : (b : Bool) → length (quoted (if b && bytes_eq v.name (codes "ups.status") then codes "FSD " ++ v.value else v.value)) ≤ 258
+  by_forced : (b : Bool) → length (quoted (if b && bytes_eq v.name (codes "ups.status") then codes "FSD " ++ v.value else v.value)) ≤ 1026
   by_forced true = rw other (omega (arith, length-quoted v.value, within.value))
   by_forced false = omega (arith, length-quoted v.value, within.value)
 
 -- the rows of a list of values: only that of the status may be four bytes longer
 rows_shown : (d : Device) (row : Entry → Reply) (vs : List Entry) → ((v : Entry) → IsWithinLimits v → length (reply_line (row v)) ≤ 103 + length (quoted (shown d v)))
-    → AllByRecursion IsWithinLimits vs → length (flat_map reply_line (map row vs)) ≤ 361 * length vs + 4 * length (filter (equal (λ (v : Entry). v.name) (codes "ups.status")) vs)
+    → AllByRecursion IsWithinLimits vs → length (flat_map reply_line (map row vs)) ≤ 1129 * length vs + 4 * length (filter (equal (λ (v : Entry). v.name) (codes "ups.status")) vs)
 rows_shown d row [] each all = omega arith
 rows_shown d row (v ∷ vs) each all =
     let rest = rows_shown d row vs each all.1 in
@@ -171,7 +203,7 @@ rows_shown d row (v ∷ vs) each all =
 
 variables_fit : (d : Device) (row : Entry → Reply) (vs : List Entry) → ((v : Entry) → IsWithinLimits v → length (reply_line (row v)) ≤ 103 + length (quoted (shown d v)))
     → AllByRecursion IsWithinLimits vs → length vs ≤ VARIABLES_MAX → length (filter (equal (λ (v : Entry). v.name) (codes "ups.status")) vs) ≤ 1
-    → length (flat_map reply_line (map row vs)) ≤ 184836
+    → length (flat_map reply_line (map row vs)) ≤ 578052
 variables_fit d row vs each all few one = omega (arith, rows_shown d row vs each all)
 
 one_status : (d : Device) → IsShortTable d.table → length (filter (equal (λ (v : Entry). v.name) (codes "ups.status")) d.table.variables) ≤ 1
@@ -209,89 +241,96 @@ module _ (s : Scene) (short : IsShortScene s) where
   list_fit queries.Ups =
       let upses = s.configuration.upses in
       let row : Ups → Reply = λ ups. replies.Ups ups.name ups.description in
-      fit_list queries.Ups (map row upses) 1000 22400 L.length-marks_ups
+      fit_list queries.Ups (map row upses) 1000 41600 L.length-marks_ups
       (omega (arith, short.configured.upses, rows_short row upses (all_weaker IsUpsWithin _ upses (λ ups within. L.length-ups ups.name ups.description (ups_short ups.name within.name) within.description) short.configured.each_ups)))
       (omega arith)
   list_fit (queries.Var ups) = fit_device s short ups _ (λ d named table.
       let name = name_within UPS_NAME_MAX ups named in
-      fit_list (queries.Var ups) (map (var_row ups d) d.table.variables) 94 184836 (L.length-marks_var ups name)
+      fit_list (queries.Var ups) (map (var_row ups d) d.table.variables) 94 578052 (L.length-marks_var ups name)
       (variables_fit d (var_row ups d) d.table.variables (λ v within. L.length-var ups v.name (shown d v) name (name_within NAME_MAX v.name within.name)) (all_within d table) table.in_order.variables_within (one_status d table))
       (omega arith))
   list_fit (queries.Rw ups) = fit_device s short ups _ (λ d named table.
       let name = name_within UPS_NAME_MAX ups named in
       let p : Entry → Bool = λ v. v.flags.writable in
       let vs = d.table.variables in
-      fit_list (queries.Rw ups) (map (rw_row ups d) (filter p vs)) 94 184836 (L.length-marks_rw ups name)
+      fit_list (queries.Rw ups) (map (rw_row ups d) (filter p vs)) 94 578052 (L.length-marks_rw ups name)
       (variables_fit d (rw_row ups d) (filter p vs) (λ v within. L.length-rw ups v.name (shown d v) name (name_within NAME_MAX v.name within.name)) (all_filter IsWithinLimits p vs (all_within d table))
       (omega (arith, fewer p vs, table.in_order.variables_within)) (omega (arith, fewer_both (equal (λ (v : Entry). v.name) (codes "ups.status")) p vs, one_status d table)))
       (omega arith))
   list_fit (queries.Cmd ups) = fit_device s short ups _ (λ d named table.
       let commands = d.table.commands in
       let row : List ℕ → Reply = λ k. replies.Cmd ups k in
-      fit_list (queries.Cmd ups) (map row commands) 1000 89600 (L.length-marks_cmd ups (ups_short ups named))
+      fit_list (queries.Cmd ups) (map row commands) 1000 166400 (L.length-marks_cmd ups (ups_short ups named))
       (omega (arith, table.in_order.commands_within, rows_short row commands (all_weaker (λ k. is_name NAME_MAX k ≡ true) _ commands (λ k own. L.length-cmd ups k (ups_short ups named) (name_within NAME_MAX k own).1) (all_places _ commands table.in_order.each_command))))
       (omega arith))
   list_fit (queries.Enum ups name) = fit_device s short ups _ (λ d named table. fit_variable name d _ (λ v there.
       let within = variable_within d.table name v table there in
       let own = (variable_named d.table name v table there).1 in
       let row : List ℕ → Reply = λ x. replies.Enum ups name x in
-      fit_list (queries.Enum ups name) (map row v.enums) 1000 44800 (L.length-marks_enum ups name (ups_short ups named) own)
+      fit_list (queries.Enum ups name) (map row v.enums) 1000 83200 (L.length-marks_enum ups name (ups_short ups named) own)
       (omega (arith, within.enums, rows_short row v.enums (all_weaker (λ x. length x ≤ VALUE_MAX) _ v.enums (λ x few. L.length-enum ups name x (ups_short ups named) own few) (all_places _ v.enums within.each_enum))))
       (omega arith)))
   list_fit (queries.Range ups name) = fit_device s short ups _ (λ d named table. fit_variable name d _ (λ v there.
       let within = variable_within d.table name v table there in
       let own = (variable_named d.table name v table there).1 in
       let row : Range → Reply = λ r. replies.Range ups name r.minimum r.maximum in
-      fit_list (queries.Range ups name) (map row v.ranges) 1000 11200 (L.length-marks_range ups name (ups_short ups named) own)
+      fit_list (queries.Range ups name) (map row v.ranges) 1000 20800 (L.length-marks_range ups name (ups_short ups named) own)
       (omega (arith, within.ranges, rows_short row v.ranges (all_weaker IsShortRange _ v.ranges (λ r few. L.length-range ups name r.minimum r.maximum (ups_short ups named) own few.minimum few.maximum) (table.ranges name v there))))
       (omega arith)))
   list_fit (queries.Client ups) = fit_ups s short ups _ (λ u named. fit_data s short u (λ d. Listing (queries.Client ups) (map (λ (g : Guest). replies.Client ups g.address) (guests_of u s.guests))) (λ table.
       let p : Guest → Bool = λ g. is_logged_in u g.login in
       let row : Guest → Reply = λ g. replies.Client ups g.address in
-      fit_list (queries.Client ups) (map row (filter p s.guests)) 1000 179200 (L.length-marks_client ups (ups_short ups named))
+      fit_list (queries.Client ups) (map row (filter p s.guests)) 1000 332800 (L.length-marks_client ups (ups_short ups named))
       (omega (arith, fewer p s.guests, short.few, rows_short row (filter p s.guests) (all_weaker (λ (g : Guest). length g.address ≤ ADDRESS_MAX) _ (filter p s.guests) (λ g few. L.length-client ups g.address (ups_short ups named) few) (all_filter _ p s.guests short.guests))))
       (omega arith)))
 
-  request_fit : (k : Caller) (request : Request) → IsFit (answer_request s k request)
-  request_fit k (requests.GetNumLogins ups) = fit_ups s short ups _ (λ u named. fit_data s short u (λ d. Line (replies.NumLogins ups (length (guests_of u s.guests)))) (λ table.
+  request_fit : (k : Caller) (request : Request) → IsReadable request → IsFit (answer_request s k request)
+  request_fit k (requests.GetNumLogins ups) readable = fit_ups s short ups _ (λ u named. fit_data s short u (λ d. Line (replies.NumLogins ups (length (guests_of u s.guests)))) (λ table.
       fit_line (replies.NumLogins ups (length (guests_of u s.guests)))
       (L.length-num_logins ups (length (guests_of u s.guests)) (ups_short ups named) (omega (arith, fewer (λ (g : Guest). is_logged_in u g.login) s.guests, short.few)))))
-  request_fit k (requests.GetUpsDesc ups) = described_fit ups s.configuration.upses short.configured.each_ups
-  request_fit k (requests.GetVar ups name) = fit_device s short ups _ (λ d named table. fit_variable name d _ (λ v there.
+  request_fit k (requests.GetUpsDesc ups) readable = described_fit ups s.configuration.upses short.configured.each_ups
+  request_fit k (requests.GetVar ups name) readable = fit_device s short ups _ (λ d named table. fit_variable name d _ (λ v there.
       let within = variable_within d.table name v table there in
-      fit_line (var_row ups d v) (omega (arith, L.length-var ups v.name (shown d v) (name_within UPS_NAME_MAX ups named) (name_within NAME_MAX v.name within.name), length-shown d v within))))
-  request_fit k (requests.GetType ups name) = fit_device s short ups _ (λ d named table. fit_variable name d _ (λ v there.
+      fit_long (var_row ups d v) (omega (arith, L.length-var ups v.name (shown d v) (name_within UPS_NAME_MAX ups named) (name_within NAME_MAX v.name within.name), length-shown d v within))))
+  request_fit k (requests.GetType ups name) readable = fit_device s short ups _ (λ d named table. fit_variable name d _ (λ v there.
       let within = variable_within d.table name v table there in
       fit_line (type_reply ups v) (L.length-type ups v.name v.flags.writable (kind_of v) (ups_short ups named) (name_within NAME_MAX v.name within.name).1 (λ m is. kind_few v m within.aux is))))
-  request_fit k (requests.GetDesc ups name) = fit_device s short ups _ (λ d named table. fit_variable name d _ (λ v there.
+  request_fit k (requests.GetDesc ups name) readable = fit_device s short ups _ (λ d named table. fit_variable name d _ (λ v there.
       let text = variable_description s.configuration.variable_texts name in
       let few = L.length-variable_text s.configuration.variable_texts name short.configured.variable_texts in
       fit_line (replies.Desc ups name text) (L.length-desc ups name text (ups_short ups named) (variable_named d.table name v table there).1 few)))
-  request_fit k (requests.GetCmdDesc ups name) = fit_device s short ups _ (λ d named table. fit_command name d _ (λ there.
+  request_fit k (requests.GetCmdDesc ups name) readable = fit_device s short ups _ (λ d named table. fit_command name d _ (λ there.
       let text = command_description s.configuration.command_texts name in
       let few = L.length-command_text s.configuration.command_texts name short.configured.command_texts in
       fit_line (replies.CmdDesc ups name text) (L.length-cmd_desc ups name text (ups_short ups named) (command_named d.table name table there).1 few)))
-  request_fit k (requests.List query) = list_fit query
-  request_fit k (requests.SetVar ups name value) = with_right-case IsFit s k may_set ups _ fit_refused (λ u found. fit_data s short u (λ d. set_answer d name value) (λ table.
+  request_fit k requests.GetTracking readable = fit_line (replies.TrackingIs k.tracking) (omega (arith, L.length-tracking_is k.tracking))
+  request_fit k (requests.GetTrackingOf number) readable =
+      fit_line (replies.Tracking number (status_of number s.devices)) (omega (arith, L.length-tracking number (status_of number s.devices) readable.1))
+  request_fit k (requests.List query) readable = list_fit query
+  request_fit k (requests.SetVar ups name value) readable = with_right-case IsFit s k may_set ups _ fit_refused (λ u found. fit_data s short u (λ d. set_answer s k d name value) (λ table.
       let d = device_at s u in
       fit_variable name d _ (λ v there. unless-case IsFit (misfit v value) _ fit_refused
-      (check-case IsFit refusals.SetFailed (fits (ask_line (asks.Set name value)) d) (Line replies.Accepted) (fit_refused refusals.SetFailed) (λ holds. fit_accepted)))))
-  request_fit k (requests.InstCmd ups name) = with_right-case IsFit s k (may_command name) ups _ fit_refused (λ u found. fit_data s short u (λ d. command_answer d name) (λ table.
+      (handed_on-case IsFit refusals.SetFailed s k (λ number. asks.Set name value number) d (fit_refused refusals.SetFailed) (λ number next holds. fit_accepted_as s number next)))))
+  request_fit k (requests.SetTracking on) readable =
+      require-case IsFit refusals.UsernameRequired k.user _ (fit_refused refusals.UsernameRequired) (λ user given.
+      require-case IsFit refusals.PasswordRequired k.password _ (fit_refused refusals.PasswordRequired) (λ password given'. fit_accepted))
+  request_fit k (requests.InstCmd ups name parameter) readable = with_right-case IsFit s k (may_command name) ups _ fit_refused (λ u found. fit_data s short u (λ d. command_answer s k d name parameter) (λ table.
       let d = device_at s u in
-      fit_command name d _ (λ there. check-case IsFit refusals.InstCmdFailed (fits (ask_line (asks.InstCmd name)) d) (Line replies.Accepted) (fit_refused refusals.InstCmdFailed) (λ holds. fit_accepted))))
-  request_fit k (requests.Username name) = once_fit refusals.AlreadySetUsername k.user
-  request_fit k (requests.Password password) = once_fit refusals.AlreadySetPassword k.password
-  request_fit k (requests.Login ups) = with_right-case IsFit s k may_log_in ups _ fit_refused (λ u found.
+      fit_command name d _ (λ there. unless-case IsFit (parameter_misfit parameter) _ fit_refused
+      (handed_on-case IsFit refusals.InstCmdFailed s k (λ number. asks.InstCmd name parameter number) d (fit_refused refusals.InstCmdFailed) (λ number next holds. fit_accepted_as s number next)))))
+  request_fit k (requests.Username name) readable = once_fit refusals.AlreadySetUsername k.user
+  request_fit k (requests.Password password) readable = once_fit refusals.AlreadySetPassword k.password
+  request_fit k (requests.Login ups) readable = with_right-case IsFit s k may_log_in ups _ fit_refused (λ u found.
       check-case IsFit refusals.AlreadyLoggedIn (is_none k.login) (Line replies.Accepted) (fit_refused refusals.AlreadyLoggedIn) (λ holds. fit_accepted))
-  request_fit k (requests.Primary ups) = with_right-case IsFit s k may_be_primary ups _ fit_refused (λ u found. fit_accepted)
-  request_fit k (requests.Fsd ups) = with_right-case IsFit s k may_force ups _ fit_refused (λ u found. fit_line replies.FsdSet (omega (arith, L.length-fsd_set)))
-  request_fit k requests.Logout = fit_line replies.Goodbye (omega (arith, L.length-goodbye))
-  request_fit k requests.Ver = fit_line replies.Version (omega (arith, L.length-version))
-  request_fit k requests.NetVer = fit_line replies.NetworkVersion (omega (arith, L.length-network_version))
-  request_fit k requests.Help = fit_line replies.Commands (omega (arith, L.length-commands))
-  request_fit k requests.StartTls = fit_refused refusals.FeatureNotConfigured
+  request_fit k (requests.Primary ups) readable = with_right-case IsFit s k may_be_primary ups _ fit_refused (λ u found. fit_accepted)
+  request_fit k (requests.Fsd ups) readable = with_right-case IsFit s k may_force ups _ fit_refused (λ u found. fit_line replies.FsdSet (omega (arith, L.length-fsd_set)))
+  request_fit k requests.Logout readable = fit_line replies.Goodbye (omega (arith, L.length-goodbye))
+  request_fit k requests.Ver readable = fit_line replies.Version (omega (arith, L.length-version))
+  request_fit k requests.NetVer readable = fit_line replies.NetworkVersion (omega (arith, L.length-network_version))
+  request_fit k requests.Help readable = fit_line replies.Commands (omega (arith, L.length-commands))
+  request_fit k requests.StartTls readable = fit_refused refusals.FeatureNotConfigured
 
-  pub answer_fit : (k : Caller) (command : Command) → IsFit (answer s k command)
-  answer_fit k Blank = fit_silence
-  answer_fit k (Malformed refusal) = fit_refused refusal
-  answer_fit k (Asks request) = request_fit k request
+  pub answer_fit : (k : Caller) (command : Command) → IsReadableCommand command → IsFit (answer s k command)
+  answer_fit k Blank readable = fit_silence
+  answer_fit k (Malformed refusal) readable = fit_refused refusal
+  answer_fit k (Asks request) readable = request_fit k request readable

@@ -1,4 +1,4 @@
--- At most 512 bytes of a line are kept, and at most 4,096 bytes wait for a driver.
+-- At most 2,048 bytes of a line are kept, and at most 4,096 bytes wait for a driver.
 use Rattle.std.proofs.Common.{◌≡◌, ℕ, ◌+◌, ◌<◌, ◌≤◌, Bool, true, false, eqb, leb, List, [], ◌∷◌, ◌++◌, drop, length, refl, sym, ◌∙◌, ap, arith, inl, inr, Option, Some, None, length-append, length-drop, subst}
 use Rattle.std.specs.Prelude.{if◌then◌else◌, max, ◌&&◌, ◌/◌}
 use Rattle.std.specs.Option.{option_map_or}

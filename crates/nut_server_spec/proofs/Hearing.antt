@@ -10,6 +10,7 @@ use Rattle.nut_server_spec.specs.Effect.{target}
 use Rattle.nut_server_spec.specs.Answer.{Answer, Silence, answer}
 use Rattle.nut_server_spec.specs.Content.{Session, Supply, Content}
 use Rattle.nut_server_spec.specs.Acceptance.{session_of, front, line_feeds}
+use Rattle.nut_server_spec.specs.Trace.{given_then}
 use Rattle.nut_server_spec.specs.machine.Machine.{update, update_at, with_rest, with_sessions, guest_of, caller_of, scene_of, answered, answer_in, act_on, acted, after_answer, line_heard, byte_heard, bytes_heard}
 use Rattle.nut_server_spec.specs.laws.Laws.{numbers}
 use Rattle.nut_server_spec.proofs.Sessions.{KeepsNumber, session_of-update}
@@ -71,7 +72,7 @@ answer-unfinished c r s command k = ap (λ scene. if k.logged_out then Silence e
 
 after-unfinished : (c : ℕ) (r : LineText) (s : Content) (command : Command) (reply : Answer) → after_answer c command reply (with_unfinished c r s) ≡ after_answer c command reply s
 after-unfinished c r s command reply =
-    ap (λ sessions. record s { sessions = sessions; supplies = act_on (target s.configuration command) (acted command reply) s.supplies })
+    ap (λ sessions. record s { given = given_then reply s.given; sessions = sessions; supplies = act_on (target s.configuration command) (acted command reply) s.supplies })
     (update-update c (with_rest r) (λ k. with_rest (Text []) (answered s.configuration command reply k)) s.sessions (λ k. refl))
 
 byte_feed : (c b : ℕ) (r : LineText) (s : Content) (k : Session) → session_of c s.sessions ≡ Some k → eqb b 10 ≡ true

@@ -7,7 +7,7 @@ use Rattle.nut_words.specs.Lines.{LineText}
 use Rattle.nut_server_spec.specs.declared.Refused.TheVariants.{TooMuchTaken}
 use Rattle.nut_server_spec.specs.Configuration.{Configuration}
 use Rattle.nut_server_spec.specs.Event.{Event, Moment, Open, Bytes, Took, Close, WriteFailed, DriverUp, DriverBytes, DriverTook, DriverDown, Step, Clock, Opened, Said, Gone, Up, Reported, Drained, Down, input, taken, driver_input, steps, with_lines, with_reports, brought}
-use Rattle.nut_server_spec.specs.Trace.{Entry, configuration, opened, open_numbers, user, password, login, logged_out, due, connected, driver_due, driver_taken, driver_waits, ups_numbers, asks_at, trace}
+use Rattle.nut_server_spec.specs.Trace.{Entry, configuration, opened, open_numbers, user, password, login, logged_out, tracking, due, connected, driver_due, driver_taken, driver_waits, ups_numbers, asks_at, trace}
 use Rattle.nut_server_spec.specs.Content.{Session, Supply, past, content, session, supply}
 use Rattle.nut_server_spec.specs.Acceptance.{refusal, IsAccepted, session_of, supply_of, bytes_refusal, took_refusal, drain_refusal}
 use Rattle.nut_server_spec.specs.machine.Machine.{advance, fresh, KeepsContent}
@@ -153,15 +153,16 @@ pub record IsSilent (first : Configuration) (t : List Entry) (c : ℕ) : Type 0 
   pub password : password c t ≡ None
   pub login : login first c t ≡ None
   pub stays : logged_out c t ≡ false
+  pub tracks : tracking c t ≡ false
   pub due : due c t ≡ []
 
 -- A step that is no line of c keeps it so.
 silent_on : (first : Configuration) (step : Step) (c : ℕ) (s : List Step) → IsSilent first (trace first s) c
     → user c (trace first (step ∷ s)) ≡ user c (trace first s) → password c (trace first (step ∷ s)) ≡ password c (trace first s)
     → login first c (trace first (step ∷ s)) ≡ login first c (trace first s) → logged_out c (trace first (step ∷ s)) ≡ logged_out c (trace first s)
-    → due c (trace first (step ∷ s)) ≡ due c (trace first s) → IsSilent first (trace first (step ∷ s)) c
-silent_on first step c s silent u p l o d =
-    record { user = u ∙ silent.user; password = p ∙ silent.password; login = l ∙ silent.login; stays = o ∙ silent.stays; due = d ∙ silent.due }
+    → tracking c (trace first (step ∷ s)) ≡ tracking c (trace first s) → due c (trace first (step ∷ s)) ≡ due c (trace first s) → IsSilent first (trace first (step ∷ s)) c
+silent_on first step c s silent u p l o k d =
+    record { user = u ∙ silent.user; password = p ∙ silent.password; login = l ∙ silent.login; stays = o ∙ silent.stays; tracks = k ∙ silent.tracks; due = d ∙ silent.due }
 
 silent_lines : (first : Configuration) (c d : ℕ) (ls : List LineText) (s : List Step) → eqb d c ≡ false → IsSilent first (trace first s) c → IsSilent first (trace first (with_lines d ls s)) c
 silent_lines first c d [] s differ silent = silent
@@ -171,12 +172,13 @@ silent_lines first c d (l ∷ ls) s differ silent =
       password = rw differ silent.password;
       login = rw differ silent.login;
       stays = rw differ silent.stays;
+      tracks = rw differ silent.tracks;
       due = rw differ silent.due;
     })
 
 silent_reports : (first : Configuration) (c u : ℕ) (ls : List LineText) (s : List Step) → IsSilent first (trace first s) c → IsSilent first (trace first (with_reports u ls s)) c
 silent_reports first c u [] s silent = silent
-silent_reports first c u (l ∷ ls) s silent = silent_reports first c u ls (Reported u l ∷ s) (silent_on first (Reported u l) c s silent refl refl refl refl refl)
+silent_reports first c u (l ∷ ls) s silent = silent_reports first c u ls (Reported u l ∷ s) (silent_on first (Reported u l) c s silent refl refl refl refl refl refl)
 
 pub opened_lines : (first : Configuration) (d : ℕ) (ls : List LineText) (s : List Step) → opened (trace first (with_lines d ls s)) ≡ opened (trace first s)
 opened_lines first d [] s = refl
@@ -192,7 +194,7 @@ pub record IsUnknown (first : Configuration) (h : List Event) (c : ℕ) : Type 0
   pub taken : taken c h ≡ 0
 
 pub unknown : (first : Configuration) (h : List Event) (c : ℕ) → IsAccepted first h → opened (past first h) < c → IsUnknown first h c
-unknown first [] c accepted later = record { silent = record { user = refl; password = refl; login = refl; stays = refl; due = refl }; input = refl; taken = refl }
+unknown first [] c accepted later = record { silent = record { user = refl; password = refl; login = refl; stays = refl; tracks = refl; due = refl }; input = refl; taken = refl }
 unknown first (Bytes d piece ∷ h) c accepted later =
     let earlier : opened (past first h) < c = omega (arith, opened_lines first d (brought (input d h) piece) (steps h)) in
     let before = unknown first h c accepted.0 earlier in
@@ -208,25 +210,25 @@ unknown first (DriverBytes u piece ∷ h) c accepted later =
     record { silent = silent_reports first c u (brought (driver_input u h) piece) (steps h) before.silent; input = before.input; taken = before.taken }
 unknown first (Moment t ∷ h) c accepted later =
     let before = unknown first h c accepted.0 later in
-    record { silent = silent_on first (Clock t) c (steps h) before.silent refl refl refl refl refl; input = before.input; taken = before.taken }
+    record { silent = silent_on first (Clock t) c (steps h) before.silent refl refl refl refl refl refl; input = before.input; taken = before.taken }
 unknown first (Open address ∷ h) c accepted later =
     let before = unknown first h c accepted.0 (omega arith) in
-    record { silent = silent_on first (Opened address) c (steps h) before.silent refl refl refl refl refl; input = before.input; taken = before.taken }
+    record { silent = silent_on first (Opened address) c (steps h) before.silent refl refl refl refl refl refl; input = before.input; taken = before.taken }
 unknown first (Close d ∷ h) c accepted later =
     let before = unknown first h c accepted.0 later in
-    record { silent = silent_on first (Gone d) c (steps h) before.silent refl refl refl refl refl; input = before.input; taken = before.taken }
+    record { silent = silent_on first (Gone d) c (steps h) before.silent refl refl refl refl refl refl; input = before.input; taken = before.taken }
 unknown first (WriteFailed d ∷ h) c accepted later =
     let before = unknown first h c accepted.0 later in
-    record { silent = silent_on first (Gone d) c (steps h) before.silent refl refl refl refl refl; input = before.input; taken = before.taken }
+    record { silent = silent_on first (Gone d) c (steps h) before.silent refl refl refl refl refl refl; input = before.input; taken = before.taken }
 unknown first (DriverUp u ∷ h) c accepted later =
     let before = unknown first h c accepted.0 later in
-    record { silent = silent_on first (Up u) c (steps h) before.silent refl refl refl refl refl; input = before.input; taken = before.taken }
+    record { silent = silent_on first (Up u) c (steps h) before.silent refl refl refl refl refl refl; input = before.input; taken = before.taken }
 unknown first (DriverTook u n ∷ h) c accepted later =
     let before = unknown first h c accepted.0 later in
-    record { silent = silent_on first (Drained u n) c (steps h) before.silent refl refl refl refl refl; input = before.input; taken = before.taken }
+    record { silent = silent_on first (Drained u n) c (steps h) before.silent refl refl refl refl refl refl; input = before.input; taken = before.taken }
 unknown first (DriverDown u ∷ h) c accepted later =
     let before = unknown first h c accepted.0 later in
-    record { silent = silent_on first (Down u) c (steps h) before.silent refl refl refl refl refl; input = before.input; taken = before.taken }
+    record { silent = silent_on first (Down u) c (steps h) before.silent refl refl refl refl refl refl; input = before.input; taken = before.taken }
 
 map-up_to : (n : ℕ) (f g : ℕ → Session) (ns : List ℕ) → IsUpTo n ns → ((d : ℕ) → d ≤ n → g d ≡ f d) → map g ns ≡ map f ns
 map-up_to n f g [] up same = refl
@@ -239,7 +241,7 @@ law-open first h a accepted =
     let f = session first h in
     let g = session first (Open a ∷ h) in
     let newest : g (n + 1) ≡ fresh (n + 1) a =
-    rw (eq-eqb (n + 1) (n + 1) refl, unheard.silent.user, unheard.silent.password, unheard.silent.login, unheard.silent.stays, unheard.silent.due, unheard.input, unheard.taken) refl in
+    rw (eq-eqb (n + 1) (n + 1) refl, unheard.silent.user, unheard.silent.password, unheard.silent.login, unheard.silent.stays, unheard.silent.tracks, unheard.silent.due, unheard.input, unheard.taken) refl in
     let others : map g (open_numbers (past first h)) ≡ map f (open_numbers (past first h)) =
     map-up_to n f g (open_numbers (past first h)) (numbers_up_to (past first h))
     (λ d le. let differ : eqb (n + 1) d ≡ false = ne_eqb (n + 1) d (λ e. omega arith) in rw differ refl) in

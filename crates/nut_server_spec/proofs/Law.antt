@@ -10,10 +10,11 @@ use Rattle.nut_server_spec.specs.Command.{Command, command_of}
 use Rattle.nut_server_spec.specs.Device.{Device, needs_ping}
 use Rattle.nut_proto.specs.declared.driver_ask.DriverAsk.TheVariants.{Ping}
 use Rattle.nut_proto.specs.DriverAsks.{ask_line}
-use Rattle.nut_server_spec.specs.Effect.{target, forced_then, request_of, at_target}
+use Rattle.nut_server_spec.specs.Effect.{target, number_in, forced_then, request_of, at_target}
+use Rattle.nut_server_spec.specs.Tracking.{with_tracked}
 use Rattle.nut_server_spec.specs.Event.{Event, Moment, Took, Close, WriteFailed, DriverUp, DriverTook, DriverDown, Said, Reported, input, taken, driver_input}
 use Rattle.nut_server_spec.specs.Answer.{Answer, text_of}
-use Rattle.nut_server_spec.specs.Trace.{Entry, configuration, clock, opened, open_numbers, address, user, password, login, logged_out, due, device, connected, forced, driver_due, driver_taken, driver_waits, ups_numbers, scene, with_request, request_for, ping, pinged_then, pinged_at}
+use Rattle.nut_server_spec.specs.Trace.{Entry, configuration, clock, opened, open_numbers, address, user, password, login, logged_out, tracking, given, tracked, due, device, connected, forced, driver_due, driver_taken, driver_waits, ups_numbers, scene, with_request, request_for, ping, pinged_then, pinged_at}
 use Rattle.nut_server_spec.specs.Content.{Session, Supply, Content, past, content, session, supply}
 use Rattle.nut_server_spec.specs.laws.Laws.{IsBelow, IsRising}
 use Rattle.nut_server_spec.specs.machine.Machine.{advance, update, with_rest, with_sessions, with_supplies, without, answered, acted, act_on, reported_by, ticked, up, down, drained, guest_of, scene_of}
@@ -29,6 +30,7 @@ session_from first t rests takes c = record {
   password = password c t;
   login = login first c t;
   logged_out = logged_out c t;
+  tracking = tracking c t;
   rest = rests c;
   waits = drop (takes c) (due c t);
 }
@@ -41,6 +43,7 @@ content_from first t rests takes reports = record {
   configuration = configuration first t;
   clock = clock t;
   opened = opened t;
+  given = given t;
   sessions = map (session_from first t rests takes) (open_numbers t);
   supplies = map (supply_from first t reports) (ups_numbers first t);
 }
@@ -169,6 +172,7 @@ abbrev supply_said : Configuration → List Entry → Command → Answer → Opt
 supply_said first t command reply goal reports u = record {
   device = record (device first t u) {
     forced = at_target u goal (forced_then command reply) (forced first u t);
+    tracked = at_target u goal (with_tracked (number_in reply)) (tracked first u t);
     waits = if connected u t then drop (driver_taken u t) (with_request (request_for u goal (request_of command reply)) (driver_due u t)) else [];
   };
   rest = reports u;
@@ -182,7 +186,7 @@ supplies_said first t command reply (Some v) reports covered =
     update-below v (length (configuration first t).upses) (supply_from first t reports) (supply_said first t command reply (Some v) reports) (acted command reply)
     (λ d differ. rw (eqb_turn d v differ) refl)
     (rw (eq-eqb v v refl) (ap (λ w. record {
-      device = record (device first t v) { forced = forced_then command reply (forced first v t); waits = w };
+      device = record (device first t v) { forced = forced_then command reply (forced first v t); waits = w; tracked = with_tracked (number_in reply) (tracked first v t) };
       rest = reports v;
     }) (waits-asked (connected v t) (driver_taken v t) (driver_due v t) (request_of command reply) (covered v))))
 

@@ -10,8 +10,9 @@ use Rattle.nut_server_spec.specs.Command.{Command, Asks, command_of}
 use Rattle.nut_server_spec.specs.Device.{Device}
 use Rattle.nut_server_spec.specs.Event.{Event, Bytes, Step, Said, input, taken, steps, with_lines, brought}
 use Rattle.nut_server_spec.specs.Answer.{Answer, Silence, text_of, answer}
-use Rattle.nut_server_spec.specs.Effect.{user_then, password_then, login_then, logged_out_then, due_then, target, forced_then, request_of, at_target}
-use Rattle.nut_server_spec.specs.Trace.{Entry, configuration, address, user, password, login, logged_out, due, connected, reports, heard_at, pinged_at, forced, driver_due, driver_taken, scene, caller, with_request, request_for, answer_to, trace}
+use Rattle.nut_server_spec.specs.Effect.{user_then, password_then, login_then, logged_out_then, tracking_then, number_in, due_then, target, forced_then, request_of, at_target}
+use Rattle.nut_server_spec.specs.Trace.{Entry, configuration, address, user, password, login, logged_out, tracking, tracked, due, connected, reports, heard_at, pinged_at, forced, driver_due, driver_taken, scene, caller, with_request, request_for, answer_to, trace}
+use Rattle.nut_server_spec.specs.Tracking.{Tracked, with_tracked}
 use Rattle.nut_server_spec.specs.Content.{Session, past}
 use Rattle.nut_server_spec.specs.laws.Laws.{LogoutIsFinal}
 
@@ -35,8 +36,12 @@ forced-silent command before = refl
 
 request-silent : (command : Command) → request_of command Silence ≡ None
 request-silent (Asks (requests.SetVar ups variable value)) = refl
-request-silent (Asks (requests.InstCmd ups command)) = refl
+request-silent (Asks (requests.InstCmd ups command parameter)) = refl
 request-silent command = refl
+
+tracking-silent : (command : Command) (before : Bool) → tracking_then command Silence before ≡ before
+tracking-silent (Asks (requests.SetTracking on)) before = refl
+tracking-silent command before = refl
 
 due-silent : (command : Command) (before : List ℕ) → due_then command Silence before ≡ before
 unfolding text_of
@@ -50,6 +55,10 @@ target-silent : (u : ℕ) (o : Option ℕ) (command : Command) (before : Bool) �
 target-silent u None command before = refl
 target-silent u (Some v) command before = either (eqb v u) _ _ (forced-silent command before)
 
+followed-silent : (u : ℕ) (o : Option ℕ) (before : List Tracked) → at_target u o (with_tracked (number_in Silence)) before ≡ before
+followed-silent u None before = refl
+followed-silent u (Some v) before = either (eqb v u) _ _ refl
+
 none-for : (u : ℕ) (o : Option ℕ) → request_for u o None ≡ None
 none-for u None = refl
 none-for u (Some v) = either (eqb v u) _ _ refl
@@ -62,6 +71,7 @@ record Known : Type 0 where
   passwords : ℕ → Option (List ℕ)
   logins : ℕ → Option ℕ
   outs : ℕ → Bool
+  tracks : ℕ → Bool
   owed : ℕ → List ℕ
   there : ℕ → Bool
   told : ℕ → List (List ℕ)
@@ -70,6 +80,7 @@ record Known : Type 0 where
   forces : ℕ → Bool
   asked : ℕ → List ℕ
   drained : ℕ → ℕ
+  followed : ℕ → List Tracked
 
 abbrev known : Configuration → List Entry → Known
 known first t = record {
@@ -78,6 +89,7 @@ known first t = record {
   passwords = λ d. password d t;
   logins = λ d. login first d t;
   outs = λ d. logged_out d t;
+  tracks = λ d. tracking d t;
   owed = λ d. due d t;
   there = λ u. connected u t;
   told = λ u. reports u t;
@@ -86,6 +98,7 @@ known first t = record {
   forces = λ u. forced first u t;
   asked = λ u. driver_due u t;
   drained = λ u. driver_taken u t;
+  followed = λ u. tracked first u t;
 }
 
 module _ (first : Configuration) (c : ℕ) (line : LineText) (t : List Entry) where
@@ -108,10 +121,13 @@ module _ (first : Configuration) (c : ℕ) (line : LineText) (t : List Entry) wh
       (fun_ext (λ d. either (eqb c d) _ _ (login-silent (configuration first t) command (login first d t))))
       ∙ ap (λ f. let r : Known = record k { users = n.users; passwords = n.passwords; logins = n.logins; outs = f } in r)
       (fun_ext (λ d. either (eqb c d) (logged_out_then command Silence (logged_out d t)) (logged_out d t) refl))
-      ∙ ap (λ f. let r : Known = record n { owed = f; forces = k.forces; asked = k.asked } in r) (fun_ext (λ d. either (eqb c d) _ _ (due-silent command (due d t))))
-      ∙ ap (λ f. let r : Known = record n { forces = f; asked = k.asked } in r) (fun_ext (λ u. target-silent u o command (forced first u t)))
-      ∙ ap (λ f. let r : Known = record n { asked = f } in r)
+      ∙ ap (λ f. let r : Known = record n { tracks = f; owed = k.owed; forces = k.forces; asked = k.asked; followed = k.followed } in r)
+      (fun_ext (λ d. either (eqb c d) _ _ (tracking-silent command (tracking d t))))
+      ∙ ap (λ f. let r : Known = record n { owed = f; forces = k.forces; asked = k.asked; followed = k.followed } in r) (fun_ext (λ d. either (eqb c d) _ _ (due-silent command (due d t))))
+      ∙ ap (λ f. let r : Known = record n { forces = f; asked = k.asked; followed = k.followed } in r) (fun_ext (λ u. target-silent u o command (forced first u t)))
+      ∙ ap (λ f. let r : Known = record n { asked = f; followed = k.followed } in r)
       (fun_ext (λ u. ap (λ q. with_request (request_for u o q) (driver_due u t)) (request-silent command) ∙ ap (λ q. with_request q (driver_due u t)) (none-for u o)))
+      ∙ ap (λ f. let r : Known = record n { followed = f } in r) (fun_ext (λ u. followed-silent u o (tracked first u t)))
 
   quiet-entry : logged_out c t ≡ true → known first (said (answer_to first t c line) ∷ t) ≡ known first t
   quiet-entry out =
@@ -135,6 +151,7 @@ session_known h line k d = record {
   password = k.passwords d;
   login = k.logins d;
   logged_out = k.outs d;
+  tracking = k.tracks d;
   rest = line;
   waits = drop (taken d h) (k.owed d);
 }
@@ -147,6 +164,7 @@ device_known k u = record {
   pinged_at = k.pinged u;
   forced = k.forces u;
   waits = if k.there u then drop (k.drained u) (k.asked u) else [];
+  tracked = k.followed u;
 }
 
 pub logout-final : LogoutIsFinal

@@ -9,7 +9,7 @@ use Rattle.nut_server_spec.specs.Command.{command_of}
 use Rattle.nut_server_spec.specs.Effect.{target, request_of}
 use Rattle.nut_server_spec.specs.Event.{Event, Bytes, DriverBytes, Step, Said, Reported, input, driver_input, steps, with_lines, with_reports, brought}
 use Rattle.nut_server_spec.specs.Answer.{Silence, answer, text_of}
-use Rattle.nut_server_spec.specs.Trace.{configuration, clock, open_numbers, logged_out, due, driver_due, ups_numbers, caller, with_request, request_for, trace, answer_to, asks_at}
+use Rattle.nut_server_spec.specs.Trace.{configuration, clock, given, given_then, open_numbers, logged_out, due, driver_due, ups_numbers, caller, with_request, request_for, trace, answer_to, asks_at}
 use Rattle.nut_server_spec.specs.Content.{Session, Content, past, content, session, supply}
 use Rattle.nut_server_spec.specs.Acceptance.{session_of}
 use Rattle.nut_server_spec.specs.machine.Machine.{advance, answer_in, line_heard, update_at, with_rest, with_supplies, after_answer, byte_heard, bytes_heard, byte_reported, bytes_reported}
@@ -53,7 +53,7 @@ law-feed first h c covered drivers there =
     let rests' = rests_of (Bytes c (10 ∷ []) ∷ h) in
     let t = answered_past first p c line reply in
     ap (λ ls. content_from first (trace first (with_lines c ls (steps h))) rests' (takes_of h) (reports_of h)) (brought_line_feed (input c h))
-    ∙ ap (λ sessions. record s { sessions = sessions; supplies = map (supply_from first t (reports_of h)) (ups_numbers first p) })
+    ∙ ap (λ sessions. record s { given = given_then reply (given p); sessions = sessions; supplies = map (supply_from first t (reports_of h)) (ups_numbers first p) })
     (said_sessions first p c line reply (λ u. request_for u (target (configuration first p) (command_of line)) (request_of (command_of line) reply))
     (rests_of h) rests' (takes_of h) covered (rests_other h c (10 ∷ [])) (rests_self h c (10 ∷ []) ∙ rest_at_line_feed (input c h)))
     ∙ ap (λ supplies. record (after_answer c (command_of line) reply s) { supplies = supplies }) (said_supplies first p c line reply (reports_of h) drivers)

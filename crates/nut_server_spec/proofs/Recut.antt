@@ -7,7 +7,8 @@ use Rattle.nut_state.specs.Step.{table_of}
 use Rattle.nut_server_spec.specs.Configuration.{Configuration}
 use Rattle.nut_server_spec.specs.Event.{Event, Bytes, DriverBytes, Step, Reported, input, driver_input, steps, with_lines, with_reports, brought}
 use Rattle.nut_server_spec.specs.Device.{Device}
-use Rattle.nut_server_spec.specs.Trace.{Entry, clock, due, connected, reports, reported, is_heard, heard_at, pinged_at, forced, driver_due, trace}
+use Rattle.nut_server_spec.specs.Trace.{Entry, clock, due, connected, reports, reported, is_heard, heard_at, pinged_at, forced, driver_due, trace, tracked}
+use Rattle.nut_server_spec.specs.Tracking.{Tracked, told_in, all_ended_by}
 use Rattle.nut_server_spec.specs.laws.Laws.{Turn, Piece, Taken, bytes_of, sending, reporting, SameStepsSameAnswers, CutsAndWritesDoNotMatter, DriverCutsAndWritesDoNotMatter}
 use Rattle.nut_server_spec.proofs.LineLaws.{brought_none, brought-append}
 use Rattle.nut_server_spec.proofs.Cuts.{with_lines-append, with_reports-append}
@@ -54,6 +55,7 @@ record Seen : Type 0 where
   forces : ℕ → Bool
   asked : ℕ → List ℕ
   owed : ℕ → List ℕ
+  followed : ℕ → List Tracked
 
 abbrev seen : Configuration → List Entry → Seen
 seen first t = record {
@@ -65,6 +67,7 @@ seen first t = record {
   forces = λ u. forced first u t;
   asked = λ u. driver_due u t;
   owed = λ c. due c t;
+  followed = λ u. tracked first u t;
 }
 
 -- after a line of the driver of u
@@ -72,6 +75,7 @@ abbrev seen_line : ℕ → LineText → Seen → Seen
 seen_line u line s = record s {
   told = λ v. if eqb u v then reported line (s.told v) else s.told v;
   heard = λ v. if eqb u v then (if is_heard line then s.time else s.heard v) else s.heard v;
+  followed = λ v. if eqb u v then all_ended_by (told_in line) (s.followed v) else s.followed v;
 }
 
 seen-line : (first : Configuration) (u : ℕ) (line : LineText) (s : List Step) → seen first (trace first (Reported u line ∷ s)) ≡ seen_line u line (seen first (trace first s))
@@ -117,6 +121,7 @@ device_seen s v = record {
   pinged_at = s.pinged v;
   forced = s.forces v;
   waits = [];
+  tracked = s.followed v;
 }
 
 pub driver-cuts-and-writes : DriverCutsAndWritesDoNotMatter

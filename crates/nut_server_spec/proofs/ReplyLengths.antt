@@ -7,7 +7,7 @@ use Rattle.std.specs.List.{AllByRecursion}
 use Rattle.std.specs.Str.{bytes_eq}
 use Rattle.std.proofs.lemmas.Fmt.{length-decimal-le, length_signed_le}
 use Rattle.nut_conf.specs.declared.limits.TheConstants.{CONNECTIONS_MAX, DESCRIPTION_MAX}
-use Rattle.nut_words.specs.Quoting.{quoted}
+use Rattle.nut_words.specs.Quoting.{quoted, word_text}
 use Rattle.nut_words.specs.declared.limits.TheConstants.{NAME_MAX, UPS_NAME_MAX, VALUE_MAX}
 use Rattle.nut_proto.specs.declared.part.Part.TheVariants.{Word, Quoted, Number, QuotedNumber}
 use Rattle.nut_proto.specs.declared.refusal.Refusal.{Refusal}
@@ -16,6 +16,10 @@ use Rattle.nut_proto.specs.declared.reply.Reply.TheVariants as replies
 use Rattle.nut_proto.specs.declared.reply.VariableKind.{VariableKind}
 use Rattle.nut_proto.specs.declared.reply.VariableKind.TheVariants as kinds
 use Rattle.nut_proto.specs.declared.request.ListQuery.TheVariants as queries
+use Rattle.nut_proto.specs.declared.limits.TheConstants.{TRACKING_NUMBER_MAX}
+use Rattle.nut_proto.specs.declared.tracking.TrackingStatus.{TrackingStatus}
+use Rattle.nut_proto.specs.declared.tracking.TrackingStatus.TheVariants as statuses
+use Rattle.nut_proto.specs.Tracking.{status_word}
 use Rattle.nut_proto.specs.laws.Bounds.{IsName}
 use Rattle.nut_proto.specs.Descriptions.{described_variables, described_commands, beside, told, variable_description, command_description}
 use Rattle.nut_proto.specs.Lines.{line, part_text}
@@ -57,6 +61,33 @@ length-refused r = omega (arith, length-line (Word (codes "ERR")) (Word (refusal
 pub length-accepted : length (reply_line replies.Accepted) ≤ 200
 unfolding reply_line line
 length-accepted = omega arith
+
+pub length-accepted_as : (n : ℕ) → n ≤ TRACKING_NUMBER_MAX → length (reply_line (replies.AcceptedAs n)) ≤ 200
+unfolding reply_line
+length-accepted_as n few =
+    omega (arith, length-line (Word (codes "OK")) (Word (codes "TRACKING") ∷ Number n ∷ []), length-word (decimal n), length-decimal-le 9 n (omega arith) (omega arith) (omega arith))
+
+pub length-tracking_is : (on : Bool) → length (reply_line (replies.TrackingIs on)) ≤ 200
+unfolding reply_line line
+length-tracking_is true = omega arith
+length-tracking_is false = omega arith
+
+length-status : (status : TrackingStatus) → length (word_text (status_word status)) ≤ 7
+length-status statuses.Pending = omega arith
+length-status statuses.Success = omega arith
+length-status statuses.Failed = omega arith
+length-status statuses.Unknown = omega arith
+
+pub length-tracking : (n : ℕ) (status : TrackingStatus) → n ≤ TRACKING_NUMBER_MAX → length (reply_line (replies.Tracking n status)) ≤ 200
+unfolding reply_line
+length-tracking n status few =
+    omega (
+      arith,
+      length-line (Word (codes "TRACKING")) (Number n ∷ Word (status_word status) ∷ []),
+      length-word (decimal n),
+      length-status status,
+      length-decimal-le 9 n (omega arith) (omega arith) (omega arith),
+    )
 
 pub length-fsd_set : length (reply_line replies.FsdSet) ≤ 200
 unfolding reply_line line
@@ -161,21 +192,21 @@ unfolding reply_line
 length-rw ups name value u n =
     omega (arith, length-line (Word (codes "RW")) (Word ups ∷ Word name ∷ Quoted value ∷ []), length-name UPS_NAME_MAX ups u, length-name NAME_MAX name n)
 
-pub length-ups : (ups text : List ℕ) → length ups ≤ UPS_NAME_MAX → length text ≤ DESCRIPTION_MAX → length (reply_line (replies.Ups ups text)) ≤ 700
+pub length-ups : (ups text : List ℕ) → length ups ≤ UPS_NAME_MAX → length text ≤ DESCRIPTION_MAX → length (reply_line (replies.Ups ups text)) ≤ 1300
 unfolding reply_line
 length-ups ups text u t = omega (arith, length-line (Word (codes "UPS")) (Word ups ∷ Quoted text ∷ []), length-word ups, length-quoted text)
 
-pub length-cmd : (ups name : List ℕ) → length ups ≤ UPS_NAME_MAX → length name ≤ NAME_MAX → length (reply_line (replies.Cmd ups name)) ≤ 700
+pub length-cmd : (ups name : List ℕ) → length ups ≤ UPS_NAME_MAX → length name ≤ NAME_MAX → length (reply_line (replies.Cmd ups name)) ≤ 1300
 unfolding reply_line
 length-cmd ups name u n = omega (arith, length-line (Word (codes "CMD")) (Word ups ∷ Word name ∷ []), length-word ups, length-word name)
 
-pub length-enum : (ups name value : List ℕ) → length ups ≤ UPS_NAME_MAX → length name ≤ NAME_MAX → length value ≤ VALUE_MAX → length (reply_line (replies.Enum ups name value)) ≤ 700
+pub length-enum : (ups name value : List ℕ) → length ups ≤ UPS_NAME_MAX → length name ≤ NAME_MAX → length value ≤ VALUE_MAX → length (reply_line (replies.Enum ups name value)) ≤ 1300
 unfolding reply_line
 length-enum ups name value u n v =
     omega (arith, length-line (Word (codes "ENUM")) (Word ups ∷ Word name ∷ Quoted value ∷ []), length-word ups, length-word name, length-quoted value)
 
 pub length-range : (ups name : List ℕ) (low high : ℤ) → length ups ≤ UPS_NAME_MAX → length name ≤ NAME_MAX → mag low < 10 ^ 9 → mag high < 10 ^ 9
-    → length (reply_line (replies.Range ups name low high)) ≤ 700
+    → length (reply_line (replies.Range ups name low high)) ≤ 1300
 unfolding reply_line
 length-range ups name low high u n l h =
     omega (
@@ -189,7 +220,7 @@ length-range ups name low high u n l h =
       length_signed_le 10 high (omega arith) (omega arith),
     )
 
-pub length-client : (ups address : List ℕ) → length ups ≤ UPS_NAME_MAX → length address ≤ ADDRESS_MAX → length (reply_line (replies.Client ups address)) ≤ 700
+pub length-client : (ups address : List ℕ) → length ups ≤ UPS_NAME_MAX → length address ≤ ADDRESS_MAX → length (reply_line (replies.Client ups address)) ≤ 1300
 unfolding reply_line
 length-client ups address u a = omega (arith, length-line (Word (codes "CLIENT")) (Word ups ∷ Word address ∷ []), length-word ups, length-word address)
 

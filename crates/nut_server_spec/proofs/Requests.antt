@@ -1,18 +1,20 @@
 -- A client's request to a driver fits behind what waits for the driver.
-use Rattle.std.proofs.Common.{◌≡◌, ℕ, Bool, true, false, List, refl, sym, ◌∙◌, ap, Option, Some, None}
-use Rattle.std.specs.Prelude.{if◌then◌else◌}
+use Rattle.std.proofs.Common.{◌≡◌, ℕ, ◌+◌, ◌≤◌, Bool, true, false, List, refl, sym, ◌∙◌, ap, arith, subst, Option, Some, None}
+use Rattle.std.specs.Prelude.{if◌then◌else◌, nat_lt}
+use Rattle.std.proofs.lemmas.Bool.{ltb-true}
 use Rattle.nut_proto.specs.declared.refusal.Refusal.{Refusal}
 use Rattle.nut_proto.specs.declared.refusal.Refusal.TheVariants as refusals
 use Rattle.nut_proto.specs.declared.request.Request.TheVariants as requests
-use Rattle.nut_proto.specs.declared.reply.Reply.TheVariants as replies
+use Rattle.nut_proto.specs.declared.driver_ask.DriverAsk.{DriverAsk}
 use Rattle.nut_proto.specs.declared.driver_ask.DriverAsk.TheVariants as asks
+use Rattle.nut_proto.specs.declared.limits.TheConstants.{TRACKING_NUMBER_MAX}
 use Rattle.nut_proto.specs.DriverAsks.{ask_line}
 use Rattle.nut_state.specs.Table.{variable, has_command}
 use Rattle.nut_server_spec.specs.Configuration.{User, number_of_ups, user_named, may_command}
 use Rattle.nut_server_spec.specs.Command.{Command, Blank, Malformed, Asks}
-use Rattle.nut_server_spec.specs.Device.{trouble, fits}
-use Rattle.nut_server_spec.specs.Answer.{Answer, Silence, Line, Scene, Caller, refused, require, check, unless, with_right, on_data, device_at, has_right, may_set, misfit, set_answer, command_answer, answer}
-use Rattle.nut_server_spec.specs.Effect.{target, request_of}
+use Rattle.nut_server_spec.specs.Device.{Device, trouble, fits}
+use Rattle.nut_server_spec.specs.Answer.{Answer, Silence, Scene, Caller, refused, require, check, unless, with_right, on_data, device_at, has_right, may_set, misfit, parameter_misfit, numbered, accepted, handed_on, set_answer, command_answer, answer}
+use Rattle.nut_server_spec.specs.Effect.{number_in, target, request_of}
 
 -- ---- what holds of every refusal, and of the next step of a test, holds of the answer
 
@@ -45,28 +47,55 @@ fits-there s u v line own place text holds =
     let same' : own ≡ line = cc in
     sym (ap (λ x. fits x (device_at s v)) same') ∙ sym (ap (λ x. fits own (device_at s x)) same) ∙ holds
 
+-- ---- numbers
+
+-- the number of a request, if it has one, is the next one
+abbrev pub IsNext : Scene → Option ℕ → Type 0
+IsNext s None = Unit {0}
+IsNext s (Some number) = (number ≡ s.given + 1) × (number ≤ TRACKING_NUMBER_MAX)
+
+pub numbered-case : (P : Answer → Type 0) (refusal : Refusal) (s : Scene) (k : Caller) (next : Option ℕ → Answer) → P (refused refusal)
+    → ((number : Option ℕ) → IsNext s number → P (next number)) → P (numbered refusal s k next)
+numbered-case P refusal s k next bad good = by k.tracking where
+  by : (tracking : Bool) → P (if tracking then check refusal (nat_lt s.given TRACKING_NUMBER_MAX) (next (Some (s.given + 1))) else next None)
+  by true = check-case P refusal (nat_lt s.given TRACKING_NUMBER_MAX) _ bad (λ less. good (Some (s.given + 1)) (refl, omega (arith, ltb-true s.given TRACKING_NUMBER_MAX less)))
+  by false = good None tt
+
+-- what holds of each refusal, and of the answer to a request that fits, holds of the answer to one that is handed on
+pub handed_on-case : (P : Answer → Type 0) (refusal : Refusal) (s : Scene) (k : Caller) (ask : Option ℕ → DriverAsk) (d : Device) → P (refused refusal)
+    → ((number : Option ℕ) → IsNext s number → fits (ask_line (ask number)) d ≡ true → P (accepted number)) → P (handed_on refusal s k ask d)
+handed_on-case P refusal s k ask d bad good =
+    numbered-case P refusal s k _ bad (λ number next. check-case P refusal (fits (ask_line (ask number)) d) (accepted number) bad (good number next))
+
 set-fits : (s : Scene) (k : Caller) (ups name value : List ℕ) (v : ℕ) → number_of_ups ups s.configuration.upses ≡ Some v → (line : List ℕ)
     → request_of (Asks (requests.SetVar ups name value)) (answer s k (Asks (requests.SetVar ups name value))) ≡ Some line → fits line (device_at s v) ≡ true
 set-fits s k ups name value v place line =
-    with_right-case P s k may_set ups (λ u. on_data s u (λ d. set_answer d name value)) (λ r bad. cc) (λ u found.
-    unless-case P (trouble s.configuration.max_age s.clock (device_at s u)) (set_answer (device_at s u) name value) (λ r bad. cc)
+    with_right-case P s k may_set ups (λ u. on_data s u (λ d. set_answer s k d name value)) (λ r bad. cc) (λ u found.
+    unless-case P (trouble s.configuration.max_age s.clock (device_at s u)) (set_answer s k (device_at s u) name value) (λ r bad. cc)
     (require-case P refusals.VarNotSupported (variable (device_at s u).table name) _ (λ bad. cc) (λ entry there.
     unless-case P (misfit entry value) _ (λ r bad. cc)
-    (check-case P refusals.SetFailed (fits (ask_line (asks.Set name value)) (device_at s u)) (Line replies.Accepted) (λ bad. cc) (λ holds is.
-    fits-there s u v line (ask_line (asks.Set name value)) (sym found ∙ place) is holds))))) where
+    (handed_on-case P refusals.SetFailed s k (λ number. asks.Set name value number) (device_at s u) (λ bad. cc) (λ number next. by u found number))))) where
       P : Answer → Type 0
       P reply = request_of (Asks (requests.SetVar ups name value)) reply ≡ Some line → fits line (device_at s v) ≡ true
 
-command-fits : (s : Scene) (k : Caller) (ups name : List ℕ) (v : ℕ) → number_of_ups ups s.configuration.upses ≡ Some v → (line : List ℕ)
-    → request_of (Asks (requests.InstCmd ups name)) (answer s k (Asks (requests.InstCmd ups name))) ≡ Some line → fits line (device_at s v) ≡ true
-command-fits s k ups name v place line =
-    with_right-case P s k (may_command name) ups (λ u. on_data s u (λ d. command_answer d name)) (λ r bad. cc) (λ u found.
-    unless-case P (trouble s.configuration.max_age s.clock (device_at s u)) (command_answer (device_at s u) name) (λ r bad. cc)
+      by : (u : ℕ) → number_of_ups ups s.configuration.upses ≡ Some u → (number : Option ℕ) → fits (ask_line (asks.Set name value number)) (device_at s u) ≡ true → P (accepted number)
+      by u found None holds is = fits-there s u v line (ask_line (asks.Set name value None)) (sym found ∙ place) is holds
+      by u found (Some number) holds is = fits-there s u v line (ask_line (asks.Set name value (Some number))) (sym found ∙ place) is holds
+
+command-fits : (s : Scene) (k : Caller) (ups name : List ℕ) (parameter : Option (List ℕ)) (v : ℕ) → number_of_ups ups s.configuration.upses ≡ Some v → (line : List ℕ)
+    → request_of (Asks (requests.InstCmd ups name parameter)) (answer s k (Asks (requests.InstCmd ups name parameter))) ≡ Some line → fits line (device_at s v) ≡ true
+command-fits s k ups name parameter v place line =
+    with_right-case P s k (may_command name) ups (λ u. on_data s u (λ d. command_answer s k d name parameter)) (λ r bad. cc) (λ u found.
+    unless-case P (trouble s.configuration.max_age s.clock (device_at s u)) (command_answer s k (device_at s u) name parameter) (λ r bad. cc)
     (check-case P refusals.CmdNotSupported (has_command (device_at s u).table name) _ (λ bad. cc) (λ there.
-    check-case P refusals.InstCmdFailed (fits (ask_line (asks.InstCmd name)) (device_at s u)) (Line replies.Accepted) (λ bad. cc) (λ holds is.
-    fits-there s u v line (ask_line (asks.InstCmd name)) (sym found ∙ place) is holds)))) where
+    unless-case P (parameter_misfit parameter) _ (λ r bad. cc)
+    (handed_on-case P refusals.InstCmdFailed s k (λ number. asks.InstCmd name parameter number) (device_at s u) (λ bad. cc) (λ number next. by u found number))))) where
       P : Answer → Type 0
-      P reply = request_of (Asks (requests.InstCmd ups name)) reply ≡ Some line → fits line (device_at s v) ≡ true
+      P reply = request_of (Asks (requests.InstCmd ups name parameter)) reply ≡ Some line → fits line (device_at s v) ≡ true
+
+      by : (u : ℕ) → number_of_ups ups s.configuration.upses ≡ Some u → (number : Option ℕ) → fits (ask_line (asks.InstCmd name parameter number)) (device_at s u) ≡ true → P (accepted number)
+      by u found None holds is = fits-there s u v line (ask_line (asks.InstCmd name parameter None)) (sym found ∙ place) is holds
+      by u found (Some number) holds is = fits-there s u v line (ask_line (asks.InstCmd name parameter (Some number))) (sym found ∙ place) is holds
 
 -- A line's request to a driver fits behind what waits for it. The line of a client that has logged out makes no
 -- request.
@@ -86,12 +115,18 @@ asked-fits s k (Asks (requests.GetDesc a b)) v false goal line is = cc
 asked-fits s k (Asks (requests.GetDesc a b)) v true goal line is = cc
 asked-fits s k (Asks (requests.GetCmdDesc a b)) v false goal line is = cc
 asked-fits s k (Asks (requests.GetCmdDesc a b)) v true goal line is = cc
+asked-fits s k (Asks requests.GetTracking) v false goal line is = cc
+asked-fits s k (Asks requests.GetTracking) v true goal line is = cc
+asked-fits s k (Asks (requests.GetTrackingOf n)) v false goal line is = cc
+asked-fits s k (Asks (requests.GetTrackingOf n)) v true goal line is = cc
 asked-fits s k (Asks (requests.List q)) v false goal line is = cc
 asked-fits s k (Asks (requests.List q)) v true goal line is = cc
 asked-fits s k (Asks (requests.SetVar a b c)) v false goal line is = set-fits s k a b c v goal line is
 asked-fits s k (Asks (requests.SetVar a b c)) v true goal line is = cc
-asked-fits s k (Asks (requests.InstCmd a b)) v false goal line is = command-fits s k a b v goal line is
-asked-fits s k (Asks (requests.InstCmd a b)) v true goal line is = cc
+asked-fits s k (Asks (requests.SetTracking a)) v false goal line is = cc
+asked-fits s k (Asks (requests.SetTracking a)) v true goal line is = cc
+asked-fits s k (Asks (requests.InstCmd a b c)) v false goal line is = command-fits s k a b c v goal line is
+asked-fits s k (Asks (requests.InstCmd a b c)) v true goal line is = cc
 asked-fits s k (Asks (requests.Username a)) v false goal line is = cc
 asked-fits s k (Asks (requests.Username a)) v true goal line is = cc
 asked-fits s k (Asks (requests.Password a)) v false goal line is = cc
@@ -112,3 +147,30 @@ asked-fits s k (Asks requests.Help) v false goal line is = cc
 asked-fits s k (Asks requests.Help) v true goal line is = cc
 asked-fits s k (Asks requests.StartTls) v false goal line is = cc
 asked-fits s k (Asks requests.StartTls) v true goal line is = cc
+
+-- ---- a number in an answer is the next one
+
+abbrev IsFresh : Scene → Answer → Type 0
+IsFresh s reply = (number : ℕ) → number_in reply ≡ Some number → (number ≡ s.given + 1) × (number ≤ TRACKING_NUMBER_MAX)
+
+fresh-accepted : (s : Scene) (number : Option ℕ) → IsNext s number → IsFresh s (accepted number)
+fresh-accepted s None next n is = cc
+fresh-accepted s (Some number) next n is =
+    let same : number ≡ n = cc in
+    subst (λ m. (m ≡ s.given + 1) × (m ≤ TRACKING_NUMBER_MAX)) same next
+
+fresh-set : (s : Scene) (k : Caller) (ups name value : List ℕ) → IsFresh s (answer s k (Asks (requests.SetVar ups name value)))
+fresh-set s k ups name value =
+    with_right-case (IsFresh s) s k may_set ups (λ u. on_data s u (λ d. set_answer s k d name value)) (λ r n bad. cc) (λ u found.
+    unless-case (IsFresh s) (trouble s.configuration.max_age s.clock (device_at s u)) (set_answer s k (device_at s u) name value) (λ r n bad. cc)
+    (require-case (IsFresh s) refusals.VarNotSupported (variable (device_at s u).table name) _ (λ n bad. cc) (λ entry there.
+    unless-case (IsFresh s) (misfit entry value) _ (λ r n bad. cc)
+    (handed_on-case (IsFresh s) refusals.SetFailed s k (λ number. asks.Set name value number) (device_at s u) (λ n bad. cc) (λ number next holds. fresh-accepted s number next)))))
+
+fresh-command : (s : Scene) (k : Caller) (ups name : List ℕ) (parameter : Option (List ℕ)) → IsFresh s (answer s k (Asks (requests.InstCmd ups name parameter)))
+fresh-command s k ups name parameter =
+    with_right-case (IsFresh s) s k (may_command name) ups (λ u. on_data s u (λ d. command_answer s k d name parameter)) (λ r n bad. cc) (λ u found.
+    unless-case (IsFresh s) (trouble s.configuration.max_age s.clock (device_at s u)) (command_answer s k (device_at s u) name parameter) (λ r n bad. cc)
+    (check-case (IsFresh s) refusals.CmdNotSupported (has_command (device_at s u).table name) _ (λ n bad. cc) (λ there.
+    unless-case (IsFresh s) (parameter_misfit parameter) _ (λ r n bad. cc)
+    (handed_on-case (IsFresh s) refusals.InstCmdFailed s k (λ number. asks.InstCmd name parameter number) (device_at s u) (λ n bad. cc) (λ number next holds. fresh-accepted s number next)))))

@@ -15,7 +15,8 @@ use Rattle.nut_state.specs.declared.number.Range.{Range}
 use Rattle.nut_state.specs.Change.{Change, add_range, asked_by, asked, heard, word}
 use Rattle.nut_state.specs.laws.Holds.{EveryTableHolds, IsTable, IsWithinLimits}
 use Rattle.nut_state.specs.LookBack.{accepted, accepted_after, deletes, era, is_accepted, range_added, removes_range, standing, standing_ranges}
-use Rattle.nut_state.specs.Number.{digits_value, is_natural, natural, whole_number, range_of}
+use Rattle.nut_words.specs.Number.{digits_value, is_natural, natural}
+use Rattle.nut_state.specs.Number.{whole_number, range_of}
 use Rattle.nut_state.specs.Step.{table_of}
 use Rattle.nut_state.specs.Sorted.{named}
 use Rattle.nut_state.specs.Table.{Table, Entry, variable, has_command}
@@ -156,7 +157,10 @@ verbs_short = (
                           λ ws name r is. absurd (cc),
                           (
                             λ ws name r is. absurd (cc),
-                            tt,
+                            (
+                              λ ws name r is. absurd (cc),
+                              tt,
+                            ),
                           ),
                         ),
                       ),

@@ -25,7 +25,7 @@ use Rattle.nut_server_spec.specs.machine.Machine.{advance, update, update_at, ac
 use Rattle.nut_server_spec.specs.laws.Laws.{IsOther, connection_of}
 use Rattle.nut_server_spec.specs.laws.Limits.{IsWithin, WaitsAreBounded, most_waits}
 use Rattle.nut_server_spec.proofs.Alls.{all_append, all_filter, all_map}
-use Rattle.nut_server_spec.proofs.AnswerLengths.{IsFit, IsShortScene, answer_fit, fewer, fit_silence}
+use Rattle.nut_server_spec.proofs.AnswerLengths.{IsFit, IsShortScene, answer_fit, fewer, fit_silence, IsReadableCommand, readable-command}
 use Rattle.nut_server_spec.proofs.Kept.{keeps-content}
 use Rattle.nut_server_spec.proofs.Others.{advance-other, advance-took, advance-close, advance-write_failed, opened-fresh}
 use Rattle.nut_server_spec.proofs.Sessions.{session_of-update}
@@ -213,7 +213,7 @@ unfinished-le TooLong = omega arith
 -- answers, and each line answered took at least two of these bytes.
 record IsServed (n : ℕ) (k : Session) : Type 0 where
   lines : ℕ
-  answers : length k.waits ≤ 184930 * lines
+  answers : length k.waits ≤ 578146 * lines
   heard : 2 * lines + unfinished k.rest ≤ n
 
 length-silence : length (text_of Silence) ≡ 0
@@ -231,11 +231,11 @@ answer_empty s k = ap (λ command. answer_in s command k) empty_blank ∙ by_tes
   by_test true = refl
   by_test false = refl
 
-answer_in_fit : (s : Content) (command : Command) (k : Session) → IsShort s → IsFit (answer_in s command k)
-answer_in_fit s command k short = by_test k.logged_out where
+answer_in_fit : (s : Content) (command : Command) (k : Session) → IsShort s → IsReadableCommand command → IsFit (answer_in s command k)
+answer_in_fit s command k short readable = by_test k.logged_out where
   by_test : (b : Bool) → IsFit (if b then Silence else answer (scene_of s) (caller_of k) command)
   by_test true = fit_silence
-  by_test false = answer_fit (scene_of s) (scene_short s short) (caller_of k) command
+  by_test false = answer_fit (scene_of s) (scene_short s short) (caller_of k) command readable
 
 served_line : (n : ℕ) (s : Content) (k : Session) → IsShort s → IsServed n k
     → IsServed (n + 1) (with_rest (Text []) (answered s.configuration (command_of k.rest) (answer_in s (command_of k.rest) k) k))
@@ -249,7 +249,7 @@ served_line n s k short served = by_rest k.rest refl where
   one_more : unfinished k.rest ≡ 1 → IsServed (n + 1) later
   one_more is = record {
     lines = served.lines + 1;
-    answers = omega (arith, length-append k.waits (text_of reply), answer_in_fit s (command_of k.rest) k short, served.answers);
+    answers = omega (arith, length-append k.waits (text_of reply), answer_in_fit s (command_of k.rest) k short (readable-command k.rest), served.answers);
     heard = omega (arith, served.heard, is);
   }
 

@@ -15,7 +15,7 @@ use Rattle.nut_proto.specs.Refusals.{refusal_name}
 use Rattle.nut_proto.specs.Replies.{reply_line}
 use Rattle.nut_proto.specs.Requests.{begin_line, end_line}
 use Rattle.nut_server_spec.specs.Answer.{text_of}
-use Rattle.nut_server_spec.specs.examples.DriverExamples.{DriverExamples, EdgeExamples, UserExamples}
+use Rattle.nut_server_spec.specs.examples.DriverExamples.{DriverExamples, EdgeExamples, TrackingExamples, UserExamples}
 
 pub drivers : DriverExamples
 unfolding digits read named put asked heard accepts changed after applied verb_of variable_description command_description ask_line meaning command_of subject_of line refusal_name reply_line begin_line end_line text_of
@@ -64,13 +64,18 @@ drivers = record {
 }
 
 pub edges : EdgeExamples
-unfolding ask_line line
+unfolding ask_line line digits
 edges = record {
   most_fits = refl;
   one_byte_more = refl;
   one_byte_waits_more = refl;
   last_set_is_handed_on = refl;
   first_set_is_refused = refl;
+  last_numbered_set = refl;
+  first_numbered_set_is_refused = refl;
+  last_number = refl;
+  no_number_is_left = refl;
+  no_number_is_needed = refl;
   last_ping = refl;
   first_ping_left_out = refl;
   third_is_rounded_down = refl;
@@ -108,4 +113,22 @@ users = record {
   forced = refl;
   forced_for_all = refl;
   forced_for_good = refl;
+}
+
+pub tracking : TrackingExamples
+unfolding digits read named put asked heard accepts changed after applied verb_of ask_line meaning command_of subject_of line refusal_name reply_line begin_line end_line text_of
+tracking = record {
+  off_at_first = refl;
+  switch_before_user = refl;
+  numbered = refl;
+  refusal_takes_no_number = refl;
+  number_is_asked = refl;
+  pending = refl;
+  success = refl;
+  failure = refl;
+  first_counts = refl;
+  driver_gone = refl;
+  driver_came_anew = refl;
+  not_given = refl;
+  parameter = refl;
 }

@@ -1,6 +1,7 @@
 -- How a server answers a client's line (RFC 9271; NUT developer guide, chapter 9).
-use Rattle.std.specs.Prelude.{ℕ, ℤ, ◌==◌, Bool, true, false, not, ◌&&◌, ◌||◌, nat_lt, int_le, if◌then◌else◌, List, [], ◌∷◌, ◌++◌, codes, length, map, filter, flat_map, slice_index_or, Option, Some, None, is_some, is_none}
+use Rattle.std.specs.Prelude.{ℕ, ℤ, ◌+◌, ◌==◌, Bool, true, false, not, ◌&&◌, ◌||◌, nat_lt, int_le, if◌then◌else◌, List, [], ◌∷◌, ◌++◌, codes, length, map, filter, find, flat_map, slice_index_or, Option, Some, None, is_some, is_none}
 use Rattle.std.specs.List.{list_any}
+use Rattle.std.specs.Option.{option_map_or}
 use Rattle.std.specs.Str.{bytes_eq}
 use Rattle.nut_words.specs.declared.limits.TheConstants.{VALUE_MAX}
 use Rattle.nut_conf.specs.declared.users.Action.TheVariants as actions
@@ -20,7 +21,11 @@ use Rattle.nut_proto.specs.declared.reply.Reply.{Reply}
 use Rattle.nut_proto.specs.declared.reply.Reply.TheVariants as replies
 use Rattle.nut_proto.specs.declared.reply.VariableKind.{VariableKind}
 use Rattle.nut_proto.specs.declared.reply.VariableKind.TheVariants as kinds
+use Rattle.nut_proto.specs.declared.driver_ask.DriverAsk.{DriverAsk}
 use Rattle.nut_proto.specs.declared.driver_ask.DriverAsk.TheVariants as asks
+use Rattle.nut_proto.specs.declared.limits.TheConstants.{TRACKING_NUMBER_MAX}
+use Rattle.nut_proto.specs.declared.tracking.TrackingStatus.{TrackingStatus}
+use Rattle.nut_proto.specs.declared.tracking.TrackingStatus.TheVariants as statuses
 use Rattle.nut_proto.specs.Descriptions.{variable_description, command_description}
 use Rattle.nut_proto.specs.DriverAsks.{ask_line}
 use Rattle.nut_proto.specs.Replies.{reply_line}
@@ -47,20 +52,22 @@ pub record Guest : Type 0 where
   pub address : List ℕ
   pub login : Option ℕ
 
--- What the server knows when it answers a line: the configuration, the time, the UPSes in the order of their numbers,
--- and the open connections by rising number.
+-- What the server knows when it answers a line: the configuration, the time, how many numbers it gave to requests, the
+-- UPSes in the order of their numbers, and the open connections by rising number.
 pub record Scene : Type 0 where
   pub configuration : Configuration
   pub clock : ℕ
+  pub given : ℕ
   pub devices : List Device
   pub guests : List Guest
 
--- what the server knows of the connection whose line it answers: the user and the password that it gave, and the UPS
--- that it is logged in to
+-- what the server knows of the connection whose line it answers: the user and the password that it gave, the UPS that it
+-- is logged in to, and whether its requests are tracked
 pub record Caller : Type 0 where
   pub user : Option (List ℕ)
   pub password : Option (List ℕ)
   pub login : Option ℕ
+  pub tracking : Bool
 
 -- the answer `ERR` with this refusal
 abbrev pub refused : Refusal → Answer
@@ -110,6 +117,23 @@ on_variable name d next = require refusals.VarNotSupported (variable d.table nam
 -- the next step if the UPS has a command with this name; else `CMD-NOT-SUPPORTED`
 abbrev pub on_command : List ℕ → Device → Answer → Answer
 on_command name d next = check refusals.CmdNotSupported (has_command d.table name) next
+
+-- ---- numbers
+
+-- The next step of a request with its number, if the connection's requests are tracked: numbers rise by one from 1. Once
+-- all are given, the refusal.
+abbrev pub numbered : Refusal → Scene → Caller → (Option ℕ → Answer) → Answer
+numbered refusal s k next =
+    if k.tracking then check refusal (nat_lt s.given TRACKING_NUMBER_MAX) (next (Some (s.given + 1))) else next None
+
+-- the answer to a request that is handed on to a driver, with its number if it has one
+abbrev pub accepted : Option ℕ → Answer
+accepted None = Line replies.Accepted
+accepted (Some number) = Line (replies.AcceptedAs number)
+
+-- How the request with this number ended. `Unknown` if no UPS remembers it.
+abbrev pub status_of : ℕ → List Device → TrackingStatus
+status_of number devices = option_map_or (λ t. t.status) (find (λ t. t.number == number) (flat_map (λ d. d.tracked) devices)) statuses.Unknown
 
 -- ---- rights
 
@@ -234,18 +258,28 @@ misfit v value =
     if not v.flags.writable then Some refusals.ReadOnly else
     if nat_lt VALUE_MAX (length value) then Some refusals.TooLong else misfit_by (kind_of v) v value
 
--- `OK` if the request fits behind those that wait for the driver; else the refusal
-abbrev pub handed_on : Refusal → List ℕ → Device → Answer
-handed_on refusal line d = check refusal (fits line d) (Line replies.Accepted)
+-- why a command can't be given a parameter: it has more than VALUE_MAX bytes
+abbrev pub parameter_misfit : Option (List ℕ) → Option Refusal
+parameter_misfit None = None
+parameter_misfit (Some parameter) = if nat_lt VALUE_MAX (length parameter) then Some refusals.TooLong else None
+
+-- `OK` if the request, with its number if it is given one, fits behind those that wait for the driver; else the refusal
+abbrev pub handed_on : Refusal → Scene → Caller → (Option ℕ → DriverAsk) → Device → Answer
+handed_on refusal s k ask d = numbered refusal s k (λ number. check refusal (fits (ask_line (ask number)) d) (accepted number))
 
 -- the answer to SET VAR, after the tests of the user, the UPS and its data
-abbrev pub set_answer : Device → List ℕ → List ℕ → Answer
-set_answer d name value =
-    on_variable name d (λ v. unless (misfit v value) (handed_on refusals.SetFailed (ask_line (asks.Set name value)) d))
+abbrev pub set_answer : Scene → Caller → Device → List ℕ → List ℕ → Answer
+set_answer s k d name value =
+    on_variable name d (λ v. unless (misfit v value) (handed_on refusals.SetFailed s k (λ number. asks.Set name value number) d))
 
 -- the answer to INSTCMD, after the tests of the user, the UPS and its data
-abbrev pub command_answer : Device → List ℕ → Answer
-command_answer d name = on_command name d (handed_on refusals.InstCmdFailed (ask_line (asks.InstCmd name)) d)
+abbrev pub command_answer : Scene → Caller → Device → List ℕ → Option (List ℕ) → Answer
+command_answer s k d name parameter =
+    on_command name d (unless (parameter_misfit parameter) (handed_on refusals.InstCmdFailed s k (λ number. asks.InstCmd name parameter number) d))
+
+-- the answer to SET TRACKING: any user may switch it, once a name and a password were given
+abbrev pub tracking_answer : Caller → Answer
+tracking_answer k = require refusals.UsernameRequired k.user (λ user. require refusals.PasswordRequired k.password (λ password. Line replies.Accepted))
 
 -- ---- all requests
 
@@ -262,9 +296,12 @@ answer_request s k (requests.GetVar ups name) = on_device s ups (λ d. on_variab
 answer_request s k (requests.GetType ups name) = on_device s ups (λ d. on_variable name d (λ v. Line (type_reply ups v)))
 answer_request s k (requests.GetDesc ups name) = on_device s ups (λ d. on_variable name d (λ v. Line (replies.Desc ups name (variable_description s.configuration.variable_texts name))))
 answer_request s k (requests.GetCmdDesc ups name) = on_device s ups (λ d. on_command name d (Line (replies.CmdDesc ups name (command_description s.configuration.command_texts name))))
+answer_request s k requests.GetTracking = Line (replies.TrackingIs k.tracking)
+answer_request s k (requests.GetTrackingOf number) = Line (replies.Tracking number (status_of number s.devices))
 answer_request s k (requests.List query) = list_answer s query
-answer_request s k (requests.SetVar ups name value) = with_right s k may_set ups (λ u. on_data s u (λ d. set_answer d name value))
-answer_request s k (requests.InstCmd ups name) = with_right s k (may_command name) ups (λ u. on_data s u (λ d. command_answer d name))
+answer_request s k (requests.SetVar ups name value) = with_right s k may_set ups (λ u. on_data s u (λ d. set_answer s k d name value))
+answer_request s k (requests.SetTracking on) = tracking_answer k
+answer_request s k (requests.InstCmd ups name parameter) = with_right s k (may_command name) ups (λ u. on_data s u (λ d. command_answer s k d name parameter))
 answer_request s k (requests.Username name) = once refusals.AlreadySetUsername k.user
 answer_request s k (requests.Password password) = once refusals.AlreadySetPassword k.password
 answer_request s k (requests.Login ups) = with_right s k may_log_in ups (λ u. check refusals.AlreadyLoggedIn (is_none k.login) (Line replies.Accepted))

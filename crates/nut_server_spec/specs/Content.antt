@@ -5,7 +5,7 @@ use Rattle.nut_words.specs.Lines.{LineText, rest}
 use Rattle.nut_server_spec.specs.Configuration.{Configuration}
 use Rattle.nut_server_spec.specs.Device.{Device}
 use Rattle.nut_server_spec.specs.Event.{Event, input, taken, driver_input, steps}
-use Rattle.nut_server_spec.specs.Trace.{Entry, configuration, clock, opened, open_numbers, address, user, password, login, logged_out, due, device, ups_numbers, trace}
+use Rattle.nut_server_spec.specs.Trace.{Entry, configuration, clock, opened, open_numbers, address, user, password, login, logged_out, tracking, given, due, device, ups_numbers, trace}
 
 -- An open connection: what it said of itself, its unfinished line, and the bytes that wait for it.
 pub record Session : Type 0 where
@@ -15,6 +15,7 @@ pub record Session : Type 0 where
   pub password : Option (List ℕ)
   pub login : Option ℕ
   pub logged_out : Bool
+  pub tracking : Bool
   pub rest : LineText
   pub waits : List ℕ
 
@@ -23,12 +24,13 @@ pub record Supply : Type 0 where
   pub device : Device
   pub rest : LineText
 
--- `opened` is the number of connections opened so far. `sessions` are the open ones, by rising number. `supplies` are
--- the UPSes, in the order of their numbers.
+-- `opened` is the number of connections opened so far, `given` that of the numbers given to requests. `sessions` are
+-- the open ones, by rising number. `supplies` are the UPSes, in the order of their numbers.
 pub record Content : Type 0 where
   pub configuration : Configuration
   pub clock : ℕ
   pub opened : ℕ
+  pub given : ℕ
   pub sessions : List Session
   pub supplies : List Supply
 
@@ -55,6 +57,7 @@ session first h c = record {
   password = password c (past first h);
   login = login first c (past first h);
   logged_out = logged_out c (past first h);
+  tracking = tracking c (past first h);
   rest = rest (input c h);
   waits = waits first c h;
 }
@@ -69,6 +72,7 @@ content first h = record {
   configuration = configuration first (past first h);
   clock = clock (past first h);
   opened = opened (past first h);
+  given = given (past first h);
   sessions = map (session first h) (open_numbers (past first h));
   supplies = map (supply first h) (ups_numbers first (past first h));
 }

@@ -7,10 +7,12 @@ use Rattle.nut_proto.specs.declared.refusal.Refusal.{Refusal}
 use Rattle.nut_proto.specs.declared.refusal.Refusal.TheVariants.{DriverNotConnected, DataStale}
 use Rattle.nut_proto.specs.declared.driver_ask.DriverAsk.TheVariants.{Ping}
 use Rattle.nut_proto.specs.DriverAsks.{ask_line}
+use Rattle.nut_server_spec.specs.Tracking.{Tracked}
 
 -- A UPS: whether its driver is connected; the table that the driver has reported since it was connected; the moment at
 -- which a line of the driver was last heard, or it was connected; the moment of the last PING since then, if there was
--- one; whether a shutdown was forced; and the requests that wait for the driver.
+-- one; whether a shutdown was forced; the requests that wait for the driver; and the newest tracked requests, the newest
+-- first.
 pub record Device : Type 0 where
   pub connected : Bool
   pub table : Table
@@ -18,10 +20,11 @@ pub record Device : Type 0 where
   pub pinged_at : Option ℕ
   pub forced : Bool
   pub waits : List ℕ
+  pub tracked : List Tracked
 
 -- a UPS whose driver was never connected
 abbrev pub absent : Device
-absent = record { connected = false; table = empty; heard_at = 0; pinged_at = None; forced = false; waits = [] }
+absent = record { connected = false; table = empty; heard_at = 0; pinged_at = None; forced = false; waits = []; tracked = [] }
 
 -- whether more than `seconds` have passed since the moment
 abbrev pub is_past : ℕ → ℕ → ℕ → Bool

@@ -32,6 +32,16 @@ abbrev pub logged_out_then : Command → Answer → Bool → Bool
 logged_out_then command (Line replies.Goodbye) before = true
 logged_out_then command reply before = before
 
+-- whether the requests of a connection are tracked: as the last SET TRACKING says that was answered OK
+abbrev pub tracking_then : Command → Answer → Bool → Bool
+tracking_then (Asks (requests.SetTracking on)) (Line replies.Accepted) before = on
+tracking_then command reply before = before
+
+-- the number that an answer gives to a request, if it gives one
+abbrev pub number_in : Answer → Option ℕ
+number_in (Line (replies.AcceptedAs number)) = Some number
+number_in reply = None
+
 -- all bytes due to a connection: the answers to its lines, joined
 abbrev pub due_then : Command → Answer → List ℕ → List ℕ
 due_then command reply before = before ++ text_of reply
@@ -39,7 +49,7 @@ due_then command reply before = before ++ text_of reply
 -- the name of the UPS on which a command acts, if it acts on one
 abbrev pub target_name : Command → Option (List ℕ)
 target_name (Asks (requests.SetVar ups variable value)) = Some ups
-target_name (Asks (requests.InstCmd ups command)) = Some ups
+target_name (Asks (requests.InstCmd ups command parameter)) = Some ups
 target_name (Asks (requests.Fsd ups)) = Some ups
 target_name command = None
 
@@ -52,10 +62,13 @@ abbrev pub forced_then : Command → Answer → Bool → Bool
 forced_then (Asks (requests.Fsd ups)) (Line replies.FsdSet) before = true
 forced_then command reply before = before
 
--- the request to the driver of the UPS on which the command acts: the SET or INSTCMD that was answered OK
+-- the request to the driver of the UPS on which the command acts: the SET or INSTCMD that was answered OK, with the
+-- number that it was given
 abbrev pub request_of : Command → Answer → Option (List ℕ)
-request_of (Asks (requests.SetVar ups variable value)) (Line replies.Accepted) = Some (ask_line (asks.Set variable value))
-request_of (Asks (requests.InstCmd ups command)) (Line replies.Accepted) = Some (ask_line (asks.InstCmd command))
+request_of (Asks (requests.SetVar ups variable value)) (Line replies.Accepted) = Some (ask_line (asks.Set variable value None))
+request_of (Asks (requests.SetVar ups variable value)) (Line (replies.AcceptedAs number)) = Some (ask_line (asks.Set variable value (Some number)))
+request_of (Asks (requests.InstCmd ups command parameter)) (Line replies.Accepted) = Some (ask_line (asks.InstCmd command parameter None))
+request_of (Asks (requests.InstCmd ups command parameter)) (Line (replies.AcceptedAs number)) = Some (ask_line (asks.InstCmd command parameter (Some number)))
 request_of command reply = None
 
 -- the value of the UPS u after a change of the UPS on which the command acts: the same if it acts on none or on another

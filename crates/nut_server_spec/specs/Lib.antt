@@ -1,6 +1,7 @@
 pub mod Configuration
 pub mod Command
 pub mod Event
+pub mod Tracking
 pub mod Device
 pub mod Answer
 pub mod Effect

@@ -9,9 +9,11 @@ use Rattle.nut_proto.specs.DriverAsks.{ask_line}
 use Rattle.nut_server_spec.specs.Configuration.{Configuration}
 use Rattle.nut_server_spec.specs.Command.{Command, command_of}
 use Rattle.nut_server_spec.specs.Event.{Step, Clock, Opened, Said, Gone, Up, Reported, Drained, Down}
+use Rattle.std.specs.Option.{option_map_or}
+use Rattle.nut_server_spec.specs.Tracking.{Tracked, told_in, with_tracked, all_ended_by, all_abandoned}
 use Rattle.nut_server_spec.specs.Device.{Device, needs_ping}
 use Rattle.nut_server_spec.specs.Answer.{Answer, Silence, Scene, Caller, Guest, answer}
-use Rattle.nut_server_spec.specs.Effect.{user_then, password_then, login_then, logged_out_then, due_then, target, forced_then, request_of, at_target}
+use Rattle.nut_server_spec.specs.Effect.{user_then, password_then, login_then, logged_out_then, tracking_then, number_in, due_then, target, forced_then, request_of, at_target}
 
 -- A step, the answer to it, and its request to the driver of each UPS, by the number of the UPS. The answer to a step
 -- that is no line of a client is silence.
@@ -62,6 +64,15 @@ abbrev pub open_numbers : List Entry → List ℕ
 open_numbers [] = []
 open_numbers (e ∷ past) = numbers_after e.step (opened past) (open_numbers past)
 
+-- how many numbers have been given to requests, if n had been before this answer
+abbrev pub given_then : Answer → ℕ → ℕ
+given_then reply n = option_map_or (λ number. n + 1) (number_in reply) n
+
+-- how many numbers have been given to requests; the newest is this one
+abbrev pub given : List Entry → ℕ
+given [] = 0
+given (e ∷ past) = given_then e.answer (given past)
+
 -- ---- a connection
 
 -- the address of c after a step, if n connections had been opened before it
@@ -99,6 +110,11 @@ login first c (e ∷ past) = after_line (login_then (configuration first past)) 
 abbrev pub logged_out : ℕ → List Entry → Bool
 logged_out c [] = false
 logged_out c (e ∷ past) = after_line logged_out_then c e.step e.answer (logged_out c past)
+
+-- whether the requests of c are tracked
+abbrev pub tracking : ℕ → List Entry → Bool
+tracking c [] = false
+tracking c (e ∷ past) = after_line tracking_then c e.step e.answer (tracking c past)
 
 -- the answers to the lines of c, joined: all bytes due to it
 abbrev pub due : ℕ → List Entry → List ℕ
@@ -178,6 +194,21 @@ abbrev pub forced : Configuration → ℕ → List Entry → Bool
 forced first u [] = false
 forced first u (e ∷ past) = forced_after (configuration first past) u e.step e.answer (forced first u past)
 
+-- The tracked requests to u after a step. One is added where it is given its number. The first line of the driver that
+-- tells of it says how it ended; if the driver is disconnected or connected anew before that, the request failed.
+abbrev pub tracked_after : Configuration → ℕ → Step → Answer → List Tracked → List Tracked
+tracked_after configuration u (Said c line) reply before =
+    at_target u (target configuration (command_of line)) (with_tracked (number_in reply)) before
+tracked_after configuration u (Reported v line) reply before = if v == u then all_ended_by (told_in line) before else before
+tracked_after configuration u (Up v) reply before = if v == u then all_abandoned before else before
+tracked_after configuration u (Down v) reply before = if v == u then all_abandoned before else before
+tracked_after configuration u step reply before = before
+
+-- the newest tracked requests to u, the newest first, at most TRACKED_MAX
+abbrev pub tracked : Configuration → ℕ → List Entry → List Tracked
+tracked first u [] = []
+tracked first u (e ∷ past) = tracked_after (configuration first past) u e.step e.answer (tracked first u past)
+
 -- A value of the driver of u since it was connected: `start` when it is connected, else the value before.
 abbrev pub since_up : {A : Type 0} → A → ℕ → Step → A → A
 since_up start u (Up v) before = if v == u then start else before
@@ -223,6 +254,7 @@ device first past u = record {
   pinged_at = pinged_at u past;
   forced = forced first u past;
   waits = driver_waits u past;
+  tracked = tracked first u past;
 }
 
 -- ---- answers
@@ -245,13 +277,14 @@ abbrev pub scene : Configuration → List Entry → Scene
 scene first past = record {
   configuration = configuration first past;
   clock = clock past;
+  given = given past;
   devices = map (device first past) (ups_numbers first past);
   guests = map (guest first past) (open_numbers past);
 }
 
 -- what the server knows of the connection c when it answers a line of c
 abbrev pub caller : Configuration → List Entry → ℕ → Caller
-caller first past c = record { user = user c past; password = password c past; login = login first c past }
+caller first past c = record { user = user c past; password = password c past; login = login first c past; tracking = tracking c past }
 
 -- the answer to a line of c after this past: silence if c has logged out
 abbrev pub answer_to : Configuration → List Entry → ℕ → LineText → Answer

@@ -4,13 +4,14 @@
 
 ghost use Rattle.nut_server_spec.specs.machine.Machine.{KeepsContent};
 ghost use Rattle.nut_server_spec.specs.examples.Examples.{ConnectionExamples};
-ghost use Rattle.nut_server_spec.specs.examples.DriverExamples.{DriverExamples, EdgeExamples, UserExamples};
+ghost use Rattle.nut_server_spec.specs.examples.DriverExamples.{DriverExamples, EdgeExamples, TrackingExamples, UserExamples};
 ghost use Rattle.nut_server_spec.specs.laws.Laws.{AnswersKeepContent, BoundsHold, ClosedStaysClosed, ConnectionsAreFew, CutsAndWritesDoNotMatter, CutsDoNotMatter, DriverCutsAndWritesDoNotMatter, DriverCutsDoNotMatter, DriverSentAndWaitingIsDue, DriverSentIsReceived, LogoutIsFinal, NumbersRise, OpenedIsFresh, OtherDriversStay, OthersStay, SameStepsSameAnswers, SentAndWaitingIsDue, SentIsFrontOfDue, SentIsReceived, WaitsForOnePiece};
 ghost use Rattle.nut_server_spec.specs.laws.Limits.{AnswersAreBounded, WaitsAreBounded};
+ghost use Rattle.nut_server_spec.specs.laws.Tracked.{TrackingLooksBack};
 
 mod limits;
 
-pub use limits::{ADDRESS_MAX, OPENED_MAX, connection_limits};
+pub use limits::{ADDRESS_MAX, OPENED_MAX, TRACKED_MAX, connection_limits};
 use nut_state::every_table_holds;
 use thiserror::Error;
 
@@ -159,8 +160,8 @@ pub fn closed_stays_closed()
     ensures { ClosedStaysClosed }
 {}
 
-/// States a law and does nothing when called: at most 512 bytes of an unfinished line are kept, and at most 4,096 bytes
-/// wait for a driver.
+/// States a law and does nothing when called: at most 2,048 bytes of an unfinished line are kept, and at most 4,096
+/// bytes wait for a driver.
 pub fn bounds_hold()
     ensures { BoundsHold }
 {}
@@ -170,7 +171,7 @@ pub fn connections_are_few()
     ensures { ConnectionsAreFew }
 {}
 
-/// Where the configuration is within the limits that its files have, no answer to one line is longer than 184,930 bytes:
+/// Where the configuration is within the limits that its files have, no answer to one line is longer than 578,146 bytes:
 /// that to a LIST VAR of as many variables as a table holds.
 pub fn answers_are_bounded()
     ensures { AnswersAreBounded }
@@ -184,7 +185,7 @@ pub fn waits_for_one_piece()
 {}
 
 /// States a law and does nothing when called: if the configuration is within the limits of its files, at most
-/// 47,342,080 bytes wait for a client. These are the answers to 256 lines of one piece, each of at most 184,930 bytes.
+/// 148,005,376 bytes wait for a client. These are the answers to 256 lines of one piece, each of at most 578,146 bytes.
 pub fn waits_are_bounded()
     ensures { WaitsAreBounded }
 {
@@ -197,4 +198,11 @@ pub fn worked_examples()
     ensures drivers { DriverExamples }
     ensures edges { EdgeExamples }
     ensures users { UserExamples }
+    ensures tracking { TrackingExamples }
+{}
+
+/// States a law and does nothing when called: what is remembered of a tracked request is what looking back over the
+/// history for its number says.
+pub fn tracking_looks_back()
+    ensures { TrackingLooksBack }
 {}

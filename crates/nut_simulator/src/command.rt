@@ -20,7 +20,7 @@ pub fn nutsim_command<'a>(alloc: Global) -> Result<Command<'a>, AllocError> {
         .action(ArgAction::Append)
         .help("The upsmon.conf of each monitor; the first is monitor 0");
     Command::new(alloc, "nutsim")
-        .version("profile 1.2")
+        .version("profile 1.3")
         .about("Plays a schedule on one server and many monitors, joined in memory")
         .arg(folder)?
         .arg(schedule)?

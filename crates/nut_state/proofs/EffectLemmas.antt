@@ -10,7 +10,7 @@ use Rattle.nut_state.specs.Sorted.{named}
 use Rattle.nut_state.specs.Table.{Table, Entry, variable, has_command, value_of, flags_of, aux_of, enums_of, ranges_of}
 use Rattle.nut_state.specs.Step.{fresh, with_value, without_enum, without_range, passes, with_variable, with_command, revised, accepts, changed}
 use Rattle.nut_state.specs.Attribute.{same_range}
-use Rattle.nut_state.specs.Change.{Change, set_info, del_info, add_enum, del_enum, add_range, del_range, set_aux, set_flags, add_command, del_command, dump_done, data_ok, data_stale, pong}
+use Rattle.nut_state.specs.Change.{Change, set_info, del_info, add_enum, del_enum, add_range, del_range, set_aux, set_flags, add_command, del_command, dump_done, data_ok, data_stale, pong, tracking}
 use Rattle.nut_state.specs.LookBack.{deletes, value_set, flags_set, aux_set, enum_added, removes_enum, range_added, removes_range, command_set, dumps, data_set}
 use Rattle.nut_state.proofs.PutLemmas.{HasName, named-put_same, named-put_other, name-named}
 use Rattle.nut_state.proofs.TableLemmas.{either, and_left}
@@ -191,6 +191,7 @@ effects t name dump_done ok stays = idle t _ name dump_done refl (nothing_said n
 effects t name data_ok ok stays = idle t _ name data_ok refl (nothing_said name data_ok refl refl refl refl (λ _. refl) refl (λ _. refl))
 effects t name data_stale ok stays = idle t _ name data_stale refl (nothing_said name data_stale refl refl refl refl (λ _. refl) refl (λ _. refl))
 effects t name pong ok stays = cc
+effects t name (tracking number status) ok stays = cc
 
 -- a variable that is deleted is gone
 pub gone : (t : Table) (name : List ℕ) (change : Change) → deletes name change ≡ true → variable (changed t change) name ≡ None
@@ -238,3 +239,4 @@ rest_effects t name dump_done ok = same_rest t _ name dump_done refl refl refl r
 rest_effects t name data_ok ok = same_rest t _ name data_ok refl refl refl refl
 rest_effects t name data_stale ok = same_rest t _ name data_stale refl refl refl refl
 rest_effects t name pong ok = cc
+rest_effects t name (tracking number status) ok = cc

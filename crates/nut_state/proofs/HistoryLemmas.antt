@@ -10,7 +10,7 @@ use Rattle.std.proofs.lemmas.List.Elements.{All-nil, filter-append}
 use Rattle.std.proofs.lemmas.List.{reverse-append}
 use Rattle.nut_state.specs.declared.limits.TheConstants.{VARIABLES_MAX, COMMANDS_MAX}
 use Rattle.nut_state.specs.Attribute.{no_flags, takes_enum, lists_enum, takes_range, lists_range}
-use Rattle.nut_state.specs.Change.{Change, set_info, del_info, add_enum, del_enum, add_range, del_range, set_aux, set_flags, add_command, del_command, dump_done, data_ok, data_stale, pong, asked, heard}
+use Rattle.nut_state.specs.Change.{Change, set_info, del_info, add_enum, del_enum, add_range, del_range, set_aux, set_flags, add_command, del_command, dump_done, data_ok, data_stale, pong, tracking, asked, heard}
 use Rattle.nut_state.specs.laws.Holds.{FollowsAlike, Holds, IsTable, IsWithinLimits, LooksBack}
 use Rattle.nut_state.specs.LookBack.{deletes, value_set, flags_set, aux_set, enum_added, removes_enum, range_added, removes_range, command_set, dumps, data_set, latest, standing, era, is_there, is_command, variable_count, command_count, is_accepted, adds_to, accepted_after, accepted}
 use Rattle.nut_state.specs.Sorted.{named}
@@ -149,6 +149,7 @@ module _ (t : Table) (changes : List Change) (table : IsTable t) (h : LooksBack 
   variables_more data_ok ok = h.variables
   variables_more data_stale ok = h.variables
   variables_more pong ok = cc
+  variables_more (tracking number status) ok = cc
 
   not_true : (b : Bool) → not b ≡ true → b ≡ false
   not_true true e = cc
@@ -173,6 +174,7 @@ module _ (t : Table) (changes : List Change) (table : IsTable t) (h : LooksBack 
   commands_more data_ok ok = h.commands
   commands_more data_stale ok = h.commands
   commands_more pong ok = cc
+  commands_more (tracking number status) ok = cc
 
   pub more : (change : Change) → accepts t change ≡ true → LooksBack (changed t change) (change ∷ changes)
   more change ok = record {
@@ -219,6 +221,7 @@ module _ (t : Table) (changes : List Change) (table : IsTable t) (h : LooksBack 
   accepts_same data_ok = refl
   accepts_same data_stale = refl
   accepts_same pong = refl
+  accepts_same (tracking number status) = refl
 
   adds_same : (change : Change) → adds t change ≡ adds_to changes change
   unfolding adds adds_to
@@ -236,6 +239,7 @@ module _ (t : Table) (changes : List Change) (table : IsTable t) (h : LooksBack 
   adds_same data_ok = refl
   adds_same data_stale = refl
   adds_same pong = refl
+  adds_same (tracking number status) = refl
 
   follows_alike : FollowsAlike t changes
   follows_alike = record { accepted_alike = accepts_same; added_alike = adds_same }

@@ -13,7 +13,7 @@ use Rattle.nut_state.specs.Sorted.{put}
 use Rattle.nut_state.specs.Table.{Table, Entry, variable}
 use Rattle.nut_state.specs.Step.{fresh, with_value, without_enum, without_range, passes, with_variable, with_command, revised, accepts, changed, after}
 use Rattle.nut_state.specs.Attribute.{same_range, takes_enum, takes_range}
-use Rattle.nut_state.specs.Change.{Change, set_info, del_info, add_enum, del_enum, add_range, del_range, set_aux, set_flags, add_command, del_command, dump_done, data_ok, data_stale, pong}
+use Rattle.nut_state.specs.Change.{Change, set_info, del_info, add_enum, del_enum, add_range, del_range, set_aux, set_flags, add_command, del_command, dump_done, data_ok, data_stale, pong, tracking}
 use Rattle.nut_state.specs.Text.{is_name}
 use Rattle.nut_state.specs.laws.Holds.{IsTable, IsWithinLimits}
 use Rattle.nut_state.proofs.PutLemmas.{HasName, ascending-put, length-put, length-put_found, length-put_none, All-put, name-named, All-named}
@@ -217,6 +217,7 @@ IsTable-changed t dump_done ok h = IsTable-marked t true t.data_ok h
 IsTable-changed t data_ok ok h = IsTable-marked t t.dump_done true h
 IsTable-changed t data_stale ok h = IsTable-marked t t.dump_done false h
 IsTable-changed t pong ok h = h
+IsTable-changed t (tracking number status) ok h = h
 
 pub after_accepted : (t : Table) (change : Change) → accepts t change ≡ true → after t change ≡ changed t change
 unfolding after

@@ -3,12 +3,13 @@ use Rattle.std.specs.Prelude.{ℕ, List, [], Option, Some, None, if◌then◌els
 use Rattle.std.specs.List.{list_any}
 use Rattle.std.specs.Option.{option_and_then}
 use Rattle.std.specs.Result.{result_ok}
+use Rattle.nut_words.specs.Number.{natural}
 use Rattle.nut_words.specs.Reader.{spelled}
 use Rattle.nut_state.specs.declared.number.Range.{Range}
 use Rattle.nut_state.specs.declared.variable.Flags.{Flags}
 use Rattle.nut_state.specs.declared.verb.Verb.{Verb}
-use Rattle.nut_state.specs.declared.verb.Verb.TheVariants.{SetInfo, DelInfo, AddEnum, DelEnum, AddRange, DelRange, SetAux, SetFlags, AddCommand, DelCommand, DumpDone, DataOk, DataStale, Pong}
-use Rattle.nut_state.specs.Number.{range_of, natural}
+use Rattle.nut_state.specs.declared.verb.Verb.TheVariants.{SetInfo, DelInfo, AddEnum, DelEnum, AddRange, DelRange, SetAux, SetFlags, AddCommand, DelCommand, DumpDone, DataOk, DataStale, Pong, Tracking}
+use Rattle.nut_state.specs.Number.{range_of}
 use Rattle.nut_state.specs.Verb.{says, verb_of, takes}
 
 -- A change that a line asks for. `None` stands for a range or a number that can't be read.
@@ -27,6 +28,7 @@ pub data Change : Type 0 where
   data_ok : Change
   data_stale : Change
   pong : Change
+  tracking : (number status : Option ℕ) → Change
 
 -- The word at a place, or the empty word past the last.
 abbrev pub word : List (List ℕ) → ℕ → List ℕ
@@ -56,6 +58,7 @@ asked_by DumpDone ws = dump_done
 asked_by DataOk ws = data_ok
 asked_by DataStale ws = data_stale
 asked_by Pong ws = pong
+asked_by Tracking ws = tracking (natural (word ws 1)) (natural (word ws 2))
 
 -- What these words ask for, if the first word is known, in upper or lower case, and there are as many words as it
 -- takes.

@@ -1,3 +1,4 @@
+pub mod Answer
 pub mod Attribute
 pub mod Change
 pub mod LookBack

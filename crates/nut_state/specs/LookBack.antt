@@ -9,7 +9,7 @@ use Rattle.nut_state.specs.declared.limits.TheConstants.{VARIABLES_MAX, COMMANDS
 use Rattle.nut_state.specs.declared.number.Range.{Range}
 use Rattle.nut_state.specs.declared.variable.Flags.{Flags}
 use Rattle.nut_state.specs.Attribute.{no_flags, same_range, lists_enum, takes_enum, lists_range, takes_range}
-use Rattle.nut_state.specs.Change.{Change, set_info, del_info, add_enum, del_enum, add_range, del_range, set_aux, set_flags, add_command, del_command, dump_done, data_ok, data_stale, pong, heard}
+use Rattle.nut_state.specs.Change.{Change, set_info, del_info, add_enum, del_enum, add_range, del_range, set_aux, set_flags, add_command, del_command, dump_done, data_ok, data_stale, pong, tracking, heard}
 use Rattle.nut_state.specs.Text.{is_name}
 
 -- ---- what one change says
@@ -162,6 +162,7 @@ is_accepted past dump_done = true
 is_accepted past data_ok = true
 is_accepted past data_stale = true
 is_accepted past pong = false
+is_accepted past (tracking number status) = false
 
 -- The change that a line asks for, if it is accepted after these changes.
 abbrev pub accepted_after : List Change → Option Change → List Change

@@ -1,21 +1,8 @@
 -- Whole numbers as a driver's lines have them.
-use Rattle.std.specs.Prelude.{ℕ, ℤ, pos, neg_ℤ, ◌+◌, ◌-◌, ◌*◌, ◌==◌, ◌&&◌, Bool, List, [], ◌∷◌, Option, Some, None, if◌then◌else◌, nat_lt, nat_le, length, fold, option_map, int_le}
+use Rattle.std.specs.Prelude.{ℕ, ℤ, pos, neg_ℤ, ◌==◌, List, [], ◌∷◌, Option, Some, None, if◌then◌else◌, option_map, int_le}
 use Rattle.std.specs.Option.{option_and_then}
+use Rattle.nut_words.specs.Number.{natural}
 use Rattle.nut_state.specs.declared.number.Range.{Range}
-use Rattle.std.specs.List.{list_all}
-use Rattle.std.specs.Char.{is_ascii_digit}
-
--- The number that decimal digits say, the most significant digit first.
-abbrev pub digits_value : List ℕ → ℕ
-digits_value text = fold (λ n digit. 10 * n + (digit - 48)) 0 text
-
--- Whether the text is a number of one to nine digits.
-abbrev pub is_natural : List ℕ → Bool
-is_natural text = nat_lt 0 (length text) && nat_le (length text) 9 && list_all is_ascii_digit text
-
--- The number that the text says, if it says one.
-abbrev pub natural : List ℕ → Option ℕ
-natural text = if is_natural text then Some (digits_value text) else None
 
 -- The number that the text says, if it says one. Its digits may follow a minus sign, the byte 45.
 abbrev pub whole_number : List ℕ → Option ℤ

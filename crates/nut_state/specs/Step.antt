@@ -10,7 +10,7 @@ use Rattle.nut_words.specs.declared.limits.TheConstants.{VALUE_MAX}
 use Rattle.nut_state.specs.declared.limits.TheConstants.{VARIABLES_MAX, COMMANDS_MAX}
 use Rattle.nut_state.specs.declared.number.Range.{Range}
 use Rattle.nut_state.specs.Attribute.{no_flags, same_range, takes_enum, lists_enum, takes_range, lists_range}
-use Rattle.nut_state.specs.Change.{Change, set_info, del_info, add_enum, del_enum, add_range, del_range, set_aux, set_flags, add_command, del_command, dump_done, data_ok, data_stale, pong, heard}
+use Rattle.nut_state.specs.Change.{Change, set_info, del_info, add_enum, del_enum, add_range, del_range, set_aux, set_flags, add_command, del_command, dump_done, data_ok, data_stale, pong, tracking, heard}
 use Rattle.nut_state.specs.Sorted.{put}
 use Rattle.nut_state.specs.Table.{Table, Entry, empty, variable, has_command}
 use Rattle.nut_state.specs.Text.{is_name}
@@ -41,6 +41,7 @@ accepts t dump_done = true
 accepts t data_ok = true
 accepts t data_stale = true
 accepts t pong = false
+accepts t (tracking number status) = false
 
 -- ---- what it does
 
@@ -87,6 +88,7 @@ changed t dump_done = record t { dump_done = true }
 changed t data_ok = record t { data_ok = true }
 changed t data_stale = record t { data_ok = false }
 changed t pong = t
+changed t (tracking number status) = t
 
 -- The table after a change was asked for: changed if it accepts the change, else the same.
 unfoldable pub after : Table → Change → Table

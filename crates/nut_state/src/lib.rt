@@ -23,7 +23,7 @@ mod verb;
 pub use heard::{Heard, StateFault};
 pub use laws::{every_table_holds, table_limits};
 pub use limits::{COMMANDS_MAX, ENUMS_MAX, RANGES_MAX, VARIABLES_MAX};
-pub use number::{Range, natural, whole_number};
+pub use number::{Range, whole_number};
 pub use state::UpsState;
 pub use text::{Name, Text};
 pub use variable::{Flags, Variable};

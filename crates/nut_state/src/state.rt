@@ -2,6 +2,7 @@
 ghost use Rattle.std.specs.Prelude.{◌≡◌, ◌≤◌, ◌∷◌, [], List, ℕ, true, false, length, map, IsOk, OnOk, OnErr, IfOk, MatchOption, Some, None, option_map, is_some, if◌then◌else◌};
 ghost use Rattle.nut_state.specs.Table.{empty, variable, has_command, value_of, flags_of, aux_of, enums_of, ranges_of};
 ghost use Rattle.nut_state.specs.Step.{after, adds, applied, line_adds};
+ghost use Rattle.nut_state.specs.Answer.{answer, answer_to};
 ghost use Rattle.nut_state.specs.Change.{set_info, del_info, add_enum, del_enum, add_range, del_range, set_aux, set_flags, add_command, del_command, asked_by, heard};
 ghost use Rattle.nut_state.specs.laws.Holds.{Holds, IsWithinLimits};
 ghost use Rattle.nut_state.specs.Sorted.{IsAscending};
@@ -11,12 +12,12 @@ ghost use Rattle.nut_words.specs.Reader.{has_backslash};
 
 use crate::heard::{Heard, StateFault};
 use crate::limits::{COMMANDS_MAX, VARIABLES_MAX};
-use crate::number::{Range, natural};
+use crate::number::Range;
 use crate::sorted::{place_of_command, place_of_variable};
 use crate::text::{Name, Text, is_name};
 use crate::variable::{Flags, Variable};
 use crate::verb::Verb;
-use nut_words::{VALUE_MAX, WordFault, Words, split};
+use nut_words::{VALUE_MAX, WordFault, Words, natural, split};
 use std::alloc::{AllocError, Global};
 use std::marker::Model;
 
@@ -202,9 +203,22 @@ impl UpsState {
             Verb::DumpDone => self.dump_done = true,
             Verb::DataOk => self.data_ok = true,
             Verb::DataStale => self.data_ok = false,
-            Verb::Pong => {}
+            Verb::Pong | Verb::Tracking => {}
         }
         Ok(())
+    }
+}
+
+/// Returns what the table answers to a line with this verb and these words.
+fn answer_to(verb: Verb, words: &Words) -> Heard
+    ensures { result ≡ answer_to (asked_by verb words.now) }
+{
+    if verb != Verb::Tracking {
+        return Heard::Heard;
+    }
+    match (natural(words.get(1)), natural(words.get(2))) {
+        (Some(number), Some(status)) => Heard::Tracked { number, status },
+        _ => Heard::Heard,
     }
 }
 
@@ -248,7 +262,7 @@ impl UpsState {
     #[tactic(auto, unfolding(crate::specs::Step::applied, crate::specs::Change::heard, crate::specs::Step::line_adds))]
     pub fn apply(&mut self, line: &[u8]) -> Result<Heard, StateFault>
         ensures table { OnOk result (self.new ≡ applied self.old line.now) }
-        ensures answer { IfOk result (λ answer. answer ≡ (if is_some (heard line.now) then Heard.Heard else Heard.Ignored)) }
+        ensures answer { IfOk result (λ told. told ≡ answer (heard line.now)) }
         ensures refused { OnErr result (self.new ≡ self.old) }
 
         // If the table holds what these lines say, the newest first, it then holds what they and this line say.
@@ -266,7 +280,7 @@ impl UpsState {
             return Ok(Heard::Ignored);
         };
         self.follow(verb, &words)?;
-        Ok(Heard::Heard)
+        Ok(answer_to(verb, &words))
     }
 
     /// Returns the variable with this name, if there is one. It saves searches if more than one of the look-ups below

@@ -22,6 +22,7 @@ pub(crate) enum Verb {
     DataOk,
     DataStale,
     Pong,
+    Tracking,
 }
 
 /// Whether a word is this text, in upper or lower case.
@@ -31,7 +32,7 @@ pub(crate) fn says(text: &[u8], word: &[u8]) -> bool
     word.eq_ignore_ascii_case(text)
 }
 
-const ALL: [Verb; 14] = [
+const ALL: [Verb; 15] = [
     Verb::SetInfo,
     Verb::DelInfo,
     Verb::AddEnum,
@@ -46,6 +47,7 @@ const ALL: [Verb; 14] = [
     Verb::DataOk,
     Verb::DataStale,
     Verb::Pong,
+    Verb::Tracking,
 ];
 
 impl Verb {
@@ -67,6 +69,7 @@ impl Verb {
             Verb::DataOk => b"DATAOK",
             Verb::DataStale => b"DATASTALE",
             Verb::Pong => b"PONG",
+            Verb::Tracking => b"TRACKING",
         }
     }
 
@@ -83,7 +86,8 @@ impl Verb {
         ensures { result ≡ takes self count }
     {
         match self {
-            Verb::SetInfo | Verb::AddEnum | Verb::DelEnum | Verb::SetAux => count == 3,
+            Verb::SetInfo | Verb::AddEnum | Verb::DelEnum | Verb::SetAux | Verb::Tracking => count
+                == 3,
             Verb::DelInfo | Verb::AddCommand | Verb::DelCommand => count == 2,
             Verb::AddRange | Verb::DelRange => count == 4,
             Verb::SetFlags => count >= 2,

@@ -25,7 +25,7 @@ pub fn upsd_command<'a>(alloc: Global) -> Result<Command<'a>, AllocError> {
 
 fn bare_command<'a>(alloc: Global) -> Command<'a> {
     Command::new(alloc, "upsd")
-        .version("profile 1.2")
+        .version("profile 1.3")
         .about("A server of the UPS Management Protocol (RFC 9271)")
 }
 

@@ -7,7 +7,7 @@ use std::alloc::{AllocError, Global};
 /// Returns the command line of upsmon: to watch, to check its file, and to look for POWERDOWNFLAG.
 pub fn upsmon_command<'a>(alloc: Global) -> Result<Command<'a>, AllocError> {
     Command::new(alloc, "upsmon")
-        .version("profile 1.2")
+        .version("profile 1.3")
         .about("A monitor of UPSes that halts its machine when too few of them are left")
         .arg(conf_of_upsmon(alloc))?
         .arg(quiet_option(alloc, "Tell nothing of UPSes and servers"))?

@@ -6,7 +6,7 @@ ghost use Rattle.std.specs.Prelude.{◌≡◌};
 
 /// The greatest length of a line in bytes: of a request or an answer, and of what a driver and a server tell each other. Its
 /// line feed isn't counted, a carriage return is.
-pub const LINE_MAX: usize = 512;
+pub const LINE_MAX: usize = 2048;
 /// The greatest number of bytes that come in at once.
 pub const PIECE_MAX: usize = 512;
 /// The greatest number of words of a line.
@@ -16,17 +16,17 @@ pub const UPS_NAME_MAX: usize = 32;
 /// The greatest length of the name of a variable or a command in bytes.
 pub const NAME_MAX: usize = 64;
 /// The greatest length of a value or an enum value in bytes, and the greatest number that SETAUX may set.
-pub const VALUE_MAX: usize = 128;
+pub const VALUE_MAX: usize = 512;
 /// The greatest length of a user name or a password in bytes, as a client gives them.
 pub const CREDENTIAL_MAX: usize = 128;
 
 /// A law, with nothing to run: which numbers the limits are that the definitions name.
 pub fn word_limits()
-    ensures line { LINE_MAX ≡ 512 }
+    ensures line { LINE_MAX ≡ 2048 }
     ensures piece { PIECE_MAX ≡ 512 }
     ensures words { WORDS_MAX ≡ 32 }
     ensures ups_name { UPS_NAME_MAX ≡ 32 }
     ensures name { NAME_MAX ≡ 64 }
-    ensures value { VALUE_MAX ≡ 128 }
+    ensures value { VALUE_MAX ≡ 512 }
     ensures credential { CREDENTIAL_MAX ≡ 128 }
 {}

@@ -8,4 +8,4 @@ mod worlds;
 const ROWS: &[u8] = b"ver\nGET UPSDESC x\nFOO\n\"a\n\nLOGOUT\nVER\n";
 
 const ROWS_ANSWERED: &[u8] =
-    b"Network UPS Tools upsd profile 1.2\nERR UNKNOWN-UPS\nERR UNKNOWN-COMMAND\nERR INVALID-ARGUMENT\nOK Goodbye\n";
+    b"Network UPS Tools upsd profile 1.3\nERR UNKNOWN-UPS\nERR UNKNOWN-COMMAND\nERR INVALID-ARGUMENT\nOK Goodbye\n";

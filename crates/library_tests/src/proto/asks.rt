@@ -21,6 +21,8 @@ fn is_written(alloc: Global, setting: &DriverAsk<'_>) -> Result<bool, AllocError
     DriverAsk::Ping.put(&mut out)?;
     let command = DriverAsk::InstCmd {
         command: word(b"load.off"),
+        parameter: None,
+        number: None,
     };
     command.put(&mut out)?;
     let lines: &[u8] = b"SET ups.id \"abc\"\nDUMPALL\nPING\nINSTCMD load.off\n";
@@ -32,6 +34,7 @@ fn written(rt: HostRuntime) {
     let setting = DriverAsk::Set {
         variable: word(b"ups.id"),
         value: word(b"abc"),
+        number: None,
     };
     assert!(rt; fits_exactly(&setting));
     assert!(rt; is_written(rt.alloc(), &setting) == Ok(true));
@@ -57,7 +60,7 @@ fn first_wrong(alloc: Global, rows: &[(&[u8], &[u8])]) -> Option<usize> {
     None
 }
 
-const LINES: [(&[u8], &[u8]); 12] = [
+const LINES: [(&[u8], &[u8]); 20] = [
     (b"PING", b"PING\n"),
     (b"dumpall", b"DUMPALL\n"),
     (b"Set ups.ID Abc", b"SET ups.ID \"Abc\"\n"),
@@ -68,7 +71,18 @@ const LINES: [(&[u8], &[u8]); 12] = [
     (b"SET ups.id", b""),
     (b"SET ups.id a b", b""),
     (b"INSTCMD", b""),
-    (b"INSTCMD a b", b""),
+    (b"INSTCMD a b", b"INSTCMD a \"b\"\n"),
+    (b"INSTCMD a b c", b""),
+    (b"SET ups.id a tracking 7", b"SET ups.id \"a\" TRACKING 7\n"),
+    (b"SET ups.id a TRACKING 07", b""),
+    (b"SET ups.id a TRACKING", b""),
+    (b"SET ups.id a NUMBER 7", b""),
+    (
+        b"INSTCMD a TRACKING 999999999",
+        b"INSTCMD a TRACKING 999999999\n",
+    ),
+    (b"INSTCMD a b TRACKING 1", b"INSTCMD a \"b\" TRACKING 1\n"),
+    (b"INSTCMD a b TRACKING 1 2", b""),
     (b"PONG", b""),
 ];
 

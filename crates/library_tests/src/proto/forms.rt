@@ -5,7 +5,7 @@ use nut_words::{WordFault, split};
 use std::alloc::Global;
 
 /// Each form with its words in mixed case, as it is written, and without its last word.
-const FORMS: [(&[u8], &[u8], &[u8]); 25] = [
+const FORMS: [(&[u8], &[u8], &[u8]); 27] = [
     (
         b"get NumLogins Su700",
         b"GET NUMLOGINS Su700",
@@ -53,10 +53,12 @@ const FORMS: [(&[u8], &[u8], &[u8]); 25] = [
         b"SET VAR Su700 ups.id",
     ),
     (
-        b"instcmd Su700 load.Off",
-        b"INSTCMD Su700 load.Off",
+        b"instcmd Su700 load.Off X",
+        b"INSTCMD Su700 load.Off \"X\"",
         b"INSTCMD Su700",
     ),
+    (b"get tracking 7", b"GET TRACKING 7", b"GET"),
+    (b"Set Tracking oN", b"SET TRACKING ON", b"SET TRACKING"),
     (b"userName Admin", b"USERNAME Admin", b"USERNAME"),
     (b"password Secret", b"PASSWORD Secret", b"PASSWORD"),
     (b"Login Su700", b"LOGIN Su700", b"LOGIN"),
@@ -127,7 +129,27 @@ fn each_form(rt: HostRuntime) {
     assert_eq!(rt; first_wrong(rt.alloc(), &FORMS), None);
 }
 
-const NO_FORMS: [(&[u8], &[u8]); 12] = [
+/// The forms that are also taken with a word more.
+const SHORTER_FORMS: [(&[u8], &[u8]); 2] = [
+    (b"instcmd Su700 load.Off", b"INSTCMD Su700 load.Off"),
+    (b"get tracking", b"GET TRACKING"),
+];
+
+fn first_unread(alloc: Global, rows: &[(&[u8], &[u8])]) -> Option<usize> {
+    for (index, (mixed, written)) in rows.iter().enumerate() {
+        if !is_read(alloc, mixed, written) {
+            return Some(index);
+        }
+    }
+    None
+}
+
+#[test]
+fn shorter_forms(rt: HostRuntime) {
+    assert_eq!(rt; first_unread(rt.alloc(), &SHORTER_FORMS), None);
+}
+
+const NO_FORMS: [(&[u8], &[u8]); 17] = [
     (b"", b"INVALID-ARGUMENT"),
     (b"# GET", b"INVALID-ARGUMENT"),
     (b"LIST LOG", b"INVALID-ARGUMENT"),
@@ -135,6 +157,11 @@ const NO_FORMS: [(&[u8], &[u8]); 12] = [
     (b"LIST DESC u v", b"INVALID-ARGUMENT"),
     (b"SET RW u v x", b"INVALID-ARGUMENT"),
     (b"SET", b"INVALID-ARGUMENT"),
+    (b"SET TRACKING YES", b"INVALID-ARGUMENT"),
+    (b"GET TRACKING 0", b"INVALID-ARGUMENT"),
+    (b"GET TRACKING 01", b"INVALID-ARGUMENT"),
+    (b"GET TRACKING 1234567890", b"INVALID-ARGUMENT"),
+    (b"GET TRACKING x", b"INVALID-ARGUMENT"),
     (b"FOO", b"UNKNOWN-COMMAND"),
     (b"\"\" GET", b"UNKNOWN-COMMAND"),
     (b"NUMLOGINS u", b"UNKNOWN-COMMAND"),

@@ -1,5 +1,5 @@
 -- Examples, computed from the definitions.
-use Rattle.std.specs.Prelude.{◌≡◌, ◌⊎◌, ◌<◌, ℕ, List, length, [], ◌∷◌, codes, Option, Some, Result, Ok, Err}
+use Rattle.std.specs.Prelude.{◌≡◌, ◌⊎◌, ◌<◌, ℕ, List, length, [], ◌∷◌, codes, Option, Some, None, Result, Ok, Err}
 use Rattle.clap.specs.declared.error.kind.ErrorKind.TheVariants as kinds
 use Rattle.nut_client.specs.CommandLine.{CommandLine, target_of, upsc_line, upsrw_line, upscmd_line}
 use Rattle.nut_client.specs.Script.{Script, script}
@@ -25,7 +25,9 @@ pub record CommandLineExamples : Type 0 where
   pub setting : upsrw_line (codes "upsrw" ∷ codes "-s" ∷ codes "ups.id=a=b" ∷ codes "-u" ∷ codes "admin" ∷ codes "-ppw" ∷ codes "su700" ∷ [])
       ≡ asks (codes "su700") (codes "localhost") 3493 (wanteds.Does (codes "admin") (codes "pw") (deeds.Set (codes "ups.id") (codes "a=b")))
   pub command : upscmd_line (codes "upscmd" ∷ codes "-u" ∷ codes "admin" ∷ codes "-p" ∷ codes "pw" ∷ codes "su700" ∷ codes "load.off" ∷ [])
-      ≡ asks (codes "su700") (codes "localhost") 3493 (wanteds.Does (codes "admin") (codes "pw") (deeds.Command (codes "load.off")))
+      ≡ asks (codes "su700") (codes "localhost") 3493 (wanteds.Does (codes "admin") (codes "pw") (deeds.Command (codes "load.off") None))
+  pub parameter : upscmd_line (codes "upscmd" ∷ codes "-u" ∷ codes "admin" ∷ codes "-p" ∷ codes "pw" ∷ codes "su700" ∷ codes "load.off" ∷ codes "5" ∷ [])
+      ≡ asks (codes "su700") (codes "localhost") 3493 (wanteds.Does (codes "admin") (codes "pw") (deeds.Command (codes "load.off") (Some (codes "5"))))
   pub dialed : target_of (upscmd_line (codes "upscmd" ∷ codes "-l" ∷ codes "su700@h:5" ∷ [])) ≡ Some (codes "h", 5)
   pub two_lists : upsc_line (codes "upsc" ∷ codes "-lc" ∷ codes "su700" ∷ []) ≡ Ok (Err failures.BadArguments)
   pub no_password : upsrw_line (codes "upsrw" ∷ codes "-s" ∷ codes "ups.id=a" ∷ codes "-u" ∷ codes "admin" ∷ codes "su700" ∷ []) ≡ Ok (Err failures.BadArguments)
@@ -52,8 +54,10 @@ pub record RunExamples : Type 0 where
       ≡ record { queries = codes "LIST VAR u\n"; standing = Printed (codes "{\"v\": \"1 \\\"2\\\"\", \"w\": \"\\\\\"}\n") }
   pub no_rows : run_of (script (codes "u") wanteds.Object) (codes "BEGIN LIST VAR u\nEND LIST VAR u\n") ≡ record { queries = codes "LIST VAR u\n"; standing = Printed (codes "{}\n") }
   pub cut_list : ending (run_of (script (codes "u") wanteds.Variables) (codes "BEGIN LIST VAR u\nVAR u v \"1 2\"\n")).standing ≡ Err failures.ConnectionLost
-  pub done : run_of (script (codes "u") (wanteds.Does (codes "a") (codes "p") (deeds.Command (codes "load.off")))) (codes "OK\nOK\nOK TRACKING\n")
+  pub done : run_of (script (codes "u") (wanteds.Does (codes "a") (codes "p") (deeds.Command (codes "load.off") None))) (codes "OK\nOK\nOK TRACKING\n")
       ≡ record { queries = codes "USERNAME a\nPASSWORD p\nINSTCMD u load.off\n"; standing = Printed (codes "OK\n") }
+  pub with_parameter : run_of (script (codes "u") (wanteds.Does (codes "a") (codes "p") (deeds.Command (codes "load.off") (Some (codes "5"))))) (codes "OK\nOK\nOK TRACKING 7\n")
+      ≡ record { queries = codes "USERNAME a\nPASSWORD p\nINSTCMD u load.off \"5\"\n"; standing = Printed (codes "OK\n") }
   -- Every run over a stream with these bytes ends so, unless memory or the connection is lacking.
   pub decided : (result : Result (List ℕ) Failure) (left before after : Option (List ℕ)) → (e : Ends value_of_v result (Some (codes "VAR u v \"1 2\"\nERR DATA-STALE\nVA")) left before after)
       → (result ≡ Err failures.Memory)

@@ -64,7 +64,7 @@ cut s = record s { linked = false; rest = Text []; teller = relinked s.teller }
 abbrev pub passed : ℕ → Content → Content
 passed t s = record s {
   clock = max s.clock t;
-  teller = changed (Passing s.round (s.clock - s.start) (max s.clock t - s.start)) s.teller;
+  teller = changed None (Passing s.round (s.clock - s.start) (max s.clock t - s.start)) s.teller;
 }
 
 -- the lines that a piece completes

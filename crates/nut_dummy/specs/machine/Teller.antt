@@ -1,7 +1,7 @@
 -- What a driver holds and tells, and how each call and each line changes it. The law `looks_back` says that this is
 -- what looking back over all calls says.
-use Rattle.std.specs.Prelude.{ℕ, ◌||◌, ◌&&◌, Bool, true, false, not, List, [], ◌∷◌, ◌++◌, Option, Some, None, if◌then◌else◌, codes, is_some, map}
-use Rattle.std.specs.List.{flat_map}
+use Rattle.std.specs.Prelude.{ℕ, ◌||◌, ◌&&◌, Bool, true, false, not, List, [], ◌∷◌, ◌++◌, Option, Some, None, if◌then◌else◌, codes, decimal, is_some, map}
+use Rattle.std.specs.List.{flat_map, list_any}
 use Rattle.std.specs.Option.{option_and_then, option_map_or, option_or}
 use Rattle.std.specs.Result.{result_ok}
 use Rattle.std.specs.Str.{bytes_eq}
@@ -91,29 +91,41 @@ dumped v = record { name = v.name; steps = v.steps; value = v.value; told = v.to
 abbrev pub dump : List Variable → List ℕ
 dump variables = flat_map (λ v. lines_of true v.name v.value) variables ++ text closing_messages
 
--- All variables follow a change. It is told only if DUMPALL was asked.
-abbrev pub changed : Change → Teller → Teller
-changed change s = record {
+-- whether a change is what was asked for: a client's SET is, if it is obeyed for a variable
+abbrev pub is_done : Change → List Variable → Bool
+is_done (Passing round after until) variables = true
+is_done (Assigning name value) variables = list_any (λ v. is_assigned name value v.name v.value) variables
+is_done (Doing name value) variables = true
+
+-- How a request ended, if it has a number: 0 says that it was done, 1 that it wasn't.
+abbrev pub ended : Option ℕ → Bool → List ℕ
+ended None done = []
+ended (Some number) done = codes "TRACKING " ++ (decimal number ++ (if done then codes " 0\n" else codes " 1\n"))
+
+-- All variables follow a change. It is told only if DUMPALL was asked; how the request with this number ended is told
+-- in any case.
+abbrev pub changed : Option ℕ → Change → Teller → Teller
+changed number change s = record {
   variables = map (followed s.asked change) s.variables;
   asked = s.asked;
-  waits = s.waits ++ (if s.asked then flat_map (says change) s.variables else []);
+  waits = s.waits ++ ((if s.asked then flat_map (says change) s.variables else []) ++ ended number (is_done change s.variables));
 }
 
 abbrev pub dumped_all : Teller → Teller
 dumped_all s = record { variables = map dumped s.variables; asked = true; waits = s.waits ++ dump s.variables }
 
--- a command that the driver knows sets its variable
-abbrev pub commanded : Option Command → Teller → Teller
-commanded None s = s
-commanded (Some c) s = changed (Doing (variable_set c) (value_set c)) s
+-- A command that the driver knows sets its variable, whatever its parameter.
+abbrev pub commanded : Option ℕ → Option Command → Teller → Teller
+commanded number None s = record s { waits = s.waits ++ ended number false }
+commanded number (Some c) s = changed number (Doing (variable_set c) (value_set c)) s
 
 -- what was asked is done
 abbrev pub answered : Option DriverAsk → Teller → Teller
 answered None s = s
 answered (Some asks.Ping) s = record s { waits = s.waits ++ codes "PONG\n" }
 answered (Some asks.DumpAll) s = dumped_all s
-answered (Some (asks.Set name value)) s = changed (Assigning name value) s
-answered (Some (asks.InstCmd name)) s = commanded (command_of name) s
+answered (Some (asks.Set name value number)) s = changed number (Assigning name value) s
+answered (Some (asks.InstCmd name parameter number)) s = commanded number (command_of name) s
 
 -- what a line asks, if anything
 abbrev pub asked_by : LineText → Option DriverAsk

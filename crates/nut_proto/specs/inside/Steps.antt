@@ -8,8 +8,14 @@ use Rattle.nut_proto.specs.declared.keyword.Command.{Command}
 use Rattle.nut_proto.specs.declared.keyword.Command.TheVariants as commands
 use Rattle.nut_proto.specs.declared.keyword.Subject.{Subject}
 use Rattle.nut_proto.specs.declared.keyword.Subject.TheVariants as subjects
+use Rattle.std.specs.Option.{option_map}
 use Rattle.nut_proto.specs.Keywords.{subject_of}
-use Rattle.nut_proto.specs.Rules.{none, one, two, three, credential}
+use Rattle.nut_proto.specs.Rules.{none, one, two, three, credential, numbered, switched, optional_word}
+
+-- GET TRACKING, with a number or without one
+abbrev pub get_tracking : List (List ℕ) → Option Request
+get_tracking [] = Some requests.GetTracking
+get_tracking (number ∷ words) = numbered requests.GetTrackingOf (number ∷ words)
 
 abbrev pub get_about : Option Subject → List (List ℕ) → Option Request
 get_about (Some subjects.NumLogins) words = one requests.GetNumLogins words
@@ -18,6 +24,7 @@ get_about (Some subjects.Var) words = two requests.GetVar words
 get_about (Some subjects.Type) words = two requests.GetType words
 get_about (Some subjects.Desc) words = two requests.GetDesc words
 get_about (Some subjects.CmdDesc) words = two requests.GetCmdDesc words
+get_about (Some subjects.Tracking) words = get_tracking words
 get_about _ words = None
 
 abbrev pub list_about : Option Subject → List (List ℕ) → Option Request
@@ -32,6 +39,7 @@ list_about _ words = None
 
 abbrev pub set_about : Option Subject → List (List ℕ) → Option Request
 set_about (Some subjects.Var) words = three requests.SetVar words
+set_about (Some subjects.Tracking) words = switched requests.SetTracking words
 set_about _ words = None
 
 abbrev pub get_request : List (List ℕ) → Option Request
@@ -46,11 +54,16 @@ abbrev pub set_request : List (List ℕ) → Option Request
 set_request [] = None
 set_request (word ∷ words) = set_about (subject_of word) words
 
+-- INSTCMD, with a parameter or without one
+abbrev pub inst_cmd : List (List ℕ) → Option Request
+inst_cmd (ups ∷ command ∷ words) = option_map (λ parameter. requests.InstCmd ups command parameter) (optional_word words)
+inst_cmd words = None
+
 abbrev pub request_of : Command → List (List ℕ) → Option Request
 request_of commands.Get words = get_request words
 request_of commands.List words = list_request words
 request_of commands.Set words = set_request words
-request_of commands.InstCmd words = two requests.InstCmd words
+request_of commands.InstCmd words = inst_cmd words
 request_of commands.Username words = credential requests.Username words
 request_of commands.Password words = credential requests.Password words
 request_of commands.Login words = one requests.Login words

@@ -26,21 +26,21 @@ abbrev pub variable_list : List ℕ → List (List ℕ × List ℕ) → List ℕ
 variable_list ups rows = begin_line (queries.Var ups) ++ (variable_rows ups rows ++ end_line (queries.Var ups))
 
 -- If the name of the UPS can be written bare and has at most 32 bytes, and the variable is within its limits, its row
--- in LIST VAR has at most 361 bytes.
+-- in LIST VAR has at most 1129 bytes.
 abbrev pub RowsAreBounded : Type 0
-RowsAreBounded = (ups name value : List ℕ) → IsName UPS_NAME_MAX ups → IsVariable (name, value) → length (reply_line (replies.Var ups name value)) ≤ 361
+RowsAreBounded = (ups name value : List ℕ) → IsName UPS_NAME_MAX ups → IsVariable (name, value) → length (reply_line (replies.Var ups name value)) ≤ 1129
 
--- The reply to LIST VAR, of at most ROWS_MAX variables, has at most 184,926 bytes.
+-- The reply to LIST VAR, of at most ROWS_MAX variables, has at most 578,142 bytes.
 abbrev pub ListsAreBounded : Type 0
 ListsAreBounded =
     (ups : List ℕ) (rows : List (List ℕ × List ℕ)) →
-    IsName UPS_NAME_MAX ups → AllByRecursion IsVariable rows → length rows ≤ ROWS_MAX → length (variable_list ups rows) ≤ 184926
+    IsName UPS_NAME_MAX ups → AllByRecursion IsVariable rows → length rows ≤ ROWS_MAX → length (variable_list ups rows) ≤ 578142
 
 -- If the name of the UPS can be written bare and has at most 32 bytes, and there are at most 512 variables, each within
--- its limits, the reply to LIST VAR with `FSD ` put before one value has at most 184,930 bytes.
+-- its limits, the reply to LIST VAR with `FSD ` put before one value has at most 578,146 bytes.
 abbrev pub ForcedListsAreBounded : Type 0
 ForcedListsAreBounded =
     (ups name value : List ℕ) (before after : List (List ℕ × List ℕ)) →
     IsName UPS_NAME_MAX ups → AllByRecursion IsVariable before → IsVariable (name, value) → AllByRecursion IsVariable after →
     length before + length after < ROWS_MAX →
-    length (variable_list ups (before ++ (name, codes "FSD " ++ value) ∷ after)) ≤ 184930
+    length (variable_list ups (before ++ (name, codes "FSD " ++ value) ∷ after)) ≤ 578146

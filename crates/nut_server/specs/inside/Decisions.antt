@@ -1,19 +1,22 @@
 -- What the decision on a request has to be: its answer, and its effect.
-use Rattle.std.specs.Prelude.{ℕ, ◌≡◌, List, Result, Ok, Err}
+use Rattle.std.specs.Prelude.{ℕ, ◌≡◌, List, Option, Result, Ok, Err}
 use Rattle.nut_proto.specs.declared.refusal.Refusal.{Refusal}
 use Rattle.nut_proto.specs.declared.reply.Reply.{Reply}
 use Rattle.nut_server_spec.specs.Command.{Command}
-use Rattle.nut_server_spec.specs.Answer.{Answer, Scene, Caller, Line, answer, refused}
+use Rattle.nut_server_spec.specs.Answer.{Answer, Scene, Caller, Line, accepted, answer, refused}
+use Rattle.nut_server_spec.specs.Trace.{given_then}
 use Rattle.nut_server.specs.inside.Answers.{given}
-use Rattle.nut_server.specs.inside.Effects.{Does, IsPossible}
+use Rattle.nut_server.specs.inside.Effects.{Does, IsPossible, given_with}
+use Rattle.nut_server.specs.declared.changes.HandedOn.{HandedOn}
 use Rattle.nut_server.specs.declared.effect.Effect.{Effect}
+use Rattle.nut_server.specs.declared.effect.Effect.TheVariants as effects
 use Rattle.nut_server.specs.declared.decision.Decision.{Decision}
 
 -- The decision gives this answer. Its effect changes what the command with this answer changes, and is possible. `line`
 -- is the request to the driver, if there is one.
 abbrev pub Answers : Scene → Command → Answer → Decision → List ℕ → Type 0
 Answers s command reply decision line =
-    (given decision.answer ≡ reply) × Does s.configuration command reply decision.effect line × IsPossible s.devices decision.effect line
+    (given decision.answer ≡ reply) × Does s command reply decision.effect line × IsPossible s.devices decision.effect line
 
 -- The decision gives the answer to the command, and its effect is that of the command.
 abbrev pub Decides : Scene → Caller → Command → Decision → List ℕ → Type 0
@@ -23,5 +26,17 @@ Decides s k command decision line = Answers s command (answer s k command) decis
 -- If it isn't, its answer is the refusal.
 abbrev pub Grants : Scene → Caller → Command → Reply → Result Effect Refusal → List ℕ → Type 0
 Grants s k command reply (Ok effect) line =
-    (answer s k command ≡ Line reply) × Does s.configuration command (Line reply) effect line × IsPossible s.devices effect line
+    (answer s k command ≡ Line reply) × Does s command (Line reply) effect line × IsPossible s.devices effect line
 Grants s k command reply (Err refusal) line = answer s k command ≡ refused refusal
+
+-- The number, if there is one, is the next that is given.
+abbrev pub IsNextNumber : Scene → Option ℕ → Type 0
+IsNextNumber s number = given_with number s.given ≡ given_then (accepted number) s.given
+
+-- If the request is handed on to a driver, its answer is `OK`, with the request's number if it is tracked, and the
+-- effect changes what the request with this answer changes. If it isn't, its answer is the refusal.
+abbrev pub HandsOn : Scene → Caller → Command → Result HandedOn Refusal → List ℕ → Type 0
+HandsOn s k command (Ok request) line =
+    (answer s k command ≡ accepted request.number) × Does s command (accepted request.number) (effects.Ask request.ups request.number) line
+    × IsPossible s.devices (effects.Ask request.ups request.number) line
+HandsOn s k command (Err refusal) line = answer s k command ≡ refused refusal

@@ -14,11 +14,11 @@ use nut_server_spec::{OPENED_MAX, Place, Refused};
 use nut_words::PIECE_MAX;
 
 /// Sends PING at this time to each driver that needs it.
-fn tick_all(devices: &mut Vec<Device>, max_age: u64, time: u64)
-    ensures { devices.new.items ≡ map (ticked max_age time) devices.old.items }
+fn tick_all(devices: &mut [Device], max_age: u64, time: u64)
+    ensures { devices.new ≡ map (ticked max_age time) devices.old }
 {
-    for u in 0..devices.len() {
-        devices[u].tick(max_age, time);
+    for device in devices.iter_mut() {
+        device.tick(max_age, time);
     }
 }
 
@@ -29,7 +29,7 @@ impl Server {
     {
         self.clock = self.clock.max(t);
         tick_all(
-            &mut self.devices,
+            self.devices.as_mut_slice(),
             u64::from(self.config.max_age()),
             self.clock,
         );

@@ -40,6 +40,7 @@ impl Server {
         let scene = Scene {
             config: &self.config,
             clock: self.clock,
+            given: self.given,
             devices: self.devices.as_slice(),
             connections: &self.connections,
         };
@@ -53,6 +54,7 @@ impl Server {
         self.connections
             .answer(at, self.scratch.as_slice(), &effect)?;
         effect.act(&mut self.devices, self.line.as_slice());
+        self.given = effect.given_after(self.given);
         Ok(())
     }
 

@@ -1,6 +1,6 @@
 use Rattle.nut_server_spec.proofs.Worked.{connections}
-use Rattle.nut_server_spec.proofs.WorkedDrivers.{drivers, edges, users}
+use Rattle.nut_server_spec.proofs.WorkedDrivers.{drivers, edges, tracking, users}
 use Rattle.nut_server_spec.proofs.worked_examples.Goals as goal
 
 pub returns : goal.returns
-returns c = record { connections = connections; drivers = drivers; edges = edges; users = users }
+returns c = record { connections = connections; drivers = drivers; edges = edges; users = users; tracking = tracking }

@@ -1,16 +1,18 @@
 -- Worked examples: histories of drivers and users, and the answers in them, computed from the definitions.
-use Rattle.std.specs.Prelude.{◌≡◌, ℕ, ◌+◌, true, false, List, [], ◌∷◌, ◌++◌, codes, Some, None}
+use Rattle.std.specs.Prelude.{◌≡◌, ℕ, ◌+◌, Bool, true, false, List, [], ◌∷◌, ◌++◌, codes, Option, Some, None}
 use Rattle.nut_words.specs.declared.limits.TheConstants.{PIECE_MAX, VALUE_MAX}
 use Rattle.nut_conf.specs.declared.users.Action.TheVariants as actions
 use Rattle.nut_conf.specs.declared.users.Role.TheVariants as roles
 use Rattle.nut_proto.specs.declared.refusal.Refusal.TheVariants.{SetFailed}
-use Rattle.nut_proto.specs.declared.reply.Reply.TheVariants.{Accepted}
+use Rattle.nut_proto.specs.declared.reply.Reply.TheVariants.{Accepted, AcceptedAs}
+use Rattle.nut_proto.specs.declared.driver_ask.DriverAsk.{DriverAsk}
+use Rattle.nut_proto.specs.declared.driver_ask.DriverAsk.TheVariants as asks
 use Rattle.nut_server_spec.specs.declared.Refused.TheVariants.{NotConnected, PieceTooLong, TooMuchTaken}
 use Rattle.nut_server_spec.specs.Configuration.{Configuration}
 use Rattle.nut_server_spec.specs.Device.{Device, absent, fits, needs_ping}
-use Rattle.nut_server_spec.specs.Answer.{Line, handed_on, refused}
+use Rattle.nut_server_spec.specs.Answer.{Caller, Line, Scene, handed_on, refused}
 use Rattle.nut_server_spec.specs.Event.{Event, Moment, Open, Bytes, Close, DriverUp, DriverBytes, DriverTook, DriverDown}
-use Rattle.nut_server_spec.specs.Trace.{due, driver_sent, driver_waits}
+use Rattle.nut_server_spec.specs.Trace.{due, driver_sent, driver_waits, scene}
 use Rattle.nut_server_spec.specs.Content.{content, past}
 use Rattle.nut_server_spec.specs.Acceptance.{refusal, IsAccepted}
 use Rattle.nut_server_spec.specs.examples.Examples.{many}
@@ -115,14 +117,31 @@ pub record DriverExamples : Type 0 where
 abbrev pub laden : ℕ → Device
 laden n = record absent { connected = true; waits = many n 65 }
 
--- what just fits into the 4,096 bytes that may wait, and what doesn't; and a third of a MAXAGE that three doesn't
--- divide
+-- a connection that has said nothing but whether its requests are tracked
+abbrev pub nobody : Bool → Caller
+nobody tracking = record { user = None; password = None; login = None; tracking = tracking }
+
+-- a request of 17 bytes, or with the number 1 of 28
+abbrev pub sets_id : Option ℕ → DriverAsk
+sets_id number = asks.Set (codes "ups.id") (codes "abc") number
+
+-- what the server knows if so many numbers have been given to requests
+abbrev pub scene_after : ℕ → Scene
+scene_after given = record (scene room []) { given = given }
+
+-- what just fits into the 4,096 bytes that may wait, and what doesn't; the last number of a request; and a third of a
+-- MAXAGE that three doesn't divide
 pub record EdgeExamples : Type 0 where
   pub most_fits : fits (many 28 65) (laden 4068) ≡ true
   pub one_byte_more : fits (many 29 65) (laden 4068) ≡ false
   pub one_byte_waits_more : fits (many 28 65) (laden 4069) ≡ false
-  pub last_set_is_handed_on : handed_on SetFailed (many 28 65) (laden 4068) ≡ Line Accepted
-  pub first_set_is_refused : handed_on SetFailed (many 28 65) (laden 4069) ≡ refused SetFailed
+  pub last_set_is_handed_on : handed_on SetFailed (scene room []) (nobody false) sets_id (laden 4079) ≡ Line Accepted
+  pub first_set_is_refused : handed_on SetFailed (scene room []) (nobody false) sets_id (laden 4080) ≡ refused SetFailed
+  pub last_numbered_set : handed_on SetFailed (scene room []) (nobody true) sets_id (laden 4068) ≡ Line (AcceptedAs 1)
+  pub first_numbered_set_is_refused : handed_on SetFailed (scene room []) (nobody true) sets_id (laden 4069) ≡ refused SetFailed
+  pub last_number : handed_on SetFailed (scene_after 999999998) (nobody true) sets_id (laden 0) ≡ Line (AcceptedAs 999999999)
+  pub no_number_is_left : handed_on SetFailed (scene_after 999999999) (nobody true) sets_id (laden 0) ≡ refused SetFailed
+  pub no_number_is_needed : handed_on SetFailed (scene_after 999999999) (nobody false) sets_id (laden 0) ≡ Line Accepted
   pub last_ping : needs_ping 15 6 (laden 4091) ≡ true
   pub first_ping_left_out : needs_ping 15 6 (laden 4092) ≡ false
   pub third_is_rounded_down : needs_ping 11 4 (laden 0) ≡ true
@@ -174,3 +193,36 @@ pub record UserExamples : Type 0 where
   pub forced_for_good :
       due 1 (past room (Bytes 1 get_status ∷ DriverBytes 0 told ∷ DriverUp 0 ∷ DriverDown 0 ∷ Bytes 1 (as_admin ++ codes "FSD su700\n") ∷ quiet))
       ≡ codes "OK\nOK\nOK FSD-SET\nVAR su700 ups.status \"FSD OL\"\n"
+
+-- the lines in which `admin` lets the server track a SET
+abbrev pub sets_tracked : List ℕ
+sets_tracked = as_admin ++ codes "SET TRACKING ON\nSET VAR su700 battery.charge.low 90\n"
+
+-- the driver has reported all that it knows, and is asked to set a variable; the request is tracked
+abbrev pub tracked_set : List Event
+tracked_set = Bytes 1 sets_tracked ∷ live
+
+-- the answer to a new client that sends this text after the history h
+abbrev pub told_to_another : List ℕ → List Event → List ℕ
+told_to_another text h = due 2 (past room (Bytes 2 text ∷ Open (codes "::1") ∷ h))
+
+-- the line that asks how the first tracked request ended
+abbrev pub get_first : List ℕ
+get_first = codes "GET TRACKING 1\n"
+
+-- how requests are tracked, and what drivers tell of them
+pub record TrackingExamples : Type 0 where
+  pub off_at_first : answers_to (codes "GET TRACKING\n") live ≡ codes "TRACKING OFF\n"
+  pub switch_before_user : answers_to (codes "SET TRACKING 1\nSET TRACKING on\n") live ≡ codes "ERR INVALID-ARGUMENT\nERR USERNAME-REQUIRED\n"
+  pub numbered : answers_to sets_tracked live ≡ codes "OK\nOK\nOK\nOK TRACKING 1\n"
+  pub refusal_takes_no_number :
+      answers_to (as_admin ++ codes "SET TRACKING ON\nSET VAR su700 ups.status x\nINSTCMD su700 load.off\n") live ≡ codes "OK\nOK\nOK\nERR READONLY\nOK TRACKING 1\n"
+  pub number_is_asked : asked tracked_set ≡ codes "SET battery.charge.low \"90\" TRACKING 1\n"
+  pub pending : told_to_another get_first tracked_set ≡ codes "TRACKING 1 PENDING\n"
+  pub success : told_to_another get_first (DriverBytes 0 (codes "TRACKING 1 0\n") ∷ tracked_set) ≡ codes "TRACKING 1 SUCCESS\n"
+  pub failure : told_to_another get_first (DriverBytes 0 (codes "TRACKING 01 007\n") ∷ tracked_set) ≡ codes "TRACKING 1 FAILED\n"
+  pub first_counts : told_to_another get_first (DriverBytes 0 (codes "TRACKING 1 0\nTRACKING 1 1\n") ∷ tracked_set) ≡ codes "TRACKING 1 SUCCESS\n"
+  pub driver_gone : told_to_another get_first (DriverDown 0 ∷ tracked_set) ≡ codes "TRACKING 1 FAILED\n"
+  pub driver_came_anew : told_to_another get_first (DriverBytes 0 (codes "TRACKING 1 0\n") ∷ DriverUp 0 ∷ tracked_set) ≡ codes "TRACKING 1 FAILED\n"
+  pub not_given : told_to_another (codes "GET TRACKING 2\n") tracked_set ≡ codes "TRACKING 2 UNKNOWN\n"
+  pub parameter : asked (Bytes 1 (as_admin ++ codes "INSTCMD su700 load.off 5\n") ∷ live) ≡ codes "INSTCMD load.off \"5\"\n"

@@ -54,7 +54,7 @@ pub record ConnectionExamples : Type 0 where
   pub description :
       answers (Bytes 1 (codes "00\n") ∷ Bytes 1 (codes "T UPSDESC su7") ∷ Bytes 1 (codes "GE") ∷ one_open) ≡ codes "UPSDESC su700 \"Server room\"\n"
   pub unknown_ups : answers_to (codes "GET UPSDESC SU700\n") ≡ codes "ERR UNKNOWN-UPS\n"
-  pub version : answers_to (codes "VER\n") ≡ codes "Network UPS Tools upsd profile 1.2\n"
+  pub version : answers_to (codes "VER\n") ≡ codes "Network UPS Tools upsd profile 1.3\n"
   pub one_word_more : answers_to (codes "VER VER\n") ≡ codes "ERR INVALID-ARGUMENT\n"
   pub blank_lines : answers_to (codes "\n \t\r\n# a comment\n") ≡ []
   pub unfinished : answers_to (codes "VER") ≡ []
@@ -62,9 +62,9 @@ pub record ConnectionExamples : Type 0 where
   pub open_quote : answers_to (codes "\"a\n") ≡ codes "ERR INVALID-ARGUMENT\n"
   pub after_logout : answers_to (codes "LOGOUT\nVER\n") ≡ codes "OK Goodbye\n"
   pub longest_line : answers (Bytes 1 (codes "\n") ∷ Bytes 1 (many LINE_MAX 65) ∷ one_open) ≡ codes "ERR UNKNOWN-COMMAND\n"
-  pub too_long_line : answers (Bytes 1 (codes "A\nVER\n") ∷ Bytes 1 (many LINE_MAX 65) ∷ one_open) ≡ codes "ERR INVALID-ARGUMENT\nNetwork UPS Tools upsd profile 1.2\n"
+  pub too_long_line : answers (Bytes 1 (codes "A\nVER\n") ∷ Bytes 1 (many LINE_MAX 65) ∷ one_open) ≡ codes "ERR INVALID-ARGUMENT\nNetwork UPS Tools upsd profile 1.3\n"
   pub sent_first : sent su700 1 (Took 1 7 ∷ Bytes 1 (codes "VER\n") ∷ one_open) ≡ codes "Network"
-  pub waits_still : waits su700 1 (Took 1 7 ∷ Bytes 1 (codes "VER\n") ∷ one_open) ≡ codes " UPS Tools upsd profile 1.2\n"
+  pub waits_still : waits su700 1 (Took 1 7 ∷ Bytes 1 (codes "VER\n") ∷ one_open) ≡ codes " UPS Tools upsd profile 1.3\n"
   pub accepted : IsAccepted su700 (Close 1 ∷ Took 1 7 ∷ Bytes 1 (codes "VER\n") ∷ one_open)
   pub busy : refusal (content su700 (Bytes 1 (codes "VER\n") ∷ one_open)) (Bytes 1 (codes "VER\n")) ≡ Some Busy
   pub too_much : refusal (content su700 (Bytes 1 (codes "LOGOUT\n") ∷ one_open)) (Took 1 12) ≡ Some TooMuchTaken

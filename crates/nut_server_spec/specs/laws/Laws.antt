@@ -244,7 +244,7 @@ IsBoundedSupply d = length d.device.waits ≤ ASKS_MAX
 abbrev pub IsBoundedSession : Session → Type 0
 IsBoundedSession k = kept_of k.rest ≤ LINE_MAX
 
--- In every history of accepted events, at most 512 bytes of an unfinished line are kept and at most 4,096 bytes wait
+-- In every history of accepted events, at most 2,048 bytes of an unfinished line are kept and at most 4,096 bytes wait
 -- for a driver.
 abbrev pub BoundsHold : Type 0
 BoundsHold =

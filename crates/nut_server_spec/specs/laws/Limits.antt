@@ -32,7 +32,7 @@ pub record IsWithin (configuration : Configuration) : Type 0 where
 
 -- the longest answer to one line, a LIST VAR of VARIABLES_MAX variables
 abbrev pub longest_answer : ℕ
-longest_answer = 184_930
+longest_answer = 578_146
 
 -- No answer to one line has more bytes: not the answers given in a history of accepted events, and not the answer to a
 -- further line of any connection.
@@ -46,7 +46,7 @@ pub record AnswersAreBounded : Type 0 where
 
 -- A piece ends at most half as many lines that are answered as it has bytes. So many longest answers may wait for a client.
 abbrev pub most_waits : ℕ
-most_waits = 47_342_080
+most_waits = 148_005_376
 
 -- In every history of accepted events, at most this many bytes wait for each client.
 abbrev pub WaitsAreBounded : Type 0

@@ -10,10 +10,11 @@ use Rattle.nut_proto.specs.DriverAsks.{ask_line}
 use Rattle.nut_server_spec.specs.Configuration.{Configuration}
 use Rattle.nut_server_spec.specs.Command.{Command, command_of}
 use Rattle.nut_server_spec.specs.Event.{Event, Moment, Open, Bytes, Took, Close, WriteFailed, DriverUp, DriverBytes, DriverTook, DriverDown}
+use Rattle.nut_server_spec.specs.Tracking.{told_in, with_tracked, all_ended_by, all_abandoned}
 use Rattle.nut_server_spec.specs.Device.{Device, needs_ping}
 use Rattle.nut_server_spec.specs.Answer.{Answer, Silence, Guest, Scene, Caller, answer}
-use Rattle.nut_server_spec.specs.Effect.{user_then, password_then, login_then, logged_out_then, due_then, target, forced_then, request_of}
-use Rattle.nut_server_spec.specs.Trace.{is_heard, with_request}
+use Rattle.nut_server_spec.specs.Effect.{user_then, password_then, login_then, logged_out_then, tracking_then, number_in, due_then, target, forced_then, request_of}
+use Rattle.nut_server_spec.specs.Trace.{given_then, is_heard, with_request}
 use Rattle.nut_server_spec.specs.Content.{Session, Supply, Content, content}
 use Rattle.nut_server_spec.specs.Acceptance.{IsAccepted, session_of}
 
@@ -44,13 +45,14 @@ guest_of k = record { address = k.address; login = k.login }
 
 -- what the server knows of a session when it answers a line of it
 abbrev pub caller_of : Session → Caller
-caller_of k = record { user = k.user; password = k.password; login = k.login }
+caller_of k = record { user = k.user; password = k.password; login = k.login; tracking = k.tracking }
 
 -- what the server knows when it answers a line
 abbrev pub scene_of : Content → Scene
 scene_of s = record {
   configuration = s.configuration;
   clock = s.clock;
+  given = s.given;
   devices = map (λ d. d.device) s.supplies;
   guests = map guest_of s.sessions;
 }
@@ -68,6 +70,7 @@ answered configuration command reply k = record {
   password = password_then command reply k.password;
   login = login_then configuration command reply k.login;
   logged_out = logged_out_then command reply k.logged_out;
+  tracking = tracking_then command reply k.tracking;
   rest = k.rest;
   waits = due_then command reply k.waits;
 }
@@ -86,6 +89,7 @@ acted command reply d = record {
     pinged_at = d.device.pinged_at;
     forced = forced_then command reply d.device.forced;
     waits = requested (request_of command reply) d.device;
+    tracked = with_tracked (number_in reply) d.device.tracked;
   };
   rest = d.rest;
 }
@@ -104,6 +108,7 @@ abbrev pub after_answer : ℕ → Command → Answer → Content → Content
 after_answer c command reply s = record s {
   sessions = update c (λ k. with_rest (Text []) (answered s.configuration command reply k)) s.sessions;
   supplies = act_on (target s.configuration command) (acted command reply) s.supplies;
+  given = given_then reply s.given;
 }
 
 -- the content after a command of c, if c is open
@@ -140,6 +145,7 @@ fresh number address = record {
   password = None;
   login = None;
   logged_out = false;
+  tracking = false;
   rest = Text [];
   waits = [];
 }
@@ -154,7 +160,7 @@ told TooLong table = table
 -- a UPS after a line of its driver at this moment
 abbrev pub reported_by : ℕ → LineText → Supply → Supply
 reported_by time line d = record {
-  device = record d.device { table = told line d.device.table; heard_at = if is_heard line then time else d.device.heard_at };
+  device = record d.device { table = told line d.device.table; heard_at = if is_heard line then time else d.device.heard_at; tracked = all_ended_by (told_in line) d.device.tracked };
   rest = Text [];
 }
 
@@ -177,13 +183,14 @@ up time d = record {
     pinged_at = None;
     forced = d.device.forced;
     waits = ask_line DumpAll;
+    tracked = all_abandoned d.device.tracked;
   };
   rest = Text [];
 }
 
 -- a UPS whose driver is disconnected
 abbrev pub down : Supply → Supply
-down d = record { device = record d.device { connected = false; waits = [] }; rest = Text [] }
+down d = record { device = record d.device { connected = false; waits = []; tracked = all_abandoned d.device.tracked }; rest = Text [] }
 
 -- a UPS whose driver took n bytes
 abbrev pub drained : ℕ → Supply → Supply

@@ -212,8 +212,8 @@ const PAIR: [Row; 5] = [
 
 /// These are 55, 46 and 8 bytes.
 const PAIR_DUE: Due<'static> = Due {
-    first: b"Network UPS Tools upsd profile 1.2\nERR UNKNOWN-COMMAND\n",
-    second: b"Network UPS Tools upsd profile 1.2\nOK Goodbye\n",
+    first: b"Network UPS Tools upsd profile 1.3\nERR UNKNOWN-COMMAND\n",
+    second: b"Network UPS Tools upsd profile 1.3\nOK Goodbye\n",
     asked: b"DUMPALL\n",
 };
 
@@ -333,7 +333,7 @@ fn a_client_that_never_takes_is_not_read(rt: HostRuntime) -> Result<(), Fail> {
     ];
     let due = Due {
         first: b"",
-        second: b"Network UPS Tools upsd profile 1.2\n",
+        second: b"Network UPS Tools upsd profile 1.3\n",
         asked: b"",
     };
     let outcome = play_rows(&rt, rt.alloc(), &rows, CLIENT_IS_LATE, due)?;

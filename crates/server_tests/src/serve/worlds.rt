@@ -179,7 +179,7 @@ fn two_connections(rt: HostRuntime) -> Result<(), Fail> {
             &rt,
             rt.alloc(),
             &rows,
-            b"Network UPS Tools upsd profile 1.2\n",
+            b"Network UPS Tools upsd profile 1.3\n",
             b"",
             1
         )?

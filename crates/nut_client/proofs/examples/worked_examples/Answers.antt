@@ -19,6 +19,7 @@ returns-clause-lines c = record {
   no_server = refl;
   setting = refl;
   command = refl;
+  parameter = refl;
   dialed = refl;
   two_lists = refl;
   no_password = refl;
@@ -43,5 +44,6 @@ returns-clause-runs c = record {
   no_rows = refl;
   cut_list = refl;
   done = refl;
+  with_parameter = refl;
   decided = λ result left before after ends. all_bytes _ _ _ left before after ends;
 }

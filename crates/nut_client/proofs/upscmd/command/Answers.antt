@@ -11,4 +11,5 @@ returns c =
     let with_2 = added _ _ _ _ _ c.in_ok-arg-2.ensures c.user_argument.ensures.local with_1 c.user_argument.ensures.rule in
     let with_3 = added _ _ _ _ _ c.in_ok-arg-3.ensures c.password_argument.ensures.local with_2 c.password_argument.ensures.rule in
     let with_4 = added _ _ _ _ _ c.in_ok-arg-4.ensures c.name_argument.ensures.local with_3 c.name_argument.ensures.rule in
-    IfOk-weaker c.arg-5.result _ _ (λ r adds. added _ _ _ _ _ adds c.argument.ensures.local with_4 c.argument.ensures.rule) c.arg-5.ensures
+    let with_5 = added _ _ _ _ _ c.in_ok-arg-5.ensures c.argument.ensures.local with_4 c.argument.ensures.rule in
+    IfOk-weaker c.arg-6.result _ _ (λ r adds. added _ _ _ _ _ adds c.argument-2.ensures.local with_5 c.argument-2.ensures.rule) c.arg-6.ensures

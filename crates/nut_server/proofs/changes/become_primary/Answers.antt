@@ -10,4 +10,4 @@ returns-in_err-authorize c = λ line.
     rw (error.1, error.2) (c.in_err-authorize.ensures (λ u. Line replies.Accepted))
 
 pub returns : goal.returns
-returns c = λ line. (c.in_ok-authorize.ensures.0 (λ u. Line replies.Accepted), (λ k. refl, λ supplies. refl), tt)
+returns c = λ line. (c.in_ok-authorize.ensures.0 (λ u. Line replies.Accepted), (λ k. refl, λ supplies. refl, refl), tt)

@@ -13,6 +13,6 @@ returns-in_err-u c = λ line.
 pub returns : goal.returns
 returns c = λ line. (
   c.in_ok-u.ensures.0 (λ u. Line replies.FsdSet),
-  forces c.args.scene.now.configuration c.args.ups.now c.in_ok-u.u line c.in_ok-u.ensures.1,
+  forces c.args.scene.now c.args.ups.now c.in_ok-u.u line c.in_ok-u.ensures.1,
   omega (arith, c.requires, c.in_ok-u.ensures.2),
 )

@@ -19,4 +19,4 @@ returns-then-is_some c = λ line.
 pub returns : goal.returns
 returns c = λ line.
     let next : ℕ → Answer = λ u. check refusals.AlreadyLoggedIn (is_none c.args.caller.now.login) (Line replies.Accepted) in
-    (rw (c.in_ok-u.ensures.0 next) (search rules), (λ k. rw c.in_ok-u.ensures.1 refl, λ supplies. refl), tt)
+    (rw (c.in_ok-u.ensures.0 next) (search rules), (λ k. rw c.in_ok-u.ensures.1 refl, λ supplies. refl, refl), tt)

@@ -1,8 +1,7 @@
-use Rattle.std.proofs.Common.{◌≡◌, ◌<◌, ◌+◌, suc, ◌++◌, ℕ, List, [], IsTrue, take, drop, refl, sym, ap, subst, ◌∙◌, arith}
+use Rattle.std.proofs.Common.{◌≡◌, ◌<◌, ◌+◌, suc, ◌++◌, ℕ, List, [], take, drop, refl, sym, ap, subst, ◌∙◌, arith}
 use Rattle.std.proofs.lemmas.List.{take_rest}
-use Rattle.nut_words.specs.Lines.{LineText, Text, rest, lines}
+use Rattle.nut_words.specs.Lines.{Text, rest, lines}
 use Rattle.nut_words.specs.Cutter.{handed_out, line_of}
-use Rattle.nut_server_spec.specs.Content.{Supply}
 use Rattle.nut_server_spec.specs.Acceptance.{front, line_feeds}
 use Rattle.nut_server_spec.specs.machine.Machine.{down, bytes_reported, reported_by}
 use Rattle.nut_server_spec.proofs.Hearing.{first_line}
@@ -86,7 +85,7 @@ loop-line-preserved c =
     let more = has_feed b used left line brought in
     let ended : c.feed.follows.lender-at-none ≡ Text [] = some_of c.feed.result.0 _ _ c.in-Some.is c.feed.follows.holds-at-none.1 in
     let next : drop used left ≡ behind 1 left = left_is b used left line brought (sym ended ∙ c.feed.follows.holds-at-none.0 b g.1) in
-    let said : c.hear_line.new.self ≡ reported_by time line d = ok_is c.hear_line.result _ c.if-is_err.ensures.value c.hear_line.ensures.ok in
+    let said : c.hear_line.new.self ≡ with_report d.rest (reported_by time line d) = ok_is c.hear_line.result _ c.if-is_err.ensures.value c.hear_line.ensures.ok in
     let more_done : done + 1 ≡ suc done = omega arith in
     let heard : reported_by time line d ≡ bytes_reported time (front (suc done) piece) c.args.self.now =
     ap (λ l. reported_by time l d) (handed_is b used left line brought)

@@ -20,4 +20,5 @@ returns-in-Ask-clause-value c =
     let possible = subst (λ e. IsPossible (map (λ d. d.device) ds) e line) c.in-Ask.is c.requires in
     let lt = is_there ds u possible.0 in
     let connected : d.device.connected ≡ true = ap (λ d. d.connected) (sym (device_there ds u d lt c.index_mut-in-Ask.ensures.value)) ∙ possible.0 in
-    rw c.in-Ask.is (update_at_written u (requesting line) ds d c.ask.new.self lt c.index_mut-in-Ask.ensures.value (c.ask.ensures ∙ sym (requesting_connected line d connected)))
+    let number = c.in-Ask.number in
+    rw c.in-Ask.is (update_at_written u (requesting line number) ds d c.ask.new.self lt c.index_mut-in-Ask.ensures.value (c.ask.ensures ∙ sym (requesting_connected line number d connected)))

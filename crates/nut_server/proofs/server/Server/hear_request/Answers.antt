@@ -21,6 +21,6 @@ returns-clause-ok c =
     let effect = c.decide-answer.result.effect in
     let line = c.decide-answer.new.line.items in
     let text = c.as_slice-2.ensures.value ∙ c.in_ok-put_answer.ensures ∙ ap (λ front. front ++ text_of (given c.decide-answer.result.answer)) c.clear.ensures.items ∙ ap text_of (c.decide-answer.ensures.0 ∙ is) in
-    let does = subst (λ reply. Does v.configuration command reply effect line) is c.decide-answer.ensures.1 in
-    answered_all v c.answer.new.self c.act.new.devices.items c' command (R v.supplies k) effect line c.as_slice-2.result.now text does
-    (c.in_ok-answer.ensures.ok c' stands) (c.act.ensures.value ∙ ap (λ l. acting effect l v.supplies) c.as_slice-3.ensures.value))
+    let does = subst (λ reply. Does (scene_of v) command reply effect line) is c.decide-answer.ensures.1 in
+    answered_all v c.answer.new.self c.act.new.devices.items c.given_after-self-inside.result c' command (R v.supplies k) effect line c.as_slice-2.result.now text does
+    (c.in_ok-answer.ensures.ok c' stands) (c.act.ensures.value ∙ ap (λ l. acting effect l v.supplies) c.as_slice-3.ensures.value) c.given_after-self-inside.ensures)

@@ -1,0 +1,53 @@
+-- The number of a tracked request is read as it was written.
+use Rattle.std.proofs.Common.{◌≡◌, ℕ, ◌+◌, ◌-◌, ◌*◌, ◌<◌, ◌≤◌, ◌==◌, ◌&&◌, Bool, true, false, List, [], ◌∷◌, length, fold, get_or, decimal, arith, refl, ap, ◌∙◌, Some}
+use Rattle.std.specs.Prelude.{nat_lt, nat_le}
+use Rattle.std.specs.List.{list_all}
+use Rattle.std.specs.Char.{is_ascii_digit}
+use Rattle.std.specs.Int.{IsInRange}
+use Rattle.std.proofs.lemmas.Bool.Decides.{nat_tests}
+use Rattle.std.proofs.lemmas.Fmt.{digits_decimal, digits_value-decimal, first_decimal, decimal_nonempty, length-decimal-le}
+use Rattle.std.proofs.lemmas.Str.Parse.{IsDigitsTest, FoldsDigits, numerals_by_fold, IsNumeralModel}
+use Rattle.nut_words.specs.Number.{digits_value, is_natural, natural}
+use Rattle.nut_proto.specs.Tracking.{IsTrackingNumber, tracking_number}
+
+digit_parts : (c : ℕ) (others : Bool) → (is_ascii_digit c && others) ≡ true → IsInRange 48 57 c × (others ≡ true)
+digit_parts c others e = grind (arith, nat_tests)
+
+digit_more : (c : ℕ) (others : Bool) → IsInRange 48 57 c → others ≡ true → (is_ascii_digit c && others) ≡ true
+digit_more c others k e = grind (arith, nat_tests)
+
+all_three : (a b c : Bool) → a ≡ true → b ≡ true → c ≡ true → (a && b && c) ≡ true
+all_three a b c p q r = rw (p, q, r) refl
+
+tells : IsDigitsTest (λ ds. list_all is_ascii_digit ds ≡ true)
+tells = record {
+  empty = refl;
+  parts = λ c cs e. digit_parts c (list_all is_ascii_digit cs) e;
+  more = λ c cs k e. digit_more c (list_all is_ascii_digit cs) k e;
+}
+
+folds : FoldsDigits (λ n ds. fold (λ m digit. 10 * m + (digit - 48)) n ds)
+folds = record {
+  empty = λ n. refl;
+  more = λ n c cs k. ap (λ (m : ℕ). fold (λ m digit. 10 * m + (digit - 48)) m cs) (omega arith);
+}
+
+pub model : IsNumeralModel (λ ds. list_all is_ascii_digit ds ≡ true) digits_value
+model = numerals_by_fold _ tells _ folds
+
+natural_back : (n : ℕ) → IsTrackingNumber n → natural (decimal n) ≡ Some n
+natural_back n h =
+    let few : length (decimal n) ≤ 9 = length-decimal-le 9 n (omega arith) (omega (arith, h.1)) (omega (arith, h.1)) in
+    let some : 0 < length (decimal n) = decimal_nonempty n (omega (arith, h.1)) in
+    let all : list_all is_ascii_digit (decimal n) ≡ true = digits_decimal model n (omega (arith, h.1)) in
+    let value : digits_value (decimal n) ≡ n = digits_value-decimal model n (omega (arith, h.1)) in
+    let is : is_natural (decimal n) ≡ true = all_three (nat_lt 0 (length (decimal n))) (nat_le (length (decimal n)) 9) (list_all is_ascii_digit (decimal n)) (grind (arith, nat_tests)) (grind (arith, nat_tests)) all in
+    rw (is, value) refl
+
+pub number_back : (n : ℕ) → IsTrackingNumber n → tracking_number (decimal n) ≡ Some n
+number_back n h = by_digits (decimal n) (first_decimal n h.0 (omega (arith, h.1))) ∙ natural_back n h where
+  by_digits : (text : List ℕ) → 48 < get_or text 0 0 → tracking_number text ≡ natural text
+  by_digits [] first = absurd (omega (arith, first))
+  by_digits (digit ∷ digits) first =
+      let other : (digit == 48) ≡ false = grind (arith, nat_tests) in
+      rw other refl
