@@ -44,8 +44,8 @@ _mulgefa_settings() {
 _mulgefa_choices() {
     case $1:$option:$current in
         upsc::-*) printf '%s\n' -j -l -L -c -h --help -V --version ;;
-        upsrw::-*) printf '%s\n' -s -u -p -h --help -V --version ;;
-        upscmd::-*) printf '%s\n' -l -u -p -h --help -V --version ;;
+        upsrw::-*) printf '%s\n' -s -w -u -p -h --help -V --version ;;
+        upscmd::-*) printf '%s\n' -l -w -u -p -h --help -V --version ;;
         nutroom::-*) printf '%s\n' -n -s --svg --steps --run --nutsim -h --help -V --version ;;
         nutroom:*) ;;
         upsrw:-s:*=*) _mulgefa_rows "${named[1]-}" | _mulgefa_settings "${current%%=*}" ;;

@@ -25,7 +25,7 @@ TESTS = (
     ("rehearsals.words", ("rehearse",)),
     ("gate.borrows", ()),
     ("programs.tools", ("upsc", "upsrw", "upscmd")),
-    ("programs.upsd_sockets", ("upsd", "dummy_ups")),
+    ("programs.upsd_sockets", ("upsd", "dummy_ups", "upsrw", "upscmd")),
     ("programs.hostile_clients", ("upsd", "dummy_ups")),
     ("programs.upsmon", ("upsd", "dummy_ups", "upsc", "upsmon")),
     ("programs.upsmon_links", ("upsd", "dummy_ups", "upsc", "upsmon")),

@@ -137,6 +137,9 @@ class Tests:
         else:
             raise Failed("the variable wasn't set")
         expect(self.theirs("upsc", self.name, "ups.status"), (0, "OB DISCHRG\n", ""), "NUT's upsc sees it")
+        # NUT's server numbers no requests
+        tracked = self.ours("upsrw", "-w", "-s", "ups.status=OL", *login)
+        expect(tracked, (1, "", "Error: not tracked\n"), "upsrw -w")
         wrong = self.ours("upsrw", "-s", "ups.status=OL", "-u", "admin", "-p", "x", self.name)
         expect(wrong, (1, "", "Error: ACCESS-DENIED\n"), "a wrong password")
 

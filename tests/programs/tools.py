@@ -54,6 +54,24 @@ ANSWERS = {
     b'SET VAR su700 ups.mfr "y"': b"ERR READONLY\n",
     b"INSTCMD su700 load.off": b"OK TRACKING 1\n",
     b"INSTCMD su700 beep": b"ERR CMD-NOT-SUPPORTED\n",
+    b"SET TRACKING ON": b"OK\n",
+    b'SET VAR su700 ups.id "seven"': b"OK TRACKING 7\n",
+    b'SET VAR su700 ups.id "by name"': b"OK TRACKING 1bd31808-cb49-4aec-9d75-d056e6f018d2\n",
+    b"INSTCMD su700 fails": b"OK TRACKING 2\n",
+    b"INSTCMD su700 is.forgotten": b"OK TRACKING 3\n",
+    b"INSTCMD su700 odd": b"OK TRACKING 4\n",
+    b"INSTCMD su700 nameless": b"OK TRACKING 5\n",
+    b"INSTCMD su700 takes.time": b"OK TRACKING 999999999\n",
+    b"INSTCMD su700 never.ends": b"OK TRACKING 6\n",
+    b"GET TRACKING 1": b"TRACKING 1 SUCCESS\n",
+    b"GET TRACKING 2": b"TRACKING 2 FAILED\n",
+    b"GET TRACKING 3": b"TRACKING 3 UNKNOWN\n",
+    b"GET TRACKING 4": b"TRACKING 4 success\n",
+    b"GET TRACKING 5": b"SUCCESS\n",
+    b"GET TRACKING 7": b"TRACKING 7 SUCCESS\n",
+    b"GET TRACKING 6": b"TRACKING 6 PENDING\n",
+    # as often as it is asked
+    b"GET TRACKING 999999999": [b"TRACKING 999999999 PENDING\n"] * 2 + [b"TRACKING 999999999 SUCCESS\n"],
 }
 
 VARIABLES = b'battery.charge: 100\nups.mfr: a "b" \\c\nups.status: OL\n'
@@ -67,6 +85,7 @@ COMMANDS = b"load.off - Turn off the load\nload.on - Turn on the load\n"
 OUTPUT_FAILED = b"Error: output failed\n"
 ADMIN = ["-u", "admin", "-p", "pw"]
 LOGIN = [b"USERNAME admin", b"PASSWORD pw"]
+TRACKED = [*LOGIN, b"SET TRACKING ON"]
 
 # the tool, its arguments (AT is replaced by the server's host and port), its queries, and its output
 GOOD = [
@@ -100,6 +119,13 @@ GOOD = [
         COMMANDS,
     ),
     ("upscmd", [*ADMIN, "su700@AT", "load.off"], [*LOGIN, b"INSTCMD su700 load.off"], b"OK\n"),
+    (
+        "upsrw",
+        ["-w", "-s", "ups.id=seven", *ADMIN, "su700@AT"],
+        [*TRACKED, b'SET VAR su700 ups.id "seven"', b"GET TRACKING 7"],
+        b"SUCCESS\n",
+    ),
+    ("upscmd", ["-w", *ADMIN, "su700@AT", "load.off"], [*TRACKED, b"INSTCMD su700 load.off", b"GET TRACKING 1"], b"SUCCESS\n"),
 ]
 
 # the tool, its arguments, its queries, the message, and the status
@@ -114,6 +140,13 @@ BAD = [
     ("upsrw", ["-s", "ups.mfr=y", *ADMIN, "su700@AT"], [*LOGIN, b'SET VAR su700 ups.mfr "y"'], b"READONLY", 1),
     ("upsrw", ["-s", "ups.id=y", "-u", "x", "-p", "pw", "su700@AT"], [b"USERNAME x"], b"UNKNOWN-COMMAND", 1),
     ("upscmd", [*ADMIN, "su700@AT", "beep"], [*LOGIN, b"INSTCMD su700 beep"], b"CMD-NOT-SUPPORTED", 1),
+    ("upscmd", ["-w", *ADMIN, "su700@AT", "beep"], [*TRACKED, b"INSTCMD su700 beep"], b"CMD-NOT-SUPPORTED", 1),
+    ("upscmd", ["-w", *ADMIN, "su700@AT", "fails"], [*TRACKED, b"INSTCMD su700 fails", b"GET TRACKING 2"], b"FAILED", 1),
+    ("upscmd", ["-w", *ADMIN, "su700@AT", "is.forgotten"], [*TRACKED, b"INSTCMD su700 is.forgotten", b"GET TRACKING 3"], b"UNKNOWN", 1),
+    ("upscmd", ["-w", *ADMIN, "su700@AT", "odd"], [*TRACKED, b"INSTCMD su700 odd", b"GET TRACKING 4"], b"bad answer", 1),
+    ("upscmd", ["-w", *ADMIN, "su700@AT", "nameless"], [*TRACKED, b"INSTCMD su700 nameless", b"GET TRACKING 5"], b"bad answer", 1),
+    ("upsrw", ["-w", "-s", "ups.id=y", *ADMIN, "su700@AT"], [*TRACKED, b'SET VAR su700 ups.id "y"'], b"not tracked", 1),
+    ("upsrw", ["-w", "-s", "ups.id=by name", *ADMIN, "su700@AT"], [*TRACKED, b'SET VAR su700 ups.id "by name"'], b"not tracked", 1),
     ("upsc", ["a@"], None, b"bad UPS name", 1),
     ("upsc", ["a b@AT"], None, b"bad UPS name", 1),
     ("upsc", ["-l", "127.0.0.1:0"], None, b"bad UPS name", 1),
@@ -129,6 +162,9 @@ BAD = [
     ("upsrw", ["-s", "ups.id", *ADMIN, "su700@AT"], None, b"bad arguments", 2),
     ("upsrw", ["-u", "admin", "su700@AT"], None, b"bad arguments", 2),
     ("upscmd", [*ADMIN, "su700@AT"], None, b"bad arguments", 2),
+    ("upsrw", ["-w", "su700@AT"], None, b"bad arguments", 2),
+    ("upscmd", ["-lw", "su700@AT"], None, b"bad arguments", 2),
+    ("upscmd", ["-w", "su700@AT", "load.off"], None, b"bad arguments", 2),
 ]
 
 
@@ -178,6 +214,8 @@ class Server:
             query = line.rstrip(b"\n")
             self.queries.append(query)
             reply = ANSWERS.get(query, b"ERR UNKNOWN-COMMAND\n")
+            if isinstance(reply, list):
+                reply = reply[self.queries.count(query) - 1]
             for piece in self.pieces(sent, reply):
                 if piece is None:
                     return
@@ -215,6 +253,19 @@ class Tests:
                 what = f"{tool} {' '.join(arguments)}"
                 expect(self.run(tool, arguments), (0, output, b""), what)
                 expect(self.heard(), queries, f"the queries of {what}")
+
+    def test_requests_that_take_time(self):
+        self.server.whole()
+        request, question = b"INSTCMD su700 takes.time", b"GET TRACKING 999999999"
+        started = time.monotonic()
+        expect(self.run("upscmd", ["-w", *ADMIN, "su700@AT", "takes.time"]), (0, b"SUCCESS\n", b""), "a request that ends")
+        expect(self.heard(), [*TRACKED, request, *[question] * 3], "what it asks")
+        expect(2 <= time.monotonic() - started < 5, True, "it pauses for a second twice")
+        started = time.monotonic()
+        found = self.run("upscmd", ["-w", *ADMIN, "su700@AT", "never.ends"])
+        expect(found, (1, b"", b"Error: PENDING\n"), "a request that doesn't end")
+        expect(self.heard(), [*TRACKED, b"INSTCMD su700 never.ends", *[b"GET TRACKING 6"] * 11], "what it asks")
+        expect(10 <= time.monotonic() - started < 15, True, "it stays for ten seconds")
 
     def test_object_is_what_a_reader_of_json_takes(self):
         self.server.whole()
@@ -281,7 +332,7 @@ class Tests:
             expect(self.run(tool, [b"su700\xff"]), (2, b"", b"Error: bad arguments\n"), f"{tool} with a word that is no text")
 
     def test_options_that_are_not_there(self):
-        for tool, option in (("upsc", "-W"), ("upsrw", "-w"), ("upscmd", "-w")):
+        for tool, option in (("upsc", "-W"), ("upsrw", "-t"), ("upscmd", "-t")):
             status, output, text = self.run(tool, [option, "su700@AT"])
             expect((status, output, text != b""), (2, b"", True), f"{tool} {option}")
         for tool in ("upsc", "upsrw", "upscmd"):

@@ -1,7 +1,7 @@
 #!/usr/bin/env python3
 """Starts upsd and dummy-ups on sockets of this machine, and plays their clients, a driver and a server.
 
-    python3 -m tests.programs.upsd_sockets UPSD DUMMY_UPS
+    python3 -m tests.programs.upsd_sockets UPSD DUMMY_UPS UPSRW UPSCMD
 
 The last line is 'N passed, M failed'."""
 
@@ -12,6 +12,7 @@ import socket
 import subprocess
 import sys
 import tempfile
+import threading
 import time
 
 from tests.support.harness import Failed, Missing, expect, processor_time, run_tests
@@ -19,8 +20,9 @@ from tests.support.room import Client, DEVICE, NOT_CONNECTED, ONLINE, Room, SOON
 
 
 class Tests:
-    def __init__(self, upsd, dummy, folder):
+    def __init__(self, upsd, dummy, upsrw, upscmd, folder):
         self.programs = (upsd, dummy)
+        self.upsrw, self.upscmd = upsrw, upscmd
         self.folder = folder
 
     def room(self, **texts):
@@ -168,6 +170,22 @@ class Tests:
                 driver.kill()
                 room.until(b"GET TRACKING 3\n", b"TRACKING 3 FAILED\n")
                 expect(client.ask(b"GET TRACKING 2\n"), b"TRACKING 2 SUCCESS\n", "what was told before")
+
+    def test_tools_that_wait(self):
+        with self.room() as room:
+            driver = room.dummy()
+            room.upsd()
+            room.until(STATUS, ONLINE)
+            login = ["-u", "admin", "-p", "pw", f"su700@{room.host}:{room.port}"]
+            expect(self.run(self.upsrw, "-w", "-s", "ups.id=new", *login), (0, b"SUCCESS\n", b""), "upsrw -w")
+            expect(room.ask(b"GET VAR su700 ups.id\n"), b'VAR su700 ups.id "new"\n', "what upsrw -w set")
+            expect(self.run(self.upscmd, "-w", *login, "load.off", "now"), (0, b"SUCCESS\n", b""), "upscmd -w")
+            expect(self.run(self.upscmd, *login, "load.off"), (0, b"OK\n", b""), "upscmd")
+            driver.send_signal(signal.SIGSTOP)
+            threading.Timer(1.5, driver.kill).start()
+            expect(self.run(self.upscmd, "-w", *login, "load.on"), (1, b"", b"Error: FAILED\n"), "a driver that is killed")
+            refused = (1, b"", b"Error: DRIVER-NOT-CONNECTED\n")
+            expect(self.run(self.upscmd, "-w", *login, "load.on"), refused, "a request without a driver")
 
     def test_driver_that_says_how_requests_ended(self):
         with self.room() as room, room.driver() as listener:
@@ -575,12 +593,12 @@ class Tests:
 
 
 def main():
-    upsd, dummy, *names = sys.argv[1:]
+    programs, names = map(os.path.abspath, sys.argv[1:5]), sys.argv[5:]
     # 256 clients, and what else is open
     resource.setrlimit(resource.RLIMIT_NOFILE, (1024, resource.getrlimit(resource.RLIMIT_NOFILE)[1]))
     signal.signal(signal.SIGPIPE, signal.SIG_IGN)
     with tempfile.TemporaryDirectory() as folder:
-        tests = Tests(os.path.abspath(upsd), os.path.abspath(dummy), folder)
+        tests = Tests(*programs, folder)
         return run_tests(tests, names, "a machine with IPv6 runs them")
 
 

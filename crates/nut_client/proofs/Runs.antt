@@ -17,7 +17,7 @@ use Rattle.nut_link.specs.declared.outcome.Outcome.{Outcome}
 use Rattle.nut_client.specs.inside.Conversation.{IsWaiting}
 use Rattle.nut_link.specs.Link.{LinkValue, fed, heard, left_of, lines_heard, moved, on_line, outcome_in, outcome_of}
 use Rattle.nut_link.specs.Asking.{is_writable}
-use Rattle.nut_client.specs.Script.{Script, Prints, Fails, Asks}
+use Rattle.nut_client.specs.Script.{Script, Prints, Fails, Asks, Pauses}
 use Rattle.nut_client.specs.Tool.{Run, Waits, Failed, after, begin, sent, failure_of, goes_on, hears}
 use Rattle.nut_client.specs.inside.Unread.{IsUnbroken, IsWhole}
 
@@ -138,6 +138,7 @@ begun b q request next = if b then record { queries = q ++ request_line request;
 pub begin_more : (q : List ℕ) (script : Script) → (back : List ℕ) × ((begin q script).queries ≡ q ++ back)
 begin_more q (Prints text) = ([], sym (append-nil q))
 begin_more q (Fails failure) = ([], sym (append-nil q))
+begin_more q (Pauses next) = begin_more q next
 begin_more q (Asks request next) = elim (cases_Bool (is_writable request)) [
   | inl fits ↦ (request_line request, ap (λ b. (begun b q request next).queries) fits)
   | inr unfit ↦ ([], ap (λ b. (begun b q request next).queries) unfit ∙ sym (append-nil q))

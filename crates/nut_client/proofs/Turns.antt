@@ -18,12 +18,13 @@ use Rattle.nut_client.specs.Tool.{Ends, IsReadInTime, WasWrittenBy, after, begin
 use Rattle.nut_client.proofs.Runs.{after-append, append_twice, begin_more, append_none, prepend_none, prepend_twice}
 
 -- nothing was asked yet
-pub at_start : (script : Script) (link : LinkValue) (unread : List ℕ) (input before : Option (List ℕ)) → link ≡ fresh → unread ≡ [] → IsBetween script script link unread input (prepend_known unread input) before before
-at_start script link unread input before here none = record {
+pub at_start : (script left : Script) (link : LinkValue) (unread : List ℕ) (input before : Option (List ℕ)) → left ≡ script → link ≡ fresh → unread ≡ []
+    → IsBetween script left link unread input (prepend_known unread input) before before
+at_start script left link unread input before all here none = record {
   heard = [];
   written = [];
   ended = refl;
-  runs = refl;
+  runs = ap (begin []) (sym all);
   in_time = inl none;
   read = sym (prepend_none (prepend_known unread input) ∙ ap (λ u. prepend_known u input) none ∙ prepend_none input);
   wrote = sym (append_none before);

@@ -14,6 +14,8 @@ use Rattle.nut_client.specs.declared.destination.Destination.{Destination}
 use Rattle.nut_client.specs.declared.failure.Failure.{Failure}
 use Rattle.nut_client.specs.declared.failure.Failure.TheVariants.{BadArguments, BadName}
 use Rattle.nut_client.specs.declared.wanted.Deed.TheVariants as deeds
+use Rattle.nut_client.specs.declared.wanted.Until.{Until}
+use Rattle.nut_client.specs.declared.wanted.Until.TheVariants as untils
 use Rattle.nut_client.specs.declared.wanted.Wanted.{Wanted}
 use Rattle.nut_client.specs.declared.wanted.Wanted.TheVariants as wanteds
 
@@ -35,10 +37,10 @@ unfoldable pub upsc_tool : App
 upsc_tool = tool (codes "upsc") (flag (codes "names") 108 ∷ flag (codes "descriptions") 76 ∷ flag (codes "clients") 99 ∷ flag (codes "json") 106 ∷ argument (codes "name") ∷ argument (codes "variable") ∷ [])
 
 unfoldable pub upsrw_tool : App
-upsrw_tool = tool (codes "upsrw") (valued (codes "setting") 115 ∷ valued (codes "user") 117 ∷ valued (codes "password") 112 ∷ argument (codes "name") ∷ [])
+upsrw_tool = tool (codes "upsrw") (valued (codes "setting") 115 ∷ flag (codes "wait") 119 ∷ valued (codes "user") 117 ∷ valued (codes "password") 112 ∷ argument (codes "name") ∷ [])
 
 unfoldable pub upscmd_tool : App
-upscmd_tool = tool (codes "upscmd") (flag (codes "list") 108 ∷ valued (codes "user") 117 ∷ valued (codes "password") 112 ∷ argument (codes "name") ∷ argument (codes "command") ∷ argument (codes "parameter") ∷ [])
+upscmd_tool = tool (codes "upscmd") (flag (codes "list") 108 ∷ flag (codes "wait") 119 ∷ valued (codes "user") 117 ∷ valued (codes "password") 112 ∷ argument (codes "name") ∷ argument (codes "command") ∷ argument (codes "parameter") ∷ [])
 
 -- what a command line asks for: this, of the UPS of this name, at this host and port
 pub record Options : Type 0 where
@@ -89,18 +91,24 @@ upsc_wanted false false true false None = Some wanteds.Clients
 upsc_wanted false false false true None = Some wanteds.Object
 upsc_wanted names descriptions clients json variable = None
 
--- A setting, split at its first `=`, needs a user and a password; these are allowed only with a setting.
-abbrev pub upsrw_wanted : Option (List ℕ) → Option (List ℕ) → Option (List ℕ) → Option Wanted
-upsrw_wanted None None None = Some wanteds.Settings
-upsrw_wanted (Some setting) (Some user) (Some password) = option_map (λ p. wanteds.Does user password (deeds.Set p.0 p.1)) (parted 61 setting)
-upsrw_wanted setting user password = None
+-- how long a tool stays, by whether the flag to wait was given
+abbrev pub until : Bool → Until
+until true = untils.Ended
+until false = untils.Accepted
 
--- A list takes neither a command nor a user, and a command, with a parameter or without one, needs a user and a
--- password.
-abbrev pub upscmd_wanted : Bool → Option (List ℕ) → Option (List ℕ) → Option (List ℕ) → Option (List ℕ) → Option Wanted
-upscmd_wanted true None None None None = Some wanteds.Commands
-upscmd_wanted false (Some command) parameter (Some user) (Some password) = Some (wanteds.Does user password (deeds.Command command parameter))
-upscmd_wanted list command parameter user password = None
+-- A setting, split at its first `=`, needs a user and a password; these and the flag to wait are allowed only with a
+-- setting.
+abbrev pub upsrw_wanted : Option (List ℕ) → Bool → Option (List ℕ) → Option (List ℕ) → Option Wanted
+upsrw_wanted None false None None = Some wanteds.Settings
+upsrw_wanted (Some setting) wait (Some user) (Some password) = option_map (λ p. wanteds.Does user password (deeds.Set p.0 p.1) (until wait)) (parted 61 setting)
+upsrw_wanted setting wait user password = None
+
+-- A list takes neither a command nor a user nor the flag to wait, and a command, with a parameter or without one, needs
+-- a user and a password.
+abbrev pub upscmd_wanted : Bool → Bool → Option (List ℕ) → Option (List ℕ) → Option (List ℕ) → Option (List ℕ) → Option Wanted
+upscmd_wanted true false None None None None = Some wanteds.Commands
+upscmd_wanted false wait (Some command) parameter (Some user) (Some password) = Some (wanteds.Does user password (deeds.Command command parameter) (until wait))
+upscmd_wanted list wait command parameter user password = None
 
 abbrev pub upsc_options : List Row → Result Options Failure
 upsc_options rows =
@@ -110,12 +118,12 @@ upsc_options rows =
 
 abbrev pub upsrw_options : List Row → Result Options Failure
 upsrw_options rows =
-    options_of (upsrw_wanted (first_of (codes "setting") rows) (first_of (codes "user") rows) (first_of (codes "password") rows))
+    options_of (upsrw_wanted (first_of (codes "setting") rows) (is_given (codes "wait") rows) (first_of (codes "user") rows) (first_of (codes "password") rows))
     (first_of (codes "name") rows)
 
 abbrev pub upscmd_options : List Row → Result Options Failure
 upscmd_options rows =
-    options_of (upscmd_wanted (is_given (codes "list") rows) (first_of (codes "command") rows) (first_of (codes "parameter") rows) (first_of (codes "user") rows) (first_of (codes "password") rows))
+    options_of (upscmd_wanted (is_given (codes "list") rows) (is_given (codes "wait") rows) (first_of (codes "command") rows) (first_of (codes "parameter") rows) (first_of (codes "user") rows) (first_of (codes "password") rows))
     (first_of (codes "name") rows)
 
 -- what clap's matches ask for, if clap finds no fault

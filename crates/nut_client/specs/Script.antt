@@ -1,11 +1,15 @@
 -- What each tool asks and prints: one query after the other, each chosen by the answers so far, and the text that is
 -- printed once the last answer came (upsc(8), upsrw(8), upscmd(8), in the forms of docs/tools.md).
-use Rattle.std.specs.Prelude.{ℕ, Bool, List, [], ◌∷◌, ◌++◌, codes, slice_index_or, if◌then◌else◌}
+use Rattle.std.specs.Prelude.{ℕ, zero, suc, Bool, true, List, [], ◌∷◌, ◌++◌, codes, slice_index_or, Option, Some, None, if◌then◌else◌}
+use Rattle.std.specs.Option.{option_map_or}
 use Rattle.std.specs.List.{flat_map, list_any}
 use Rattle.std.specs.Str.{bytes_eq}
 use Rattle.nut_proto.specs.declared.request.ListQuery.TheVariants as queries
 use Rattle.nut_proto.specs.declared.request.Request.{Request}
 use Rattle.nut_proto.specs.declared.request.Request.TheVariants as requests
+use Rattle.nut_proto.specs.declared.tracking.TrackingStatus.{TrackingStatus}
+use Rattle.nut_proto.specs.declared.tracking.TrackingStatus.TheVariants as statuses
+use Rattle.nut_proto.specs.Tracking.{tracking_number, tracking_status}
 use Rattle.nut_client.specs.declared.failure.Failure.{Failure}
 use Rattle.nut_client.specs.declared.failure.Failure.TheVariants as failures
 use Rattle.nut_link.specs.declared.outcome.Outcome.{Outcome}
@@ -14,17 +18,22 @@ use Rattle.nut_client.specs.declared.printing.Form.{Form}
 use Rattle.nut_client.specs.declared.printing.Form.TheVariants.{Pairs, Firsts, Options, Ranges}
 use Rattle.nut_client.specs.declared.printing.Values.{Values}
 use Rattle.nut_client.specs.declared.printing.Values.TheVariants as values
+use Rattle.nut_client.specs.declared.task.TheConstants.{PAUSES_MAX}
 use Rattle.nut_client.specs.declared.wanted.Deed.{Deed}
 use Rattle.nut_client.specs.declared.wanted.Deed.TheVariants as deeds
+use Rattle.nut_client.specs.declared.wanted.Until.{Until}
+use Rattle.nut_client.specs.declared.wanted.Until.TheVariants as untils
 use Rattle.nut_client.specs.declared.wanted.Wanted.{Wanted}
 use Rattle.nut_client.specs.declared.wanted.Wanted.TheVariants as wanteds
 use Rattle.nut_client.specs.Json.{json_object}
 
--- What is left to do: to print a text, to fail, or to ask a query and continue by its outcome.
+-- What is left to do: to print a text, to fail, to ask a query and continue by its outcome, or to pause for a second and
+-- continue.
 pub data Script : Type 0 where
   Prints : List ℕ → Script
   Fails : Failure → Script
   Asks : Request → (Outcome → Script) → Script
+  Pauses : Script → Script
 
 -- Continues with the rows of a list. A refusal ends the tool. No other outcome belongs to a LIST.
 abbrev pub on_rows : (List (List (List ℕ)) → Script) → Outcome → Script
@@ -112,8 +121,43 @@ deed_query ups (deeds.Command command parameter) = requests.InstCmd ups command 
 abbrev pub does : List ℕ → Deed → Script
 does ups deed = Asks (deed_query ups deed) (on_done (Prints (line (codes "OK" ∷ []))))
 
-abbrev pub gives_password : List ℕ → List ℕ → Deed → Script
-gives_password ups password deed = Asks (requests.Password password) (on_done (does ups deed))
+-- Continues with the number of a tracked request. A refusal ends the tool, and so does an OK without a number.
+abbrev pub on_number : (ℕ → Script) → Outcome → Script
+on_number next (outcomes.Said words) = option_map_or next (tracking_number (word 0 words)) (Fails failures.Untracked)
+on_number next outcomes.Done = Fails failures.Untracked
+on_number next (outcomes.Refused name) = Fails (failures.Refused name)
+on_number next (outcomes.List rows) = Fails failures.BadAnswer
+
+-- Continues by the status of a request: with this if it is pending. Any other status ends the tool.
+abbrev pub by_status : Script → Option TrackingStatus → Script
+by_status pending (Some statuses.Pending) = pending
+by_status pending (Some statuses.Success) = Prints (line (codes "SUCCESS" ∷ []))
+by_status pending (Some statuses.Failed) = Fails (failures.Unconfirmed statuses.Failed)
+by_status pending (Some statuses.Unknown) = Fails (failures.Unconfirmed statuses.Unknown)
+by_status pending None = Fails failures.BadAnswer
+
+abbrev pub asks_status : ℕ → Script → Script
+asks_status number pending = Asks (requests.GetTrackingOf number) (on_words (λ words. by_status pending (tracking_status (word 0 words))))
+
+-- what follows if the request of this number is pending and this many pauses are left: each of them, and then the
+-- question again
+abbrev pub if_pending : ℕ → ℕ → Script
+if_pending number zero = Fails (failures.Unconfirmed statuses.Pending)
+if_pending number (suc pauses) = Pauses (asks_status number (if_pending number pauses))
+
+-- Asks how the request of this number ended until it has ended, or there were as many pauses as may be.
+abbrev pub waits : ℕ → Script
+waits number = asks_status number (if_pending number PAUSES_MAX)
+
+abbrev pub does_tracked : List ℕ → Deed → Script
+does_tracked ups deed = Asks (deed_query ups deed) (on_number waits)
+
+abbrev pub does_until : List ℕ → Deed → Until → Script
+does_until ups deed untils.Accepted = does ups deed
+does_until ups deed untils.Ended = Asks (requests.SetTracking true) (on_done (does_tracked ups deed))
+
+abbrev pub gives_password : List ℕ → List ℕ → Deed → Until → Script
+gives_password ups password deed until = Asks (requests.Password password) (on_done (does_until ups deed until))
 
 -- What a tool does that is asked for this of a UPS.
 abbrev pub script : List ℕ → Wanted → Script
@@ -125,4 +169,4 @@ script ups wanteds.Descriptions = lists (requests.List queries.Ups) Pairs
 script ups wanteds.Clients = lists (requests.List (queries.Client ups)) Firsts
 script ups wanteds.Settings = Asks (requests.List (queries.Rw ups)) (on_rows (settings ups []))
 script ups wanteds.Commands = Asks (requests.List (queries.Cmd ups)) (on_rows (commands ups []))
-script ups (wanteds.Does user password deed) = Asks (requests.Username user) (on_done (gives_password ups password deed))
+script ups (wanteds.Does user password deed until) = Asks (requests.Username user) (on_done (gives_password ups password deed until))

@@ -10,6 +10,7 @@ use Rattle.nut_words.specs.Lines.{LineText, lines}
 use Rattle.nut_words.specs.declared.limits.TheConstants.{PIECE_MAX}
 use Rattle.nut_proto.specs.declared.request.Request.{Request}
 use Rattle.nut_proto.specs.Requests.{request_line}
+use Rattle.nut_proto.specs.Tracking.{status_word}
 use Rattle.nut_link.specs.declared.exchange.Exchange.{Exchange}
 use Rattle.nut_link.specs.declared.exchange.Stage.TheVariants as stages
 use Rattle.nut_client.specs.declared.failure.Failure.{Failure}
@@ -21,7 +22,7 @@ use Rattle.nut_link.specs.Asking.{query_of, is_writable}
 use Rattle.nut_link.specs.Link.{heard, outcome_of}
 use Rattle.nut_client.specs.CommandLine.{CommandLine, Options}
 use Rattle.nut_client.specs.Output.{Written, HasAll, HasText, IsCutShort, IsUntouched}
-use Rattle.nut_client.specs.Script.{Script, Prints, Fails, Asks, script}
+use Rattle.nut_client.specs.Script.{Script, Prints, Fails, Asks, Pauses, script}
 
 -- How far a tool has come: it waits for the answer to a query, and continues by its outcome; or it has a text to print;
 -- or it has failed.
@@ -48,7 +49,8 @@ failure_of faults.TooMuchTaken = failures.BadAnswer
 failure_of faults.Memory = failures.Memory
 failure_of faults.BadQuery = failures.BadQuery
 
--- A script begins behind these queries: its first query is asked if it is writable.
+-- A script begins behind these queries: its first query is asked if it is writable. A pause changes nothing but the
+-- time.
 abbrev pub begin : List ℕ → Script → Run
 begin queries (Prints text) = record { queries = queries; standing = Printed text }
 begin queries (Fails failure) = record { queries = queries; standing = Failed failure }
@@ -56,6 +58,7 @@ begin queries (Asks request next) =
     if is_writable request
     then record { queries = queries ++ request_line request; standing = Waits (sent request) next }
     else record { queries = queries; standing = Failed failures.BadQuery }
+begin queries (Pauses next) = begin queries next
 
 -- What follows from a line: the answer is complete; or the exchange failed; or the tool waits for more.
 abbrev pub goes_on : List ℕ → (Outcome → Script) → Exchange → Option Outcome → Option LinkFault → Run
@@ -111,6 +114,8 @@ breaks_off failures.NoConnection = false
 breaks_off failures.ConnectionLost = true
 breaks_off (failures.Refused name) = false
 breaks_off failures.BadAnswer = false
+breaks_off failures.Untracked = false
+breaks_off (failures.Unconfirmed status) = false
 breaks_off failures.BadQuery = false
 breaks_off failures.Memory = true
 breaks_off failures.OutputFailed = false
@@ -146,6 +151,8 @@ reason failures.NoConnection = codes "connection failed"
 reason failures.ConnectionLost = codes "connection lost"
 reason (failures.Refused name) = name
 reason failures.BadAnswer = codes "bad answer"
+reason failures.Untracked = codes "not tracked"
+reason (failures.Unconfirmed status) = status_word status
 reason failures.BadQuery = codes "bad query"
 reason failures.Memory = codes "out of memory"
 reason failures.OutputFailed = codes "output failed"
@@ -160,6 +167,8 @@ status_of failures.NoConnection = 1
 status_of failures.ConnectionLost = 1
 status_of (failures.Refused name) = 1
 status_of failures.BadAnswer = 1
+status_of failures.Untracked = 1
+status_of (failures.Unconfirmed status) = 1
 status_of failures.BadQuery = 1
 status_of failures.Memory = 1
 status_of failures.OutputFailed = 1

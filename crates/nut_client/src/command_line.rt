@@ -2,7 +2,7 @@
 ghost use Rattle.std.specs.Prelude.{◌≡◌, ◌==◌, ◌<◌, IfOk, IfSome, Ok, Result, codes, false, length, map, option_map, position, true};
 ghost use Rattle.clap.specs.Words.{App, app_of, first_of, found_of, is_simple_and_free, rows_of, rule_of};
 ghost use Rattle.nut_conf.specs.Target.{parted as parted_at};
-ghost use Rattle.nut_client.specs.CommandLine.{CommandLine, Options as OptionsMeant, argument as argument_rule, dialed, flag as flag_rule, is_given as given, names_server as server_named, options_of as options_meant, target_of, valued as valued_rule};
+ghost use Rattle.nut_client.specs.CommandLine.{CommandLine, Options as OptionsMeant, argument as argument_rule, dialed, flag as flag_rule, is_given as given, names_server as server_named, options_of as options_meant, target_of, until as until_meant, valued as valued_rule};
 ghost use Rattle.nut_client.specs.inside.Reading.{AreOptions, IsRead, IsReadBy, IsRefusalOf};
 ghost use Rattle.nut_client.specs.declared.command_line.Refusal.TheVariants.{Failed};
 ghost use Rattle.nut_client.specs.declared.failure.Failure.{Failure as FailureValue};
@@ -11,7 +11,7 @@ ghost use Rattle.nut_client.specs.declared.wanted.Wanted.TheVariants.{Does};
 
 use crate::destination::{Destination, read_server, read_target};
 use crate::failure::Failure;
-use crate::wanted::{Deed, Wanted};
+use crate::wanted::{Deed, Until, Wanted};
 use clap::{Arg, ArgAction, ArgMatches, Command};
 use nut_conf::Target;
 use nut_proto::Word;
@@ -172,14 +172,27 @@ pub(crate) fn parted_at_equals(bytes: &[u8]) -> Option<(&[u8], &[u8])>
     }
 }
 
+/// Returns how long a tool stays, by whether the flag to wait was given.
+pub(crate) fn until(wait: bool) -> Until
+    ensures { result ≡ until_meant wait }
+{
+    if wait { Until::Ended } else { Until::Accepted }
+}
+
 /// Returns a deed for the user of this name and password.
-pub(crate) fn deed_by<'a>(user: &'a str, password: &'a str, deed: Deed<'a>) -> Wanted<'a>
-    ensures { result ≡ Does user.entry.now password.entry.now deed.entry }
+pub(crate) fn deed_by<'a>(
+    user: &'a str,
+    password: &'a str,
+    deed: Deed<'a>,
+    until: Until,
+) -> Wanted<'a>
+    ensures { result ≡ Does user.entry.now password.entry.now deed.entry until }
 {
     Wanted::Does(
         Word::new(user.as_bytes()),
         Word::new(password.as_bytes()),
         deed,
+        until,
     )
 }
 
@@ -235,6 +248,15 @@ pub(crate) fn password_argument<'a>(alloc: Global) -> Arg<'a>
 {
     let help = "The password of that user; other users of this machine may see it";
     valued(alloc, "password", 'p', "PASS", help)
+}
+
+/// Makes the flag to wait until the request has ended.
+pub(crate) fn wait_flag<'a>(alloc: Global) -> Arg<'a>
+    ensures rule { rule_of result ≡ flag_rule (codes "wait") 119 }
+    ensures local { result.global ≡ false }
+{
+    let help = "Wait at most 10 seconds until the UPS has done it";
+    flag(alloc, "wait", 'w', help)
 }
 
 /// Makes the argument for the name of the UPS.

@@ -20,18 +20,23 @@ use clap::error::ErrorKind;
 use nut_link::Text;
 use nut_proto::Word;
 use std::alloc::Global;
-use std::io;
 use std::sync::Wait;
+use std::time::{Clock, Duration};
+use std::{io, thread};
+
+/// For how many seconds a tool pauses before it asks again whether a request has ended.
+const PAUSE: u64 = 1;
 
 /// Asks a server what is wanted of the UPS of this name. Returns the text to print once the last answer came.
 ///
 /// # Errors
 ///
 /// `Refused` with the name of the error if the server refuses a query; `BadAnswer` if a line doesn't answer the query;
-/// `BadQuery` if a query isn't writable; `ConnectionLost` if the connection ends or fails before the last answer;
+/// `Untracked` if a request that is to be tracked gets no number; `Unconfirmed` if it failed, is forgotten, or is still
+/// pending after ten seconds; `BadQuery` if a query isn't writable; `ConnectionLost` if the connection ends or fails before the last answer;
 /// `Memory` if memory cannot be allocated.
 pub fn ask_server<S: Stream>(
-    rt: &impl Wait,
+    rt: &(impl Wait + Clock),
     alloc: Global,
     ups: Word<'_>,
     wanted: Wanted<'_>,
@@ -46,6 +51,11 @@ pub fn ask_server<S: Stream>(
     for _ in rt.forever() {
         let asked = match task.next() {
             Next::Asks(request) => conversation.ask(rt, stream, &request),
+            Next::Pauses => {
+                thread::sleep(rt, Duration::from_secs(PAUSE));
+                task = task.resume();
+                continue;
+            }
             Next::Prints => break,
         };
         let outcome = match asked {
@@ -145,7 +155,7 @@ fn tell_refusal<O: Output, E: Output>(
 
 /// Runs a tool, with the options or the refusal of its command line, over a connection. Returns the exit status.
 pub(crate) fn run<S: Stream, O: Output, E: Output>(
-    rt: &impl Wait,
+    rt: &(impl Wait + Clock),
     alloc: Global,
     options: Result<Options<'_>, Refusal>,
     stream: &mut S,

@@ -4,6 +4,7 @@ ghost use Rattle.nut_client.specs.Tool.{failure_of, reason, status_of};
 ghost use Rattle.nut_client.specs.declared.failure.Failure.TheVariants.{Memory};
 
 use nut_link::{LinkFault, Text};
+use nut_proto::TrackingStatus;
 use std::alloc::{AllocError, AllocFailed};
 
 /// Why a tool ends without its output, or with only a part of it.
@@ -21,6 +22,10 @@ pub enum Failure {
     Refused(Text),
     /// The server sent a line that doesn't answer the query.
     BadAnswer,
+    /// The server accepted a request that was to be tracked, but gave it no number.
+    Untracked,
+    /// The driver hasn't confirmed that the request succeeded: it is pending, has failed, or is forgotten.
+    Unconfirmed(TrackingStatus),
     /// A query isn't writable: it has a byte outside 0x20 to 0x7E or is too long.
     BadQuery,
     /// Memory could not be allocated.
@@ -72,6 +77,8 @@ impl Failure {
             Failure::ConnectionLost => b"connection lost",
             Failure::Refused(name) => name.as_bytes(),
             Failure::BadAnswer => b"bad answer",
+            Failure::Untracked => b"not tracked",
+            Failure::Unconfirmed(status) => status.word(),
             Failure::BadQuery => b"bad query",
             Failure::Memory => b"out of memory",
             Failure::OutputFailed => b"output failed",
@@ -89,6 +96,8 @@ impl Failure {
             | Failure::ConnectionLost
             | Failure::Refused(_)
             | Failure::BadAnswer
+            | Failure::Untracked
+            | Failure::Unconfirmed(_)
             | Failure::BadQuery
             | Failure::Memory
             | Failure::OutputFailed => 1,

@@ -44,4 +44,4 @@ pub use stream::{ByteStream, MemoryStream, Moved, Stream};
 pub use upsc::{run_upsc, upsc_target};
 pub use upscmd::{run_upscmd, upscmd_target};
 pub use upsrw::{run_upsrw, upsrw_target};
-pub use wanted::{Deed, Wanted};
+pub use wanted::{Deed, Until, Wanted};

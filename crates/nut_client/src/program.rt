@@ -13,6 +13,7 @@ use std::io::Print;
 use std::net::Net;
 use std::process::ExitCode;
 use std::sync::Wait;
+use std::time::Clock;
 use std::{env, io};
 
 /// A tool.
@@ -28,7 +29,7 @@ pub enum Tool {
 
 /// Runs a tool as this program: with the words of its command line, over TCP, with standard output and this error
 /// output. Returns the exit status.
-pub fn run_tool<R: Env + Net + Print + Wait + AllocGlobal, E: Print>(
+pub fn run_tool<R: Clock + Env + Net + Print + Wait + AllocGlobal, E: Print>(
     rt: &R,
     stderr: &E,
     tool: Tool,
@@ -48,7 +49,7 @@ fn command_words<R: Env + AllocGlobal>(rt: &R) -> io::Result<Vec<String>> {
 }
 
 /// Runs a tool with these words.
-fn run_words<R: Net + Print + Wait + AllocGlobal, E: Output>(
+fn run_words<R: Clock + Net + Print + Wait + AllocGlobal, E: Output>(
     rt: &R,
     tool: Tool,
     words: &[String],

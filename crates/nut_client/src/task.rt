@@ -1,16 +1,20 @@
 //! What a tool has left to do, step by step: to ask a query, or to print a text.
-ghost use Rattle.std.specs.Prelude.{◌≡◌, ◌∷◌, List, ℕ, [], codes};
+ghost use Rattle.std.specs.Prelude.{◌≡◌, ◌∷◌, List, ℕ, [], Some, codes};
 ghost use Rattle.nut_client.specs.Json.{json_object};
-ghost use Rattle.nut_client.specs.Script.{Prints, deed_query, line, on_done, on_rows, on_words, row_lines, script, word};
-ghost use Rattle.nut_client.specs.inside.Task.{GivesRows, GivesWords, GoesOn, IsDone, Leads, Says, ShowsRow, answered, first_query, first_question, left_at, left_of, row_query, showing, showing_of};
+ghost use Rattle.nut_proto.specs.Tracking.{tracking_status};
+ghost use Rattle.nut_client.specs.Script.{Pauses, Prints, Script, by_status, deed_query, does_until, if_pending, line, on_done, on_number, on_rows, on_words, row_lines, script, waits, word};
+ghost use Rattle.nut_client.specs.inside.Task.{GivesNumber, GivesRows, GivesWords, GoesOn, IsDone, Leads, Says, ShowsRow, answered, first_query, first_question, left_at, left_of, row_query, showing, showing_of};
 
 use crate::failure::Failure;
 use crate::json::put_object;
 use crate::printing::{Form, Values, put_heading, put_line, put_rows, values_of};
-use crate::wanted::{Deed, Wanted};
+use crate::wanted::{Deed, Until, Wanted};
 use nut_link::{Fields, Outcome, Rows, Text};
-use nut_proto::{ListQuery, Request, Word};
+use nut_proto::{ListQuery, Request, TrackingStatus, Word, tracking_number, tracking_status};
 use std::alloc::Global;
+
+/// The greatest number of pauses, of a second each, while a tool waits for a request to end.
+pub(crate) const PAUSES_MAX: u32 = 10;
 
 /// What is asked next about a row.
 #[derive(Clone, Copy)]
@@ -53,9 +57,17 @@ pub(crate) enum Step<'a> {
     /// Nothing was answered yet.
     Begun(Wanted<'a>),
     /// The user's name was accepted. The password and the deed are left.
-    Password(Word<'a>, Deed<'a>),
+    Password(Word<'a>, Deed<'a>, Until),
     /// The password was accepted. The deed is left.
     Deed(Deed<'a>),
+    /// The password was accepted. Tracking is to be switched on, and the deed is left.
+    Tracking(Deed<'a>),
+    /// Tracking is on. The deed is left.
+    TrackedDeed(Deed<'a>),
+    /// The request of this number was accepted. The tool asks whether it has ended, and may pause so often.
+    Waits(u32, u32),
+    /// The request of this number is pending. The tool pauses, asks whether it has ended, and may pause so often again.
+    Pauses(u32, u32),
     /// This is asked about the first row that wasn't shown yet.
     Shows(Question, Shown),
     /// The text is complete.
@@ -67,6 +79,8 @@ pub(crate) enum Step<'a> {
 pub(crate) enum Next<'t> {
     /// It asks this query.
     Asks(Request<'t>),
+    /// It pauses for a second.
+    Pauses,
     /// It prints its text.
     Prints,
 }
@@ -118,7 +132,7 @@ fn first_query<'t>(ups: &'t Word<'_>, wanted: &'t Wanted<'_>) -> Request<'t>
         Wanted::Clients => Request::List(ListQuery::Client { ups: again(ups) }),
         Wanted::Settings => Request::List(ListQuery::Rw { ups: again(ups) }),
         Wanted::Commands => Request::List(ListQuery::Cmd { ups: again(ups) }),
-        Wanted::Does(user, _, _) => Request::Username { name: again(user) },
+        Wanted::Does(user, _, _, _) => Request::Username { name: again(user) },
     }
 }
 
@@ -236,10 +250,91 @@ fn hear_first<'a>(alloc: Global, wanted: Wanted<'a>, outcome: Outcome) -> Result
         Wanted::Value(_) => print_word(alloc, outcome),
         Wanted::Settings => show_rows(alloc, Question::Kind, outcome),
         Wanted::Commands => show_rows(alloc, Question::Description, outcome),
-        Wanted::Does(_, password, deed) => {
+        Wanted::Does(_, password, deed, until) => {
             done_of(outcome)?;
-            Ok(Step::Password(password, deed))
+            Ok(Step::Password(password, deed, until))
         }
+    }
+}
+
+/// Takes in the outcome of the password.
+fn hear_password<'a>(deed: Deed<'a>, until: Until, outcome: Outcome) -> Result<Step<'a>, Failure>
+    ensures { (ups : List ℕ) → Leads ups (on_done (does_until ups deed.entry until) outcome) result }
+{
+    done_of(outcome)?;
+    match until {
+        Until::Accepted => Ok(Step::Deed(deed)),
+        Until::Ended => Ok(Step::Tracking(deed)),
+    }
+}
+
+/// Returns the number of a tracked request, or the failure of a request that has none.
+fn number_of(outcome: Outcome) -> Result<u32, Failure>
+    ensures { GivesNumber outcome result }
+{
+    match outcome {
+        Outcome::Said(words) => match tracking_number(words.get(0)) {
+            Some(number) => Ok(number),
+            None => Err(Failure::Untracked),
+        },
+        Outcome::Done => Err(Failure::Untracked),
+        Outcome::Refused(name) => Err(Failure::Refused(name)),
+        Outcome::List(_) => Err(Failure::BadAnswer),
+    }
+}
+
+/// Takes in the outcome of a deed that is tracked.
+fn hear_tracked_deed<'a>(outcome: Outcome) -> Result<Step<'a>, Failure>
+    ensures { (ups : List ℕ) → Leads ups (on_number waits outcome) result }
+{
+    let number = number_of(outcome)?;
+    Ok(Step::Waits(number, PAUSES_MAX))
+}
+
+/// Continues with a request that is pending.
+fn pause<'a>(number: u32, pauses: u32) -> Result<Step<'a>, Failure>
+    ensures { (ups : List ℕ) → Leads ups (if_pending number pauses) result }
+{
+    match pauses.checked_sub(1) {
+        Some(pauses) => Ok(Step::Pauses(number, pauses)),
+        None => Err(Failure::Unconfirmed(TrackingStatus::Pending)),
+    }
+}
+
+/// Continues by the status of a request.
+fn go_on_by<'a>(
+    alloc: Global,
+    number: u32,
+    pauses: u32,
+    status: TrackingStatus,
+) -> Result<Step<'a>, Failure>
+    ensures { (ups : List ℕ) → Leads ups (by_status (if_pending number pauses) (Some status)) result }
+{
+    match status {
+        TrackingStatus::Pending => pause(number, pauses),
+        TrackingStatus::Success => {
+            let mut text = Vec::new(alloc);
+            put_line(&mut text, &[b"SUCCESS"])?;
+            Ok(Step::Done(text))
+        }
+        TrackingStatus::Failed => Err(Failure::Unconfirmed(TrackingStatus::Failed)),
+        TrackingStatus::Unknown => Err(Failure::Unconfirmed(TrackingStatus::Unknown)),
+    }
+}
+
+/// Takes in the status of a request.
+fn hear_status<'a>(
+    alloc: Global,
+    number: u32,
+    pauses: u32,
+    outcome: Outcome,
+) -> Result<Step<'a>, Failure>
+    ensures { (ups : List ℕ) → Leads ups (on_words (λ words. by_status (if_pending number pauses) (tracking_status (word 0 words))) outcome) result }
+{
+    let words = words_of(outcome)?;
+    match tracking_status(words.get(0)) {
+        Some(status) => go_on_by(alloc, number, pauses, status),
+        None => Err(Failure::BadAnswer),
     }
 }
 
@@ -333,11 +428,15 @@ fn hear_step<'a>(alloc: Global, step: Step<'a>, outcome: Outcome) -> Result<Step
 {
     match step {
         Step::Begun(wanted) => hear_first(alloc, wanted, outcome),
-        Step::Password(_, deed) => {
-            done_of(outcome)?;
-            Ok(Step::Deed(deed))
-        }
+        Step::Password(_, deed, until) => hear_password(deed, until, outcome),
         Step::Deed(_) => hear_deed(alloc, outcome),
+        Step::Tracking(deed) => {
+            done_of(outcome)?;
+            Ok(Step::TrackedDeed(deed))
+        }
+        Step::TrackedDeed(_) => hear_tracked_deed(outcome),
+        Step::Waits(number, pauses) => hear_status(alloc, number, pauses, outcome),
+        Step::Pauses(number, pauses) => Ok(Step::Pauses(number, pauses)),
         Step::Shows(question, shown) => hear_row(question, shown, outcome),
         Step::Done(text) => Ok(Step::Done(text)),
     }
@@ -362,10 +461,13 @@ impl<'a> Task<'a> {
         let ups = &self.ups;
         match &self.step {
             Step::Begun(wanted) => Next::Asks(first_query(ups, wanted)),
-            Step::Password(password, _) => Next::Asks(Request::Password {
+            Step::Password(password, _, _) => Next::Asks(Request::Password {
                 password: again(password),
             }),
-            Step::Deed(deed) => Next::Asks(deed_query(ups, deed)),
+            Step::Deed(deed) | Step::TrackedDeed(deed) => Next::Asks(deed_query(ups, deed)),
+            Step::Tracking(_) => Next::Asks(Request::SetTracking { on: true }),
+            Step::Waits(number, _) => Next::Asks(Request::GetTrackingOf { number: *number }),
+            Step::Pauses(_, _) => Next::Pauses,
             Step::Shows(question, shown) => match shown.rows.as_slice().get(shown.count) {
                 Some(row) => Next::Asks(row_query(ups, *question, row.get(0))),
                 None => Next::Prints,
@@ -385,6 +487,21 @@ impl<'a> Task<'a> {
         }
     }
 
+    /// Continues after a pause.
+    pub(crate) fn resume(self) -> Task<'a>
+        ensures { (next : Script) → left_of self.entry ≡ Pauses next → left_of result ≡ next }
+    {
+        let Task { ups, step, alloc } = self;
+        match step {
+            Step::Pauses(number, pauses) => Task {
+                ups,
+                step: Step::Waits(number, pauses),
+                alloc,
+            },
+            step => Task { ups, step, alloc },
+        }
+    }
+
     /// Returns the text. It is complete if the task has nothing left but to print it.
     pub(crate) fn into_text(self) -> Text
         ensures { (text : List ℕ) → left_of self.entry ≡ Prints text → result ≡ text }
@@ -398,8 +515,12 @@ impl<'a> Task<'a> {
             Step::Done(text) => Text::of(text),
             Step::Shows(_question, shown) => Text::of(shown.into_text()),
             Step::Begun(_wanted) => Text::of(Vec::new(alloc)),
-            Step::Password(_password, _deed) => Text::of(Vec::new(alloc)),
+            Step::Password(_password, _deed, _until) => Text::of(Vec::new(alloc)),
             Step::Deed(_deed) => Text::of(Vec::new(alloc)),
+            Step::Tracking(_deed) => Text::of(Vec::new(alloc)),
+            Step::TrackedDeed(_deed) => Text::of(Vec::new(alloc)),
+            Step::Waits(_number, _pauses) => Text::of(Vec::new(alloc)),
+            Step::Pauses(_number, _pauses) => Text::of(Vec::new(alloc)),
         }
     }
 }

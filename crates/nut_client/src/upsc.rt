@@ -21,6 +21,7 @@ use nut_proto::Word;
 use std::alloc::{AllocError, Global};
 use std::convert::AsStr;
 use std::sync::Wait;
+use std::time::Clock;
 
 /// Runs `upsc` with these words of a command line, the program's name first, over a connection to the server, which is
 /// `None` if none was made. Returns the exit status.
@@ -29,7 +30,7 @@ use std::sync::Wait;
 /// line on `err` says why. The status is then 2 if the command line cannot be read or is no combination that the tool
 /// knows, else 1. The help and the version are written to `out`.
 pub fn run_upsc<W: AsStr, S: Stream, O: Output, E: Output>(
-    rt: &impl Wait,
+    rt: &(impl Wait + Clock),
     alloc: Global,
     words: &[W],
     stream: Option<&mut S>,

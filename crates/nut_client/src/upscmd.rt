@@ -8,7 +8,7 @@ ghost use Rattle.nut_client.specs.Tool.{EndsBy, IsUnused, RunsAs};
 
 use crate::command_line::{
     Options, Refusal, argument, deed_by, destination_of, flag, is_given, name_argument, options_of,
-    password_argument, read_words, refused, user_argument, value,
+    password_argument, read_words, refused, until, user_argument, value, wait_flag,
 };
 use crate::destination::Destination;
 use crate::engine::{run, run_alone};
@@ -21,11 +21,12 @@ use nut_proto::Word;
 use std::alloc::{AllocError, Global};
 use std::convert::AsStr;
 use std::sync::Wait;
+use std::time::Clock;
 
 /// Runs `upscmd` with these words of a command line, the program's name first, over a connection to the server, which
 /// is `None` if none was made. Returns the exit status, as [`run_upsc`](crate::run_upsc) does.
 pub fn run_upscmd<W: AsStr, S: Stream, O: Output, E: Output>(
-    rt: &impl Wait,
+    rt: &(impl Wait + Clock),
     alloc: Global,
     words: &[W],
     stream: Option<&mut S>,
@@ -71,6 +72,7 @@ fn options_in<'a>(matches: &ArgMatches<'a>) -> Result<Options<'a>, Failure>
 {
     let wanted = wanted_by(
         is_given(matches, "list"),
+        is_given(matches, "wait"),
         value(matches, "command"),
         value(matches, "parameter"),
         value(matches, "user"),
@@ -79,23 +81,24 @@ fn options_in<'a>(matches: &ArgMatches<'a>) -> Result<Options<'a>, Failure>
     options_of(wanted, value(matches, "name"))
 }
 
-/// Returns what the options ask for. A list takes neither a user nor a command, and a command, with a parameter or
-/// without one, needs a user and a password.
+/// Returns what the options ask for. A list takes neither a user nor a command nor the flag to wait, and a command, with
+/// a parameter or without one, needs a user and a password.
 fn wanted_by<'a>(
     list: bool,
+    wait: bool,
     command: Option<&'a str>,
     parameter: Option<&'a str>,
     user: Option<&'a str>,
     password: Option<&'a str>,
 ) -> Option<Wanted<'a>>
-    ensures { result ≡ upscmd_wanted list (option_map (λ s. s.now) command.entry) (option_map (λ s. s.now) parameter.entry) (option_map (λ s. s.now) user.entry) (option_map (λ s. s.now) password.entry) }
+    ensures { result ≡ upscmd_wanted list wait (option_map (λ s. s.now) command.entry) (option_map (λ s. s.now) parameter.entry) (option_map (λ s. s.now) user.entry) (option_map (λ s. s.now) password.entry) }
 {
-    match (list, command, parameter, user, password) {
-        (true, None, None, None, None) => Some(Wanted::Commands),
-        (false, Some(command), parameter, Some(user), Some(password)) => {
+    match (list, wait, command, parameter, user, password) {
+        (true, false, None, None, None, None) => Some(Wanted::Commands),
+        (false, wait, Some(command), parameter, Some(user), Some(password)) => {
             let parameter = parameter.map(|text| Word::new(text.as_bytes()));
             let deed = Deed::Command(Word::new(command.as_bytes()), parameter);
-            Some(deed_by(user, password, deed))
+            Some(deed_by(user, password, deed, until(wait)))
         }
         _ => None,
     }
@@ -114,6 +117,7 @@ fn command<'a>(alloc: Global) -> Result<Command<'a>, AllocError>
             'l',
             "List the commands of the UPS with their descriptions",
         ))?
+        .arg(wait_flag(alloc))?
         .arg(user_argument(alloc))?
         .arg(password_argument(alloc))?
         .arg(name_argument(alloc))?

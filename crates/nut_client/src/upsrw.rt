@@ -7,8 +7,9 @@ ghost use Rattle.nut_client.specs.inside.Reading.{AreOptions, IsRead};
 ghost use Rattle.nut_client.specs.Tool.{EndsBy, IsUnused, RunsAs};
 
 use crate::command_line::{
-    Options, Refusal, deed_by, destination_of, name_argument, options_of, parted_at_equals,
-    password_argument, read_words, refused, user_argument, value, valued,
+    Options, Refusal, deed_by, destination_of, is_given, name_argument, options_of,
+    parted_at_equals, password_argument, read_words, refused, until, user_argument, value, valued,
+    wait_flag,
 };
 use crate::destination::Destination;
 use crate::engine::{run, run_alone};
@@ -21,11 +22,12 @@ use nut_proto::Word;
 use std::alloc::{AllocError, Global};
 use std::convert::AsStr;
 use std::sync::Wait;
+use std::time::Clock;
 
 /// Runs `upsrw` with these words of a command line, the program's name first, over a connection to the server, which is
 /// `None` if none was made. Returns the exit status, as [`run_upsc`](crate::run_upsc) does.
 pub fn run_upsrw<W: AsStr, S: Stream, O: Output, E: Output>(
-    rt: &impl Wait,
+    rt: &(impl Wait + Clock),
     alloc: Global,
     words: &[W],
     stream: Option<&mut S>,
@@ -67,26 +69,29 @@ fn options_in<'a>(matches: &ArgMatches<'a>) -> Result<Options<'a>, Failure>
 {
     let wanted = wanted_by(
         value(matches, "setting"),
+        is_given(matches, "wait"),
         value(matches, "user"),
         value(matches, "password"),
     );
     options_of(wanted, value(matches, "name"))
 }
 
-/// Returns what the options ask for. A setting needs a user and a password, and these are allowed only with a setting.
+/// Returns what the options ask for. A setting needs a user and a password, and these and the flag to wait are allowed
+/// only with a setting.
 fn wanted_by<'a>(
     setting: Option<&'a str>,
+    wait: bool,
     user: Option<&'a str>,
     password: Option<&'a str>,
 ) -> Option<Wanted<'a>>
-    ensures { result ≡ upsrw_wanted (option_map (λ s. s.now) setting.entry) (option_map (λ s. s.now) user.entry) (option_map (λ s. s.now) password.entry) }
+    ensures { result ≡ upsrw_wanted (option_map (λ s. s.now) setting.entry) wait (option_map (λ s. s.now) user.entry) (option_map (λ s. s.now) password.entry) }
 {
-    match (setting, user, password) {
-        (None, None, None) => Some(Wanted::Settings),
-        (Some(setting), Some(user), Some(password)) => {
+    match (setting, wait, user, password) {
+        (None, false, None, None) => Some(Wanted::Settings),
+        (Some(setting), wait, Some(user), Some(password)) => {
             let (variable, value) = parted_at_equals(setting.as_bytes())?;
             let deed = Deed::Set(Word::new(variable), Word::new(value));
-            Some(deed_by(user, password, deed))
+            Some(deed_by(user, password, deed, until(wait)))
         }
         _ => None,
     }
@@ -106,6 +111,7 @@ fn command<'a>(alloc: Global) -> Result<Command<'a>, AllocError>
             "VAR=VALUE",
             "Set the variable VAR to VALUE, parted at the first '='; needs -u and -p",
         ))?
+        .arg(wait_flag(alloc))?
         .arg(user_argument(alloc))?
         .arg(password_argument(alloc))?
         .arg(name_argument(alloc))

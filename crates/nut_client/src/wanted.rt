@@ -21,7 +21,16 @@ pub enum Wanted<'a> {
     /// All commands of the UPS with their descriptions: `upscmd -l NAME`.
     Commands,
     /// Something that the UPS does for the user of this name and password: `upsrw -s`, `upscmd`.
-    Does(Word<'a>, Word<'a>, Deed<'a>),
+    Does(Word<'a>, Word<'a>, Deed<'a>, Until),
+}
+
+/// How long a tool stays that has a UPS do something.
+#[derive(Clone, Copy, Debug, PartialEq, Eq)]
+pub enum Until {
+    /// Until the server has accepted the request.
+    Accepted,
+    /// Until the request has ended, at most ten seconds: `-w`.
+    Ended,
 }
 
 /// Something that a UPS is told to do.

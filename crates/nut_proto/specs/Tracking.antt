@@ -1,5 +1,6 @@
 -- The numbers of tracked requests, and how they ended.
 use Rattle.std.specs.Prelude.{ℕ, ◌<◌, ◌≤◌, ◌==◌, Bool, true, false, List, [], ◌∷◌, Option, Some, None, codes, if◌then◌else◌}
+use Rattle.std.specs.Str.{bytes_eq}
 use Rattle.nut_words.specs.Number.{natural}
 use Rattle.nut_proto.specs.declared.limits.TheConstants.{TRACKING_NUMBER_MAX}
 use Rattle.nut_proto.specs.declared.tracking.TrackingStatus.{TrackingStatus}
@@ -20,6 +21,15 @@ status_word statuses.Pending = codes "PENDING"
 status_word statuses.Success = codes "SUCCESS"
 status_word statuses.Failed = codes "FAILED"
 status_word statuses.Unknown = codes "UNKNOWN"
+
+-- the status that a word says
+abbrev pub tracking_status : List ℕ → Option TrackingStatus
+tracking_status word =
+    if bytes_eq word (codes "PENDING") then Some statuses.Pending
+    else if bytes_eq word (codes "SUCCESS") then Some statuses.Success
+    else if bytes_eq word (codes "FAILED") then Some statuses.Failed
+    else if bytes_eq word (codes "UNKNOWN") then Some statuses.Unknown
+    else None
 
 abbrev pub switch_word : Bool → List ℕ
 switch_word true = codes "ON"

@@ -33,5 +33,5 @@ pub use reading::read;
 pub use refusal::Refusal;
 pub use reply::{Reply, VariableKind};
 pub use request::{ListQuery, Request};
-pub use tracking::{TrackingStatus, tracking_number};
+pub use tracking::{TrackingStatus, tracking_number, tracking_status};
 pub use word::Word;

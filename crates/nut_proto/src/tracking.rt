@@ -1,6 +1,6 @@
 //! Requests that are tracked: their numbers, and how they ended.
 ghost use Rattle.std.specs.Prelude.{◌≡◌, ◌<◌, IfSome};
-ghost use Rattle.nut_proto.specs.Tracking.{status_word, switch, switch_word, tracking_number};
+ghost use Rattle.nut_proto.specs.Tracking.{status_word, switch, switch_word, tracking_number, tracking_status};
 
 use crate::keyword::is_named;
 use nut_words::natural;
@@ -20,7 +20,7 @@ pub enum TrackingStatus {
 
 impl TrackingStatus {
     /// Returns the word of an answer to `GET TRACKING`.
-    pub(crate) fn word(self) -> &'static [u8]
+    pub fn word(self) -> &'static [u8]
         ensures { result.now ≡ status_word self }
     {
         match self {
@@ -61,5 +61,22 @@ pub fn tracking_number(text: &[u8]) -> Option<u32>
     match text.first() {
         None | Some(b'0') => None,
         Some(_) => natural(text),
+    }
+}
+
+/// Reads the word of an answer to `GET TRACKING`. Returns `None` for any other word.
+pub fn tracking_status(word: &[u8]) -> Option<TrackingStatus>
+    ensures { result ≡ tracking_status word.now }
+{
+    if word == TrackingStatus::Pending.word() {
+        Some(TrackingStatus::Pending)
+    } else if word == TrackingStatus::Success.word() {
+        Some(TrackingStatus::Success)
+    } else if word == TrackingStatus::Failed.word() {
+        Some(TrackingStatus::Failed)
+    } else if word == TrackingStatus::Unknown.word() {
+        Some(TrackingStatus::Unknown)
+    } else {
+        None
     }
 }

@@ -1,5 +1,5 @@
 -- Examples, computed from the definitions.
-use Rattle.std.specs.Prelude.{◌≡◌, ◌⊎◌, ◌<◌, ℕ, List, length, [], ◌∷◌, codes, Option, Some, None, Result, Ok, Err}
+use Rattle.std.specs.Prelude.{◌≡◌, ◌⊎◌, ◌<◌, ℕ, zero, suc, List, length, [], ◌∷◌, ◌++◌, codes, Option, Some, None, Result, Ok, Err}
 use Rattle.clap.specs.declared.error.kind.ErrorKind.TheVariants as kinds
 use Rattle.nut_client.specs.CommandLine.{CommandLine, target_of, upsc_line, upsrw_line, upscmd_line}
 use Rattle.nut_client.specs.Script.{Script, script}
@@ -7,6 +7,8 @@ use Rattle.nut_client.specs.Tool.{Ends, Failed, Printed, ending, run_of}
 use Rattle.nut_client.specs.declared.failure.Failure.{Failure}
 use Rattle.nut_client.specs.declared.failure.Failure.TheVariants as failures
 use Rattle.nut_client.specs.declared.wanted.Deed.TheVariants as deeds
+use Rattle.nut_client.specs.declared.wanted.Until.TheVariants as untils
+use Rattle.nut_proto.specs.declared.tracking.TrackingStatus.TheVariants as statuses
 use Rattle.nut_client.specs.declared.wanted.Wanted.{Wanted}
 use Rattle.nut_client.specs.declared.wanted.Wanted.TheVariants as wanteds
 
@@ -23,11 +25,15 @@ pub record CommandLineExamples : Type 0 where
   pub server : upsc_line (codes "upsc" ∷ codes "-L" ∷ codes "h:5" ∷ []) ≡ asks (codes "u") (codes "h") 5 wanteds.Descriptions
   pub no_server : upsc_line (codes "upsc" ∷ codes "-l" ∷ []) ≡ asks (codes "u") (codes "localhost") 3493 wanteds.Names
   pub setting : upsrw_line (codes "upsrw" ∷ codes "-s" ∷ codes "ups.id=a=b" ∷ codes "-u" ∷ codes "admin" ∷ codes "-ppw" ∷ codes "su700" ∷ [])
-      ≡ asks (codes "su700") (codes "localhost") 3493 (wanteds.Does (codes "admin") (codes "pw") (deeds.Set (codes "ups.id") (codes "a=b")))
+      ≡ asks (codes "su700") (codes "localhost") 3493 (wanteds.Does (codes "admin") (codes "pw") (deeds.Set (codes "ups.id") (codes "a=b")) untils.Accepted)
   pub command : upscmd_line (codes "upscmd" ∷ codes "-u" ∷ codes "admin" ∷ codes "-p" ∷ codes "pw" ∷ codes "su700" ∷ codes "load.off" ∷ [])
-      ≡ asks (codes "su700") (codes "localhost") 3493 (wanteds.Does (codes "admin") (codes "pw") (deeds.Command (codes "load.off") None))
+      ≡ asks (codes "su700") (codes "localhost") 3493 (wanteds.Does (codes "admin") (codes "pw") (deeds.Command (codes "load.off") None) untils.Accepted)
   pub parameter : upscmd_line (codes "upscmd" ∷ codes "-u" ∷ codes "admin" ∷ codes "-p" ∷ codes "pw" ∷ codes "su700" ∷ codes "load.off" ∷ codes "5" ∷ [])
-      ≡ asks (codes "su700") (codes "localhost") 3493 (wanteds.Does (codes "admin") (codes "pw") (deeds.Command (codes "load.off") (Some (codes "5"))))
+      ≡ asks (codes "su700") (codes "localhost") 3493 (wanteds.Does (codes "admin") (codes "pw") (deeds.Command (codes "load.off") (Some (codes "5"))) untils.Accepted)
+  pub waiting : upscmd_line (codes "upscmd" ∷ codes "-wu" ∷ codes "admin" ∷ codes "-p" ∷ codes "pw" ∷ codes "su700" ∷ codes "load.off" ∷ [])
+      ≡ asks (codes "su700") (codes "localhost") 3493 (wanteds.Does (codes "admin") (codes "pw") (deeds.Command (codes "load.off") None) untils.Ended)
+  pub waiting_for_a_list : upscmd_line (codes "upscmd" ∷ codes "-lw" ∷ codes "su700" ∷ []) ≡ Ok (Err failures.BadArguments)
+  pub waiting_for_nothing : upsrw_line (codes "upsrw" ∷ codes "-w" ∷ codes "su700" ∷ []) ≡ Ok (Err failures.BadArguments)
   pub dialed : target_of (upscmd_line (codes "upscmd" ∷ codes "-l" ∷ codes "su700@h:5" ∷ [])) ≡ Some (codes "h", 5)
   pub two_lists : upsc_line (codes "upsc" ∷ codes "-lc" ∷ codes "su700" ∷ []) ≡ Ok (Err failures.BadArguments)
   pub no_password : upsrw_line (codes "upsrw" ∷ codes "-s" ∷ codes "ups.id=a" ∷ codes "-u" ∷ codes "admin" ∷ codes "su700" ∷ []) ≡ Ok (Err failures.BadArguments)
@@ -40,6 +46,22 @@ pub record CommandLineExamples : Type 0 where
 -- `upsc u v`
 abbrev pub value_of_v : Script
 value_of_v = script (codes "u") (wanteds.Value (codes "v"))
+
+-- `upsrw -w -s v=5 -u a -p p u`
+abbrev pub set_v : Script
+set_v = script (codes "u") (wanteds.Does (codes "a") (codes "p") (deeds.Set (codes "v") (codes "5")) untils.Ended)
+
+-- what a server answers to `set_v` until it has numbered the request, and what it is asked
+abbrev pub numbered : List ℕ
+numbered = codes "OK\nOK\nOK\nOK TRACKING 7\n"
+
+abbrev pub set_queries : List ℕ
+set_queries = codes "USERNAME a\nPASSWORD p\nSET TRACKING ON\nSET VAR u v \"5\"\n"
+
+-- a text so many times
+abbrev pub times : ℕ → List ℕ → List ℕ
+times zero text = []
+times (suc n) text = text ++ times n text
 
 -- Bytes that a server sends, and what a tool asks and how it ends by them.
 pub record RunExamples : Type 0 where
@@ -54,10 +76,17 @@ pub record RunExamples : Type 0 where
       ≡ record { queries = codes "LIST VAR u\n"; standing = Printed (codes "{\"v\": \"1 \\\"2\\\"\", \"w\": \"\\\\\"}\n") }
   pub no_rows : run_of (script (codes "u") wanteds.Object) (codes "BEGIN LIST VAR u\nEND LIST VAR u\n") ≡ record { queries = codes "LIST VAR u\n"; standing = Printed (codes "{}\n") }
   pub cut_list : ending (run_of (script (codes "u") wanteds.Variables) (codes "BEGIN LIST VAR u\nVAR u v \"1 2\"\n")).standing ≡ Err failures.ConnectionLost
-  pub done : run_of (script (codes "u") (wanteds.Does (codes "a") (codes "p") (deeds.Command (codes "load.off") None))) (codes "OK\nOK\nOK TRACKING\n")
+  pub done : run_of (script (codes "u") (wanteds.Does (codes "a") (codes "p") (deeds.Command (codes "load.off") None) untils.Accepted)) (codes "OK\nOK\nOK TRACKING\n")
       ≡ record { queries = codes "USERNAME a\nPASSWORD p\nINSTCMD u load.off\n"; standing = Printed (codes "OK\n") }
-  pub with_parameter : run_of (script (codes "u") (wanteds.Does (codes "a") (codes "p") (deeds.Command (codes "load.off") (Some (codes "5"))))) (codes "OK\nOK\nOK TRACKING 7\n")
+  pub with_parameter : run_of (script (codes "u") (wanteds.Does (codes "a") (codes "p") (deeds.Command (codes "load.off") (Some (codes "5"))) untils.Accepted)) (codes "OK\nOK\nOK TRACKING 7\n")
       ≡ record { queries = codes "USERNAME a\nPASSWORD p\nINSTCMD u load.off \"5\"\n"; standing = Printed (codes "OK\n") }
+  pub succeeded : run_of set_v (numbered ++ codes "TRACKING 7 PENDING\nTRACKING 7 SUCCESS\n") ≡ record { queries = set_queries ++ times 2 (codes "GET TRACKING 7\n"); standing = Printed (codes "SUCCESS\n") }
+  pub failed : run_of set_v (numbered ++ codes "TRACKING 7 FAILED\n") ≡ record { queries = set_queries ++ codes "GET TRACKING 7\n"; standing = Failed (failures.Unconfirmed statuses.Failed) }
+  pub pending : run_of set_v (numbered ++ times 11 (codes "TRACKING 7 PENDING\n"))
+      ≡ record { queries = set_queries ++ times 11 (codes "GET TRACKING 7\n"); standing = Failed (failures.Unconfirmed statuses.Pending) }
+  pub still_pending : ending (run_of set_v (numbered ++ times 10 (codes "TRACKING 7 PENDING\n"))).standing ≡ Err failures.ConnectionLost
+  pub untracked : run_of set_v (codes "OK\nOK\nOK\nOK\n") ≡ record { queries = set_queries; standing = Failed failures.Untracked }
+  pub never_tracks : run_of set_v (codes "OK\nOK\nERR INVALID-ARGUMENT\n") ≡ record { queries = codes "USERNAME a\nPASSWORD p\nSET TRACKING ON\n"; standing = Failed (failures.Refused (codes "INVALID-ARGUMENT")) }
   -- Every run over a stream with these bytes ends so, unless memory or the connection is lacking.
   pub decided : (result : Result (List ℕ) Failure) (left before after : Option (List ℕ)) → (e : Ends value_of_v result (Some (codes "VAR u v \"1 2\"\nERR DATA-STALE\nVA")) left before after)
       → (result ≡ Err failures.Memory)

@@ -16,9 +16,10 @@ use Rattle.nut_client.specs.declared.task.Shown.{Shown}
 use Rattle.nut_client.specs.declared.task.Step.{Step}
 use Rattle.nut_client.specs.declared.task.Step.TheVariants as steps
 use Rattle.nut_client.specs.declared.task.Task.{Task}
+use Rattle.nut_client.specs.declared.wanted.Until.TheVariants as untils
 use Rattle.nut_client.specs.declared.wanted.Wanted.{Wanted}
 use Rattle.nut_client.specs.declared.wanted.Wanted.TheVariants as wanteds
-use Rattle.nut_client.specs.Script.{Script, Prints, Fails, Asks, commands, does, gives_password, line, on_done, on_rows, on_words, script, settings, with_values, word}
+use Rattle.nut_client.specs.Script.{Script, Prints, Fails, Asks, Pauses, asks_status, commands, does, does_tracked, does_until, gives_password, if_pending, line, on_done, on_number, on_rows, on_words, script, settings, with_values, word}
 use Rattle.nut_client.specs.Tool.{breaks_off}
 
 -- the query with which a script begins
@@ -31,7 +32,7 @@ first_query ups wanteds.Descriptions = requests.List queries.Ups
 first_query ups wanteds.Clients = requests.List (queries.Client ups)
 first_query ups wanteds.Settings = requests.List (queries.Rw ups)
 first_query ups wanteds.Commands = requests.List (queries.Cmd ups)
-first_query ups (wanteds.Does user password deed) = requests.Username user
+first_query ups (wanteds.Does user password deed until) = requests.Username user
 
 -- the query of a question about what a row names
 abbrev pub row_query : List ℕ → Question → List ℕ → Request
@@ -64,8 +65,12 @@ showing_of ups question shown = showing ups question shown.text.items (drop show
 -- what is left at a step
 abbrev pub left_at : List ℕ → Step → Script
 left_at ups (steps.Begun wanted) = script ups wanted
-left_at ups (steps.Password password deed) = gives_password ups password deed
+left_at ups (steps.Password password deed until) = gives_password ups password deed until
 left_at ups (steps.Deed deed) = does ups deed
+left_at ups (steps.Tracking deed) = does_until ups deed untils.Ended
+left_at ups (steps.TrackedDeed deed) = does_tracked ups deed
+left_at ups (steps.Waits number pauses) = asks_status number (if_pending number pauses)
+left_at ups (steps.Pauses number pauses) = Pauses (asks_status number (if_pending number pauses))
 left_at ups (steps.Shows question shown) = showing_of ups question shown
 left_at ups (steps.Done text) = Prints text.items
 
@@ -74,10 +79,12 @@ abbrev pub answered : Outcome → Script → Script
 answered outcome (Asks request next) = next outcome
 answered outcome (Prints text) = Prints text
 answered outcome (Fails failure) = Fails failure
+answered outcome (Pauses next) = Pauses next
 
--- A script continues with a query, or with its text.
+-- A script continues with a query, with a pause, or with its text.
 abbrev pub Says : Script → Next → Type 0
 Says script (nexts.Asks request) = (next : Outcome → Script) × (script ≡ Asks request next)
+Says script nexts.Pauses = (next : Script) × (script ≡ Pauses next)
 Says script nexts.Prints = (text : List ℕ) × (script ≡ Prints text)
 
 -- A call ends in this failure: that of the script, which isn't one of the connection; or memory could not be allocated.
@@ -109,6 +116,10 @@ GivesWords outcome (Err failure) = (breaks_off failure ≡ false) × ((next : Li
 abbrev pub IsDone : Outcome → Result (Unit {0}) Failure → Type 0
 IsDone outcome (Ok done) = (next : Script) → on_done next outcome ≡ next
 IsDone outcome (Err failure) = (breaks_off failure ≡ false) × ((next : Script) → on_done next outcome ≡ Fails failure)
+
+abbrev pub GivesNumber : Outcome → Result ℕ Failure → Type 0
+GivesNumber outcome (Ok number) = (next : ℕ → Script) → on_number next outcome ≡ next number
+GivesNumber outcome (Err failure) = (breaks_off failure ≡ false) × ((next : ℕ → Script) → on_number next outcome ≡ Fails failure)
 
 -- After an answer about a row, this is the text, and this is the next question about the row, or the rows behind it are
 -- left.

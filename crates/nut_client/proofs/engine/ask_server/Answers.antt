@@ -1,10 +1,15 @@
 use Rattle.std.proofs.Common.{IsSome, subst}
 use Rattle.std.proofs.lemmas.Bool.{false≢true}
-use Rattle.nut_client.proofs.Turns.{ends_asking, ends_by, ends_well, goes_by}
+use Rattle.nut_client.proofs.Turns.{at_start, ends_asking, ends_by, ends_well, goes_by}
 use Rattle.nut_client.specs.Script.{script}
 use Rattle.nut_client.specs.inside.Task.{left_of}
 use Rattle.nut_client.proofs.engine.ask_server.Goals as goal
 use Rattle.nut_client.proofs.engine.ask_server.Goals.{in-None, in-Some+in-Prints}
+
+pub loop-init : goal.loop-init
+loop-init g c =
+    at_start (script c.args.ups c.args.wanted) (left_of c.new-task.result) c.new-conversation.result.link c.new-conversation.result.unread (g.S.Stream.remaining c.args.stream.now) (g.S.Stream.taken c.args.stream.now) c.new-task.ensures
+    c.new-conversation.ensures.link c.new-conversation.ensures.unread
 
 pub returns-in-Err-clause-ends : goal.returns-in-Err-clause-ends
 returns-in-Err-clause-ends g c =

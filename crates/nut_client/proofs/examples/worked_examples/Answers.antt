@@ -1,4 +1,5 @@
 use Rattle.std.proofs.Common.{refl}
+use Rattle.std.specs.Fmt.{digits}
 use Rattle.clap.proofs.OnLiterals.{clap_on_literals}
 use Rattle.nut_words.specs.Reader.{read}
 use Rattle.nut_proto.specs.Answers.{answer_of}
@@ -20,6 +21,9 @@ returns-clause-lines c = record {
   setting = refl;
   command = refl;
   parameter = refl;
+  waiting = refl;
+  waiting_for_a_list = refl;
+  waiting_for_nothing = refl;
   dialed = refl;
   two_lists = refl;
   no_password = refl;
@@ -31,7 +35,7 @@ returns-clause-lines c = record {
 }
 
 pub returns-clause-runs : goal.returns-clause-runs
-unfolding read answer_of line request_line
+unfolding read answer_of line request_line digits
 returns-clause-runs c = record {
   answered = refl;
   bytes_behind = refl;
@@ -45,5 +49,11 @@ returns-clause-runs c = record {
   cut_list = refl;
   done = refl;
   with_parameter = refl;
+  succeeded = refl;
+  failed = refl;
+  pending = refl;
+  still_pending = refl;
+  untracked = refl;
+  never_tracks = refl;
   decided = λ result left before after ends. all_bytes _ _ _ left before after ends;
 }
