@@ -71,7 +71,7 @@ COMPLETIONS = {
     "upsc -j su700 ": [],
     "upsrw ": ["su700", "su900"],
     "upsrw su700 ": [],
-    "upsrw -": ["-s", "-u", "-p", "-h", "--help", "-V", "--version"],
+    "upsrw -": ["-s", "-w", "-u", "-p", "-h", "--help", "-V", "--version"],
     "upsrw -s ": ["input.sensitivity=", "ups.id=", "ups.delay.start="],
     "upsrw su700 -s in": ["input.sensitivity="],
     "upsrw -s input.sensitivity=": ["low", "very\\ high"],
