@@ -18,7 +18,7 @@ use Rattle.nut_link.specs.Asking.{is_writable}
 use Rattle.nut_client.specs.inside.Conversation.{Answered, Hears, HearsPart, IsListening, IsReadFor, IsWaiting, Listens, Sends, link_sent}
 use Rattle.nut_link.specs.Hearing.{Feeds}
 use Rattle.nut_link.specs.Link.{LinkValue, answer_by, fed, outcome_in, outcome_of, stage_without, taken_out, with_exchange}
-use Rattle.nut_link.specs.inside.Rests.{IsRest}
+use Rattle.nut_words.specs.Hearing.{IsRest}
 use Rattle.nut_client.specs.Script.{Script, Asks}
 use Rattle.nut_client.specs.Tool.{Failed, Waits, after, begin, breaks_off, ending, is_over, sent}
 use Rattle.nut_client.specs.inside.Unread.{IsLinePart, IsUnbroken, IsWhole}

@@ -3,7 +3,7 @@ ghost use Rattle.std.specs.Prelude.{◌≡◌, [], IfErr, OnOk};
 ghost use Rattle.std.specs.Io.KnownBytes.{prepend_known};
 ghost use Rattle.nut_client.specs.inside.Conversation.{Answered, Hears, IsWaiting, Sends};
 ghost use Rattle.nut_link.specs.Link.{fresh};
-ghost use Rattle.nut_link.specs.inside.Rests.{IsRest};
+ghost use Rattle.nut_words.specs.Hearing.{IsRest};
 ghost use Rattle.nut_client.specs.declared.failure.Failure.TheVariants.{ConnectionLost};
 
 use crate::failure::Failure;

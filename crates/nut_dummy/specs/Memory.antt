@@ -1,5 +1,5 @@
 -- At which lines memory may run out while a script is read.
-use Rattle.std.specs.Prelude.{◌≡◌, ◌⊎◌, ◌==◌, ℕ, ◌+◌, ◌≤◌, Bool, false, List, [], ◌∷◌, ◌++◌, length, IsTrue, None, Result, Ok, Err}
+use Rattle.std.specs.Prelude.{◌≡◌, ◌⊎◌, ◌==◌, ℕ, ◌+◌, ◌≤◌, Bool, false, List, ◌∷◌, ◌++◌, length, IsTrue, None, Result, Ok, Err}
 use Rattle.std.specs.List.{position}
 use Rattle.nut_words.specs.Lines.{parts}
 use Rattle.nut_words.specs.Reader.{has_backslash}

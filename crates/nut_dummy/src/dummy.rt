@@ -8,10 +8,10 @@ ghost use Rattle.nut_dummy.specs.machine.Dummy.{beginning, linked, waits_of, bro
 
 use crate::begin::into_variables;
 use crate::script::Script;
-use crate::teller::{Teller, hear_piece};
+use crate::teller::Teller;
 use crate::variable::{Change, Variable};
-use nut_words::{LineCutter, PIECE_MAX};
-use std::alloc::Global;
+use nut_words::{LineCutter, PIECE_MAX, hear_lines};
+use std::alloc::{AllocError, Global};
 use std::marker::Model;
 use thiserror::Error;
 
@@ -50,7 +50,8 @@ pub struct Dummy {
 
 impl Model for Dummy {
     ghost use Rattle.std.specs.Prelude.{◌≤◌};
-    ghost use Rattle.nut_dummy.specs.machine.Dummy.{Content, IsRest};
+    ghost use Rattle.nut_words.specs.Hearing.{IsRest};
+    ghost use Rattle.nut_dummy.specs.machine.Dummy.{Content};
 
     ghost Value = { Content };
 
@@ -138,7 +139,10 @@ impl Dummy {
         ensures stopped { IfErr result (λ k. (k < length (brought piece.now self.old)) × (cut self.new ≡ cut_behind k piece.now self.old)) }
     {
         let alloc = self.alloc;
-        hear_piece(alloc, &mut self.cutter, &mut self.teller, piece)
+        match hear_lines(&mut self.cutter, &mut self.teller, alloc, piece) {
+            (_, Ok(())) => Ok(()),
+            (done, Err(AllocError)) => Err(done),
+        }
     }
 
     /// Cuts the link.

@@ -1,18 +1,15 @@
 //! What a driver holds and tells.
-ghost use Rattle.std.specs.Prelude.{◌≡◌, ◌<◌, [], false, length, take, OnOk, OnErr, IfErr};
-ghost use Rattle.nut_words.specs.Lines.{lines_after, rest_after};
-ghost use Rattle.nut_words.specs.Cutter.{line_of};
+ghost use Rattle.std.specs.Prelude.{◌≡◌, [], ⊤, false, OnErr, OnOk};
 ghost use Rattle.nut_queue.specs.Front.{IsFrontPart};
-ghost use Rattle.nut_dummy.specs.machine.Teller.{changed, dumped_all, answered, heard, heard_all, relinked};
+ghost use Rattle.nut_dummy.specs.machine.Teller.{changed, dumped_all, answered, heard, relinked};
 ghost use Rattle.nut_dummy.specs.inside.Changes.{change_of};
-ghost use Rattle.nut_dummy.specs.machine.Dummy.{IsRest};
 
 use crate::command::Command;
 use crate::telling::{dump, ended, follow_all, forget_link, is_done, mark_all_dumped, say_all};
 use crate::variable::{Change, Variable};
 use nut_proto::DriverAsk;
 use nut_queue::Outbox;
-use nut_words::{Line, LineCutter, WordFault, split};
+use nut_words::{HearLine, Line, WordFault, split};
 use std::alloc::{AllocError, Global};
 use std::marker::Model;
 
@@ -125,11 +122,29 @@ impl Teller {
         }
     }
 
-    /// Takes in a line of the server.
-    fn hear(&mut self, alloc: Global, line: Line<'_>) -> Result<(), AllocError>
-        ensures ok { OnOk result (self.new ≡ heard (line_of line.entry) self.old) }
-        ensures err { OnErr result (self.new ≡ self.old) }
+    /// Starts a new link, or ends one: no bytes wait, and nothing was told on it.
+    pub fn relink(&mut self)
+        ensures { self.new ≡ relinked self.old }
     {
+        forget_link(&mut self.variables);
+        self.asked = false;
+        self.outbox.clear();
+    }
+}
+
+/// Takes in the lines of the server. If memory cannot be allocated for one, nothing changes.
+impl HearLine for Teller {
+    type With = Global;
+
+    type Stop = AllocError;
+
+    ghost heard = { λ _ line teller. heard line teller };
+
+    ghost GoesOn = { λ _. ⊤ };
+
+    ghost Stops = { λ _ _ before _ after. after ≡ before };
+
+    fn hear_line(&mut self, alloc: Global, line: Line<'_>) -> Result<(), AllocError> {
         let Line::Text(text) = line else {
             return Ok(());
         };
@@ -146,43 +161,4 @@ impl Teller {
             ) => Ok(()),
         }
     }
-
-    /// Starts a new link, or ends one: no bytes wait, and nothing was told on it.
-    pub fn relink(&mut self)
-        ensures { self.new ≡ relinked self.old }
-    {
-        forget_link(&mut self.variables);
-        self.asked = false;
-        self.outbox.clear();
-    }
-}
-
-/// Takes in a piece of the server's bytes, line by line. An `Err` has the number of lines that took effect before
-/// memory could not be allocated.
-pub fn hear_piece(
-    alloc: Global,
-    cutter: &mut LineCutter,
-    teller: &mut Teller,
-    piece: &[u8],
-) -> Result<(), usize>
-    requires { IsRest cutter.old }
-    ensures rest { OnOk result (cutter.new ≡ rest_after cutter.old piece.now) }
-    ensures stream { IsRest cutter.new }
-    ensures heard { OnOk result (teller.new ≡ heard_all (lines_after cutter.old piece.now) teller.old) }
-    ensures stopped { IfErr result (λ done. (done < length (lines_after cutter.old piece.now))
-        × (teller.new ≡ heard_all (take done (lines_after cutter.old piece.now)) teller.old)) }
-{
-    let mut left = piece;
-    let mut done = 0usize;
-    while !left.is_empty() {
-        let (line, used) = cutter.feed(left);
-        if let Some(line) = line {
-            if teller.hear(alloc, line).is_err() {
-                return Err(done);
-            }
-            done += 1;
-        }
-        left = &left[used..];
-    }
-    Ok(())
 }

@@ -26,7 +26,7 @@ use Rattle.nut_link.specs.Hearing.{Feeds, RunsOut}
 use Rattle.nut_link.specs.laws.Laws.{BoundsStay}
 use Rattle.nut_link.specs.Link.{LinkValue, asked, fed, heard, is_idle, left_of, lines_heard, link_with, moved, on_answer, on_line, on_read, or_else, progress_of, stage_after, stage_taken, stage_without, take_fault, taken, taken_out}
 use Rattle.nut_link.specs.Matching.{Progress, Listing, Complete, first, is_heading, is_line, is_numbered, is_row, next, progress}
-use Rattle.nut_link.specs.inside.Rests.{IsRest}
+use Rattle.nut_words.specs.Hearing.{IsRest}
 use Rattle.nut_link.proofs.Writable.{length_line}
 use Rattle.nut_proto.specs.declared.limits.TheConstants.{ROWS_MAX}
 use Rattle.nut_link.specs.declared.limits.TheConstants.{QUERY_MAX}

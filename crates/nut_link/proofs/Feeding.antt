@@ -1,20 +1,17 @@
 -- How a link hears a piece by the lines that it completes.
-use Rattle.std.proofs.Common.{◌≡◌, ℕ, ◌+◌, true, List, [], ◌∷◌, ◌++◌, length, take, drop, Option, Some, None, is_some, Result, Ok, Err, if◌then◌else◌, refl, sym, ap, ap₂, subst, ◌∙◌, arith, inl, inr, ◌⊎◌, ◌==◌, eqb-true, take_all, length-drop}
-use Rattle.std.proofs.Math.Seq.{take-add}
+use Rattle.std.proofs.Common.{◌≡◌, ℕ, true, List, [], ◌∷◌, ◌++◌, Option, Some, None, is_some, Result, Ok, Err, if◌then◌else◌, refl, sym, ap, ap₂, subst, ◌∙◌, inl, inr, OnOk, IfErr, ◌⊎◌}
 use Rattle.std.proofs.lemmas.Bool.{cases_Bool}
-use Rattle.std.proofs.lemmas.List.{append_assoc, append_cancel_left, take-append-drop}
-use Rattle.nut_words.specs.Lines.{LineText, Text, lines, rest, lines_after, rest_after}
-use Rattle.nut_words.proofs.StreamGrowth.{lines-append, rest-append}
+use Rattle.std.proofs.lemmas.List.{append_assoc}
+use Rattle.nut_words.specs.Lines.{LineText, Text, rest, lines_after, rest_after}
+use Rattle.nut_words.proofs.HearLemmas.{heard_all-append, lines_cut}
+use Rattle.nut_words.proofs.StreamGrowth.{rest-append}
+use Rattle.nut_words.specs.Hearing.{StopsAt}
 use Rattle.nut_link.specs.declared.exchange.Exchange.{Exchange}
 use Rattle.nut_link.specs.declared.fault.LinkFault.{LinkFault}
 use Rattle.nut_link.specs.declared.fault.LinkFault.TheVariants.{Memory}
 use Rattle.nut_link.specs.Hearing.{Feeds, Hears, RunsOut}
 use Rattle.nut_link.specs.Link.{answer_by, failed, fed, heard, lines_heard, link_with, moved, on_line}
 use Rattle.nut_link.specs.laws.Laws.{CutsDoNotMatter, RestsStay}
-
-pub lines_heard-append : (xs ys : List LineText) (e : Exchange) → lines_heard (xs ++ ys) e ≡ lines_heard ys (lines_heard xs e)
-lines_heard-append [] ys e = refl
-lines_heard-append (x ∷ xs) ys e = lines_heard-append xs ys (heard x e)
 
 -- An exchange that failed hears nothing.
 heard_failed : (line : LineText) (e : Exchange) → is_some e.fault ≡ true → heard line e ≡ e
@@ -24,39 +21,8 @@ pub lines_heard_failed : (ls : List LineText) (e : Exchange) → is_some e.fault
 lines_heard_failed [] e over = refl
 lines_heard_failed (l ∷ ls) e over = ap (lines_heard ls) (heard_failed l e over) ∙ lines_heard_failed ls e over
 
--- the lines that further bytes of a stream complete
-pub lines_more : (b x y : List ℕ) (ls : List LineText) → lines ((b ++ x) ++ y) ≡ lines (b ++ x) ++ ls → lines_after (rest b) (x ++ y) ≡ lines_after (rest b) x ++ ls
-lines_more b x y ls brought =
-    append_cancel_left (lines b) (lines_after (rest b) (x ++ y)) (lines_after (rest b) x ++ ls) (
-    sym (lines-append b (x ++ y)) ∙ ap lines (sym (append_assoc b x y)) ∙ brought ∙ ap (λ front. front ++ ls) (lines-append b x) ∙ append_assoc (lines b) (lines_after (rest b) x) ls
-    )
-
-pub lines_cut : (b x y : List ℕ) → lines_after (rest b) (x ++ y) ≡ lines_after (rest b) x ++ lines_after (rest (b ++ x)) y
-lines_cut b x y = lines_more b x y (lines_after (rest (b ++ x)) y) (lines-append (b ++ x) y)
-
 pub rest_cut : (b x y : List ℕ) → rest_after (rest b) (x ++ y) ≡ rest_after (rest (b ++ x)) y
 rest_cut b x y = sym (rest-append b (x ++ y)) ∙ ap rest (sym (append_assoc b x y)) ∙ rest-append (b ++ x) y
-
--- a front of what is left continues the front before it
-pub front_more : (n used : ℕ) (p left : List ℕ) → left ≡ drop n p → take n p ++ take used left ≡ take (n + used) p
-front_more n used p left is = ap (λ l. take n p ++ take used l) is ∙ sym (take-add n used p)
-
--- the lines of the front, with those that the next part of the piece completed
-pub front_lines : (b : List ℕ) (r : LineText) (n used : ℕ) (p left : List ℕ) (ls : List LineText) → r ≡ rest b → left ≡ drop n p
-    → lines ((b ++ take n p) ++ take used left) ≡ lines (b ++ take n p) ++ ls → lines_after r (take (n + used) p) ≡ lines_after r (take n p) ++ ls
-front_lines b r n used p left ls here is brought =
-    ap (λ r. lines_after r (take (n + used) p)) here
-    ∙ ap (lines_after (rest b)) (sym (front_more n used p left is))
-    ∙ lines_more b (take n p) (take used left) ls brought
-    ∙ ap (λ r. lines_after r (take n p) ++ ls) (sym here)
-
--- the lines of the whole piece, which begin with those of a front
-pub whole_lines : (b : List ℕ) (r : LineText) (n : ℕ) (p : List ℕ) → r ≡ rest b → lines_after r p ≡ lines_after r (take n p) ++ lines_after (rest (b ++ take n p)) (drop n p)
-whole_lines b r n p here =
-    ap (λ r. lines_after r p) here
-    ∙ ap (lines_after (rest b)) (sym (take-append-drop n p))
-    ∙ lines_cut b (take n p) (drop n p)
-    ∙ ap (λ r. lines_after r (take n p) ++ lines_after (rest (b ++ take n p)) (drop n p)) (sym here)
 
 -- how a link is fed whose exchange hasn't failed
 pub fed_going : (r : LineText) (e : Exchange) (p : List ℕ) → e.fault ≡ None → fed p (link_with r e) ≡ link_with (rest_after r p) (lines_heard (lines_after r p) e)
@@ -67,17 +33,16 @@ pub link_failed : (r s : LineText) (e : Exchange) → is_some e.fault ≡ true �
 link_failed r s e over = rw over refl
 
 -- the whole piece was heard
-pub all_heard : (b : List ℕ) (r s : LineText) (e e' : Exchange) (p : List ℕ) → e.fault ≡ None → r ≡ rest b → s ≡ rest (b ++ p) → e' ≡ lines_heard (lines_after r p) e → link_with s e' ≡ fed p (link_with r e)
-all_heard b r s e e' p going here there is =
-    ap₂ link_with (there ∙ rest-append b p ∙ ap (λ r. rest_after r p) (sym here)) is ∙ sym (fed_going r e p going)
+pub all_heard : (r s : LineText) (e e' : Exchange) (p : List ℕ) → e.fault ≡ None → s ≡ rest_after r p → e' ≡ lines_heard (lines_after r p) e → link_with s e' ≡ fed p (link_with r e)
+all_heard r s e e' p going there is = ap₂ link_with there is ∙ sym (fed_going r e p going)
 
 -- the exchange failed at a line of the piece, with the fault that the line leads to
-pub failed_heard : (r s : LineText) (e e' e'' : Exchange) (p : List ℕ) (earlier later : List LineText) (line : LineText) → e.fault ≡ None → is_some e''.fault ≡ true
+failed_heard : (r s : LineText) (e e' e'' : Exchange) (p : List ℕ) (earlier later : List LineText) (line : LineText) → e.fault ≡ None → is_some e''.fault ≡ true
     → lines_after r p ≡ earlier ++ line ∷ later → e' ≡ lines_heard earlier e → e'' ≡ heard line e' → link_with s e'' ≡ fed p (link_with r e)
 failed_heard r s e e' e'' p earlier later line going over parted is said =
     let all : lines_heard (lines_after r p) e ≡ e'' =
     ap (λ ls. lines_heard ls e) parted
-    ∙ lines_heard-append earlier (line ∷ later) e
+    ∙ heard_all-append heard earlier (line ∷ later) e
     ∙ ap (λ e. lines_heard later (heard line e)) (sym is)
     ∙ ap (lines_heard later) (sym said)
     ∙ lines_heard_failed later e'' over in
@@ -104,20 +69,6 @@ heard_on e e' line result ok h =
 pub heard_over : (e e' : Exchange) (line : LineText) (result : Result (Unit {0}) LinkFault) (fault : LinkFault) → result ≡ Err fault → Hears e line result e' → is_some e'.fault ≡ true
 heard_over e e' line result fault err h = some_at e'.fault fault (sym err ∙ h.answered)
 
--- the lines of the whole piece, by the line at which the exchange failed
-pub parted_at : (b : List ℕ) (r : LineText) (n used : ℕ) (p left : List ℕ) (line : LineText) → r ≡ rest b → left ≡ drop n p
-    → lines ((b ++ take n p) ++ take used left) ≡ lines (b ++ take n p) ++ line ∷ []
-    → lines_after r p ≡ lines_after r (take n p) ++ line ∷ lines_after (rest (b ++ take (n + used) p)) (drop (n + used) p)
-parted_at b r n used p left line here is brought =
-    let later = lines_after (rest (b ++ take (n + used) p)) (drop (n + used) p) in
-    whole_lines b r (n + used) p here
-    ∙ ap (λ front. front ++ later) (front_lines b r n used p left (line ∷ []) here is brought)
-    ∙ append_assoc (lines_after r (take n p)) (line ∷ []) later
-
--- nothing is left
-pub taken_whole : (n : ℕ) (p left : List ℕ) → left ≡ drop n p → (length left == 0) ≡ true → take n p ≡ p
-taken_whole n p left is none = take_all n p (omega (arith, ap length is, length-drop n p, eqb-true (length left) 0 none))
-
 -- A link that failed is as it was.
 pub fed_over : (r : LineText) (e : Exchange) (p : List ℕ) (fault : LinkFault) → e.fault ≡ Some fault → Feeds (link_with r e) p 0 (Err fault) (link_with r e)
 fed_over r e p fault failed =
@@ -127,6 +78,30 @@ fed_over r e p fault failed =
       answered = sym (ap answer_by failed);
       stands = inl (link_failed r (rest_after (link_with r e).rest p) e over ∙ ap (link_with (rest_after (link_with r e).rest p)) (sym same));
     }
+
+-- the exchange failed at a line of the piece, or memory ran out there
+pub stopped : (r s : LineText) (e e' : Exchange) (p : List ℕ) (done : ℕ) (fault : LinkFault) → e.fault ≡ None → StopsAt heard (λ line before. (before.fault ≡ None) × Hears before line (Err fault) e') (lines_after r p) e done
+    → (link_with s e' ≡ fed p (link_with r e)) ⊎ RunsOut (lines_after r p) e done e'
+stopped r s e e' p done fault going at = elim at.stops.1.stands [
+  | inl said ↦
+      inl (failed_heard r s e (lines_heard at.earlier e) e' p at.earlier at.later at.line going (heard_over (lines_heard at.earlier e) e' at.line (Err fault) fault refl at.stops.1) at.parted refl said)
+  | inr lacks ↦ inr (record {
+    earlier = at.earlier;
+    line = at.line;
+    later = at.later;
+    parted = at.parted;
+    count = sym at.count;
+    going = at.stops.0;
+    stands = lacks;
+  })
+]
+
+-- what a piece does to an exchange that goes on
+pub piece_heard : (r s : LineText) (e e' : Exchange) (p : List ℕ) (done : ℕ) (result : Result (Unit {0}) LinkFault) → e.fault ≡ None → OnOk result (s ≡ rest_after r p) → OnOk result (e' ≡ lines_heard (lines_after r p) e)
+    → OnOk result (e'.fault ≡ None) → IfErr result (λ fault. StopsAt heard (λ line before. (before.fault ≡ None) × Hears before line (Err fault) e') (lines_after r p) e done)
+    → (result ≡ answer_by e'.fault) × ((link_with s e' ≡ fed p (link_with r e)) ⊎ RunsOut (lines_after r p) e done e')
+piece_heard r s e e' p done (Ok u) going rest_is is goes_on at = (sym (ap answer_by goes_on), inl (all_heard r s e e' p going rest_is is))
+piece_heard r s e e' p done (Err fault) going rest_is is goes_on at = (at.stops.1.answered, stopped r s e e' p done fault going at)
 
 -- What a piece does to a link follows from what it does to its exchange.
 pub fed_link : (r s : LineText) (e e' : Exchange) (p : List ℕ) (done : ℕ) (result : Result (Unit {0}) LinkFault) → e.fault ≡ None → result ≡ answer_by e'.fault
@@ -169,7 +144,7 @@ cuts_do_not_matter v x y is =
     let heard : lines_heard (lines_after v.rest (x ++ y)) e ≡ lines_heard (lines_after (rest_after v.rest x) y) first =
     ap (λ r. lines_heard (lines_after r (x ++ y)) e) is.1
     ∙ ap (λ ls. lines_heard ls e) (lines_cut b x y)
-    ∙ lines_heard-append (lines_after (rest b) x) (lines_after (rest (b ++ x)) y) e
+    ∙ heard_all-append heard (lines_after (rest b) x) (lines_after (rest (b ++ x)) y) e
     ∙ ap₂ (λ r s. lines_heard (lines_after r y) (lines_heard (lines_after s x) e)) (sym between) (sym is.1) in
     ap₂ link_with rests heard ∙ sym (fed_behind (rest_after v.rest x) first y)
 

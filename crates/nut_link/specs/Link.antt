@@ -1,5 +1,6 @@
 -- What a link is between two calls, and how each call and each line changes it.
-use Rattle.std.specs.Prelude.{ℕ, ◌==◌, nat_le, Bool, true, false, List, [], ◌∷◌, length, drop, Option, Some, None, is_some, Result, Ok, Err, if◌then◌else◌}
+use Rattle.std.specs.Prelude.{ℕ, ◌==◌, nat_le, Bool, true, false, List, [], length, drop, Option, Some, None, is_some, Result, Ok, Err, if◌then◌else◌}
+use Rattle.nut_words.specs.Hearing.{heard_all}
 use Rattle.nut_words.specs.Lines.{LineText, Text, TooLong, lines_after, rest_after}
 use Rattle.nut_proto.specs.Answers.{answer_in}
 use Rattle.nut_proto.specs.declared.answer.Answer.{Answer}
@@ -72,8 +73,7 @@ heard line e = if is_some e.fault then e else moved e (on_line e.stage line)
 
 -- the exchange after these lines in turn
 abbrev pub lines_heard : List LineText → Exchange → Exchange
-lines_heard [] e = e
-lines_heard (line ∷ lines) e = lines_heard lines (heard line e)
+lines_heard lines e = heard_all heard lines e
 
 -- A link that failed keeps no unfinished line.
 abbrev pub link_with : LineText → Exchange → LinkValue

@@ -1,15 +1,15 @@
 //! The exchange of queries and answers on a link.
-ghost use Rattle.std.specs.Prelude.{◌≡◌, None, is_some};
+ghost use Rattle.std.specs.Prelude.{◌≡◌, None, Err, is_some};
 ghost use Rattle.nut_words.specs.Cutter.{line_of};
 ghost use Rattle.nut_link.specs.Hearing.{Hears, keeps_words, may_take_memory};
 ghost use Rattle.nut_link.specs.inside.Parts.{Moves};
-ghost use Rattle.nut_link.specs.Link.{answer_by, ask_fault, asked, failed, is_idle, on_answer, on_line, outcome_in, outcome_of, take_fault, taken, taken_out, waits};
+ghost use Rattle.nut_link.specs.Link.{answer_by, ask_fault, asked, failed, heard, is_idle, on_answer, on_line, outcome_in, outcome_of, take_fault, taken, taken_out, waits};
 
 use crate::fault::LinkFault;
 use crate::outcome::Outcome;
 use crate::query::Query;
 use nut_proto::{Answer, AnswerFault, Request, read_answer};
-use nut_words::Line;
+use nut_words::{HearLine, Line};
 use std::alloc::Global;
 use std::mem;
 
@@ -144,7 +144,7 @@ impl Exchange {
     }
 
     /// Takes in a line. An `Err` is the fault with which the exchange failed at it.
-    pub(crate) fn hear(&mut self, alloc: Global, line: Line<'_>) -> Result<(), LinkFault>
+    fn hear(&mut self, alloc: Global, line: Line<'_>) -> Result<(), LinkFault>
         requires { self.old.fault ≡ None }
         ensures { Hears self.old (line_of line.entry) result self.new }
     {
@@ -153,5 +153,23 @@ impl Exchange {
             self.fail(fault);
         }
         heard
+    }
+}
+
+/// Takes in the lines of a server, up to one at which the exchange fails.
+impl HearLine for Exchange {
+    type With = Global;
+
+    type Stop = LinkFault;
+
+    ghost heard = { λ _ line e. heard line e };
+
+    ghost GoesOn = { λ e. e.fault ≡ None };
+
+    ghost Stops = { λ _ line before fault after. Hears before line (Err fault) after };
+
+    #[tactic(auto, using(crate::proofs::Feeding::heard_on))]
+    fn hear_line(&mut self, alloc: Global, line: Line<'_>) -> Result<(), LinkFault> {
+        self.hear(alloc, line)
     }
 }

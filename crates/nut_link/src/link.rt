@@ -5,14 +5,13 @@ ghost use Rattle.nut_words.specs.Lines.{lines_after};
 ghost use Rattle.nut_link.specs.Bounds.{IsBounded};
 ghost use Rattle.nut_link.specs.Hearing.{Feeds, RunsOut, may_take_memory};
 ghost use Rattle.nut_link.specs.Link.{answer_by, ask_fault, asked, fed, fresh, link_with, outcome_of, take_fault, taken, taken_out, waits, with_exchange};
-ghost use Rattle.nut_link.specs.inside.Rests.{IsRest};
 
 use crate::exchange::{Exchange, Stage};
 use crate::fault::LinkFault;
 use crate::limits::QUERY_MAX;
 use crate::outcome::Outcome;
 use nut_proto::Request;
-use nut_words::LineCutter;
+use nut_words::{LineCutter, hear_lines};
 use std::alloc::Global;
 use std::marker::Model;
 
@@ -37,7 +36,7 @@ pub struct Link {
 impl Model for Link {
     ghost use Rattle.nut_link.specs.Bounds.{IsStageBounded};
     ghost use Rattle.nut_link.specs.Link.{LinkValue, link_with};
-    ghost use Rattle.nut_link.specs.inside.Rests.{IsRest};
+    ghost use Rattle.nut_words.specs.Hearing.{IsRest};
 
     ghost Value = { LinkValue };
 
@@ -135,36 +134,6 @@ impl Link {
         if let Some(fault) = self.exchange.fault {
             return (0, Err(fault));
         }
-        hear_piece(&mut self.cutter, &mut self.exchange, self.alloc, piece)
+        hear_lines(&mut self.cutter, &mut self.exchange, self.alloc, piece)
     }
-}
-
-/// Takes in the lines that a piece completes, in turn, up to the first at which the exchange fails. Returns how many
-/// were heard before.
-fn hear_piece(
-    cutter: &mut LineCutter,
-    exchange: &mut Exchange,
-    alloc: Global,
-    piece: &[u8],
-) -> (usize, Result<(), LinkFault>)
-    requires rest { IsRest cutter.old }
-    requires going { exchange.old.fault ≡ None }
-    ensures rest { IsRest cutter.new }
-    ensures answered { result.1 ≡ answer_by exchange.new.fault }
-    ensures stands { (link_with cutter.new exchange.new ≡ fed piece.now (link_with cutter.old exchange.old))
-        ⊎ RunsOut (lines_after cutter.old piece.now) exchange.old result.0 exchange.new }
-{
-    let mut left = piece;
-    let mut done = 0usize;
-    while !left.is_empty() {
-        let (line, used) = cutter.feed(left);
-        if let Some(line) = line {
-            match exchange.hear(alloc, line) {
-                Ok(()) => done += 1,
-                Err(fault) => return (done, Err(fault)),
-            }
-        }
-        left = &left[used..];
-    }
-    (done, Ok(()))
 }

@@ -6,7 +6,8 @@ use Rattle.nut_words.specs.Lines.{rest, rest_after, lines_after}
 use Rattle.nut_words.proofs.StreamGrowth.{rest-append}
 use Rattle.nut_link.specs.declared.exchange.Exchange.{Exchange}
 use Rattle.nut_link.specs.Link.{LinkValue, fed, link_with, lines_heard}
-use Rattle.nut_link.proofs.Feeding.{lines_cut, rest_cut}
+use Rattle.nut_link.proofs.Feeding.{rest_cut}
+use Rattle.nut_words.proofs.HearLemmas.{lines_cut}
 use Rattle.nut_monitor_spec.specs.Configuration.{Configuration, line_in}
 use Rattle.nut_monitor_spec.specs.Event.{Event, LinkBytes}
 use Rattle.nut_monitor_spec.specs.Decision.{next_query}

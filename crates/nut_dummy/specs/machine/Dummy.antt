@@ -1,6 +1,6 @@
 -- A dummy driver: how it begins, and how each call changes it.
 use Rattle.std.specs.Prelude.{◌≡◌, ℕ, ◌-◌, ◌<◌, Bool, true, false, not, List, [], ◌∷◌, Option, Some, None, Result, Ok, Err, if◌then◌else◌, is_some, length, drop, map, max, take, nat_lt}
-use Rattle.nut_words.specs.Lines.{LineText, Text, lines_after, rest, rest_after}
+use Rattle.nut_words.specs.Lines.{LineText, Text, lines_after, rest_after}
 use Rattle.nut_words.specs.declared.limits.TheConstants.{PIECE_MAX}
 use Rattle.nut_state.specs.Sorted.{put}
 use Rattle.nut_dummy.specs.declared.dummy.DummyFault.{DummyFault}
@@ -126,9 +126,3 @@ Hears piece old new (Err faults.PieceTooLong) = IsRefused old new (bytes_refusal
 abbrev pub Takes : {U : Type 0} → ℕ → Content → Content → Result U DummyFault → Type 0
 Takes n old new (Ok u) = (took_refusal n old ≡ None) × (new ≡ taken n old)
 Takes n old new (Err fault) = IsRefused old new (took_refusal n old) fault
-
--- ---- inside
-
--- this is the unfinished line of some bytes
-abbrev pub IsRest : LineText → Type 0
-IsRest line = (b : List ℕ) × (line ≡ rest b)

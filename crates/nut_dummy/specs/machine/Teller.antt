@@ -1,10 +1,11 @@
 -- What a driver holds and tells, and how each call and each line changes it. The law `looks_back` says that this is
 -- what looking back over all calls says.
-use Rattle.std.specs.Prelude.{ℕ, ◌||◌, ◌&&◌, Bool, true, false, not, List, [], ◌∷◌, ◌++◌, Option, Some, None, if◌then◌else◌, codes, decimal, is_some, map}
+use Rattle.std.specs.Prelude.{ℕ, ◌||◌, ◌&&◌, Bool, true, false, not, List, [], ◌++◌, Option, Some, None, if◌then◌else◌, codes, decimal, is_some, map}
 use Rattle.std.specs.List.{flat_map, list_any}
 use Rattle.std.specs.Option.{option_and_then, option_map_or, option_or}
 use Rattle.std.specs.Result.{result_ok}
 use Rattle.std.specs.Str.{bytes_eq}
+use Rattle.nut_words.specs.Hearing.{heard_all as all_heard}
 use Rattle.nut_words.specs.Lines.{LineText, Text, TooLong}
 use Rattle.nut_words.specs.Reader.{spelled}
 use Rattle.nut_proto.specs.declared.driver_ask.DriverAsk.{DriverAsk}
@@ -137,8 +138,7 @@ abbrev pub heard : LineText → Teller → Teller
 heard line s = answered (asked_by line) s
 
 abbrev pub heard_all : List LineText → Teller → Teller
-heard_all [] s = s
-heard_all (line ∷ lines) s = heard_all lines (heard line s)
+heard_all lines s = all_heard heard lines s
 
 -- ---- a link that is made or cut
 

@@ -19,7 +19,7 @@ use Rattle.nut_link.specs.declared.exchange.Exchange.{Exchange}
 use Rattle.nut_link.specs.Bounds.{IsBounded, IsStageBounded}
 use Rattle.nut_link.specs.Link.{LinkValue, asked, fed, fresh, taken, taken_out}
 use Rattle.nut_link.specs.Matching.{Listing, Complete, expected, listing, next, progress}
-use Rattle.nut_link.specs.inside.Rests.{IsRest}
+use Rattle.nut_words.specs.Hearing.{IsRest}
 
 -- However what the server sends is cut into pieces, it makes the same of a link.
 abbrev pub CutsDoNotMatter : Type 0

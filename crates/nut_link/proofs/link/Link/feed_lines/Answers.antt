@@ -1,5 +1,5 @@
 use Rattle.nut_link.proofs.Bounded.{heard_stage_within, link_within}
-use Rattle.nut_link.proofs.Feeding.{fed_over}
+use Rattle.nut_link.proofs.Feeding.{fed_link, fed_over, piece_heard}
 use Rattle.nut_link.proofs.link.Link.feed_lines.Goals as goal
 
 pub returns-in-Some-clause-feeds : goal.returns-in-Some-clause-feeds
@@ -9,12 +9,24 @@ pub returns-in-Some-clause-bounded : goal.returns-in-Some-clause-bounded
 returns-in-Some-clause-bounded c = rw (← c.self.view_is) (link_within c.self.inside.cutter c.self.inside.exchange c.self.invariant.0 c.self.invariant.1)
 
 pub invariant_of-self : goal.invariant_of-self
-invariant_of-self c = (
-  c.hear_piece.ensures.rest,
-  heard_stage_within c.self.inside.cutter c.hear_piece.new.cutter c.self.inside.exchange c.hear_piece.new.exchange c.args.piece.now c.hear_piece.result.0 c.hear_piece.ensures.stands c.self.invariant.1,
-)
+invariant_of-self c =
+    let v = c.self.inside in
+    let h = c.hear_lines in
+    let heard = piece_heard v.cutter h.new.cutter v.exchange h.new.hearer c.args.piece.now h.result.0 h.result.1 c.in_default.is h.ensures.rest h.ensures.heard h.ensures.goes_on h.ensures.stops in (
+      h.ensures.stream,
+      heard_stage_within v.cutter h.new.cutter v.exchange h.new.hearer c.args.piece.now h.result.0 heard.1 c.self.invariant.1,
+    )
+
+pub returns-clause-feeds : goal.returns-clause-feeds
+returns-clause-feeds c =
+    let v = c.self.inside in
+    let h = c.hear_lines in
+    let heard = piece_heard v.cutter h.new.cutter v.exchange h.new.hearer c.args.piece.now h.result.0 h.result.1 c.in_default.is h.ensures.rest h.ensures.heard h.ensures.goes_on h.ensures.stops in
+    rw (← c.self.view_is) (fed_link v.cutter h.new.cutter v.exchange h.new.hearer c.args.piece.now h.result.0 h.result.1 c.in_default.is heard.0 heard.1)
 
 pub returns-clause-bounded : goal.returns-clause-bounded
 returns-clause-bounded c =
-    link_within c.hear_piece.new.cutter c.hear_piece.new.exchange c.hear_piece.ensures.rest
-    (heard_stage_within c.self.inside.cutter c.hear_piece.new.cutter c.self.inside.exchange c.hear_piece.new.exchange c.args.piece.now c.hear_piece.result.0 c.hear_piece.ensures.stands c.self.invariant.1)
+    let v = c.self.inside in
+    let h = c.hear_lines in
+    let heard = piece_heard v.cutter h.new.cutter v.exchange h.new.hearer c.args.piece.now h.result.0 h.result.1 c.in_default.is h.ensures.rest h.ensures.heard h.ensures.goes_on h.ensures.stops in
+    link_within h.new.cutter h.new.hearer h.ensures.stream (heard_stage_within v.cutter h.new.cutter v.exchange h.new.hearer c.args.piece.now h.result.0 heard.1 c.self.invariant.1)
