@@ -8,6 +8,7 @@ pub mod Swept
 pub mod Told
 pub mod Feeds
 pub mod Reports
+pub mod Pieces
 pub mod Places
 pub mod Orderly
 pub mod Searching

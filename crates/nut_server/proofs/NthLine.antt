@@ -1,5 +1,5 @@
 -- The k-th line that a piece completes, and when memory may run out at it.
-use Rattle.std.proofs.Common.{◌≡◌, ℕ, zero, suc, ◌<◌, Bool, true, false, cond, eqb, List, [], ◌∷◌, ◌++◌, refl, sym, ◌∙◌, ap, subst, arith, inl, inr, Option, Some, slice_get, map}
+use Rattle.std.proofs.Common.{◌≡◌, ℕ, zero, suc, ◌<◌, true, false, cond, eqb, List, [], ◌∷◌, ◌++◌, refl, sym, ◌∙◌, ap, subst, arith, inl, inr, Option, Some, slice_get, map}
 use Rattle.std.specs.Prelude.{◌==◌, if◌then◌else◌, option_map, IsTrue}
 use Rattle.std.specs.List.{onto_first}
 use Rattle.std.specs.Option.{option_map_or}
@@ -8,15 +8,14 @@ use Rattle.std.proofs.lemmas.List.{append_assoc}
 use Rattle.nut_words.specs.Lines.{LineText, Text, TooLong, as_line, all_but_last, completed, joined, lines_after, parts}
 use Rattle.nut_words.proofs.LineLemmas.{is_some_parts, joined-as_line}
 use Rattle.nut_server_spec.specs.Acceptance.{front, line_feeds, session_of}
-use Rattle.nut_server_spec.specs.Content.{Session, Supply, Content}
-use Rattle.nut_server_spec.specs.machine.Machine.{after_answer, answered, answer_in, byte_heard, bytes_heard, byte_reported, bytes_reported, line_heard, reported_by, update, with_rest}
+use Rattle.nut_server_spec.specs.Content.{Session, Content}
+use Rattle.nut_server_spec.specs.machine.Machine.{after_answer, answered, answer_in, byte_heard, bytes_heard, line_heard, update, with_rest}
 use Rattle.nut_server_spec.specs.Command.{command_of}
-use Rattle.nut_server_spec.specs.Outcome.{line_takes, report_takes, unfinished_of}
-use Rattle.nut_server_spec.specs.MachineOutcome.{RunsOut, RunsOutOf}
+use Rattle.nut_server_spec.specs.Outcome.{line_takes, unfinished_of}
+use Rattle.nut_server_spec.specs.MachineOutcome.{RunsOut}
 use Rattle.nut_server_spec.proofs.Hearing.{first_line, until_feed, with_unfinished}
 use Rattle.nut_server_spec.proofs.Sessions.{session_of-update}
 use Rattle.nut_server.proofs.Feeds.{behind}
-use Rattle.nut_server.proofs.Reports.{with_report}
 
 -- ---- lines
 
@@ -97,21 +96,6 @@ session_grown c (b ∷ x) s k found =
     let more = session_grown c x (byte_heard c b s) one.0 one.1 in
     (more.0, more.1, more.2 ∙ ap (λ r. grown r x) one.2 ∙ elim (cases_Bool (eqb b 10)) [ inl e ↦ rw e refl | inr e ↦ rw e refl ])
 
-rest_by_test : (test : Bool) (d e : Supply) → (cond test d e).rest ≡ cond test d.rest e.rest
-rest_by_test true d e = refl
-rest_by_test false d e = refl
-
-grown_by_test : (test : Bool) (r q : LineText) (x : List ℕ) → grown (cond test r q) x ≡ cond test (grown r x) (grown q x)
-grown_by_test true r q x = refl
-grown_by_test false r q x = refl
-
-pub supply_grown : (time : ℕ) (x : List ℕ) (d : Supply) → (bytes_reported time x d).rest ≡ grown d.rest x
-supply_grown time [] d = refl
-supply_grown time (b ∷ x) d =
-    supply_grown time x (byte_reported time b d)
-    ∙ ap (λ r. grown r x) (rest_by_test (eqb b 10) (reported_by time d.rest d) (with_report (joined d.rest (b ∷ [])) d))
-    ∙ grown_by_test (eqb b 10) (Text []) (joined d.rest (b ∷ [])) x
-
 -- ---- where memory may run out
 
 same_rest : (o : Option Session) (k j : Session) → o ≡ Some k → o ≡ Some j → k.rest ≡ j.rest
@@ -135,14 +119,3 @@ may_run_out c done r line piece s started k first began few is found here takes 
     let P : Option LineText → Option Session → Type 0 = λ line after. IsTrue (option_map_or (λ l. line_takes l after) line false) in
     let Q : Option Session → Type 0 = λ before. P (slice_get (lines_after (unfinished_of before) piece) done) (session_of c h.sessions) in
     subst Q (sym began) (subst (P (slice_get (lines_after first.rest piece) done)) (sym there) (subst (λ line. P line (Some (with_rest r k))) nth takes))
-
--- at a line of a driver that may allocate memory
-pub report_may_run_out : (time done : ℕ) (r line : LineText) (piece : List ℕ) (d started : Supply) → done < line_feeds piece
-    → with_report r d ≡ bytes_reported time (front done piece) started → line ≡ first_line r (behind done piece)
-    → IsTrue (report_takes line (Some d)) → RunsOutOf time piece done (Some started)
-report_may_run_out time done r line piece d started few is here takes =
-    let same : r ≡ grown started.rest (front done piece) = ap (λ (d : Supply). d.rest) is ∙ supply_grown time (front done piece) started in
-    let nth : Some line ≡ slice_get (lines_after started.rest piece) done =
-    ap Some here ∙ ap (λ r. Some (first_line r (behind done piece))) same ∙ sym (nth_line done started.rest piece few) in
-    let P : Option LineText → Supply → Type 0 = λ line after. IsTrue (option_map_or (λ l. report_takes l (Some after)) line false) in
-    subst (P (slice_get (lines_after started.rest piece) done)) is (subst (λ line. P line (with_report r d)) nth takes)

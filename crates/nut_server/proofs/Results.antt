@@ -1,5 +1,5 @@
 -- What is known of a result, if it is an error and if it isn't.
-use Rattle.std.proofs.Common.{◌≡◌, true, false, Result, Bool, Ok, Err, OnOk, OnErr, is_err}
+use Rattle.std.proofs.Common.{◌≡◌, true, false, Result, Bool, Ok, Err, IfErr, OnOk, OnErr, is_err, subst}
 use Rattle.std.specs.Bool.{OnTrue}
 use Rattle.std.proofs.lemmas.Bool.{false≢true}
 
@@ -22,3 +22,11 @@ if_err (Err e) P Q f h = f h
 pub on_true : (b : Bool) (P : Type 0) → b ≡ true → OnTrue b P → P
 on_true true P is h = h
 on_true false P is h = absurd (false≢true is)
+
+pub ok_of : {A E : Type 0} (r : Result A E) (v : A) (P : Type 0) → r ≡ Ok v → OnOk r P → P
+ok_of (Ok w) v P is h = h
+ok_of (Err e) v P is h = absurd (cc)
+
+pub err_of : {A E : Type 0} (r : Result A E) (e : E) (P : E → Type 0) → r ≡ Err e → IfErr r P → P e
+err_of (Ok v) e P is h = absurd (cc)
+err_of (Err f) e P is h = let same : f ≡ e = cc in subst P same h

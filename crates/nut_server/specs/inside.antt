@@ -4,6 +4,7 @@ pub mod Decisions
 pub mod Effects
 pub mod Entries
 pub mod Inside
+pub mod Lines
 pub mod Login
 pub mod Place
 pub mod Rows

@@ -8,7 +8,7 @@ ghost use Rattle.nut_server_spec.specs.Answer.{is_logged_in};
 ghost use Rattle.nut_words.specs.Lines.{Text, lines};
 ghost use Rattle.nut_server_spec.specs.machine.Machine.{fresh, with_rest};
 ghost use Rattle.nut_server.specs.inside.Effects.{affected, said};
-ghost use Rattle.nut_server.specs.inside.Inside.{IsRest};
+ghost use Rattle.nut_words.specs.Hearing.{IsRest};
 ghost use Rattle.nut_server.specs.Settling.{is_unsettled};
 
 use crate::address::Address;
@@ -37,7 +37,7 @@ pub struct Connection {
 
 impl Model for Connection {
     ghost use Rattle.nut_server_spec.specs.Content.{Session};
-    ghost use Rattle.nut_server.specs.inside.Inside.{IsRest};
+    ghost use Rattle.nut_words.specs.Hearing.{IsRest};
 
     ghost Value = { Session };
 

@@ -14,7 +14,8 @@ ghost use Rattle.nut_server_spec.specs.laws.Laws.{IsRising, IsUpTo};
 ghost use Rattle.nut_server_spec.specs.machine.Machine.{guest_of, update, with_rest, without};
 ghost use Rattle.nut_server.specs.declared.connections.Key.{Key};
 ghost use Rattle.nut_server.specs.inside.Effects.{affected, said};
-ghost use Rattle.nut_server.specs.inside.Inside.{IsRest, numbers_of};
+ghost use Rattle.nut_words.specs.Hearing.{IsRest};
+ghost use Rattle.nut_server.specs.inside.Inside.{numbers_of};
 ghost use Rattle.nut_server.specs.inside.Place.{Stands};
 ghost use Rattle.nut_server.specs.Settling.{IsNextUnsettled, settles};
 

@@ -1,22 +1,22 @@
 //! A UPS and its driver.
 
-ghost use Rattle.std.specs.Prelude.{◌≡◌, ◌≤◌, ◌<◌, ℕ, Option, [], ◌++◌, Some, None, IfOk, IfErr, IsTrue, OnOk, OnErr, find, length, option_map, true, ◌==◌};
+ghost use Rattle.std.specs.Prelude.{◌≡◌, ◌≤◌, ◌<◌, ℕ, Option, ⊤, [], ◌++◌, Some, None, IfOk, IfErr, IsTrue, OnOk, find, length, option_map, true, ◌==◌};
 ghost use Rattle.std.specs.Option.{option_map_or};
 ghost use Rattle.nut_queue.specs.Front.{IsFrontPart};
 ghost use Rattle.nut_words.specs.Lines.{Text};
-ghost use Rattle.nut_words.specs.Cutter.{line_of};
 ghost use Rattle.nut_server_spec.specs.Acceptance.{front, line_feeds};
 ghost use Rattle.nut_server_spec.specs.Device.{absent, fits, is_past, needs_ping, trouble};
-ghost use Rattle.nut_server_spec.specs.machine.Machine.{up, down, drained, ticked, reported_by, bytes_reported};
+ghost use Rattle.nut_server_spec.specs.machine.Machine.{up, down, drained, ticked, bytes_reported};
 ghost use Rattle.nut_server_spec.specs.Outcome.{report_takes};
 ghost use Rattle.nut_server_spec.specs.Tracking.{with_tracked};
 ghost use Rattle.nut_server_spec.specs.MachineOutcome.{RunsOutOf};
+ghost use Rattle.nut_server.specs.inside.Lines.{line_told};
 
 use crate::tracked::TrackedRequests;
 use nut_proto::{Refusal, TrackingStatus};
 use nut_queue::{ASKS_MAX, AskRing};
 use nut_state::{Heard, StateFault, UpsState};
-use nut_words::{Line, LineCutter};
+use nut_words::{HearLine, Line, LineCutter, hear_lines};
 use std::alloc::{AllocError, Global};
 use std::marker::Model;
 use std::mem;
@@ -43,7 +43,7 @@ pub struct Device {
 
 impl Model for Device {
     ghost use Rattle.nut_server_spec.specs.Content.{Supply};
-    ghost use Rattle.nut_server.specs.inside.Inside.{IsRest};
+    ghost use Rattle.nut_words.specs.Hearing.{IsRest};
 
     ghost Value = { Supply };
 
@@ -253,12 +253,43 @@ impl Device {
         self.tracked.status_of(number)
     }
 
-    /// Handles a line of the driver, which its cutter no longer holds. If memory cannot be allocated, nothing changes.
-    fn hear_line(&mut self, time: u64, line: Line<'_>) -> Result<(), StateFault>
-        ensures ok { OnOk result (self.new ≡ record (reported_by time (line_of line.entry) self.old) { rest = self.old.rest }) }
-        ensures err { OnErr result (self.new ≡ self.old) }
-        ensures memory { OnErr result (IsTrue (report_takes (line_of line.entry) (Some self.old))) }
+    /// Handles a piece of the driver's bytes, line by line. If memory runs out, returns as an error how many lines of
+    /// the piece were done; the driver then counts as disconnected.
+    pub fn hear(&mut self, time: u64, piece: &[u8]) -> Result<(), usize>
+        ensures ok { OnOk result (self.new ≡ bytes_reported time piece.now self.old) }
+        ensures lost { IfErr result (λ done. self.new ≡ down (bytes_reported time (front done piece.now) self.old)) }
+        ensures few { IfErr result (λ done. done < line_feeds piece.now) }
+        ensures memory { IfErr result (λ done. RunsOutOf time piece.now done (Some self.old)) }
     {
+        let mut cutter = mem::take(&mut self.cutter);
+        let (done, heard) = hear_lines(&mut cutter, self, time, piece);
+        match heard {
+            Ok(()) => {
+                self.cutter = cutter;
+                Ok(())
+            }
+            Err(_) => {
+                self.down();
+                Err(done)
+            }
+        }
+    }
+}
+
+/// Takes in the lines of the driver, which the cutter no longer holds. If memory cannot be allocated for one, nothing
+/// changes.
+impl HearLine for Device {
+    type With = u64;
+
+    type Stop = StateFault;
+
+    ghost heard = { line_told };
+
+    ghost GoesOn = { λ _. ⊤ };
+
+    ghost Stops = { λ time line before _ after. (after ≡ before) × IsTrue (report_takes line (Some before)) };
+
+    fn hear_line(&mut self, time: u64, line: Line<'_>) -> Result<(), StateFault> {
         let heard = match line {
             Line::Text(text) => self.table.apply(text)?,
             Line::TooLong => Heard::Ignored,
@@ -272,31 +303,5 @@ impl Device {
             Heard::Ignored => {}
         }
         Ok(())
-    }
-
-    /// Handles a piece of the driver's bytes, line by line. If memory runs out, returns as an error how many lines of
-    /// the piece were done; the driver then counts as disconnected.
-    pub fn hear(&mut self, time: u64, piece: &[u8]) -> Result<(), usize>
-        ensures ok { OnOk result (self.new ≡ bytes_reported time piece.now self.old) }
-        ensures lost { IfErr result (λ done. self.new ≡ down (bytes_reported time (front done piece.now) self.old)) }
-        ensures few { IfErr result (λ done. done < line_feeds piece.now) }
-        ensures memory { IfErr result (λ done. RunsOutOf time piece.now done (Some self.old)) }
-    {
-        let mut cutter = mem::take(&mut self.cutter);
-        let mut left = piece;
-        let mut done = 0usize;
-        loop {
-            let (line, used) = cutter.feed(left);
-            let Some(line) = line else {
-                self.cutter = cutter;
-                return Ok(());
-            };
-            if self.hear_line(time, line).is_err() {
-                self.down();
-                return Err(done);
-            }
-            done += 1;
-            left = &left[used..];
-        }
     }
 }
