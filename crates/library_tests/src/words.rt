@@ -1,4 +1,7 @@
 //! What no clause says: that words are written at all. Lines and streams are read by `tests/rehearsals/words.py`.
+ghost use Rattle.std.specs.Prelude.{◌≡◌, ⊤};
+ghost use Rattle.nut_words.specs.Cutter.{kept_of};
+
 use arrayvec::ArrayVec;
 use nut_words::*;
 use std::test::*;
@@ -57,4 +60,43 @@ fn written_within_room(rt: HostRuntime) {
     assert!(rt; put_word(&mut out, b"a bc").is_ok());
     assert_eq!(rt; out.as_slice(), b"OL\"a bc\"".as_slice());
     assert!(rt; put_word(&mut out, b"a").is_err());
+}
+
+/// The length of the newest line that was heard. An empty line stops it.
+#[derive(Drop)]
+struct Newest {
+    length: usize,
+}
+
+impl HearLine for Newest {
+    type With = ();
+
+    type Stop = ();
+
+    ghost heard = { λ _ line _. record { length = kept_of line } };
+
+    ghost GoesOn = { λ _. ⊤ };
+
+    ghost Stops = { λ _ _ before _ after. after ≡ before };
+
+    fn hear_line(&mut self, _: (), line: Line<'_>) -> Result<(), ()> {
+        match line {
+            Line::Text([]) => return Err(()),
+            Line::Text(text) => self.length = text.len(),
+            Line::TooLong => self.length = 0,
+        }
+        Ok(())
+    }
+}
+
+#[test]
+fn lines_heard_one_by_one(rt: HostRuntime) {
+    let mut cutter = LineCutter::new();
+    let mut newest = Newest { length: 0 };
+    let (count, heard) = hear_lines(&mut cutter, &mut newest, (), b"ab\ncde\nf");
+    assert!(rt; count == 2 && heard.is_ok() && newest.length == 3);
+    let (count, heard) = hear_lines(&mut cutter, &mut newest, (), b"ghi\n");
+    assert!(rt; count == 1 && heard.is_ok() && newest.length == 4);
+    let (count, heard) = hear_lines(&mut cutter, &mut newest, (), b"j\n\nkl\n");
+    assert!(rt; count == 1 && heard.is_err() && newest.length == 1);
 }
