@@ -1,7 +1,7 @@
 //! Requests to a driver, as they are written and read.
 use super::word;
 use arrayvec::ArrayVec;
-use nut_proto::DriverAsk;
+use nut_proto::{DriverAsk, TrackingStatus, tracking_status};
 use nut_words::{WordFault, split};
 use std::alloc::{AllocError, Global};
 
@@ -89,4 +89,18 @@ const LINES: [(&[u8], &[u8]); 20] = [
 #[test]
 fn read_back(rt: HostRuntime) {
     assert_eq!(rt; first_wrong(rt.alloc(), &LINES), None);
+}
+
+#[test]
+fn words_for_how_a_request_ended(rt: HostRuntime) {
+    for status in [
+        TrackingStatus::Pending,
+        TrackingStatus::Success,
+        TrackingStatus::Failed,
+        TrackingStatus::Unknown,
+    ] {
+        assert!(rt; tracking_status(status.word()) == Some(status));
+    }
+    assert!(rt; tracking_status(b"success").is_none());
+    assert!(rt; tracking_status(b"").is_none());
 }
