@@ -133,7 +133,7 @@ class Tests:
             room.until(STATUS, ONLINE)
             with room.client() as client:
                 client.log_in()
-                expect(client.ask(b"SET TRACKING ON\n"), b"OK\n", "SET TRACKING")
+                client.track()
                 expect(client.ask(b'SET VAR su700 battery.charge "50"\n'), b"OK TRACKING 1\n", "a SET")
                 room.until(b"GET TRACKING 1\n", b"TRACKING 1 SUCCESS\n")
                 # NUT's dummy driver has this command, and refuses it

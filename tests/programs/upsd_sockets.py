@@ -158,7 +158,7 @@ class Tests:
             room.until(STATUS, ONLINE)
             with room.client() as client:
                 client.log_in()
-                expect(client.ask(b"SET TRACKING ON\n"), b"OK\n", "SET TRACKING")
+                client.track()
                 expect(client.ask(b'SET VAR su700 ups.id "new"\n'), b"OK TRACKING 1\n", "SET")
                 room.until(b"GET TRACKING 1\n", b"TRACKING 1 SUCCESS\n")
                 expect(room.ask(b"GET VAR su700 ups.id\n"), b'VAR su700 ups.id "new"\n', "a value before its success is told")
@@ -195,7 +195,7 @@ class Tests:
                 driver.sendall(b'SETINFO ups.status "OL"\nADDCMD load.off\nDATAOK\nDUMPDONE\n')
                 room.until(STATUS, ONLINE)
                 client.log_in()
-                expect(client.ask(b"SET TRACKING ON\n"), b"OK\n", "SET TRACKING")
+                client.track()
                 for number, status, word in ((1, b"0", b"SUCCESS"), (2, b"1", b"FAILED"), (3, b"000", b"SUCCESS"), (4, b"42", b"FAILED")):
                     expect(client.ask(b"INSTCMD su700 load.off x\n"), b"OK TRACKING %d\n" % number, "INSTCMD")
                     until(lambda: asked.readline() == b'INSTCMD load.off "x" TRACKING %d\n' % number, "the request")

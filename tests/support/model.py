@@ -519,12 +519,16 @@ class Server:
             raise error("VAR-NOT-SUPPORTED")
         return ups.variables[name]
 
-    def permitted(self, connection, name, right, command=None):
-        """Returns the UPS of this name, if the client may do this to it."""
+    def need_credentials(self, connection):
+        """Refuses a client that hasn't given a user name and a password."""
         if connection.user is None:
             raise error("USERNAME-REQUIRED")
         if connection.password is None:
             raise error("PASSWORD-REQUIRED")
+
+    def permitted(self, connection, name, right, command=None):
+        """Returns the UPS of this name, if the client may do this to it."""
+        self.need_credentials(connection)
         ups = self.ups(name)
         user = self.config.users.get(connection.user)
         if user is None or user.password is None or user.password != connection.password or not user.may(right, command):
@@ -622,10 +626,7 @@ class Server:
     def set_tracking(self, connection, word):
         if word.upper() not in (b"ON", b"OFF"):
             raise error("INVALID-ARGUMENT")
-        if connection.user is None:
-            raise error("USERNAME-REQUIRED")
-        if connection.password is None:
-            raise error("PASSWORD-REQUIRED")
+        self.need_credentials(connection)
         connection.is_tracking = word.upper() == b"ON"
         return b"OK\n"
 

@@ -100,6 +100,10 @@ class Client:
         expect(self.ask(b"USERNAME " + user + b"\n"), b"OK\n", "user")
         expect(self.ask(b"PASSWORD " + password + b"\n"), b"OK\n", "password")
 
+    def track(self):
+        """Has the server track this client's requests from now on."""
+        expect(self.ask(b"SET TRACKING ON\n"), b"OK\n", "SET TRACKING")
+
 
 class Room:
     """A folder with a configuration, and the programs that run with it."""
