@@ -35,14 +35,14 @@ pub fn text(bytes: &[u8]) -> Part<'_>
 pub fn word<'a>(word: &Word<'a>) -> Part<'a>
     ensures { result ≡ Part.Word word.now }
 {
-    Part::Word(Word::new(word.as_bytes()))
+    Part::Word(word.copy())
 }
 
 /// Returns the part for a value or a description, which is always quoted.
 pub fn quoted<'a>(word: &Word<'a>) -> Part<'a>
     ensures { result ≡ Part.Quoted word.now }
 {
-    Part::Quoted(Word::new(word.as_bytes()))
+    Part::Quoted(word.copy())
 }
 
 impl Part<'_> {

@@ -23,6 +23,14 @@ impl<'a> Word<'a> {
         Word { bytes }
     }
 
+    /// Returns a copy of the word, which borrows the same bytes.
+    // a struct with a lifetime and a model can't derive `Copy`
+    pub fn copy(&self) -> Word<'a>
+        ensures { result ≡ self.now }
+    {
+        Word { bytes: self.bytes }
+    }
+
     /// Returns the bytes of the word.
     pub fn as_bytes(&self) -> &'a [u8]
         ensures { result.now ≡ self.now }

@@ -1,6 +1,6 @@
 //! Requests that change something, and why each is refused (RFC 9271).
 
-ghost use Rattle.std.specs.Prelude.{◌≡◌, ◌≤◌, ℕ, List, Option, length, true, MatchResult, IfOk, OnOk, option_map};
+ghost use Rattle.std.specs.Prelude.{◌≡◌, ◌≤◌, ℕ, List, Option, length, true, MatchResult, IfOk, OnOk};
 ghost use Rattle.nut_proto.specs.declared.driver_ask.DriverAsk.TheVariants as asks;
 ghost use Rattle.nut_proto.specs.declared.reply.Reply.TheVariants as replies;
 ghost use Rattle.nut_proto.specs.declared.request.Request.TheVariants as requests;
@@ -87,16 +87,6 @@ fn ask_to_set(
     Ok(number)
 }
 
-/// Returns the parameter as a word.
-fn word_of(parameter: Option<&[u8]>) -> Option<Word<'_>>
-    ensures { result ≡ option_map (λ text. text.now) parameter.entry }
-{
-    match parameter {
-        Some(text) => Some(Word::new(text)),
-        None => None,
-    }
-}
-
 /// Writes the request to run a command into `line`, if the UPS has the command, the parameter isn't too long and the
 /// line fits behind what waits for the driver. Otherwise returns the refusal.
 fn ask_to_do(
@@ -104,13 +94,13 @@ fn ask_to_do(
     caller: &Connection,
     device: &Device,
     name: &[u8],
-    parameter: Option<&[u8]>,
+    parameter: &Option<Word<'_>>,
     line: &mut ArrayVec<u8, ASKS_MAX>,
 ) -> Result<Option<u32>, Refusal>
     ensures answer { MatchResult result
-        (λ number. command_answer scene.now (caller_of caller.now) device.now.device name.now (option_map (λ text. text.now) parameter.entry) ≡ accepted number)
-        (λ refusal. command_answer scene.now (caller_of caller.now) device.now.device name.now (option_map (λ text. text.now) parameter.entry) ≡ refused refusal) }
-    ensures line { IfOk result (λ number. line.new.items ≡ ask_line (asks.InstCmd name.now (option_map (λ text. text.now) parameter.entry) number)) }
+        (λ number. command_answer scene.now (caller_of caller.now) device.now.device name.now parameter.now ≡ accepted number)
+        (λ refusal. command_answer scene.now (caller_of caller.now) device.now.device name.now parameter.now ≡ refused refusal) }
+    ensures line { IfOk result (λ number. line.new.items ≡ ask_line (asks.InstCmd name.now parameter.now number)) }
     ensures fits { OnOk result (fits line.new.items device.now.device ≡ true) }
     ensures next { IfOk result (IsNextNumber scene.now) }
 {
@@ -123,7 +113,7 @@ fn ask_to_do(
     let number = next_number(scene, caller, Refusal::InstCmdFailed)?;
     let ask = DriverAsk::InstCmd {
         command: Word::new(name),
-        parameter: word_of(parameter),
+        parameter: parameter.as_ref().map(Word::copy),
         number,
     };
     if !put_ask(line, &ask, device) {
@@ -169,10 +159,10 @@ pub fn give_command(
     caller: &Connection,
     ups: &[u8],
     name: &[u8],
-    parameter: Option<&[u8]>,
+    parameter: &Option<Word<'_>>,
     line: &mut ArrayVec<u8, ASKS_MAX>,
 ) -> Result<HandedOn, Refusal>
-    ensures { HandsOn scene.now (caller_of caller.now) (Asks (requests.InstCmd ups.now name.now (option_map (λ text. text.now) parameter.entry)))
+    ensures { HandsOn scene.now (caller_of caller.now) (Asks (requests.InstCmd ups.now name.now parameter.now))
         result line.new.items }
 {
     let u = authorize(scene, caller, Right::Command(name), ups)?;

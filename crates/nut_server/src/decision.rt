@@ -1,6 +1,6 @@
 //! Decides on requests: the answer to each, and what it changes.
 
-ghost use Rattle.std.specs.Prelude.{◌≡◌, length, option_map, MatchResult};
+ghost use Rattle.std.specs.Prelude.{◌≡◌, length, MatchResult};
 ghost use Rattle.nut_proto.specs.declared.refusal.Refusal.TheVariants as refusals;
 ghost use Rattle.nut_server_spec.specs.Answer.{accepted, refused};
 ghost use Rattle.nut_server_spec.specs.Answer as definitions;
@@ -24,7 +24,7 @@ use crate::queries::{
 };
 use crate::scene::Scene;
 use arrayvec::ArrayVec;
-use nut_proto::{Refusal, Reply, Request, Word};
+use nut_proto::{Refusal, Reply, Request};
 use nut_queue::ASKS_MAX;
 
 /// What is decided on a request.
@@ -99,16 +99,6 @@ fn hand_on<'a>(granted: Result<HandedOn, Refusal>) -> Decision<'a, 'static>
     }
 }
 
-/// Returns the bytes of a parameter, if there is one.
-fn bytes_of<'a>(parameter: &Option<Word<'a>>) -> Option<&'a [u8]>
-    ensures { option_map (λ text. text.now) result ≡ parameter.now }
-{
-    match parameter {
-        Some(word) => Some(word.as_bytes()),
-        None => None,
-    }
-}
-
 /// Decides on a request.
 fn decide_request<'a, 'l>(
     scene: &'a Scene<'_>,
@@ -173,7 +163,7 @@ fn decide_request<'a, 'l>(
             caller,
             ups.as_bytes(),
             command.as_bytes(),
-            bytes_of(parameter),
+            parameter,
             line,
         )),
         Request::Username { name } => grant(Reply::Accepted, give_user(caller, name.as_bytes())),

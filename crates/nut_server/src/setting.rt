@@ -1,6 +1,6 @@
 //! Which values a variable allows, and requests to drivers.
 
-ghost use Rattle.std.specs.Prelude.{◌≡◌, option_map};
+ghost use Rattle.std.specs.Prelude.{◌≡◌};
 ghost use Rattle.std.specs.Bool.{OnTrue};
 ghost use Rattle.std.specs.List.{list_any};
 ghost use Rattle.nut_proto.specs.DriverAsks.{ask_line};
@@ -10,7 +10,7 @@ ghost use Rattle.nut_server_spec.specs.Device.{fits};
 
 use crate::device::Device;
 use arrayvec::ArrayVec;
-use nut_proto::{DriverAsk, Refusal, VariableKind};
+use nut_proto::{DriverAsk, Refusal, VariableKind, Word};
 use nut_queue::ASKS_MAX;
 use nut_state::{Range, Text, Variable, whole_number};
 use nut_words::VALUE_MAX;
@@ -87,11 +87,11 @@ pub fn misfit(variable: &Variable, value: &[u8]) -> Option<Refusal>
 }
 
 /// Returns why a command can't be given a parameter: it has more than [`VALUE_MAX`] bytes.
-pub fn parameter_misfit(parameter: Option<&[u8]>) -> Option<Refusal>
-    ensures { result ≡ parameter_misfit (option_map (λ text. text.now) parameter.entry) }
+pub fn parameter_misfit(parameter: &Option<Word<'_>>) -> Option<Refusal>
+    ensures { result ≡ parameter_misfit parameter.now }
 {
     match parameter {
-        Some(text) if text.len() > VALUE_MAX => Some(Refusal::TooLong),
+        Some(text) if text.as_bytes().len() > VALUE_MAX => Some(Refusal::TooLong),
         Some(_) | None => None,
     }
 }

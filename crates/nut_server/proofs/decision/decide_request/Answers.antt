@@ -1,5 +1,4 @@
 use Rattle.std.proofs.Common.{◌∙◌, ap, subst, refl, length}
-use Rattle.std.specs.Prelude.{option_map}
 use Rattle.nut_proto.specs.declared.reply.Reply.TheVariants as replies
 use Rattle.nut_proto.specs.declared.request.Request.TheVariants as requests
 use Rattle.nut_proto.specs.Descriptions.{variable_description, command_description}
@@ -67,8 +66,8 @@ returns-in-SetTracking c =
 
 pub returns-in-InstCmd : goal.returns-in-InstCmd
 returns-in-InstCmd c =
-    rw (c.in-InstCmd.is, ← c.as_bytes-in-InstCmd.ensures, ← c.as_bytes-in-InstCmd-2.ensures, ← c.bytes_of.ensures)
-    (hands_on c.args.scene.now (caller_of c.args.caller.now) (Asks (requests.InstCmd c.as_bytes-in-InstCmd.result.now c.as_bytes-in-InstCmd-2.result.now (option_map (λ text. text.now) c.bytes_of.result))) c.give_command.result c.hand_on-in-InstCmd.result c.give_command.new.line.items c.hand_on-in-InstCmd.ensures (refusable_command c.args.scene.now c.as_bytes-in-InstCmd.result.now c.as_bytes-in-InstCmd-2.result.now (option_map (λ text. text.now) c.bytes_of.result)) c.give_command.ensures)
+    rw (c.in-InstCmd.is, ← c.as_bytes-in-InstCmd.ensures, ← c.as_bytes-in-InstCmd-2.ensures)
+    (hands_on c.args.scene.now (caller_of c.args.caller.now) (Asks (requests.InstCmd c.as_bytes-in-InstCmd.result.now c.as_bytes-in-InstCmd-2.result.now c.in-InstCmd.parameter)) c.give_command.result c.hand_on-in-InstCmd.result c.give_command.new.line.items c.hand_on-in-InstCmd.ensures (refusable_command c.args.scene.now c.as_bytes-in-InstCmd.result.now c.as_bytes-in-InstCmd-2.result.now c.in-InstCmd.parameter) c.give_command.ensures)
 
 pub returns-in-Username : goal.returns-in-Username
 returns-in-Username c =
