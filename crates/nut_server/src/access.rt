@@ -1,8 +1,8 @@
 //! The rights of users, and the tests of a client that uses one.
 
-ghost use Rattle.std.specs.Prelude.{◌≡◌, ◌<◌, ℕ, Some, MatchResult, length};
+ghost use Rattle.std.specs.Prelude.{◌≡◌, ◌<◌, ℕ, List, Some, MatchResult, length};
 ghost use Rattle.nut_server_spec.specs.Answer as definitions;
-ghost use Rattle.nut_server_spec.specs.Answer.{has_right, is_primary, refused, ups_number, with_right};
+ghost use Rattle.nut_server_spec.specs.Answer.{has_right, is_primary, refused, ups_number, with_credentials, with_right};
 ghost use Rattle.nut_server_spec.specs.Configuration.{user_named};
 ghost use Rattle.nut_server_spec.specs.machine.Machine.{caller_of};
 ghost use Rattle.nut_server.specs.inside.Access.{allows};
@@ -60,13 +60,31 @@ fn has_right(config: &Config, name: &[u8], password: &[u8], right: Right<'_>) ->
     }
 }
 
+/// Returns the user name and the password that the client gave.
+///
+/// # Errors
+///
+/// `UsernameRequired` if it gave no user name, then `PasswordRequired` if it gave no password.
+pub fn credentials(caller: &Connection) -> Result<(&[u8], &[u8]), Refusal>
+    ensures { MatchResult result
+        (λ given. (next : List ℕ → List ℕ → definitions.Answer) → with_credentials (caller_of caller.now) next ≡ next given.0.now given.1.now)
+        (λ refusal. (next : List ℕ → List ℕ → definitions.Answer) → with_credentials (caller_of caller.now) next ≡ refused refusal) }
+{
+    let Some(user) = caller.user() else {
+        return Err(Refusal::UsernameRequired);
+    };
+    let Some(password) = caller.password() else {
+        return Err(Refusal::PasswordRequired);
+    };
+    Ok((user, password))
+}
+
 /// Returns the number of the UPS with this name, if the client may use the right on it.
 ///
 /// # Errors
 ///
-/// The first of these that applies: `UsernameRequired` or `PasswordRequired` if the client has given none, `UnknownUps`
-/// if there is no such UPS, `AccessDenied` if there is no such user, the password is wrong, or the user lacks the
-/// right.
+/// The errors of [`credentials`]; then `UnknownUps` if there is no such UPS, and `AccessDenied` if there is no such
+/// user, the password is wrong, or the user lacks the right.
 pub fn authorize(
     scene: &Scene<'_>,
     caller: &Connection,
@@ -78,12 +96,7 @@ pub fn authorize(
         × (ups_number scene.now ups.now ≡ Some u) × (u < length scene.now.configuration.upses))
         (λ refusal. (next : ℕ → definitions.Answer) → with_right scene.now (caller_of caller.now) (allows right.entry) ups.now next ≡ refused refusal) }
 {
-    let Some(user) = caller.user() else {
-        return Err(Refusal::UsernameRequired);
-    };
-    let Some(password) = caller.password() else {
-        return Err(Refusal::PasswordRequired);
-    };
+    let (user, password) = credentials(caller)?;
     let u = scene.number_of(ups)?;
     if !has_right(scene.config, user, password, right) {
         return Err(Refusal::AccessDenied);

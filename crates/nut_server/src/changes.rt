@@ -11,7 +11,7 @@ ghost use Rattle.nut_server_spec.specs.Device.{fits};
 ghost use Rattle.nut_server_spec.specs.machine.Machine.{caller_of};
 ghost use Rattle.nut_server.specs.inside.Decisions.{Grants, HandsOn, IsNextNumber};
 
-use crate::access::{Right, authorize};
+use crate::access::{Right, authorize, credentials};
 use crate::connection::Connection;
 use crate::credential::LentCredential;
 use crate::device::Device;
@@ -175,17 +175,12 @@ pub fn give_command(
 ///
 /// # Errors
 ///
-/// `UsernameRequired` if the client has given no user name, then `PasswordRequired` if it has given no password.
+/// The errors of [`credentials`](crate::access::credentials).
 pub fn switch_tracking(caller: &Connection, on: bool) -> Result<Effect<'static>, Refusal>
     ensures { (s : Scene) (line : List ℕ) → Grants s (caller_of caller.now) (Asks (requests.SetTracking on)) replies.Accepted
         result line }
 {
-    if caller.user().is_none() {
-        return Err(Refusal::UsernameRequired);
-    }
-    if caller.password().is_none() {
-        return Err(Refusal::PasswordRequired);
-    }
+    credentials(caller)?;
     Ok(Effect::Tracking(on))
 }
 

@@ -42,7 +42,7 @@ use Rattle.nut_server_spec.specs.laws.Limits.{IsUpsWithin, IsWithin, longest_ans
 use Rattle.nut_server_spec.proofs.Alls.{all_weaker, all_filter, all_places}
 use Rattle.nut_server_spec.proofs.Lengths.{length-quoted, name_within}
 use Rattle.nut_server_spec.proofs.ReplyLengths as L
-use Rattle.nut_server_spec.proofs.Requests.{IsNext, require-case, check-case, unless-case, with_right-case, handed_on-case}
+use Rattle.nut_server_spec.proofs.Requests.{IsNext, require-case, check-case, unless-case, with_credentials-case, with_right-case, handed_on-case}
 use Rattle.nut_server_spec.proofs.Tables.{IsShortRange, IsShortTable, variable_within, variable_named, command_named}
 use Rattle.nut_server_spec.specs.declared.limits.TheConstants.{ADDRESS_MAX}
 
@@ -311,9 +311,7 @@ module _ (s : Scene) (short : IsShortScene s) where
       let d = device_at s u in
       fit_variable name d _ (λ v there. unless-case IsFit (misfit v value) _ fit_refused
       (handed_on-case IsFit refusals.SetFailed s k (λ number. asks.Set name value number) d (fit_refused refusals.SetFailed) (λ number next holds. fit_accepted_as s number next)))))
-  request_fit k (requests.SetTracking on) readable =
-      require-case IsFit refusals.UsernameRequired k.user _ (fit_refused refusals.UsernameRequired) (λ user given.
-      require-case IsFit refusals.PasswordRequired k.password _ (fit_refused refusals.PasswordRequired) (λ password given'. fit_accepted))
+  request_fit k (requests.SetTracking on) readable = with_credentials-case IsFit k _ fit_refused (λ user password. fit_accepted)
   request_fit k (requests.InstCmd ups name parameter) readable = with_right-case IsFit s k (may_command name) ups _ fit_refused (λ u found. fit_data s short u (λ d. command_answer s k d name parameter) (λ table.
       let d = device_at s u in
       fit_command name d _ (λ there. unless-case IsFit (parameter_misfit parameter) _ fit_refused

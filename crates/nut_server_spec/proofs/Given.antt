@@ -17,7 +17,7 @@ use Rattle.nut_server_spec.specs.Command.{Command, Blank, Malformed, Asks}
 use Rattle.nut_server_spec.specs.Device.{Device, trouble}
 use Rattle.nut_server_spec.specs.Answer.{Answer, Silence, Line, Listing, Scene, Caller, refused, check, guests_of, on_command, type_reply, var_row, rw_row, device_at, ups_number, on_device, on_data, on_variable, with_right, may_set, may_log_in, may_be_primary, may_force, misfit, parameter_misfit, set_answer, command_answer, tracking_answer, accepted, described, once, list_answer, answer}
 use Rattle.nut_server_spec.specs.Effect.{number_in, target}
-use Rattle.nut_server_spec.proofs.Requests.{IsNext, require-case, check-case, unless-case, with_right-case, handed_on-case}
+use Rattle.nut_server_spec.proofs.Requests.{IsNext, require-case, check-case, unless-case, with_credentials-case, with_right-case, handed_on-case}
 
 -- A number in this answer to the command is the next one, and the command acts on a UPS that exists.
 abbrev pub IsGiven : Scene → Command → Answer → Type 0
@@ -53,9 +53,7 @@ module _ (s : Scene) (command : Command) where
   of_right k right name next good = with_right-case P s k right name next bad (λ u found. good u)
 
   of_tracking : (k : Caller) → P (tracking_answer k)
-  of_tracking k =
-      require-case P refusals.UsernameRequired k.user _ (bad refusals.UsernameRequired) (λ user given.
-      require-case P refusals.PasswordRequired k.password (λ password. Line replies.Accepted) (bad refusals.PasswordRequired) (λ password given' number is. cc))
+  of_tracking k = with_credentials-case P k (λ user password. Line replies.Accepted) bad (λ user password number is. cc)
 
   of_list : (query : ListQuery) → P (list_answer s query)
   of_list queries.Ups = λ number is. cc

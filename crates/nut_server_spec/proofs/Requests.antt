@@ -13,7 +13,7 @@ use Rattle.nut_state.specs.Table.{variable, has_command}
 use Rattle.nut_server_spec.specs.Configuration.{User, number_of_ups, user_named, may_command}
 use Rattle.nut_server_spec.specs.Command.{Command, Blank, Malformed, Asks}
 use Rattle.nut_server_spec.specs.Device.{Device, trouble, fits}
-use Rattle.nut_server_spec.specs.Answer.{Answer, Silence, Scene, Caller, refused, require, check, unless, with_right, on_data, device_at, has_right, may_set, misfit, parameter_misfit, numbered, accepted, handed_on, set_answer, command_answer, answer}
+use Rattle.nut_server_spec.specs.Answer.{Answer, Silence, Scene, Caller, refused, require, check, unless, with_credentials, with_right, on_data, device_at, has_right, may_set, misfit, parameter_misfit, numbered, accepted, handed_on, set_answer, command_answer, answer}
 use Rattle.nut_server_spec.specs.Effect.{number_in, target, request_of}
 
 -- ---- what holds of every refusal, and of the next step of a test, holds of the answer
@@ -30,13 +30,18 @@ pub unless-case : (P : Answer → Type 0) (o : Option Refusal) (next : Answer) �
 unless-case P None next bad good = good
 unless-case P (Some r) next bad good = bad r
 
+pub with_credentials-case : (P : Answer → Type 0) (k : Caller) (next : List ℕ → List ℕ → Answer) → ((r : Refusal) → P (refused r))
+    → ((user password : List ℕ) → P (next user password)) → P (with_credentials k next)
+with_credentials-case P k next bad good =
+    require-case P refusals.UsernameRequired k.user _ (bad refusals.UsernameRequired) (λ user given.
+    require-case P refusals.PasswordRequired k.password (next user) (bad refusals.PasswordRequired) (λ password given'. good user password))
+
 pub with_right-case : (P : Answer → Type 0) (s : Scene) (k : Caller) (right : User → Bool) (name : List ℕ) (next : ℕ → Answer) → ((r : Refusal) → P (refused r))
     → ((u : ℕ) → number_of_ups name s.configuration.upses ≡ Some u → P (next u)) → P (with_right s k right name next)
 with_right-case P s k right name next bad good =
-    require-case P refusals.UsernameRequired k.user _ (bad refusals.UsernameRequired) (λ user given.
-    require-case P refusals.PasswordRequired k.password _ (bad refusals.PasswordRequired) (λ password given'.
+    with_credentials-case P k _ bad (λ user password.
     require-case P refusals.UnknownUps (number_of_ups name s.configuration.upses) _ (bad refusals.UnknownUps) (λ u found.
-    check-case P refusals.AccessDenied (has_right right password (user_named user s.configuration.users)) (next u) (bad refusals.AccessDenied) (λ holds. good u found))))
+    check-case P refusals.AccessDenied (has_right right password (user_named user s.configuration.users)) (next u) (bad refusals.AccessDenied) (λ holds. good u found)))
 
 -- ---- SET and INSTCMD
 

@@ -142,13 +142,17 @@ abbrev pub has_right : (User → Bool) → List ℕ → Option User → Bool
 has_right right password None = false
 has_right right password (Some user) = has_password password user && right user
 
--- The next step of a request that changes something, with the number of the UPS. The tests in their order: the
--- connection gave a user name, it gave a password, there is a UPS of this name, and there is such a user with this
--- password and this right.
+-- the next step with the user name and the password that the client gave; `USERNAME-REQUIRED` or `PASSWORD-REQUIRED` if
+-- it gave none
+abbrev pub with_credentials : Caller → (List ℕ → List ℕ → Answer) → Answer
+with_credentials k next = require refusals.UsernameRequired k.user (λ user. require refusals.PasswordRequired k.password (next user))
+
+-- The next step of a request that changes something, with the number of the UPS. The tests in their order: the client
+-- gave a user name, it gave a password, there is a UPS of this name, and there is such a user with this password and this
+-- right.
 abbrev pub with_right : Scene → Caller → (User → Bool) → List ℕ → (ℕ → Answer) → Answer
-with_right s k right name next =
-    require refusals.UsernameRequired k.user (λ user. require refusals.PasswordRequired k.password (λ password.
-    on_ups s name (λ u. check refusals.AccessDenied (has_right right password (user_named user s.configuration.users)) (next u))))
+with_right s k right name next = with_credentials k (λ user password.
+    on_ups s name (λ u. check refusals.AccessDenied (has_right right password (user_named user s.configuration.users)) (next u)))
 
 -- whether this is the role `primary`
 abbrev pub is_primary : Option Role → Bool
@@ -277,9 +281,9 @@ abbrev pub command_answer : Scene → Caller → Device → List ℕ → Option 
 command_answer s k d name parameter =
     on_command name d (unless (parameter_misfit parameter) (handed_on refusals.InstCmdFailed s k (λ number. asks.InstCmd name parameter number) d))
 
--- the answer to SET TRACKING: any user may switch it, once a name and a password were given
+-- the answer to SET TRACKING: any client may switch it that gave a user name and a password
 abbrev pub tracking_answer : Caller → Answer
-tracking_answer k = require refusals.UsernameRequired k.user (λ user. require refusals.PasswordRequired k.password (λ password. Line replies.Accepted))
+tracking_answer k = with_credentials k (λ user password. Line replies.Accepted)
 
 -- ---- all requests
 
