@@ -93,54 +93,47 @@ pub(crate) struct Task<'a> {
     alloc: Global,
 }
 
-/// Returns the same word.
-fn again<'t>(word: &'t Word<'_>) -> Word<'t>
-    ensures { result ≡ word.now }
-{
-    Word::new(word.as_bytes())
-}
-
 /// Returns the query that makes the UPS do something.
-fn deed_query<'t>(ups: &'t Word<'_>, deed: &'t Deed<'_>) -> Request<'t>
+fn deed_query<'t>(ups: &'t Word<'t>, deed: &'t Deed<'t>) -> Request<'t>
     ensures { result ≡ deed_query ups.now deed.now }
 {
     match deed {
         Deed::Set(variable, value) => Request::SetVar {
-            ups: again(ups),
-            variable: again(variable),
-            value: again(value),
+            ups: ups.copy(),
+            variable: variable.copy(),
+            value: value.copy(),
         },
         Deed::Command(command, parameter) => Request::InstCmd {
-            ups: again(ups),
-            command: again(command),
-            parameter: parameter.as_ref().map(again),
+            ups: ups.copy(),
+            command: command.copy(),
+            parameter: parameter.as_ref().map(Word::copy),
         },
     }
 }
 
 /// Returns the first query.
-fn first_query<'t>(ups: &'t Word<'_>, wanted: &'t Wanted<'_>) -> Request<'t>
+fn first_query<'t>(ups: &'t Word<'t>, wanted: &'t Wanted<'t>) -> Request<'t>
     ensures { result ≡ first_query ups.now wanted.now }
 {
     match wanted {
-        Wanted::Variables | Wanted::Object => Request::List(ListQuery::Var { ups: again(ups) }),
+        Wanted::Variables | Wanted::Object => Request::List(ListQuery::Var { ups: ups.copy() }),
         Wanted::Value(variable) => Request::GetVar {
-            ups: again(ups),
-            variable: again(variable),
+            ups: ups.copy(),
+            variable: variable.copy(),
         },
         Wanted::Names | Wanted::Descriptions => Request::List(ListQuery::Ups),
-        Wanted::Clients => Request::List(ListQuery::Client { ups: again(ups) }),
-        Wanted::Settings => Request::List(ListQuery::Rw { ups: again(ups) }),
-        Wanted::Commands => Request::List(ListQuery::Cmd { ups: again(ups) }),
-        Wanted::Does(user, _, _, _) => Request::Username { name: again(user) },
+        Wanted::Clients => Request::List(ListQuery::Client { ups: ups.copy() }),
+        Wanted::Settings => Request::List(ListQuery::Rw { ups: ups.copy() }),
+        Wanted::Commands => Request::List(ListQuery::Cmd { ups: ups.copy() }),
+        Wanted::Does(user, _, _, _) => Request::Username { name: user.copy() },
     }
 }
 
 /// Returns the query about the variable or the command that a row names.
-fn row_query<'t>(ups: &'t Word<'_>, question: Question, name: &'t [u8]) -> Request<'t>
+fn row_query<'t>(ups: &'t Word<'t>, question: Question, name: &'t [u8]) -> Request<'t>
     ensures { result ≡ row_query ups.now question name.now }
 {
-    let ups = again(ups);
+    let ups = ups.copy();
     match question {
         Question::Kind => Request::GetType {
             ups,
@@ -462,7 +455,7 @@ impl<'a> Task<'a> {
         match &self.step {
             Step::Begun(wanted) => Next::Asks(first_query(ups, wanted)),
             Step::Password(password, _, _) => Next::Asks(Request::Password {
-                password: again(password),
+                password: password.copy(),
             }),
             Step::Deed(deed) | Step::TrackedDeed(deed) => Next::Asks(deed_query(ups, deed)),
             Step::Tracking(_) => Next::Asks(Request::SetTracking { on: true }),

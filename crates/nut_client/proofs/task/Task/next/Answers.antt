@@ -8,7 +8,7 @@ pub returns-in-Begun : goal.returns-in-Begun
 returns-in-Begun c = says_at _ _ _ _ (ap (left_at c.args.self.now.ups) c.in-Begun.is) c.first_query.ensures (says_first c.args.self.now.ups c.in-Begun.wanted)
 
 pub returns-in-Password : goal.returns-in-Password
-returns-in-Password c = says_at _ _ _ _ (ap (left_at c.args.self.now.ups) c.in-Password.is) (ap requests.Password c.again.ensures) (says_password c.args.self.now.ups c.in-Password.password c.in-Password.field-1 c.in-Password.field-2)
+returns-in-Password c = says_at _ _ _ _ (ap (left_at c.args.self.now.ups) c.in-Password.is) (ap requests.Password c.copy.ensures) (says_password c.args.self.now.ups c.in-Password.password c.in-Password.field-1 c.in-Password.field-2)
 
 pub returns-in-Deed : goal.returns-in-Deed
 returns-in-Deed c = elim c.in-Deed.is [
