@@ -19,8 +19,11 @@ use Rattle.nut_server_spec.specs.Outcome.{IsAnswer, after}
 use Rattle.nut_server_spec.specs.MachineOutcome.{Answers, content_after}
 use Rattle.nut_server_spec.proofs.Tells.{answers-told, tells-after}
 use Rattle.nut_server_spec.specs.declared.limits.TheConstants.{OPENED_MAX}
+use Rattle.nut_server.specs.declared.server.Server.TheInside.{Inside}
 use Rattle.nut_server.specs.inside.Inside.{numbers_of}
+use Rattle.nut_server.specs.inside.Server.{IsOrderly}
 use Rattle.nut_server.specs.Settling.{is_unsettled, IsNextUnsettled}
+use Rattle.nut_server.proofs.Orderly.{IsUpTo-without}
 
 pub bytes_ok : (c : ℕ) (piece : List ℕ) (ks : List Session) (k : Session) → session_of c ks ≡ Some k → length piece ≤ PIECE_MAX → length k.waits ≤ 0 → bytes_refusal piece (session_of c ks) ≡ None
 bytes_ok c piece ks k is short none = ap (bytes_refusal piece) is ∙ rw (le-ltb PIECE_MAX (length piece) short, le-ltb 0 (length k.waits) none) refl
@@ -35,9 +38,19 @@ pub numbers-length : (ks : List Session) → length (numbers_of ks) ≡ length k
 numbers-length [] = refl
 numbers-length (k ∷ ks) = ap suc (numbers-length ks)
 
-pub fewer : (c : ℕ) (ks : List Session) → length (without c ks) ≤ length ks
+fewer : (c : ℕ) (ks : List Session) → length (without c ks) ≤ length ks
 fewer c [] = omega arith
 fewer c (k ∷ ks) = elim (cases_Bool (eqb k.number c)) [ inl e ↦ rw e (omega (arith, fewer c ks)) | inr e ↦ rw e (omega (arith, fewer c ks)) ]
+
+-- Without a connection, the parts of a server are still in order.
+pub orderly_without : (c : ℕ) (i : Inside) (ks : List Session) → ks ≡ without c i.connections → IsOrderly i → IsOrderly (record i { connections = ks })
+orderly_without c i ks is before = record {
+  up_to = subst (λ ks. IsUpTo i.opened (numbers_of ks)) (sym is) (IsUpTo-without c i.opened i.connections before.up_to);
+  few = before.few;
+  within = omega (arith, numbers-length ks, numbers-length i.connections, ap length is, fewer c i.connections, before.within);
+  limits = before.limits;
+  all = before.all;
+}
 
 -- a UPS that is changed, and whose driver is then disconnected
 pub gone_after : (u : ℕ) (change : Supply → Supply) (ds : List Supply) (d d' : Supply) → u < length ds → d ≡ slice_index_or ds u d → d' ≡ down (change d) → slice_set ds u d' ≡ update_at u down (update_at u change ds)

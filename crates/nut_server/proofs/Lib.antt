@@ -23,5 +23,4 @@ pub mod Arrives
 pub mod Heard
 pub mod Settled
 pub mod Limited
-pub mod NthLine
 mod WholeLine

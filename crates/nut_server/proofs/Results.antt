@@ -1,6 +1,5 @@
 -- What is known of a result, if it is an error and if it isn't.
-use Rattle.std.proofs.Common.{◌≡◌, true, false, Result, Bool, Ok, Err, IfErr, OnOk, OnErr, is_err, subst}
-use Rattle.std.specs.Bool.{OnTrue}
+use Rattle.std.proofs.Common.{◌≡◌, true, false, Result, Ok, Err, IfErr, OnOk, OnErr, is_err, subst}
 use Rattle.std.proofs.lemmas.Bool.{false≢true}
 
 pub ok_is : {A E : Type 0} (r : Result A E) (P : Type 0) → false ≡ is_err r → OnOk r P → P
@@ -19,10 +18,6 @@ pub if_err : {A E : Type 0} (r : Result A E) (P Q : Type 0) → (P → Q) → On
 if_err (Ok v) P Q f h = tt
 if_err (Err e) P Q f h = f h
 
-pub on_true : (b : Bool) (P : Type 0) → b ≡ true → OnTrue b P → P
-on_true true P is h = h
-on_true false P is h = absurd (false≢true is)
-
 pub ok_of : {A E : Type 0} (r : Result A E) (v : A) (P : Type 0) → r ≡ Ok v → OnOk r P → P
 ok_of (Ok w) v P is h = h
 ok_of (Err e) v P is h = absurd (cc)
@@ -30,3 +25,7 @@ ok_of (Err e) v P is h = absurd (cc)
 pub err_of : {A E : Type 0} (r : Result A E) (e : E) (P : E → Type 0) → r ≡ Err e → IfErr r P → P e
 err_of (Ok v) e P is h = absurd (cc)
 err_of (Err f) e P is h = let same : f ≡ e = cc in subst P same h
+
+pub err_both : {A E : Type 0} (r : Result A E) (P Q : Type 0) (S : E → Type 0) → ((e : E) → P → Q → S e) → OnErr r P → OnErr r Q → IfErr r S
+err_both (Ok v) P Q S f p q = tt
+err_both (Err e) P Q S f p q = f e p q

@@ -1,23 +1,17 @@
 -- How a content changes with the bytes of a connection, line by line.
-use Rattle.std.proofs.Common.{◌≡◌, ℕ, zero, suc, ◌<◌, true, false, eqb, List, [], ◌∷◌, ◌++◌, map, length, refl, sym, ◌∙◌, ap, arith, inl, inr, append_assoc, append-nil, Option, Some, None}
-use Rattle.std.specs.Prelude.{◌==◌, if◌then◌else◌, option_map}
-use Rattle.std.proofs.lemmas.Bool.{cases_Bool, eqb-false}
-use Rattle.nut_words.specs.Lines.{LineText, Text, as_line, last_of, parts, rest, joined}
-use Rattle.nut_words.proofs.LineLemmas.{joined-as_line}
-use Rattle.nut_words.proofs.StreamGrowth.{rest_within}
+use Rattle.std.proofs.Common.{◌≡◌, ℕ, zero, suc, true, false, eqb, List, [], ◌∷◌, map, length, refl, sym, ◌∙◌, ap, inl, inr, Option, Some, None}
+use Rattle.std.specs.Prelude.{if◌then◌else◌, option_map}
+use Rattle.std.proofs.lemmas.Bool.{cases_Bool}
+use Rattle.nut_words.specs.Lines.{LineText, Text, joined}
 use Rattle.nut_server_spec.specs.Command.{Command, command_of}
 use Rattle.nut_server_spec.specs.Effect.{target}
 use Rattle.nut_server_spec.specs.Answer.{Answer, Silence, answer}
 use Rattle.nut_server_spec.specs.Content.{Session, Supply, Content}
-use Rattle.nut_server_spec.specs.Acceptance.{session_of, front, line_feeds}
+use Rattle.nut_server_spec.specs.Acceptance.{session_of}
 use Rattle.nut_server_spec.specs.Trace.{given_then}
 use Rattle.nut_server_spec.specs.machine.Machine.{update, update_at, with_rest, with_sessions, guest_of, caller_of, scene_of, answered, answer_in, act_on, acted, after_answer, line_heard, byte_heard, bytes_heard}
 use Rattle.nut_server_spec.specs.laws.Laws.{numbers}
 use Rattle.nut_server_spec.proofs.Sessions.{KeepsNumber, session_of-update}
-
-pub bytes_heard-append : (c : ℕ) (x y : List ℕ) (s : Content) → bytes_heard c (x ++ y) s ≡ bytes_heard c y (bytes_heard c x s)
-bytes_heard-append c [] y s = refl
-bytes_heard-append c (b ∷ x) y s = bytes_heard-append c x y (byte_heard c b s)
 
 -- ---- updates of one session
 
@@ -59,7 +53,7 @@ with_unfinished c r s = with_sessions (update c (with_rest r) s.sessions) s
 pub with_unfinished-same : (c : ℕ) (r : LineText) (s : Content) (k : Session) → session_of c s.sessions ≡ Some k → k.rest ≡ r → with_unfinished c r s ≡ s
 with_unfinished-same c r s k found is = ap (λ sessions. with_sessions sessions s) (update-same c r s.sessions k found is)
 
-byte_other : (c b : ℕ) (r : LineText) (s : Content) → eqb b 10 ≡ false → byte_heard c b (with_unfinished c r s) ≡ with_unfinished c (joined r (b ∷ [])) s
+pub byte_other : (c b : ℕ) (r : LineText) (s : Content) → eqb b 10 ≡ false → byte_heard c b (with_unfinished c r s) ≡ with_unfinished c (joined r (b ∷ [])) s
 byte_other c b r s other =
     rw other (ap (λ sessions. with_sessions sessions s) (update-update c (with_rest r) (λ k. with_rest (joined k.rest (b ∷ [])) k) s.sessions (λ k. refl)))
 
@@ -75,7 +69,7 @@ after-unfinished c r s command reply =
     ap (λ sessions. record s { given = given_then reply s.given; sessions = sessions; supplies = act_on (target s.configuration command) (acted command reply) s.supplies })
     (update-update c (with_rest r) (λ k. with_rest (Text []) (answered s.configuration command reply k)) s.sessions (λ k. refl))
 
-byte_feed : (c b : ℕ) (r : LineText) (s : Content) (k : Session) → session_of c s.sessions ≡ Some k → eqb b 10 ≡ true
+pub byte_feed : (c b : ℕ) (r : LineText) (s : Content) (k : Session) → session_of c s.sessions ≡ Some k → eqb b 10 ≡ true
     → byte_heard c b (with_unfinished c r s) ≡ after_answer c (command_of r) (answer_in s (command_of r) k) s
 byte_feed c b r s k found is =
     let there : session_of c (update c (with_rest r) s.sessions) ≡ Some (with_rest r k) =
@@ -83,57 +77,6 @@ byte_feed c b r s k found is =
     rw is (ap (λ o. line_heard c o (with_unfinished c r s)) there
     ∙ ap (λ reply. after_answer c (command_of r) reply (with_unfinished c r s)) (answer-unfinished c r s (command_of r) k)
     ∙ after-unfinished c r s (command_of r) (answer_in s (command_of r) k))
-
--- ---- bytes
-
--- the bytes of a text before its first line feed, and the line that they complete behind an unfinished one
-abbrev pub until_feed : List ℕ → List ℕ
-until_feed [] = []
-until_feed (b ∷ bytes) = if b == 10 then [] else b ∷ until_feed bytes
-
-abbrev pub first_line : LineText → List ℕ → LineText
-first_line rest text = joined rest (until_feed text)
-
--- an unfinished line with no byte added, and one with bytes added one by one
-joined_rest : (b : List ℕ) → joined (rest b) [] ≡ rest b
-joined_rest b = let t = last_of (parts b) in joined-as_line t [] ∙ ap as_line (append-nil t)
-
-joined_next : (b : List ℕ) (c : ℕ) (u : List ℕ) → joined (joined (rest b) (c ∷ [])) u ≡ joined (rest b) (c ∷ u)
-joined_next b c u = grows (last_of (parts b)) where
-  grows : (t : List ℕ) → joined (joined (as_line t) (c ∷ [])) u ≡ joined (as_line t) (c ∷ u)
-  grows t = ap (λ r. joined r u) (joined-as_line t (c ∷ [])) ∙ joined-as_line (t ++ c ∷ []) u ∙ ap as_line (append_assoc t (c ∷ []) u) ∙ sym (joined-as_line t (c ∷ u))
-
--- Bytes up to their first line feed complete a line, which is answered.
-pub line_heard_front : (c : ℕ) (b left : List ℕ) (s : Content) (k : Session) → session_of c s.sessions ≡ Some k → 0 < line_feeds left
-    → bytes_heard c (front 1 left) (with_unfinished c (rest b) s)
-    ≡ after_answer c (command_of (first_line (rest b) left)) (answer_in s (command_of (first_line (rest b) left)) k) s
-line_heard_front c b [] s k found more = absurd (omega arith)
-line_heard_front c b (x ∷ left) s k found more =
-    elim (cases_Bool (eqb x 10)) [
-      | inl e ↦ rw e (byte_feed c x (rest b) s k found e ∙ ap (λ l. after_answer c (command_of l) (answer_in s (command_of l) k) s) (sym (joined_rest b)))
-      | inr e ↦
-          let grown : joined (rest b) (x ∷ []) ≡ rest (b ++ x ∷ []) = sym (rest_within b x (eqb-false x 10 e)) in
-          rw e (ap (bytes_heard c (front 1 left)) (byte_other c x (rest b) s e)
-          ∙ ap (λ r. bytes_heard c (front 1 left) (with_unfinished c r s)) grown
-          ∙ line_heard_front c (b ++ x ∷ []) left s k found (rw e at more)
-          ∙ ap (λ r. answered_by (joined r (until_feed left))) (sym grown)
-          ∙ ap answered_by (joined_next b x (until_feed left)))
-    ] where
-      answered_by : LineText → Content
-      answered_by l = after_answer c (command_of l) (answer_in s (command_of l) k) s
-
--- Bytes without a line feed.
-pub rest_heard : (c : ℕ) (b y : List ℕ) (s : Content) → line_feeds y ≡ 0 → bytes_heard c y (with_unfinished c (rest b) s) ≡ with_unfinished c (rest (b ++ y)) s
-rest_heard c b [] s none = ap (λ r. with_unfinished c (rest r) s) (sym (append-nil b))
-rest_heard c b (x ∷ y) s none =
-    elim (cases_Bool (eqb x 10)) [
-      | inl e ↦ absurd (let some : suc (line_feeds y) ≡ 0 = rw e at none in cc)
-      | inr e ↦
-          ap (bytes_heard c y) (byte_other c x (rest b) s e)
-          ∙ ap (λ r. bytes_heard c y (with_unfinished c r s)) (sym (rest_within b x (eqb-false x 10 e)))
-          ∙ rest_heard c (b ++ x ∷ []) y s (rw e at none)
-          ∙ ap (λ r. with_unfinished c (rest r) s) (append_assoc b (x ∷ []) y)
-    ]
 
 -- ---- what the bytes of a connection leave as it is
 

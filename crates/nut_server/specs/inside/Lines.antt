@@ -1,9 +1,30 @@
 -- What a line makes of what hears it, apart from its unfinished line.
-use Rattle.std.specs.Prelude.{ℕ}
+use Rattle.std.specs.Prelude.{ℕ, Option, Some, None}
 use Rattle.nut_words.specs.Lines.{LineText}
-use Rattle.nut_server_spec.specs.Content.{Supply}
-use Rattle.nut_server_spec.specs.machine.Machine.{reported_by}
+use Rattle.nut_server_spec.specs.Acceptance.{session_of}
+use Rattle.nut_server_spec.specs.Command.{Command, command_of}
+use Rattle.nut_server_spec.specs.Content.{Content, Session, Supply}
+use Rattle.nut_server_spec.specs.machine.Machine.{answer_in, reported_by}
+use Rattle.nut_server.specs.inside.Effects.{answered_by}
+use Rattle.nut_server.specs.declared.server.hearing.Hearer.{Hearer}
 
 -- a UPS after a line of its driver at this moment
 abbrev pub line_told : ℕ → LineText → Supply → Supply
 line_told time line d = record (reported_by time line d) { rest = d.rest }
+
+-- the content after a command of c, if c is open
+abbrev pub command_done : ℕ → Command → Option Session → Content → Content
+command_done c command None s = s
+command_done c command (Some k) s = answered_by c command (answer_in s command k) s
+
+-- the content after a line of c
+abbrev pub line_answered : ℕ → LineText → Content → Content
+line_answered c line s = command_done c (command_of line) (session_of c s.sessions) s
+
+-- a hearer whose server has this content
+abbrev pub with_content : Content → Hearer → Hearer
+with_content s h = record h { server = record h.server { now = s } }
+
+-- a hearer after a line of its connection
+abbrev pub line_heard_by : LineText → Hearer → Hearer
+line_heard_by line h = with_content (line_answered h.c line h.server.now) h

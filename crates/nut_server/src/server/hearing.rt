@@ -3,7 +3,7 @@
 ghost use Rattle.std.specs.Prelude.{◌≡◌, ◌<◌, ℕ, Some, Ok, Err, false, IfErr, IsTrue, OnOk, OnErr, length, slice_get};
 ghost use Rattle.nut_words.specs.Cutter.{line_of};
 ghost use Rattle.nut_words.specs.declared.words.WordFault.TheVariants.{Memory};
-ghost use Rattle.nut_server_spec.specs.Acceptance.{front, line_feeds};
+ghost use Rattle.nut_server_spec.specs.Acceptance.{front, line_feeds, session_of};
 ghost use Rattle.nut_server_spec.specs.Answer.{answer};
 ghost use Rattle.nut_server_spec.specs.Command.{asked, command_in, command_of};
 ghost use Rattle.nut_server_spec.specs.Content.{Session};
@@ -11,6 +11,7 @@ ghost use Rattle.nut_server_spec.specs.machine.Machine.{answer_in, bytes_heard, 
 ghost use Rattle.nut_server_spec.specs.Outcome.{is_blank, line_takes, with_backslash};
 ghost use Rattle.nut_server_spec.specs.MachineOutcome.{content_lost, RunsOut};
 ghost use Rattle.nut_server.specs.inside.Effects.{HasShortNames, answered_by};
+ghost use Rattle.nut_server.specs.inside.Lines.{line_heard_by};
 ghost use Rattle.nut_server.specs.inside.Place.{Stands};
 
 use crate::decision::{Decision, decide};
@@ -18,7 +19,7 @@ use crate::scene::Scene;
 use crate::server::Server;
 use crate::text::put_answer;
 use nut_proto::{Refusal, Request, read};
-use nut_words::{Line, WordFault, Words, split};
+use nut_words::{HearLine, Line, WordFault, Words, hear_lines, split};
 use std::alloc::{AllocError, Global};
 
 impl Server {
@@ -133,21 +134,50 @@ impl Server {
         ensures memory { IfErr result (λ done. RunsOut c piece.now done self.old) }
     {
         let mut cutter = self.connections.take_cutter(at);
-        let mut left = piece;
-        let mut done = 0usize;
-        loop {
-            let (line, used) = cutter.feed(left);
-            let Some(line) = line else {
+        let mut hearer = Hearer {
+            server: self,
+            c,
+            at,
+        };
+        let (done, heard) = hear_lines(&mut cutter, &mut hearer, (), piece);
+        match heard {
+            Ok(()) => {
                 self.connections.put_cutter(at, cutter);
-                return Ok(());
-            };
-            if self.hear_line(at, line).is_err() {
-                self.connections.remove(c);
-                return Err(done);
+                Ok(())
             }
-            done += 1;
-            left = &left[used..];
+            Err(_) => {
+                self.connections.remove(c);
+                Err(done)
+            }
         }
+    }
+}
+
+/// What hears the lines of a connection: the server, with the connection's number and place. It is private, so that no
+/// line reaches the server but by an arrival.
+#[derive(Drop)]
+struct Hearer<'a> {
+    server: &'a mut Server,
+    c: u64,
+    at: usize,
+}
+
+/// Answers the lines of the connection, whose cutter is taken out. If memory cannot be allocated for one, nothing
+/// changes.
+impl HearLine for Hearer<'_> {
+    type With = ();
+
+    type Stop = AllocError;
+
+    ghost heard = { λ _. line_heard_by };
+
+    ghost GoesOn = { λ h. Stands h.c h.server.now.sessions h.at };
+
+    ghost Stops = { λ _ line before _ after. (after ≡ before)
+        × IsTrue (line_takes line (session_of before.c before.server.now.sessions)) };
+
+    fn hear_line(&mut self, _with: (), line: Line<'_>) -> Result<(), AllocError> {
+        self.server.hear_line(self.at, line)
     }
 }
 

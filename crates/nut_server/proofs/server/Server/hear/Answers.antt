@@ -1,24 +1,12 @@
-use Rattle.std.proofs.Common.{subst, sym, ap, ◌∙◌, length, slice_get, arith}
-use Rattle.nut_server_spec.specs.laws.Laws.{IsUpTo}
-use Rattle.nut_server.specs.inside.Inside.{numbers_of}
-use Rattle.nut_server.proofs.Arrives.{numbers-length, fewer}
+use Rattle.std.proofs.Common.{sym, ap, ◌∙◌, slice_get}
+use Rattle.nut_server.proofs.Arrives.{orderly_without}
 use Rattle.nut_server.proofs.Heard.{standing}
-use Rattle.nut_server.proofs.Orderly.{IsUpTo-without}
 use Rattle.nut_server.proofs.Results.{ok_is, err_is}
 use Rattle.nut_server.proofs.WholeLine.{has_line, same_start, whole_heard, whole_runs_out}
 use Rattle.nut_server.proofs.server.Server.hear.Goals as goal
 
 pub invariant_of-self : goal.invariant_of-self
-invariant_of-self c =
-    let i = c.self-2.inside in
-    let before = c.self-2.invariant in
-    record {
-      up_to = subst (λ ks. IsUpTo i.opened (numbers_of ks)) (sym c.remove.ensures) (IsUpTo-without c.args.c i.opened i.connections before.up_to);
-      few = before.few;
-      within = omega (arith, numbers-length c.remove.new.self, numbers-length i.connections, ap length c.remove.ensures, fewer c.args.c i.connections, before.within);
-      limits = before.limits;
-      all = before.all;
-    }
+invariant_of-self c = orderly_without c.args.c c.self-2.inside c.remove.new.self c.remove.ensures c.self-2.invariant
 
 pub returns-then-is_err-clause-few : goal.returns-then-is_err-clause-few
 returns-then-is_err-clause-few c =
