@@ -53,13 +53,13 @@ cutter_out c at s started cutter sessions stands is taken left =
     )
 
 -- a line was answered, and no byte of it is left
-pub answered_then : (c : ℕ) (command : Command) (reply : Answer) (s : Content) → with_unfinished c (Text []) (answered_by c command reply s) ≡ after_answer c command reply s
+answered_then : (c : ℕ) (command : Command) (reply : Answer) (s : Content) → with_unfinished c (Text []) (answered_by c command reply s) ≡ after_answer c command reply s
 answered_then c command reply s =
     ap (λ sessions. record s { sessions = sessions; supplies = act_on (target s.configuration command) (acted command reply) s.supplies; given = given_then reply s.given })
     (update-update c (λ k. answered s.configuration command reply k) (with_rest (Text [])) s.sessions (λ k. refl))
 
 -- the connection is closed, whatever its unfinished line
-pub closed_then : (c : ℕ) (r : LineText) (s h : Content) → with_unfinished c r s ≡ h → with_sessions (without c s.sessions) s ≡ advance h (Close c)
+closed_then : (c : ℕ) (r : LineText) (s h : Content) → with_unfinished c r s ≡ h → with_sessions (without c s.sessions) s ≡ advance h (Close c)
 closed_then c r s h is =
     ap (λ sessions. with_sessions sessions s) (sym (without-update c (with_rest r) s.sessions (λ k. refl))) ∙ ap (λ s. advance s (Close c)) is
 
