@@ -7,13 +7,12 @@ use Rattle.nut_proto.specs.declared.refusal.Refusal.TheVariants as refusals
 use Rattle.nut_proto.specs.declared.reply.Reply.TheVariants as replies
 use Rattle.nut_server_spec.specs.Configuration.{Configuration, User, number_of_ups, user_named, has_password}
 use Rattle.nut_server_spec.specs.Command.{Asks, command_of}
-use Rattle.nut_server_spec.specs.Event.{Event, Moment, Open, Bytes, Took, Close, WriteFailed, DriverUp, DriverBytes, DriverTook, DriverDown, Step, Clock, Opened, Said, Gone, Up, Reported, Drained, Down, steps, with_lines, with_reports, brought, input, driver_input}
+use Rattle.nut_server_spec.specs.Event.{Event, Moment, Open, Bytes, Took, Close, WriteFailed, DriverUp, DriverBytes, DriverTook, DriverDown, Step, Clock, Opened, Said, Gone, Up, Reported, Drained, Down, steps, with_lines, with_reports, brought, input, driver_input, Reload, Reloaded}
 use Rattle.nut_server_spec.specs.Content.{past}
-use Rattle.nut_server_spec.specs.Answer.{Answer, Line as OneLine, Scene, Caller, refused, require, check, once, with_right, has_right, may_be_primary, may_force}
+use Rattle.nut_server_spec.specs.Answer.{Answer, Line as OneLine, Scene, Caller, refused, require, check, once, with_right, has_right, may_be_primary, may_force, ups_number}
 use Rattle.nut_server_spec.specs.Effect.{user_then, password_then, forced_then, at_target, target}
-use Rattle.nut_server_spec.specs.Trace.{Entry, trace, configuration, user, password, logged_out, forced, scene, caller, answer_to}
+use Rattle.nut_server_spec.specs.Trace.{Entry, trace, user, password, logged_out, forced, scene, caller, answer_to, numbering}
 use Rattle.nut_server_spec.proofs.Requests.{require-case, check-case}
-use Rattle.nut_server_spec.proofs.Waiting.{configuration_stays}
 use Rattle.nut_monitor_spec.specs.declared.Query.{Query}
 use Rattle.nut_monitor_spec.specs.declared.Query.TheVariants.{Username, Password, Login, Primary, Status, Fsd, NumLogins}
 use Rattle.nut_monitor_spec.specs.Configuration.{Line}
@@ -26,6 +25,7 @@ use Rattle.nut_fleet.specs.Fleet.{IsSpoken, IsAnswered, Exists}
 use Rattle.nut_fleet.proofs.Sound.{IsOwn, AreOwn}
 use Rattle.nut_fleet.proofs.Reading.{answer-said, reply-same}
 use Rattle.nut_fleet.proofs.Replying.{query-command, query-answer, never-out, number-there}
+use Rattle.nut_fleet.proofs.Unreloaded.{HasNoReload, IsAsMade, as-made, number-stays, no-reload}
 use Rattle.nut_in_time.specs.Room.{IsGrant}
 
 -- ---- a connection that gave the user and the password of a primary of the line's UPS
@@ -41,18 +41,18 @@ pub record IsEntitled (first : Configuration) (line : Line) (names secrets : Opt
 
 -- what is known if a request that needs a right is granted
 right-known : (P : Answer → Type 0) (s : Scene) (k : Caller) (right : User → Bool) (ups : List ℕ) (next : ℕ → Answer) → ((r : Refusal) → P (refused r)) →
-    ((name secret : List ℕ) (u : ℕ) → k.user ≡ Some name → k.password ≡ Some secret → number_of_ups ups s.configuration.upses ≡ Some u →
+    ((name secret : List ℕ) (u : ℕ) → k.user ≡ Some name → k.password ≡ Some secret → ups_number s ups ≡ Some u →
     has_right right secret (user_named name s.configuration.users) ≡ true → P (next u)) → P (with_right s k right ups next)
 right-known P s k right ups next bad good =
     require-case P refusals.UsernameRequired k.user _ (bad refusals.UsernameRequired) (λ name given.
     require-case P refusals.PasswordRequired k.password _ (bad refusals.PasswordRequired) (λ secret given'.
-    require-case P refusals.UnknownUps (number_of_ups ups s.configuration.upses) _ (bad refusals.UnknownUps) (λ u found.
+    require-case P refusals.UnknownUps (ups_number s ups) _ (bad refusals.UnknownUps) (λ u found.
     check-case P refusals.AccessDenied (has_right right secret (user_named name s.configuration.users)) (next u) (bad refusals.AccessDenied)
     (λ holds. good name secret u given given' found holds))))
 
-granted-entitled : (first : Configuration) (t : List Entry) (c : ℕ) (line : Line) → IsSpoken line → answer_to first t c (query_line line Primary) ≡ OneLine replies.Accepted →
+granted-entitled : (first : Configuration) (t : List Entry) (c : ℕ) (line : Line) → IsAsMade first t → IsSpoken line → answer_to first t c (query_line line Primary) ≡ OneLine replies.Accepted →
     IsEntitled first line (user c t) (password c t)
-granted-entitled first t c line s is =
+granted-entitled first t c line made s is =
     right-known P (scene first t) (caller first t c) may_be_primary line.ups (λ u. OneLine replies.Accepted) bad
     (λ name secret u given given' found holds e. record {
       name = name;
@@ -60,8 +60,8 @@ granted-entitled first t c line s is =
       u = u;
       name_is = given;
       secret_is = given';
-      number = number-there first t line.ups u found;
-      right = sym (ap (λ (x : Configuration). has_right may_be_primary secret (user_named name x.users)) (configuration_stays first t)) ∙ holds;
+      number = number-there first t line.ups u made found;
+      right = sym (ap (λ (x : Configuration). has_right may_be_primary secret (user_named name x.users)) made.configured) ∙ holds;
     })
     (answer-said first t c line Primary replies.Accepted s is)
   where
@@ -117,10 +117,10 @@ module _ (first : Configuration) (line : Line) (c : ℕ) (t : List Entry) (spoke
       })
 
 -- a connection on which PRIMARY was granted, and that sends nothing but queries
-pub entitled : (first : Configuration) (line : Line) (c : ℕ) (s : List Step) → IsSpoken line → AreOwn line (exchanges c (trace first s)) →
+pub entitled : (first : Configuration) (line : Line) (c : ℕ) (s : List Step) → HasNoReload s → IsSpoken line → AreOwn line (exchanges c (trace first s)) →
     Exists (IsGrant line Primary) (exchanges c (trace first s)) → IsEntitled first line (user c (trace first s)) (password c (trace first s))
-entitled first line c [] spoken own h = absurd h
-entitled first line c (Said d text ∷ s) spoken own h =
+entitled first line c [] none spoken own h = absurd h
+entitled first line c (Said d text ∷ s) none spoken own h =
     let t = trace first s in
     elim (cases_Bool (d == c)) [
       | inl is ↦
@@ -130,23 +130,24 @@ entitled first line c (Said d text ∷ s) spoken own h =
           let h' : IsGrant line Primary x ⊎ Exists (IsGrant line Primary) (exchanges c t) = rw is at h in
           let before : IsEntitled first line (user c t) (password c t) =
           elim h' [
-            | inl now ↦ granted-entitled first t c line spoken (ap (answer_to first t c) (sym now.0) ∙ sym (ap (λ k. answer_to first t k text) same) ∙ now.1)
-            | inr older ↦ entitled first line c s spoken own'.1 older
+            | inl now ↦ granted-entitled first t c line (as-made first s none) spoken (ap (answer_to first t c) (sym now.0) ∙ sym (ap (λ k. answer_to first t k text) same) ∙ now.1)
+            | inr older ↦ entitled first line c s none spoken own'.1 older
           ] in
           rw is (subst (λ k. IsEntitled first line (user_then (command_of text) (answer_to first t k text) (user c t)) (password_then (command_of text) (answer_to first t k text) (password c t))) (sym same)
           (entitled-said first line c t spoken (never-out line c t own'.1) text own'.0.0 before))
       | inr is ↦
           let own' : AreOwn line (exchanges c t) = rw is at own in
           let h' : Exists (IsGrant line Primary) (exchanges c t) = rw is at h in
-          rw is (entitled first line c s spoken own' h')
+          rw is (entitled first line c s none spoken own' h')
     ]
-entitled first line c (Clock t ∷ s) spoken own h = entitled first line c s spoken own h
-entitled first line c (Opened address ∷ s) spoken own h = entitled first line c s spoken own h
-entitled first line c (Gone d ∷ s) spoken own h = entitled first line c s spoken own h
-entitled first line c (Up u ∷ s) spoken own h = entitled first line c s spoken own h
-entitled first line c (Reported u text ∷ s) spoken own h = entitled first line c s spoken own h
-entitled first line c (Drained u n ∷ s) spoken own h = entitled first line c s spoken own h
-entitled first line c (Down u ∷ s) spoken own h = entitled first line c s spoken own h
+entitled first line c (Clock t ∷ s) none spoken own h = entitled first line c s none spoken own h
+entitled first line c (Opened address ∷ s) none spoken own h = entitled first line c s none spoken own h
+entitled first line c (Gone d ∷ s) none spoken own h = entitled first line c s none spoken own h
+entitled first line c (Up u ∷ s) none spoken own h = entitled first line c s none spoken own h
+entitled first line c (Reported u text ∷ s) none spoken own h = entitled first line c s none spoken own h
+entitled first line c (Drained u n ∷ s) none spoken own h = entitled first line c s none spoken own h
+entitled first line c (Down u ∷ s) none spoken own h = entitled first line c s none spoken own h
+entitled first line c (Reloaded k ∷ s) none spoken own h = absurd none
 
 -- ---- its FSD is accepted
 
@@ -161,15 +162,15 @@ right-goes : (names secrets : Option (List ℕ)) (number : Option ℕ) (test : L
     require refusals.UsernameRequired names (λ n. require refusals.PasswordRequired secrets (λ s. require refusals.UnknownUps number (λ k. check refusals.AccessDenied (test n s) (next k)))) ≡ next u
 right-goes names secrets number test next name secret u e1 e2 e3 e4 = rw (e1, e2, e3, e4) refl
 
-pub entitled-forces : (first : Configuration) (line : Line) (c : ℕ) (t : List Entry) → IsSpoken line → AreOwn line (exchanges c t) →
+pub entitled-forces : (first : Configuration) (line : Line) (c : ℕ) (t : List Entry) → IsAsMade first t → IsSpoken line → AreOwn line (exchanges c t) →
     IsEntitled first line (user c t) (password c t) → answer_to first t c (query_line line Fsd) ≡ OneLine replies.FsdSet
-entitled-forces first line c t spoken own e =
+entitled-forces first line c t made spoken own e =
     let sc = scene first t in
     query-answer first t c line Fsd spoken (never-out line c t own)
-    ∙ right-goes (user c t) (password c t) (number_of_ups line.ups sc.configuration.upses)
+    ∙ right-goes (user c t) (password c t) (ups_number sc line.ups)
     (λ n s. has_right may_force s (user_named n sc.configuration.users)) (λ u. OneLine replies.FsdSet) e.name e.secret e.u e.name_is e.secret_is
-    (ap (λ (x : Configuration). number_of_ups line.ups x.upses) (configuration_stays first t) ∙ e.number)
-    (ap (λ (x : Configuration). has_right may_force e.secret (user_named e.name x.users)) (configuration_stays first t)
+    (number-stays first t line.ups made ∙ e.number)
+    (ap (λ (x : Configuration). has_right may_force e.secret (user_named e.name x.users)) made.configured
     ∙ force-right e.secret (user_named e.name first.users) e.right)
 
 -- ---- an FSD that was accepted has forced the shutdown
@@ -187,9 +188,10 @@ answered-forced setup m i u step early spoken number a =
     let t = past first (world setup early).server in
     let command = query-command line Fsd spoken in
     ap (λ s. forced first u (trace first s)) a.said
-    ∙ own-target u (target (configuration first t) (command_of (query_line line Fsd)))
+    ∙ own-target u (target (numbering first t) (command_of (query_line line Fsd)))
     (forced_then (command_of (query_line line Fsd)) (answer_to first t c (query_line line Fsd))) (forced first u t)
-    (ap (target (configuration first t)) command ∙ ap (λ (x : Configuration). number_of_ups line.ups x.upses) (configuration_stays first t) ∙ number)
+    (ap (target (numbering first t)) command
+    ∙ number-stays first t line.ups (as-made first (steps (world setup early).server) (no-reload setup early)) ∙ number)
     (ap (λ k. forced_then k (answer_to first t c (query_line line Fsd)) (forced first u t)) command
     ∙ ap (λ x. forced_then (Asks (request line Fsd)) x (forced first u t)) a.answered)
 
@@ -215,3 +217,4 @@ module _ (first : Configuration) (c : ℕ) (P : Exchange → Type 0) where
   said-keeps (DriverUp u) h is = is
   said-keeps (DriverTook u n) h is = is
   said-keeps (DriverDown u) h is = is
+  said-keeps (Reload k) h is = is

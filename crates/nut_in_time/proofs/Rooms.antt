@@ -28,6 +28,7 @@ use Rattle.nut_fleet.proofs.Primaries.{primaries-go_last}
 use Rattle.nut_fleet.proofs.Sound.{IsLawful}
 use Rattle.nut_fleet.proofs.Steps.{some-there, spoken, zero-closed}
 use Rattle.nut_fleet.proofs.Worlds.{sound}
+use Rattle.nut_fleet.proofs.Unreloaded.{no-reload}
 use Rattle.nut_in_time.specs.Pace.{Pace, FromOn, IsPolled, IsSteady, IsWatched, Says, seen_at, shown_at}
 use Rattle.nut_in_time.specs.InTime.{IsHaltedBy, has_fsd, is_halted, is_low, seen_by, turn}
 use Rattle.nut_in_time.specs.Room.{IsGrant, IsReady, IsRoom, IsStopping, KeepsStep, RoomStopsInTime, forced_in, host_sync_for, is_forced, is_stopped, other_halted_in, primary_halted_in}
@@ -368,7 +369,7 @@ module _ (tables : EveryTableHolds) (setup : Setup) (law : IsLawful setup.server
         (λ x event from before. said-keeps setup.server c0 (IsGrant line Login) event (world setup x).server before) in
         let said' : Exists (IsGrant line Login) (exchanges c (happened setup.server h)) = subst (λ d. Exists (IsGrant line Login) (exchanges d (happened setup.server h))) (sym same) said in
         subst (λ name. Contains (logins setup.server (happened setup.server h) name) c) (room.same k there)
-        (law.stays h c line s.accepted (spoken setup k 0 fine (there-at k there)) ((s.monitors k).links 0 (there-at k there)).link.own said'
+        (law.stays h c line s.accepted (no-reload setup e) (spoken setup k 0 fine (there-at k there)) ((s.monitors k).links 0 (there-at k there)).link.own said'
         (some-there (server_tests.session_of c (server.content setup.server h).sessions) (step.both_ends e (front-self e) since)))
 
     not-alone : KeepsStep setup pace drift p m start schedule → WasAlone setup schedule p 0 (ended (monitor_of setup p) (seen_at setup p schedule)) → ⊥

@@ -16,7 +16,7 @@ use Rattle.nut_fleet.proofs.Entries.{is_made}
 use Rattle.nut_fleet.proofs.Fronts.{begins-self, begins-more, begins-then, front-self}
 use Rattle.nut_fleet.proofs.Server.{sent-grows}
 use Rattle.nut_fleet.proofs.Sound.{IsLawful}
-use Rattle.nut_fleet.proofs.Steps.{if-played, if-carried, if-counted}
+use Rattle.nut_fleet.proofs.Deeds.{if-played, if-carried, if-counted}
 use Rattle.nut_fleet.proofs.Worlds.{sound}
 
 -- ---- its connection
@@ -115,6 +115,7 @@ input-grows c (arrivals.DriverUp u) h = begins-self (arrivals.input c h)
 input-grows c (arrivals.DriverBytes u piece) h = begins-self (arrivals.input c h)
 input-grows c (arrivals.DriverTook u n) h = begins-self (arrivals.input c h)
 input-grows c (arrivals.DriverDown u) h = begins-self (arrivals.input c h)
+input-grows c (arrivals.Reload k) h = begins-self (arrivals.input c h)
 
 -- the server's events stay, or there is one more
 pub server-moves : (setup : Setup) (w : World) (d : Deed) →

@@ -30,6 +30,7 @@ use Rattle.nut_fleet.proofs.Sound.{EachGenuine, ForAnswer, ForcedBy, Genuine, Is
 use Rattle.nut_fleet.proofs.Statuses.{found}
 use Rattle.nut_fleet.proofs.Steps.{spoken}
 use Rattle.nut_fleet.proofs.Worlds.{sound}
+use Rattle.nut_fleet.proofs.Unreloaded.{as-made, no-reload}
 use Rattle.nut_in_time.specs.Pace.{Pace, FromOn, IsPolled, IsSteady, IsWatched, KeepsPace, Says, seen_at, shown_at}
 use Rattle.nut_in_time.specs.InTime.{BeginsBy, IsFailing, has_fsd, is_low, seen_by, turn}
 use Rattle.nut_in_time.specs.Room.{IsGrant, WasGranted, is_forced}
@@ -175,8 +176,10 @@ module _ (setup : Setup) (law : IsLawful setup.server) (fine : IsSetup setup) (p
         (λ e event from before. said-keeps setup.server c0 (IsGrant line Primary) event (world setup e).server before) in
         let said' : Exists (IsGrant line Primary) (exchanges c t) = subst (λ d. Exists (IsGrant line Primary) (exchanges d t)) (sym same) said in
         let own = (((sound setup law fine early).monitors p).links 0 there).link.own in
-        let right = entitled setup.server line c (arrivals.steps (world setup early).server) line_fine own said' in
-        reply-same reply replies.FsdSet (sym answered ∙ entitled-forces setup.server line c t line_fine own right)
+        let none = no-reload setup early in
+        let right = entitled setup.server line c (arrivals.steps (world setup early).server) none line_fine own said' in
+        let made = as-made setup.server (arrivals.steps (world setup early).server) none in
+        reply-same reply replies.FsdSet (sym answered ∙ entitled-forces setup.server line c t made line_fine own right)
 
     module _ (e : List Step) (inside : IsFront e schedule) where
       -- no number of logins was read

@@ -2,10 +2,12 @@
 use Rattle.std.proofs.Common.{◌≡◌, ◌<◌, ◌++◌, ℕ, Bool, true, false, ◌||◌, List, [], ◌∷◌, length, map, Option, Some, None, is_none, Result, Ok, Err, OnErr, is_err, refl, sym, ◌∙◌, ap, arith}
 use Rattle.std.specs.Prelude.{IsTrue, if◌then◌else◌}
 use Rattle.nut_server_spec.specs.declared.Place.{Place}
-use Rattle.nut_server_spec.specs.declared.Place.TheVariants.{Line, Report}
-use Rattle.nut_server_spec.specs.Event as arrivals
+use Rattle.nut_server_spec.specs.declared.Place.TheVariants.{Line, Report, NewUpses}
 use Rattle.nut_server_spec.specs.Content as server
 use Rattle.nut_server_spec.specs.MachineOutcome as server_outcome
+use Rattle.nut_server.specs.Arrival.{event_of}
+use Rattle.nut_server.specs.declared.arrival.Arrival.{Arrival}
+use Rattle.nut_server.specs.declared.arrival.Arrival.TheVariants as arrivals
 use Rattle.nut_monitor_spec.specs.declared.Notice.{Notice}
 use Rattle.nut_monitor_spec.specs.declared.Phase.{Phase}
 use Rattle.nut_monitor_spec.specs.Event as events
@@ -22,7 +24,8 @@ use Rattle.nut_play.specs.Lack.{is_piece, is_link_piece, is_told, brings_bytes, 
 use Rattle.nut_play.specs.machine.Kept.{inform_by, told_news}
 use Rattle.nut_play.specs.Play.{told_if}
 
-pub server_lacks : (s : server.Content) (place : Place) (e : arrivals.Event) → server_outcome.Lacks s place e → is_piece e ≡ true
+-- An arrival is no reload, so only a piece may lack memory.
+pub server_lacks : (s : server.Content) (place : Place) (arrival : Arrival) → server_outcome.Lacks s place (event_of arrival) → is_piece (event_of arrival) ≡ true
 server_lacks s place (arrivals.Bytes c piece) may = refl
 server_lacks s place (arrivals.DriverBytes u piece) may = refl
 server_lacks s (Line d k) (arrivals.Moment t) may = absurd may
@@ -41,6 +44,14 @@ server_lacks s (Report v k) (arrivals.WriteFailed c) may = absurd may
 server_lacks s (Report v k) (arrivals.DriverUp u) may = absurd may
 server_lacks s (Report v k) (arrivals.DriverTook u n) may = absurd may
 server_lacks s (Report v k) (arrivals.DriverDown u) may = absurd may
+server_lacks s NewUpses (arrivals.Moment t) may = absurd may
+server_lacks s NewUpses (arrivals.Open address) may = absurd may
+server_lacks s NewUpses (arrivals.Took c n) may = absurd may
+server_lacks s NewUpses (arrivals.Close c) may = absurd may
+server_lacks s NewUpses (arrivals.WriteFailed c) may = absurd may
+server_lacks s NewUpses (arrivals.DriverUp u) may = absurd may
+server_lacks s NewUpses (arrivals.DriverTook u n) may = absurd may
+server_lacks s NewUpses (arrivals.DriverDown u) may = absurd may
 
 pub monitor_lacks : (s : knowledge.Content) (link : Option ℕ) (k : ℕ) (e : events.Event) → monitor_outcome.MayLack s link k e → is_link_piece e ≡ true
 monitor_lacks s link k (events.LinkBytes i piece) may = refl

@@ -1,10 +1,10 @@
 -- The result of a call of a fleet that is that of a world.
-use Rattle.std.proofs.Common.{◌≡◌, ◌<◌, ◌≤◌, ◌++◌, ◌&&◌, ℕ, zero, suc, Bool, true, false, List, [], ◌∷◌, length, map, take, reverse, slice_get, Some, Result, Ok, Err, IfOk, IfErr, OnOk, refl, sym, ◌∙◌, ap, subst, arith}
+use Rattle.std.proofs.Common.{◌≡◌, ◌<◌, ◌≤◌, ◌++◌, ℕ, zero, suc, Bool, true, false, List, [], ◌∷◌, length, map, take, reverse, slice_get, Some, Result, Ok, Err, IfOk, IfErr, OnOk, refl, sym, ◌∙◌, ap, subst, arith}
 use Rattle.std.specs.Prelude.{not}
 use Rattle.std.proofs.lemmas.Bool.{and_parts}
 use Rattle.std.proofs.lemmas.List.{map-append, length-map, reverse-append}
 use Rattle.nut_fleet.specs.Schedule as S
-use Rattle.nut_fleet.specs.World.{Setup, world}
+use Rattle.nut_fleet.specs.World.{Setup}
 use Rattle.nut_fleet.specs.Log.{Logged}
 use Rattle.nut_fleet.specs.machine.Going.{FleetsGoOn}
 use Rattle.nut_play.specs.declared.types.Step.{Step}
@@ -80,7 +80,7 @@ module _ (setup : Setup) (before : List S.Step) (k : Kept) (go : (schedule : Lis
       record {
         fit = run-fits setup before k go is (steps_of (take n schedule)) fit;
         fleet = fleet;
-        bad = (x.0, x.1, sym (same-fit setup (world setup (steps_of (take n schedule) ++ before)) new fleet x.0) ∙ unfit);
+        bad = (x.0, x.1, sym (same-fit setup (steps_of (take n schedule) ++ before) new fleet x.0) ∙ unfit);
       }
 
   lacks-behind : (schedule : List Step) (n at : ℕ) (last : Kept) → IsLacking k (map step_of schedule) n at last → LacksBehind setup before schedule n
@@ -97,7 +97,7 @@ module _ (setup : Setup) (before : List S.Step) (k : Kept) (go : (schedule : Lis
         lacks = (
           x.0,
           x.1,
-          sym (same-fit setup (world setup (steps_of (take n schedule) ++ before)) last fleet x.0) ∙ both.0,
+          sym (same-fit setup (steps_of (take n schedule) ++ before) last fleet x.0) ∙ both.0,
           ap (may_lack x.0) (sym (tells-on setup (steps_of (take n schedule) ++ before) last x.0 (go (steps_of (take n schedule) ++ before)) fleet both.0)) ∙ both.1,
         );
       }

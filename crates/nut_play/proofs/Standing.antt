@@ -6,16 +6,17 @@ use Rattle.std.proofs.lemmas.List.{length-map}
 use Rattle.nut_words.specs.declared.limits.TheConstants.{PIECE_MAX}
 use Rattle.nut_conf.specs.declared.upsmon.UpsmonConf.{UpsmonConf}
 use Rattle.nut_server_spec.specs.Configuration.{Configuration as ServerConfiguration}
+use Rattle.nut_server_spec.specs.Event as arrivals
 use Rattle.nut_server_spec.specs.Content as server
-use Rattle.nut_server_spec.proofs.Waiting.{configuration_stays}
 use Rattle.nut_monitor_spec.specs.Configuration.{Configuration, Line, configuration_of}
 use Rattle.nut_monitor_spec.specs.Content as knowledge
 use Rattle.nut_monitor_spec.specs.Content.{for_each_line}
 use Rattle.nut_fleet.specs.Schedule.{Step, ServerClock, MonitorClock, Up, Driver, Down, Link, Out, Reach, Back, Land, CutServer, CutMonitor}
-use Rattle.nut_fleet.specs.World.{Setup, World, no_monitor, monitor_of, world, nothing, is_fit, has_link, has_ups}
+use Rattle.nut_fleet.specs.World.{Setup, no_monitor, monitor_of, world, nothing, is_fit, has_link, has_ups}
 use Rattle.nut_fleet.specs.Fleet.{IsMonitor, ConfigurationsAreSpoken}
 use Rattle.nut_fleet.specs.Log.{logged, log, news}
 use Rattle.nut_fleet.specs.machine.Going.{KeepsLink, FleetsGoOn}
+use Rattle.nut_fleet.proofs.Unreloaded.{as-made, no-reload}
 use Rattle.nut_play.specs.machine.Kept.{Seat, Kept, fleet_of, no_ends, ends_at, links_in, known_in, known_of, changed_at, next, fits, fits_link, fresh_seat, fresh_fleet, IsFleet, reach_seat, back_seat, out_seat, land_seat, join_seat}
 use Rattle.nut_play.specs.Play.{told_at, run, run_log, AreFit}
 use Rattle.nut_play.proofs.Changes.{map-changed, length-changed}
@@ -44,7 +45,7 @@ twice true false = refl
 twice false true = refl
 twice false false = refl
 
-module _ (setup : Setup) (w : World) (k : Kept) (is : IsFleet setup w k) where
+module _ (setup : Setup) (schedule : List Step) (k : Kept) (is : IsFleet setup (world setup schedule) k) where
   seats : length k.seats ≡ length setup.monitors
   seats = sym (length-map k.seats (λ (seat : Seat). configuration_of seat.monitor.config)) ∙ ap length is.monitors
 
@@ -59,7 +60,7 @@ module _ (setup : Setup) (w : World) (k : Kept) (is : IsFleet setup w k) where
   upses : length k.server.configuration.upses ≡ length setup.server.upses
   upses =
       ap (λ s. let t : server.Content = s in length t.configuration.upses) is.keeps.server
-      ∙ ap (λ c. let d : ServerConfiguration = c in length d.upses) (configuration_stays setup.server (server.past setup.server w.server))
+      ∙ ap (λ c. let d : ServerConfiguration = c in length d.upses) (as-made setup.server (arrivals.steps (world setup schedule).server) (no-reload setup schedule)).configured
 
   same-ups : (u : ℕ) → nat_lt u (length k.server.configuration.upses) ≡ has_ups setup u
   same-ups u = ap (nat_lt u) upses
@@ -129,7 +130,7 @@ stays k (CutMonitor m i) = seats-stay m _ k.server k (λ x. refl) (λ x. refl)
 module _ (setup : Setup) (earlier : List Step) (k : Kept) (step : Step) (go : FleetsGoOn setup earlier) (is : IsFleet setup (world setup earlier) k)
     (ok : fits k step ≡ true) where
   step-fits : is_fit setup step ≡ true
-  step-fits = sym (same-fit setup (world setup earlier) k is step) ∙ ok
+  step-fits = sym (same-fit setup earlier k is step) ∙ ok
 
   pub stands-on : IsFleet setup (world setup (step ∷ earlier)) (next k step)
   stands-on =
@@ -160,7 +161,7 @@ module _ (setup : Setup) (before : List Step) (k : Kept) (go : (schedule : List 
   pub run-fits : (steps : List Step) → AreFit k steps → AllByRecursion (λ step. is_fit setup step ≡ true) steps
   run-fits [] fit = tt
   run-fits (step ∷ steps) fit =
-      (sym (same-fit setup (world setup (steps ++ before)) (run k steps) (run-stands steps fit.0) step) ∙ fit.1, run-fits steps fit.0)
+      (sym (same-fit setup (steps ++ before) (run k steps) (run-stands steps fit.0) step) ∙ fit.1, run-fits steps fit.0)
 
 -- ---- the monitors of a fleet
 

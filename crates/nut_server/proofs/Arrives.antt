@@ -4,7 +4,7 @@ use Rattle.std.specs.Prelude.{IsTrue}
 use Rattle.std.specs.Option.{option_map_or}
 use Rattle.nut_conf.specs.declared.text.Number.{Number}
 use Rattle.nut_conf.specs.declared.limits.TheConstants.{CONNECTIONS_MAX}
-use Rattle.nut_server_spec.specs.Trace.{below}
+use Rattle.nut_server_spec.specs.Numbering.{below}
 use Rattle.std.proofs.lemmas.Bool.{cases_Bool, eqb-true, false≢true, le-ltb}
 use Rattle.nut_words.specs.declared.limits.TheConstants.{PIECE_MAX}
 use Rattle.nut_server_spec.specs.declared.Refused.{Refused}
@@ -49,7 +49,7 @@ orderly_without c i ks is before = record {
   few = before.few;
   within = omega (arith, numbers-length ks, numbers-length i.connections, ap length is, fewer c i.connections, before.within);
   limits = before.limits;
-  all = before.all;
+  placed = before.placed;
 }
 
 -- a UPS that is changed, and whose driver is then disconnected

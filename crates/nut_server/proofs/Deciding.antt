@@ -5,7 +5,7 @@ use Rattle.std.proofs.lemmas.Bool.{cases_Bool}
 use Rattle.nut_state.specs.Table.{Entry, variable, has_command}
 use Rattle.nut_proto.specs.declared.refusal.Refusal.{Refusal}
 use Rattle.nut_proto.specs.declared.reply.Reply.{Reply}
-use Rattle.nut_server_spec.specs.Answer.{Answer, Scene, Caller, Line, accepted, command_answer, refused, device_at, handed_on, misfit, on_data, parameter_misfit, set_answer, unless}
+use Rattle.nut_server_spec.specs.Answer.{Answer, Scene, Caller, Line, accepted, command_answer, refused, device_at, handed_on, misfit, on_data, parameter_misfit, set_answer, unless, numbering_in, ups_number}
 use Rattle.nut_server_spec.specs.Command.{Command, Blank, Asks}
 use Rattle.nut_server_spec.specs.Content.{Supply}
 use Rattle.nut_proto.specs.declared.refusal.Refusal.TheVariants.{DriverNotConnected, InstCmdFailed, SetFailed}
@@ -13,7 +13,6 @@ use Rattle.nut_proto.specs.declared.reply.Reply.TheVariants as replies
 use Rattle.nut_proto.specs.declared.request.Request.TheVariants as requests
 use Rattle.nut_proto.specs.declared.driver_ask.DriverAsk.TheVariants as asks
 use Rattle.nut_proto.specs.DriverAsks.{ask_line}
-use Rattle.nut_server_spec.specs.Configuration.{number_of_ups}
 use Rattle.nut_server_spec.specs.Effect.{target}
 use Rattle.nut_server_spec.specs.Device.{Device, absent, trouble}
 use Rattle.nut_server_spec.specs.machine.Machine.{acted, requested}
@@ -30,7 +29,7 @@ use Rattle.nut_server.proofs.Quiet.{IsQuiet}
 -- A quiet answer to a line that changes nothing.
 pub tells : (s : Scene) (d : Decision) (reply : Answer) (line : List ℕ) → given d.answer ≡ reply → d.effect ≡ effects.Nothing → IsQuiet reply → Answers s Blank reply d line
 tells s d reply line is none quiet =
-    (is, rw none (λ k. rw (quiet.0 k.logged_out, quiet.1 s.configuration k.login) refl, λ supplies. refl, rw quiet.2 refl), rw none tt)
+    (is, rw none (λ k. rw (quiet.0 k.logged_out, quiet.1 (numbering_in s) k.login) refl, λ supplies. refl, rw quiet.2 refl), rw none tt)
 
 -- A request that changes nothing if it is refused.
 abbrev pub IsRefusable : Scene → Command → Type 0
@@ -59,31 +58,31 @@ at_rest d = ap (λ w. record d { device = record d.device { waits = w } }) (requ
 pub refusable_set : (s : Scene) (ups variable value : List ℕ) → IsRefusable s (Asks (requests.SetVar ups variable value))
 refusable_set s ups variable value r line =
     let command = Asks (requests.SetVar ups variable value) in
-    (λ k. refl, λ supplies. sym (act_idle (target s.configuration command) (acted command (refused r)) supplies at_rest), refl)
+    (λ k. refl, λ supplies. sym (act_idle (target (numbering_in s) command) (acted command (refused r)) supplies at_rest), refl)
 
 pub refusable_command : (s : Scene) (ups name : List ℕ) (parameter : Option (List ℕ)) → IsRefusable s (Asks (requests.InstCmd ups name parameter))
 refusable_command s ups name parameter r line =
     let command = Asks (requests.InstCmd ups name parameter) in
-    (λ k. refl, λ supplies. sym (act_idle (target s.configuration command) (acted command (refused r)) supplies at_rest), refl)
+    (λ k. refl, λ supplies. sym (act_idle (target (numbering_in s) command) (acted command (refused r)) supplies at_rest), refl)
 
 pub refusable_fsd : (s : Scene) (ups : List ℕ) → IsRefusable s (Asks (requests.Fsd ups))
 refusable_fsd s ups r line =
     let command = Asks (requests.Fsd ups) in
-    (λ k. refl, λ supplies. sym (act_idle (target s.configuration command) (acted command (refused r)) supplies at_rest), refl)
+    (λ k. refl, λ supplies. sym (act_idle (target (numbering_in s) command) (acted command (refused r)) supplies at_rest), refl)
 
-pub sets : (s : Scene) (ups variable value : List ℕ) (u : ℕ) (number : Option ℕ) (line : List ℕ) → number_of_ups ups s.configuration.upses ≡ Some u
+pub sets : (s : Scene) (ups variable value : List ℕ) (u : ℕ) (number : Option ℕ) (line : List ℕ) → ups_number s ups ≡ Some u
     → line ≡ ask_line (asks.Set variable value number) → IsNextNumber s number
     → Does s (Asks (requests.SetVar ups variable value)) (accepted number) (effects.Ask u number) line
 sets s ups variable value u None line there is next = (λ k. refl, λ supplies. rw (there, is) refl, next)
 sets s ups variable value u (Some number) line there is next = (λ k. refl, λ supplies. rw (there, is) refl, next)
 
-pub commands : (s : Scene) (ups name : List ℕ) (parameter : Option (List ℕ)) (u : ℕ) (number : Option ℕ) (line : List ℕ) → number_of_ups ups s.configuration.upses ≡ Some u
+pub commands : (s : Scene) (ups name : List ℕ) (parameter : Option (List ℕ)) (u : ℕ) (number : Option ℕ) (line : List ℕ) → ups_number s ups ≡ Some u
     → line ≡ ask_line (asks.InstCmd name parameter number) → IsNextNumber s number
     → Does s (Asks (requests.InstCmd ups name parameter)) (accepted number) (effects.Ask u number) line
 commands s ups name parameter u None line there is next = (λ k. refl, λ supplies. rw (there, is) refl, next)
 commands s ups name parameter u (Some number) line there is next = (λ k. refl, λ supplies. rw (there, is) refl, next)
 
-pub forces : (s : Scene) (ups : List ℕ) (u : ℕ) (line : List ℕ) → number_of_ups ups s.configuration.upses ≡ Some u
+pub forces : (s : Scene) (ups : List ℕ) (u : ℕ) (line : List ℕ) → ups_number s ups ≡ Some u
     → Does s (Asks (requests.Fsd ups)) (Line replies.FsdSet) (effects.Force u) line
 forces s ups u line number = (
   λ k. refl,

@@ -14,7 +14,7 @@ use Rattle.nut_server_spec.specs.Acceptance.{front, line_feeds, session_of}
 use Rattle.nut_server_spec.specs.Event.{Close}
 use Rattle.nut_server_spec.specs.MachineOutcome.{RunsOut, content_lost}
 use Rattle.nut_server_spec.specs.Outcome.{line_takes, unfinished_of}
-use Rattle.nut_server_spec.specs.machine.Machine.{update, with_rest, with_sessions, answer_in, answered, act_on, acted, after_answer, without, advance, byte_heard, bytes_heard, line_heard}
+use Rattle.nut_server_spec.specs.machine.Machine.{update, with_rest, with_sessions, answer_in, answered, act_on, acted, after_answer, without, advance, byte_heard, bytes_heard, line_heard, numbering_of}
 use Rattle.nut_server_spec.proofs.Hearing.{byte_feed, byte_other, update-update, with_unfinished, with_unfinished-same}
 use Rattle.nut_server_spec.proofs.Sessions.{IsOpen, KeepsNumber, session_of-update, without-update}
 use Rattle.nut_server.specs.inside.Effects.{answered_by}
@@ -55,8 +55,8 @@ cutter_out c at s started cutter sessions stands is taken left =
 -- a line was answered, and no byte of it is left
 answered_then : (c : ℕ) (command : Command) (reply : Answer) (s : Content) → with_unfinished c (Text []) (answered_by c command reply s) ≡ after_answer c command reply s
 answered_then c command reply s =
-    ap (λ sessions. record s { sessions = sessions; supplies = act_on (target s.configuration command) (acted command reply) s.supplies; given = given_then reply s.given })
-    (update-update c (λ k. answered s.configuration command reply k) (with_rest (Text [])) s.sessions (λ k. refl))
+    ap (λ sessions. record s { sessions = sessions; supplies = act_on (target (numbering_of s) command) (acted command reply) s.supplies; given = given_then reply s.given })
+    (update-update c (λ k. answered (numbering_of s) command reply k) (with_rest (Text [])) s.sessions (λ k. refl))
 
 -- the connection is closed, whatever its unfinished line
 closed_then : (c : ℕ) (r : LineText) (s h : Content) → with_unfinished c r s ≡ h → with_sessions (without c s.sessions) s ≡ advance h (Close c)

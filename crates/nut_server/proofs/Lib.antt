@@ -24,3 +24,4 @@ pub mod Heard
 pub mod Settled
 pub mod Limited
 mod WholeLine
+pub mod Numbered

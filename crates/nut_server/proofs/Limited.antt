@@ -1,5 +1,5 @@
 -- A configuration that files set is within their limits, and what waits for a client is bounded.
-use Rattle.std.proofs.Common.{◌≡◌, ℕ, ◌≤◌, Bool, true, false, List, [], ◌∷◌, length, map, refl, sym, subst, ◌∙◌, ap, arith, Option, Some, None}
+use Rattle.std.proofs.Common.{◌≡◌, ℕ, ◌≤◌, Bool, true, false, List, [], ◌∷◌, length, map, refl, sym, ◌∙◌, ap, arith, Option, Some, None}
 use Rattle.std.specs.Prelude.{◌&&◌, nat_le, codes}
 use Rattle.std.specs.Option.{option_map_or}
 use Rattle.std.specs.List.{AllByRecursion, list_all}
@@ -17,12 +17,11 @@ use Rattle.nut_conf.specs.declared.ups.UpsConf.{UpsConf}
 use Rattle.nut_conf.specs.declared.upsd.UpsdConf.{UpsdConf}
 use Rattle.nut_conf.specs.declared.users.UsersConf.{UsersConf}
 use Rattle.nut_conf.specs.declared.limits.TheConstants.{DESCRIPTION_MAX}
-use Rattle.nut_server_spec.specs.Content.{Session, Content, past}
+use Rattle.nut_server_spec.specs.Content.{Session, Content}
 use Rattle.nut_server_spec.specs.Configuration.{Configuration}
 use Rattle.nut_server_spec.specs.Event.{Event}
 use Rattle.nut_server_spec.specs.Acceptance.{Tells, session_of}
-use Rattle.nut_server_spec.specs.laws.Limits.{IsTextWithin, IsUpsWithin, IsWithin, WaitsAreBounded, most_waits}
-use Rattle.nut_server_spec.proofs.Waiting.{configuration_stays}
+use Rattle.nut_server_spec.specs.laws.Limits.{AreWithin, IsTextWithin, IsUpsWithin, IsWithin, WaitsAreBounded, most_waits}
 use Rattle.nut_server.specs.Configured.{command_texts_of, configuration_of, ups_of, variable_texts_of}
 use Rattle.nut_server.proofs.Arrives.{most_few}
 
@@ -67,8 +66,6 @@ config_within ups users upsd descriptions = record {
 }
 
 -- what waits for c in the content of a history
-pub waiting_few : (s : Content) (c : ℕ) (k : Session) → WaitsAreBounded → IsWithin s.configuration → session_of c s.sessions ≡ Some k
-    → (first : Configuration) (h : List Event) → Tells first h s → length k.waits ≤ most_waits
-waiting_few s c k law within there first h tells =
-    let same : s.configuration ≡ first = ap (λ (s : Content). s.configuration) tells.1 ∙ configuration_stays first (past first h) in
-    law first h (subst IsWithin same within) tells.0 c k (ap (λ (s : Content). session_of c s.sessions) (sym tells.1) ∙ there)
+pub waiting_few : (s : Content) (c : ℕ) (k : Session) → WaitsAreBounded → session_of c s.sessions ≡ Some k
+    → (first : Configuration) (h : List Event) → AreWithin first h → Tells first h s → length k.waits ≤ most_waits
+waiting_few s c k law there first h within tells = law first h within tells.0 c k (ap (λ (s : Content). session_of c s.sessions) (sym tells.1) ∙ there)

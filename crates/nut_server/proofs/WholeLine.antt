@@ -8,7 +8,7 @@ use Rattle.nut_words.proofs.StreamGrowth.{lines-append, rest-append, rest_at_lin
 use Rattle.nut_server_spec.specs.Acceptance.{line_feeds, session_of}
 use Rattle.nut_server_spec.specs.Command.{command_of}
 use Rattle.nut_server_spec.specs.Content.{Session, Content}
-use Rattle.nut_server_spec.specs.machine.Machine.{answer_in, answered, bytes_heard}
+use Rattle.nut_server_spec.specs.machine.Machine.{answer_in, answered, bytes_heard, numbering_of}
 use Rattle.nut_server_spec.specs.Outcome.{line_takes, unfinished_of}
 use Rattle.nut_server_spec.specs.MachineOutcome.{RunsOut}
 use Rattle.nut_server_spec.proofs.Hearing.{with_unfinished-same}
@@ -40,7 +40,7 @@ module _ (c : ℕ) (text piece : List ℕ) (s : Content) (k : Session) (found : 
       let command = command_of (Text text) in
       let reply = answer_in s command k in
       let after = answered_by c command reply s in
-      let change : Session → Session = λ k. answered s.configuration command reply k in
+      let change : Session → Session = λ k. answered (numbering_of s) command reply k in
       let there : session_of c after.sessions ≡ Some (change k) = session_of-update c change s.sessions (λ k. refl) ∙ ap (option_map change) found in
       let ended : Text [] ≡ rest_after (Text []) piece = sym (rest_at_line_feed text) ∙ ap rest (sym whole) ∙ rest-append [] piece in
       let told : after ≡ heard_all (line_answered c) (lines_after (Text []) piece) s =

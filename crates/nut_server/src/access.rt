@@ -93,7 +93,7 @@ pub fn authorize(
 ) -> Result<usize, Refusal>
     ensures { MatchResult result
         (λ u. ((next : ℕ → definitions.Answer) → with_right scene.now (caller_of caller.now) (allows right.entry) ups.now next ≡ next u)
-        × (ups_number scene.now ups.now ≡ Some u) × (u < length scene.now.configuration.upses))
+        × (ups_number scene.now ups.now ≡ Some u))
         (λ refusal. (next : ℕ → definitions.Answer) → with_right scene.now (caller_of caller.now) (allows right.entry) ups.now next ≡ refused refusal) }
 {
     let (user, password) = credentials(caller)?;

@@ -9,7 +9,7 @@ ghost use Rattle.nut_server_spec.specs.Answer.{Answer, Scene, accepted, command_
 ghost use Rattle.nut_server_spec.specs.Command.{Asks};
 ghost use Rattle.nut_server_spec.specs.Device.{fits};
 ghost use Rattle.nut_server_spec.specs.machine.Machine.{caller_of};
-ghost use Rattle.nut_server.specs.inside.Decisions.{Grants, HandsOn, IsNextNumber};
+ghost use Rattle.nut_server.specs.inside.Decisions.{AreThere, Grants, HandsOn, IsNextNumber};
 
 use crate::access::{Right, authorize, credentials};
 use crate::connection::Connection;
@@ -259,7 +259,7 @@ pub fn become_primary(
 ///
 /// The errors of [`authorize`](crate::access::authorize).
 pub fn force(scene: &Scene<'_>, caller: &Connection, ups: &[u8]) -> Result<Effect<'static>, Refusal>
-    requires { length scene.now.devices ≡ length scene.now.configuration.upses }
+    requires { AreThere scene.now }
     ensures { (line : List ℕ) → Grants scene.now (caller_of caller.now) (Asks (requests.Fsd ups.now)) replies.FsdSet
         result line }
 {

@@ -7,7 +7,7 @@ ghost use Rattle.nut_server_spec.specs.Answer as definitions;
 ghost use Rattle.nut_server_spec.specs.Command.{Asks, asked};
 ghost use Rattle.nut_server_spec.specs.machine.Machine.{caller_of};
 ghost use Rattle.nut_server.specs.inside.Answers.{given, outcome};
-ghost use Rattle.nut_server.specs.inside.Decisions.{Decides};
+ghost use Rattle.nut_server.specs.inside.Decisions.{AreThere, Decides};
 ghost use Rattle.nut_server.specs.inside.Effects.{HasShortNames};
 ghost use Rattle.nut_server.specs.declared.effect.Effect.TheVariants as effects;
 
@@ -106,7 +106,7 @@ fn decide_request<'a, 'l>(
     request: &'a Request<'l>,
     line: &mut ArrayVec<u8, ASKS_MAX>,
 ) -> Decision<'a, 'l>
-    requires all { length scene.now.devices ≡ length scene.now.configuration.upses }
+    requires there { AreThere scene.now }
     requires short { HasShortNames (Asks request.now) }
     ensures { Decides scene.now (caller_of caller.now) (Asks request.now) result line.new.items }
 {
@@ -193,7 +193,7 @@ pub fn decide<'a, 'l>(
     request: &'a Result<Request<'l>, Refusal>,
     line: &mut ArrayVec<u8, ASKS_MAX>,
 ) -> Decision<'a, 'l>
-    requires all { length scene.now.devices ≡ length scene.now.configuration.upses }
+    requires there { AreThere scene.now }
     requires short { HasShortNames (asked request.now) }
     ensures { Decides scene.now (caller_of caller.now) (asked request.now) result line.new.items }
 {

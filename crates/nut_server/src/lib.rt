@@ -15,6 +15,7 @@ mod device;
 mod effect;
 mod limits;
 mod lists;
+mod numbering;
 mod queries;
 mod scene;
 mod server;

@@ -11,11 +11,12 @@ use crate::device::Device;
 use nut_proto::{Refusal, TrackingStatus};
 use std::marker::Model;
 
-/// The configuration, the time in seconds since the start, how many numbers were given to requests, the UPSes in the
-/// order of their numbers, and the open connections.
+/// The configuration, the numbers of its UPSes in the order of ups.conf, the time in seconds since the start, how many
+/// numbers were given to requests, the UPSes by their numbers, and the open connections.
 #[derive(Drop)]
 pub struct Scene<'a> {
     pub config: &'a Config,
+    pub numbers: &'a [usize],
     pub clock: u64,
     pub given: u32,
     pub devices: &'a [Device],
@@ -31,6 +32,7 @@ impl<'a> Model for Scene<'a> {
 
     ghost view = { λ s. record {
       configuration = s.config.now;
+      numbers = s.numbers.now;
       clock = s.clock;
       given = s.given;
       devices = map (λ d. d.device) s.devices.now;
@@ -42,10 +44,13 @@ impl<'a> Scene<'a> {
     /// Returns the number of the UPS with this name, or `UnknownUps` if there is none.
     pub fn number_of(&self, name: &[u8]) -> Result<usize, Refusal>
         ensures { MatchResult result
-            (λ u. (ups_number self.now name.now ≡ Some u) × (u < length self.now.configuration.upses))
+            (λ u. ups_number self.now name.now ≡ Some u)
             (λ refusal. (ups_number self.now name.now ≡ None) × (refusal ≡ refusals.UnknownUps)) }
     {
-        self.config.find_ups(name).ok_or(Refusal::UnknownUps)
+        let Some(place) = self.config.find_ups(name) else {
+            return Err(Refusal::UnknownUps);
+        };
+        self.numbers.get(place).copied().ok_or(Refusal::UnknownUps)
     }
 
     /// Returns the UPS with this number, or `DriverNotConnected` or `DataStale` if its data can't be relied on.

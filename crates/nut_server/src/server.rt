@@ -5,11 +5,11 @@ ghost use Rattle.nut_queue.specs.Front.{IsFrontPart};
 ghost use Rattle.nut_server_spec.specs.Configuration.{Configuration};
 ghost use Rattle.nut_server_spec.specs.Event.{Event, Moment, Open, Bytes, Took, Close, DriverUp, DriverBytes, DriverTook, DriverDown};
 ghost use Rattle.nut_server_spec.specs.Content.{content};
-ghost use Rattle.nut_server_spec.specs.Trace.{below};
-ghost use Rattle.nut_server.specs.inside.Server.{unheard};
+ghost use Rattle.nut_server_spec.specs.Numbering.{below, ups_with};
+ghost use Rattle.nut_server_spec.specs.machine.Machine.{numbering_of, unheard};
 ghost use Rattle.nut_server_spec.specs.Acceptance.{Tells, refusal, session_of, supply_of, waiting_of, asks_of, may_read, leaves, kept, is_connected};
 ghost use Rattle.nut_server_spec.specs.laws.Laws.{HasFewConnections};
-ghost use Rattle.nut_server_spec.specs.laws.Limits.{IsWithin, most_waits};
+ghost use Rattle.nut_server_spec.specs.laws.Limits.{AreWithin, IsWithin, most_waits};
 ghost use Rattle.nut_server_spec.specs.Outcome.{IsAnswer, after};
 ghost use Rattle.nut_server_spec.specs.MachineOutcome.{Answers, content_after};
 ghost use Rattle.nut_server.specs.Arrival.{event_of};
@@ -21,8 +21,9 @@ use crate::arrival::Arrival;
 use crate::config::Config;
 use crate::connections::Connections;
 use crate::device::Device;
+use crate::numbering::{Numbers, first_numbers};
 use arrayvec::ArrayVec;
-use nut_conf::UPSES_MAX;
+use nut_conf::{CONNECTIONS_MAX, UPSES_MAX};
 use nut_queue::ASKS_MAX;
 use nut_server_spec::{OPENED_MAX, Refused, waits_are_bounded};
 use nut_words::LINE_MAX;
@@ -52,6 +53,8 @@ impl From<AllocError> for ServerFault {
 #[derive(Drop)]
 pub struct Server {
     config: Config,
+    /// The numbers of the UPSes, in the order of ups.conf.
+    numbers: Numbers,
     clock: u64,
     opened: u64,
     /// How many numbers were given to tracked requests: the number of the newest.
@@ -73,6 +76,7 @@ impl Model for Server {
 
     ghost view = { λ a. record {
       configuration = a.config;
+      numbers = a.numbers.items;
       clock = a.clock;
       opened = a.opened;
       given = a.given;
@@ -105,9 +109,12 @@ impl Server {
         ensures { IfOk result (λ server. server ≡ content config []) }
     {
         let connections = Connections::with_room(alloc)?;
-        let devices = untold(alloc, config.number_of_upses())?;
+        let count = config.number_of_upses();
+        let devices = untold(alloc, count)?;
+        let numbers = first_numbers(count);
         Ok(Server {
             config,
+            numbers,
             clock: 0,
             opened: 0,
             given: 0,
@@ -175,8 +182,8 @@ impl Server {
         ensures unchanged { (r : Refused) → refusal self.old (event_of arrival.entry) ≡ Some r
             → (result ≡ Err r) × (self.new ≡ self.old) }
 
-        // Whatever the server was told, at most MAXCONN connections are open, and at most 4,294,967,295 were opened.
-        ensures few { HasFewConnections self.new }
+        // Whatever the server was told, at most 256 connections are open, and at most 4,294,967,295 were opened.
+        ensures few { HasFewConnections CONNECTIONS_MAX self.new }
     {
         let answer = self.step(arrival);
         self.has_few_connections();
@@ -185,7 +192,7 @@ impl Server {
 
     /// Does nothing when called. Brings into the proof how many connections there can be, whatever the server was told.
     fn has_few_connections(&self)
-        ensures { HasFewConnections self.now }
+        ensures { HasFewConnections CONNECTIONS_MAX self.now }
     {
         let _connections = &self.connections;
     }
@@ -198,7 +205,7 @@ impl Server {
         self.opened
     }
 
-    /// Returns the configuration that the server was made with.
+    /// Returns the configuration in force.
     pub fn config(&self) -> &Config
         ensures value { result.now ≡ self.now.configuration }
         ensures limits { IsWithin self.now.configuration }
@@ -218,8 +225,9 @@ impl Server {
     pub fn waits(&self, c: u64) -> usize
         ensures value { result ≡ length (waiting_of c self.now.sessions) }
 
-        // The bound holds after every history of accepted arrivals.
-        ensures bounded { (first : Configuration) (h : List Event) → Tells first h self.now → result ≤ most_waits }
+        // The bound holds after every history of accepted arrivals whose configurations are within the limits of their
+        // files, as each `Config` is.
+        ensures bounded { (first : Configuration) (h : List Event) → AreWithin first h → Tells first h self.now → result ≤ most_waits }
     {
         // Brings the bound `WaitsAreBounded` into the proof, and does nothing when called.
         waits_are_bounded();

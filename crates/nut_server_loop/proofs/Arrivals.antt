@@ -1,17 +1,17 @@
 -- What an arrival and the server's answer to it do to `Served`.
-use Rattle.std.proofs.Common.{◌≡◌, ℕ, eqb, List, [], ◌∷◌, Option, Some, None, Result, Ok, Err, if◌then◌else◌, refl, sym, ◌∙◌, ap, subst, inl, inr, append-nil}
+use Rattle.std.proofs.Common.{◌≡◌, ℕ, eqb, List, [], ◌∷◌, Option, Some, None, Result, Ok, Err, if◌then◌else◌, refl, sym, ◌∙◌, ap, subst, inl, inr, append-nil, Bool, true, false}
 use Rattle.std.specs.Prelude.{option_map}
 use Rattle.std.proofs.lemmas.Bool.{cases_Bool, eqb-true}
 use Rattle.nut_server_spec.specs.declared.Place.{Place}
-use Rattle.nut_server_spec.specs.declared.Place.TheVariants.{Line, Report}
+use Rattle.nut_server_spec.specs.declared.Place.TheVariants.{Line, Report, NewUpses}
 use Rattle.nut_server_spec.specs.declared.Refused.{Refused}
 use Rattle.nut_server_spec.specs.declared.Refused.TheVariants.{NoSuchConnection, NotConnected, PieceTooLong, Busy, TooMuchTaken, BadAddress, Full, Memory}
 use Rattle.nut_server_spec.specs.Configuration.{Configuration}
 use Rattle.nut_server_spec.specs.Event.{Event}
 use Rattle.nut_server_spec.specs.Event as event
 use Rattle.nut_server_spec.specs.Trace.{driver_sent}
-use Rattle.nut_server_spec.specs.Content.{Supply, Content, content, past}
-use Rattle.nut_server_spec.specs.Acceptance.{up_refusal, IsAccepted, Tells, supply_of}
+use Rattle.nut_server_spec.specs.Content.{Content, content, past}
+use Rattle.nut_server_spec.specs.Acceptance.{up_refusal, IsAccepted, Tells}
 use Rattle.nut_server_spec.specs.Outcome.{IsRefusal, after_refusal}
 use Rattle.nut_server_spec.proofs.Sent.{taken_by, sent-refused}
 use Rattle.nut_server_spec.proofs.DriverSent.{driver_sent-step, driver_sent-refused}
@@ -23,12 +23,14 @@ use Rattle.nut_server_loop.specs.declared.types.Next.TheVariants as next
 use Rattle.nut_server_loop.specs.Served.{Served, ServedBefore, ended_in, ended_by, ended_by_refusal}
 use Rattle.nut_server_loop.proofs.Steps.{Answered, Leads, goes_on, same_sent, same_asked}
 use Rattle.nut_server_loop.proofs.Unconnected.{none_sent}
+use Rattle.nut_server_spec.specs.Numbering.{is_taken}
 
 -- an event that `next` can give: no bytes were taken, and no write failed
 abbrev pub IsGiven : Event → Type 0
 IsGiven (event.Took c n) = ⊥
 IsGiven (event.WriteFailed c) = ⊥
 IsGiven (event.DriverTook u n) = ⊥
+IsGiven (event.Reload k) = ⊥
 IsGiven e = Unit {0}
 
 given_next : (n : Next) (items : List ℕ) (e : Event) → arrival_of n items ≡ Some e → IsGiven e
@@ -66,6 +68,15 @@ given_next (next.DriverBytes u) items (event.DriverTook v k) is = cc
 given_next (next.DriverDown u) items (event.DriverTook v k) is = cc
 given_next next.Again items (event.DriverTook v k) is = cc
 given_next next.End items (event.DriverTook v k) is = cc
+given_next (next.Moment t) items (event.Reload k) is = cc
+given_next (next.Open address) items (event.Reload k) is = cc
+given_next (next.Bytes b) items (event.Reload k) is = cc
+given_next (next.Close b) items (event.Reload k) is = cc
+given_next (next.DriverUp u) items (event.Reload k) is = cc
+given_next (next.DriverBytes u) items (event.Reload k) is = cc
+given_next (next.DriverDown u) items (event.Reload k) is = cc
+given_next next.Again items (event.Reload k) is = cc
+given_next next.End items (event.Reload k) is = cc
 
 -- ---- an accepted arrival
 
@@ -80,6 +91,7 @@ takes_none (event.DriverUp u) c given = refl
 takes_none (event.DriverBytes u piece) c given = refl
 takes_none (event.DriverTook u n) c given = absurd given
 takes_none (event.DriverDown u) c given = refl
+takes_none (event.Reload k) c given = absurd given
 
 accepted_asked : (first : Configuration) (h : List Event) (e : Event) (u : ℕ) (before : List ℕ) → IsGiven e → IsAccepted first (e ∷ h) → before ≡ driver_sent u (past first h)
     → since_up u e before ≡ driver_sent u (past first (e ∷ h))
@@ -93,25 +105,27 @@ accepted_asked first h (event.DriverUp v) u before given accepted same =
     ap (λ x. if eqb v u then [] else x) (same ∙ sym (append-nil (driver_sent u (past first h)))) ∙ sym (driver_sent-step first h u (event.DriverUp v) accepted)
 accepted_asked first h (event.DriverBytes v piece) u before given accepted same = same_asked first h (event.DriverBytes v piece) u before accepted refl refl same
 accepted_asked first h (event.DriverTook v n) u before given accepted same = absurd given
+accepted_asked first h (event.Reload k) u before given accepted same = absurd given
 accepted_asked first h (event.DriverDown v) u before given accepted same = same_asked first h (event.DriverDown v) u before accepted refl refl same
 
 -- ---- a refused arrival
 
-no_supply : (o : Option Supply) (r : Refused) → up_refusal o ≡ Some r → o ≡ None
-no_supply None r is = refl
-no_supply (Some d) r is = cc
+free_up : (taken : Bool) (r : Refused) → up_refusal taken ≡ Some r → taken ≡ false
+free_up false r is = refl
+free_up true r is = cc
 
--- A driver that connects is refused only if there is no such UPS.
-refused_up : (first : Configuration) (h : List Event) (v : ℕ) (r : Refused) → IsRefusal first h (event.DriverUp v) r → supply_of v (content first h).supplies ≡ None
+-- A driver that connects is refused only if no UPS has the number.
+refused_up : (first : Configuration) (h : List Event) (v : ℕ) (r : Refused) → IsRefusal first h (event.DriverUp v) r → is_taken v (content first h).numbers ≡ false
 refused_up first h v (Memory (Line c k)) is = absurd is.1
 refused_up first h v (Memory (Report u k)) is = absurd is.1
-refused_up first h v NoSuchConnection is = no_supply (supply_of v (content first h).supplies) NoSuchConnection is
-refused_up first h v NotConnected is = no_supply (supply_of v (content first h).supplies) NotConnected is
-refused_up first h v PieceTooLong is = no_supply (supply_of v (content first h).supplies) PieceTooLong is
-refused_up first h v Busy is = no_supply (supply_of v (content first h).supplies) Busy is
-refused_up first h v TooMuchTaken is = no_supply (supply_of v (content first h).supplies) TooMuchTaken is
-refused_up first h v BadAddress is = no_supply (supply_of v (content first h).supplies) BadAddress is
-refused_up first h v Full is = no_supply (supply_of v (content first h).supplies) Full is
+refused_up first h v (Memory NewUpses) is = absurd is.1
+refused_up first h v NoSuchConnection is = free_up (is_taken v (content first h).numbers) NoSuchConnection is
+refused_up first h v NotConnected is = free_up (is_taken v (content first h).numbers) NotConnected is
+refused_up first h v PieceTooLong is = free_up (is_taken v (content first h).numbers) PieceTooLong is
+refused_up first h v Busy is = free_up (is_taken v (content first h).numbers) Busy is
+refused_up first h v TooMuchTaken is = free_up (is_taken v (content first h).numbers) TooMuchTaken is
+refused_up first h v BadAddress is = free_up (is_taken v (content first h).numbers) BadAddress is
+refused_up first h v Full is = free_up (is_taken v (content first h).numbers) Full is
 
 refused_asked : (first : Configuration) (h : List Event) (s : Content) (e : Event) (r : Refused) (u : ℕ) (before : List ℕ) → Tells first h s → IsRefusal first h e r → before ≡ driver_sent u (past first h)
     → since_up u e before ≡ driver_sent u (past first (after_refusal r e h))
@@ -123,13 +137,14 @@ refused_asked first h s (event.Close c) r u before told is same = same ∙ sym (
 refused_asked first h s (event.WriteFailed c) r u before told is same = same ∙ sym (driver_sent-refused first h u r (event.WriteFailed c) told.0)
 refused_asked first h s (event.DriverBytes v piece) r u before told is same = same ∙ sym (driver_sent-refused first h u r (event.DriverBytes v piece) told.0)
 refused_asked first h s (event.DriverTook v n) r u before told is same = same ∙ sym (driver_sent-refused first h u r (event.DriverTook v n) told.0)
+refused_asked first h s (event.Reload k) r u before told is same = same ∙ sym (driver_sent-refused first h u r (event.Reload k) told.0)
 refused_asked first h s (event.DriverDown v) r u before told is same = same ∙ sym (driver_sent-refused first h u r (event.DriverDown v) told.0)
 refused_asked first h s (event.DriverUp v) r u before told is same =
     elim (cases_Bool (eqb v u)) [
       | inl e ↦
-          let there : supply_of u (content first h).supplies ≡ None = subst (λ x. supply_of x (content first h).supplies ≡ None) (eqb-true v u e) (refused_up first h v r is) in
-          let none : supply_of u s.supplies ≡ None = subst (λ x. supply_of u x.supplies ≡ None) (sym told.1) there in
-          ap (λ b. if b then [] else before) e ∙ sym (none_sent first h s u told none) ∙ sym (driver_sent-refused first h u r (event.DriverUp v) told.0)
+          let there : is_taken u (content first h).numbers ≡ false = subst (λ x. is_taken x (content first h).numbers ≡ false) (eqb-true v u e) (refused_up first h v r is) in
+          let free : is_taken u s.numbers ≡ false = subst (λ (x : Content). is_taken u x.numbers ≡ false) (sym told.1) there in
+          ap (λ b. if b then [] else before) e ∙ sym (none_sent first h s u told free) ∙ sym (driver_sent-refused first h u r (event.DriverUp v) told.0)
       | inr e ↦ ap (λ b. if b then [] else before) e ∙ same ∙ sym (driver_sent-refused first h u r (event.DriverUp v) told.0)
     ]
 

@@ -3,7 +3,7 @@ use Rattle.std.proofs.Common.{◌≡◌, ℕ, ◌<◌, ◌≤◌, false, List, [
 use Rattle.std.proofs.lemmas.List.{take-append-le}
 use Rattle.nut_queue.specs.Front.{IsFrontPart}
 use Rattle.nut_server_spec.specs.declared.Place.{Place}
-use Rattle.nut_server_spec.specs.declared.Place.TheVariants.{Line, Report}
+use Rattle.nut_server_spec.specs.declared.Place.TheVariants.{Line, Report, NewUpses}
 use Rattle.nut_server_spec.specs.declared.Refused.{Refused}
 use Rattle.nut_server_spec.specs.declared.Refused.TheVariants.{NoSuchConnection, NotConnected, PieceTooLong, Busy, TooMuchTaken, BadAddress, Full, Memory}
 use Rattle.nut_server_spec.specs.Configuration.{Configuration}
@@ -76,22 +76,27 @@ TakesNoMemory e = (first : Configuration) (h : List Event) (p : Place) → MayLa
 pub no_memory_took : (c n : ℕ) → TakesNoMemory (event.Took c n)
 no_memory_took c n first h (Line d k) lacks = lacks
 no_memory_took c n first h (Report v k) lacks = lacks
+no_memory_took c n first h NewUpses lacks = lacks
 
 pub no_memory_close : (c : ℕ) → TakesNoMemory (event.Close c)
 no_memory_close c first h (Line d k) lacks = lacks
 no_memory_close c first h (Report v k) lacks = lacks
+no_memory_close c first h NewUpses lacks = lacks
 
 pub no_memory_failed : (c : ℕ) → TakesNoMemory (event.WriteFailed c)
 no_memory_failed c first h (Line d k) lacks = lacks
 no_memory_failed c first h (Report v k) lacks = lacks
+no_memory_failed c first h NewUpses lacks = lacks
 
 pub no_memory_drained : (u n : ℕ) → TakesNoMemory (event.DriverTook u n)
 no_memory_drained u n first h (Line d k) lacks = lacks
 no_memory_drained u n first h (Report v k) lacks = lacks
+no_memory_drained u n first h NewUpses lacks = lacks
 
 pub no_memory_down : (u : ℕ) → TakesNoMemory (event.DriverDown u)
 no_memory_down u first h (Line d k) lacks = lacks
 no_memory_down u first h (Report v k) lacks = lacks
+no_memory_down u first h NewUpses lacks = lacks
 
 refused_not : (first : Configuration) (h : List Event) (e : Event) (r : Refused) → refusal (content first h) e ≡ None → TakesNoMemory e → IsRefusal first h e r → ⊥
 refused_not first h e (Memory p) free small is = small first h p is.1
@@ -129,7 +134,7 @@ pub same_sent : (first : Configuration) (h : List Event) (e : Event) (c : ℕ) (
 same_sent first h e c before accepted nothing same = same ∙ sym (sent-other first h c e accepted nothing)
 
 -- what the driver of u was sent after an event in which it takes nothing and which doesn't connect it
-pub same_asked : (first : Configuration) (h : List Event) (e : Event) (u : ℕ) (before : List ℕ) → IsAccepted first (e ∷ h) → drained_by u e ≡ 0 → begins_anew u e ≡ false
+pub same_asked : (first : Configuration) (h : List Event) (e : Event) (u : ℕ) (before : List ℕ) → IsAccepted first (e ∷ h) → drained_by u e ≡ 0 → begins_anew first h u e ≡ false
     → before ≡ driver_sent u (past first h) → before ≡ driver_sent u (past first (e ∷ h))
 same_asked first h e u before accepted nothing stays same = same ∙ sym (driver_sent-other first h u e accepted nothing stays)
 

@@ -1,68 +1,115 @@
--- Nothing was ever taken for a driver without a UPS: only drivers of UPSes are connected, and the UPSes never change.
-use Rattle.std.proofs.Common.{◌≡◌, ℕ, zero, suc, eqb, List, [], ◌∷◌, length, map, Some, None, refl, sym, ◌∙◌, subst, inl, inr}
-use Rattle.std.specs.Prelude.{slice_get}
-use Rattle.std.proofs.lemmas.Bool.{cases_Bool, eqb-true}
-use Rattle.nut_server_spec.specs.Configuration.{Configuration}
-use Rattle.nut_server_spec.specs.Event.{Event, Moment, Open, Bytes, Took, Close, WriteFailed, DriverUp, DriverBytes, DriverTook, DriverDown, steps, brought, input, driver_input}
-use Rattle.nut_server_spec.specs.Trace.{configuration, driver_sent, ups_numbers, below}
-use Rattle.nut_server_spec.specs.Content.{Content, content, past, supply}
-use Rattle.nut_server_spec.specs.Acceptance.{IsAccepted, Tells, supply_of}
+-- Nothing was ever taken for the driver of a number that no UPS has: only drivers of UPSes are connected, and a reload that
+-- frees a number clears what it was of.
+use Rattle.std.proofs.Common.{◌≡◌, ℕ, true, false, eqb, List, [], ◌∷◌, length, Option, Some, None, refl, sym, ◌∙◌, ap, subst, arith, inl, inr}
+use Rattle.std.specs.Prelude.{if◌then◌else◌, position}
+use Rattle.std.specs.List.{position_or_len}
+use Rattle.std.proofs.lemmas.Bool.{cases_Bool, eqb-true, le-ltb, true≢false}
+use Rattle.nut_server_spec.specs.Configuration.{Configuration, Ups}
+use Rattle.nut_server_spec.specs.Event.{Event, Moment, Open, Bytes, Took, Close, WriteFailed, DriverUp, DriverBytes, DriverTook, DriverDown, Reload, Step, Said, Reported, steps, brought, input, driver_input, with_lines, with_reports}
+use Rattle.nut_server_spec.specs.Numbering.{Cleared, by_fate, fate_between, fate_of, is_cleared, is_taken, renumbered, ups_with}
+use Rattle.nut_server_spec.specs.Trace.{connected, driver_sent, numbering, numbers, trace}
+use Rattle.nut_server_spec.specs.Content.{Content, content, past}
+use Rattle.nut_server_spec.specs.Acceptance.{IsAccepted, Tells, supply_of, up_refusal}
 use Rattle.nut_server_spec.specs.laws.Laws.{driver_received}
-use Rattle.nut_server_spec.proofs.Others.{configuration_lines, configuration_reports}
 use Rattle.nut_server_spec.proofs.DriverSent.{connected_took, driver_sent-received}
+use Rattle.nut_server_spec.proofs.Kept.{supply_is}
+use Rattle.nut_server_spec.proofs.Pieces.{connected_reports}
 
--- No event changes the configuration.
-same_configuration : (first : Configuration) (h : List Event) (e : Event) → configuration first (past first (e ∷ h)) ≡ configuration first (past first h)
-same_configuration first h (Moment t) = refl
-same_configuration first h (Open address) = refl
-same_configuration first h (Bytes c piece) = configuration_lines first c (brought (input c h) piece) (steps h)
-same_configuration first h (Took c n) = refl
-same_configuration first h (Close c) = refl
-same_configuration first h (WriteFailed c) = refl
-same_configuration first h (DriverUp u) = refl
-same_configuration first h (DriverBytes u piece) = configuration_reports first u (brought (driver_input u h) piece) (steps h)
-same_configuration first h (DriverTook u n) = refl
-same_configuration first h (DriverDown u) = refl
+-- ---- what lines leave as it is
 
-none_of_map : {A B : Type 0} (f g : A → B) (u : ℕ) (xs : List A) → slice_get (map f xs) u ≡ None → slice_get (map g xs) u ≡ None
-none_of_map f g u [] none = refl
-none_of_map f g zero (x ∷ xs) none = cc
-none_of_map f g (suc u) (x ∷ xs) none = none_of_map f g u xs none
+numbers_lines : (first : Configuration) (c : ℕ) (ls : List _) (s : List Step) → numbers first (trace first (with_lines c ls s)) ≡ numbers first (trace first s)
+numbers_lines first c [] s = refl
+numbers_lines first c (l ∷ ls) s = numbers_lines first c ls (Said c l ∷ s)
 
--- If there is no UPS with the number u, there was none before.
-none_before : (first : Configuration) (h : List Event) (e : Event) (u : ℕ) → supply_of u (content first (e ∷ h)).supplies ≡ None → supply_of u (content first h).supplies ≡ None
-none_before first h e u none =
-    let here : slice_get (map (supply first (e ∷ h)) (ups_numbers first (past first h))) u ≡ None =
-    subst (λ (c : Configuration). slice_get (map (supply first (e ∷ h)) (below (length_of c))) u ≡ None) (same_configuration first h e) none in
-    none_of_map (supply first (e ∷ h)) (supply first h) u (ups_numbers first (past first h)) here where
-      length_of : Configuration → ℕ
-      length_of c = length c.upses
+numbers_reports : (first : Configuration) (u : ℕ) (ls : List _) (s : List Step) → numbers first (trace first (with_reports u ls s)) ≡ numbers first (trace first s)
+numbers_reports first u [] s = refl
+numbers_reports first u (l ∷ ls) s = numbers_reports first u ls (Reported u l ∷ s)
 
-none_received : (first : Configuration) (h : List Event) (u : ℕ) → IsAccepted first h → supply_of u (content first h).supplies ≡ None → driver_received first u h ≡ []
-none_received first [] u accepted none = refl
-none_received first (Moment t ∷ h) u accepted none = none_received first h u accepted.0 (none_before first h (Moment t) u none)
-none_received first (Open address ∷ h) u accepted none = none_received first h u accepted.0 (none_before first h (Open address) u none)
-none_received first (Bytes c piece ∷ h) u accepted none = none_received first h u accepted.0 (none_before first h (Bytes c piece) u none)
-none_received first (Took c n ∷ h) u accepted none = none_received first h u accepted.0 (none_before first h (Took c n) u none)
-none_received first (Close c ∷ h) u accepted none = none_received first h u accepted.0 (none_before first h (Close c) u none)
-none_received first (WriteFailed c ∷ h) u accepted none = none_received first h u accepted.0 (none_before first h (WriteFailed c) u none)
-none_received first (DriverUp v ∷ h) u accepted none =
-    elim (cases_Bool (eqb v u)) [
-      | inl e ↦ rw e refl
-      | inr e ↦ rw e (none_received first h u accepted.0 (none_before first h (DriverUp v) u none))
+connected_lines : (first : Configuration) (c u : ℕ) (ls : List _) (s : List Step) → connected u (trace first (with_lines c ls s)) ≡ connected u (trace first s)
+connected_lines first c u [] s = refl
+connected_lines first c u (l ∷ ls) s = connected_lines first c u ls (Said c l ∷ s)
+
+-- ---- a number that no UPS has
+
+-- No UPS has the number u after this history.
+abbrev IsFree : Configuration → List Event → ℕ → Type 0
+IsFree first h u = is_taken u (numbers first (past first h)) ≡ false
+
+past_all : (u : ℕ) (ns : List ℕ) → is_taken u ns ≡ false → position_or_len (λ n. eqb n u) ns ≡ length ns
+past_all u [] free = refl
+past_all u (n ∷ ns) free =
+    elim (cases_Bool (eqb n u)) [
+      | inl e ↦ absurd (true≢false (rw e at free))
+      | inr e ↦ let rest : is_taken u ns ≡ false = rw e at free in rw e (omega (arith, past_all u ns rest))
     ]
-none_received first (DriverBytes v piece ∷ h) u accepted none = none_received first h u accepted.0 (none_before first h (DriverBytes v piece) u none)
-none_received first (DriverTook v n ∷ h) u accepted none =
+
+no_ups : (u : ℕ) (upses : List Ups) (ns : List ℕ) → is_taken u ns ≡ false → ups_with u (record { upses = upses; numbers = ns }) ≡ None
+no_ups u upses ns free =
+    let nowhere : position (λ n. eqb n u) ns ≡ None =
+    ap (λ b. if b then Some (position_or_len (λ n. eqb n u) ns) else None) (le-ltb (position_or_len (λ n. eqb n u) ns) (length ns) (omega (arith, past_all u ns free))) in
+    rw nowhere refl
+
+gone_between : (old : Option Ups) → fate_between old None ≡ Cleared
+gone_between None = refl
+gone_between (Some old) = refl
+
+-- A reload that leaves the number free clears what it was of.
+freed : (first : Configuration) (h : List Event) (k : Configuration) (u : ℕ) → IsFree first (Reload k ∷ h) u → fate_of k.upses (numbering first (past first h)) u ≡ Cleared
+freed first h k u free =
+    let now = numbering first (past first h) in
+    ap (fate_between (ups_with u now)) (no_ups u k.upses (renumbered k.upses now) free) ∙ gone_between (ups_with u now)
+
+-- The driver of a free number isn't connected.
+idle : (first : Configuration) (h : List Event) (u : ℕ) → IsAccepted first h → IsFree first h u → connected u (past first h) ≡ false
+idle first [] u accepted free = refl
+idle first (Moment t ∷ h) u accepted free = idle first h u accepted.0 free
+idle first (Open address ∷ h) u accepted free = idle first h u accepted.0 free
+idle first (Bytes c piece ∷ h) u accepted free =
+    let ls = brought (input c h) piece in
+    connected_lines first c u ls (steps h) ∙ idle first h u accepted.0 (sym (ap (is_taken u) (numbers_lines first c ls (steps h))) ∙ free)
+idle first (Took c n ∷ h) u accepted free = idle first h u accepted.0 free
+idle first (Close c ∷ h) u accepted free = idle first h u accepted.0 free
+idle first (WriteFailed c ∷ h) u accepted free = idle first h u accepted.0 free
+idle first (DriverUp v ∷ h) u accepted free =
+    elim (cases_Bool (eqb v u)) [
+      | inl e ↦
+          let there : is_taken v (numbers first (past first h)) ≡ false = subst (λ x. is_taken x (numbers first (past first h)) ≡ false) (sym (eqb-true v u e)) free in
+          absurd (let bad = sym (ap up_refusal there) ∙ accepted.1 in cc)
+      | inr e ↦ rw e (idle first h u accepted.0 free)
+    ]
+idle first (DriverBytes v piece ∷ h) u accepted free =
+    let ls = brought (driver_input v h) piece in
+    connected_reports first v u ls (steps h) ∙ idle first h u accepted.0 (sym (ap (is_taken u) (numbers_reports first v ls (steps h))) ∙ free)
+idle first (DriverTook v n ∷ h) u accepted free = idle first h u accepted.0 free
+idle first (DriverDown v ∷ h) u accepted free =
+    elim (cases_Bool (eqb v u)) [ inl e ↦ rw e refl | inr e ↦ rw e (idle first h u accepted.0 free) ]
+idle first (Reload k ∷ h) u accepted free = ap (λ fate. by_fate fate false (λ before. false) (connected u (past first h))) (freed first h k u free)
+
+none_received : (first : Configuration) (h : List Event) (u : ℕ) → IsAccepted first h → IsFree first h u → driver_received first u h ≡ []
+none_received first [] u accepted free = refl
+none_received first (Moment t ∷ h) u accepted free = none_received first h u accepted.0 free
+none_received first (Open address ∷ h) u accepted free = none_received first h u accepted.0 free
+none_received first (Bytes c piece ∷ h) u accepted free =
+    none_received first h u accepted.0 (sym (ap (is_taken u) (numbers_lines first c (brought (input c h) piece) (steps h))) ∙ free)
+none_received first (Took c n ∷ h) u accepted free = none_received first h u accepted.0 free
+none_received first (Close c ∷ h) u accepted free = none_received first h u accepted.0 free
+none_received first (WriteFailed c ∷ h) u accepted free = none_received first h u accepted.0 free
+none_received first (DriverUp v ∷ h) u accepted free =
+    elim (cases_Bool (eqb v u)) [ inl e ↦ rw e refl | inr e ↦ rw e (none_received first h u accepted.0 free) ]
+none_received first (DriverBytes v piece ∷ h) u accepted free =
+    none_received first h u accepted.0 (sym (ap (is_taken u) (numbers_reports first v (brought (driver_input v h) piece) (steps h))) ∙ free)
+none_received first (DriverTook v n ∷ h) u accepted free =
     elim (cases_Bool (eqb v u)) [
       | inl e ↦
           let there = connected_took n (supply_of v (content first h).supplies) accepted.1 in
-          let here : supply_of v (content first h).supplies ≡ None =
-          subst (λ x. supply_of x (content first h).supplies ≡ None) (sym (eqb-true v u e)) (none_before first h (DriverTook v n) u none) in
-          absurd (let both : Some there.0 ≡ None = sym there.1 ∙ here in cc)
-      | inr e ↦ rw e (none_received first h u accepted.0 (none_before first h (DriverTook v n) u none))
+          let up : connected v (past first h) ≡ true = sym (ap (λ d. d.device.connected) (supply_is first h v there.0 there.1)) ∙ there.2 in
+          let down : connected v (past first h) ≡ false = subst (λ x. connected x (past first h) ≡ false) (sym (eqb-true v u e)) (idle first h u accepted.0 free) in
+          absurd (true≢false (sym up ∙ down))
+      | inr e ↦ rw e (none_received first h u accepted.0 free)
     ]
-none_received first (DriverDown v ∷ h) u accepted none = none_received first h u accepted.0 (none_before first h (DriverDown v) u none)
+none_received first (DriverDown v ∷ h) u accepted free = none_received first h u accepted.0 free
+none_received first (Reload k ∷ h) u accepted free = ap (λ fate. if is_cleared fate then [] else driver_received first u h) (freed first h k u free)
 
-pub none_sent : (first : Configuration) (h : List Event) (s : Content) (u : ℕ) → Tells first h s → supply_of u s.supplies ≡ None → driver_sent u (past first h) ≡ []
-none_sent first h s u told none =
-    driver_sent-received first h u told.0 ∙ none_received first h u told.0 (subst (λ (t : Content). supply_of u t.supplies ≡ None) told.1 none)
+pub none_sent : (first : Configuration) (h : List Event) (s : Content) (u : ℕ) → Tells first h s → is_taken u s.numbers ≡ false → driver_sent u (past first h) ≡ []
+none_sent first h s u told free =
+    driver_sent-received first h u told.0 ∙ none_received first h u told.0 (subst (λ (t : Content). is_taken u t.numbers ≡ false) told.1 free)

@@ -3,7 +3,7 @@ use Rattle.std.specs.Prelude.{◌≡◌, ◌≢◌, ◌⊎◌, ℕ, Bool, true, 
 use Rattle.nut_server_spec.specs.declared.Refused.{Refused}
 use Rattle.nut_server_spec.specs.declared.Refused.TheVariants.{Memory}
 use Rattle.nut_server_spec.specs.declared.Place.{Place}
-use Rattle.nut_server_spec.specs.declared.Place.TheVariants.{Line, Report}
+use Rattle.nut_server_spec.specs.declared.Place.TheVariants.{Line, Report, NewUpses}
 use Rattle.nut_server_spec.specs.Configuration.{Configuration}
 use Rattle.nut_server_spec.specs.Event.{Event, Took, Close, WriteFailed, DriverTook, DriverDown}
 use Rattle.nut_server_spec.specs.Trace.{driver_sent}
@@ -23,6 +23,7 @@ pub data Ended : Type 0 where
 abbrev pub ended_at : Place → List Ended
 ended_at (Line c k) = Connection c ∷ []
 ended_at (Report u k) = Driver u ∷ []
+ended_at NewUpses = []
 
 -- what a lack of memory ended, if there was one
 abbrev pub ended_in : Option Place → List Ended

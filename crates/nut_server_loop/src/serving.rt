@@ -110,6 +110,7 @@ fn hand_on<W: World>(
         None => settle_heard(server, world, next),
         Some(Place::Line(c, _)) => world.close(c),
         Some(Place::Report(u, _)) => world.close_driver(u),
+        Some(Place::NewUpses) => Ok(()),
     }
 }
 

@@ -1,6 +1,6 @@
 -- How long answers are, if what the server knows is within its limits.
 use Rattle.std.proofs.Common.{◌≡◌, ℕ, zero, suc, ◌+◌, ◌*◌, ◌<◌, ◌≤◌, Bool, true, false, List, [], ◌∷◌, ◌++◌, length, map, refl, sym, subst, ◌∙◌, arith, inl, inr, Option, Some, None, Result, Ok, Err, codes, length-append}
-use Rattle.std.specs.Prelude.{◌&&◌, if◌then◌else◌, filter, not, slice_index_or, is_none, nat_lt}
+use Rattle.std.specs.Prelude.{◌&&◌, if◌then◌else◌, filter, not, slice_index_or, is_none, nat_lt, slice_get}
 use Rattle.std.specs.List.{AllByRecursion, flat_map, position_or_len}
 use Rattle.std.specs.Str.{bytes_eq}
 use Rattle.std.proofs.lemmas.Bool.{cases_Bool, ltb-true}
@@ -45,6 +45,7 @@ use Rattle.nut_server_spec.proofs.ReplyLengths as L
 use Rattle.nut_server_spec.proofs.Requests.{IsNext, require-case, check-case, unless-case, with_credentials-case, with_right-case, handed_on-case}
 use Rattle.nut_server_spec.proofs.Tables.{IsShortRange, IsShortTable, variable_within, variable_named, command_named}
 use Rattle.nut_server_spec.specs.declared.limits.TheConstants.{ADDRESS_MAX}
+use Rattle.std.proofs.lemmas.Option.{option_and_then_some}
 
 -- The answer is no longer than the longest.
 abbrev pub IsFit : Answer → Type 0
@@ -152,7 +153,8 @@ module _ (s : Scene) (short : IsShortScene s) where
   fit_ups : (name : List ℕ) (next : ℕ → Answer) → ((u : ℕ) → is_name UPS_NAME_MAX name ≡ true → IsFit (next u)) → IsFit (on_ups s name next)
   fit_ups name next fit =
       require-case IsFit refusals.UnknownUps (ups_number s name) next (fit_refused refusals.UnknownUps) (λ u found.
-      fit u (number_within name s.configuration.upses u short.configured.each_ups found))
+      option_and_then_some (slice_get s.numbers) (number_of_ups name s.configuration.upses) u found (λ place there number.
+      fit u (number_within name s.configuration.upses place short.configured.each_ups there)))
 
   fit_data : (u : ℕ) (next : Device → Answer) → (IsShortTable (device_at s u).table → IsFit (next (device_at s u))) → IsFit (on_data s u next)
   fit_data u next fit =

@@ -1,8 +1,8 @@
 -- At most 2,048 bytes of a line are kept, and at most 4,096 bytes wait for a driver.
 use Rattle.std.proofs.Common.{◌≡◌, ℕ, ◌+◌, ◌<◌, ◌≤◌, Bool, true, false, eqb, leb, List, [], ◌∷◌, ◌++◌, drop, length, refl, sym, ◌∙◌, ap, arith, inl, inr, Option, Some, None, length-append, length-drop, subst}
-use Rattle.std.specs.Prelude.{if◌then◌else◌, max, ◌&&◌, ◌/◌}
+use Rattle.std.specs.Prelude.{if◌then◌else◌, max, ◌&&◌, ◌/◌, nat_lt}
 use Rattle.std.specs.Option.{option_map_or}
-use Rattle.std.proofs.lemmas.Bool.{cases_Bool, eqb-true, leb-true}
+use Rattle.std.proofs.lemmas.Bool.{cases_Bool, eqb-true, leb-true, ltb-true, ltb-false}
 use Rattle.std.proofs.lemmas.Option.{get_or_from_slice_get}
 use Rattle.nut_queue.specs.declared.limits.TheConstants.{ASKS_MAX}
 use Rattle.nut_words.specs.Lines.{LineText, as_line, last_of, parts}
@@ -15,14 +15,16 @@ use Rattle.nut_server_spec.specs.Configuration.{Configuration}
 use Rattle.nut_server_spec.specs.Command.{command_of}
 use Rattle.nut_server_spec.specs.Device.{Device, absent, is_past, fits, needs_ping}
 use Rattle.nut_server_spec.specs.Effect.{target, request_of}
-use Rattle.nut_server_spec.specs.Event.{Event, Moment, Open, Bytes, Took, Close, WriteFailed, DriverUp, DriverBytes, DriverTook, DriverDown, Step, Clock, Said, Reported, input, driver_input, steps, with_lines, with_reports, brought}
+use Rattle.nut_server_spec.specs.Event.{Event, Moment, Open, Bytes, Took, Close, WriteFailed, DriverUp, DriverBytes, DriverTook, DriverDown, Step, Clock, Said, Reported, input, driver_input, steps, with_lines, with_reports, brought, Reload}
 use Rattle.nut_server_spec.specs.Answer.{device_at}
-use Rattle.nut_server_spec.specs.Trace.{Entry, configuration, clock, device, connected, logged_out, driver_due, driver_taken, driver_waits, scene, caller, with_request, request_for, ping, trace, answer_to, asks_at}
+use Rattle.nut_server_spec.specs.Trace.{places, numbering, Entry, configuration, clock, device, connected, logged_out, driver_due, driver_taken, driver_waits, scene, caller, with_request, request_for, ping, trace, answer_to, asks_at}
 use Rattle.nut_server_spec.specs.Content.{Session, Supply, past, supply}
 use Rattle.nut_server_spec.specs.laws.Laws.{IsBoundedSession, IsBoundedSupply, BoundsHold}
 use Rattle.nut_server_spec.proofs.Kept.{session_is, supply_is}
 use Rattle.nut_server_spec.proofs.Places.{get_below, found_below}
 use Rattle.nut_server_spec.proofs.Requests.{asked-fits}
+use Rattle.nut_server_spec.specs.Numbering.{Fate, Kept, Disconnected, Cleared, by_fate, fate_of}
+use Rattle.nut_server_spec.proofs.Numbering.{no_ups_with, numbers_below}
 
 -- ---- lines
 
@@ -36,7 +38,7 @@ line-bound text =
 -- ---- what waits for a driver
 
 abbrev IsBounded : Configuration → List Entry → ℕ → Type 0
-IsBounded first t u = u < length (configuration first t).upses → length (driver_waits u t) ≤ ASKS_MAX
+IsBounded first t u = u < places first t → length (driver_waits u t) ≤ ASKS_MAX
 
 fits-bound : (line : List ℕ) (d : Device) → fits line d ≡ true → length d.waits + length line ≤ ASKS_MAX
 fits-bound line d holds = leb-true (length d.waits + length line) ASKS_MAX holds
@@ -75,8 +77,8 @@ ping-fits age time d line is =
     ]
 
 -- A line's request to a driver is sent only if it fits.
-request-fits : (first : Configuration) (t : List Entry) (u c : ℕ) (text : LineText) (line : List ℕ) (o : Option ℕ) → u < length (configuration first t).upses
-    → target (configuration first t) (command_of text) ≡ o → request_for u o (request_of (command_of text) (answer_to first t c text)) ≡ Some line
+request-fits : (first : Configuration) (t : List Entry) (u c : ℕ) (text : LineText) (line : List ℕ) (o : Option ℕ) → u < places first t
+    → target (numbering first t) (command_of text) ≡ o → request_for u o (request_of (command_of text) (answer_to first t c text)) ≡ Some line
     → fits line (device first t u) ≡ true
 request-fits first t u c text line None less goal is = cc
 request-fits first t u c text line (Some v) less goal is =
@@ -84,7 +86,7 @@ request-fits first t u c text line (Some v) less goal is =
       | inl e ↦
           let own : request_of (command_of text) (answer_to first t c text) ≡ Some line = rw e at is in
           let here : device_at (scene first t) u ≡ device first t u =
-          get_or_from_slice_get _ u (device first t u) absent (get_below u (length (configuration first t).upses) (device first t) less) in
+          get_or_from_slice_get _ u (device first t u) absent (get_below u (places first t) (device first t) less) in
           let there = asked-fits (scene first t) (caller first t c) (command_of text) v (logged_out c t) goal line own in
           ap (fits line) (sym here) ∙ ap (λ x. fits line (device_at (scene first t) x)) (sym (eqb-true v u e)) ∙ there
       | inr e ↦ absurd (let bad : None ≡ Some line = rw e at is in cc)
@@ -95,11 +97,18 @@ bounded-lines first c u [] s bounded = bounded
 bounded-lines first c u (l ∷ ls) s bounded = bounded-lines first c u ls (Said c l ∷ s) (λ less.
     let t = trace first s in
     asked-bound (connected u t) (driver_taken u t) (driver_due u t) (asks_at first t (Said c l) u) (bounded less)
-    (λ line is. fits-bound line (device first t u) (request-fits first t u c l line (target (configuration first t) (command_of l)) less refl is)))
+    (λ line is. fits-bound line (device first t u) (request-fits first t u c l line (target (numbering first t) (command_of l)) less refl is)))
 
 bounded-reports : (first : Configuration) (v u : ℕ) (ls : List LineText) (s : List Step) → IsBounded first (trace first s) u → IsBounded first (trace first (with_reports v ls s)) u
 bounded-reports first v u [] s bounded = bounded
 bounded-reports first v u (l ∷ ls) s bounded = bounded-reports first v u ls (Reported v l ∷ s) bounded
+
+-- What waits stays within the bound at a reload.
+fated-bound : (fate : Fate) (is : Bool) (m : ℕ) (due : List ℕ) → length (if is then drop m due else []) ≤ ASKS_MAX
+    → length (if by_fate fate false (λ before. false) is then drop (by_fate fate 0 (λ before. before) m) (by_fate fate [] (λ before. before) due) else []) ≤ ASKS_MAX
+fated-bound Kept is m due bounded = bounded
+fated-bound Disconnected is m due bounded = omega arith
+fated-bound Cleared is m due bounded = omega arith
 
 dump-bound : length (ask_line DumpAll) ≤ ASKS_MAX
 unfolding ask_line line
@@ -127,6 +136,15 @@ waits-bound first (DriverTook v n ∷ h) u less =
     ]
 waits-bound first (DriverDown v ∷ h) u less =
     elim (cases_Bool (eqb v u)) [ inl e ↦ rw e (omega arith) | inr e ↦ rw e (waits-bound first h u less) ]
+waits-bound first (Reload k ∷ h) u less =
+    elim (cases_Bool (nat_lt u (places first (past first h)))) [
+      | inl e ↦
+          fated-bound (fate_of k.upses (numbering first (past first h)) u) (connected u (past first h)) (driver_taken u (past first h)) (driver_due u (past first h))
+          (waits-bound first h u (ltb-true u (places first (past first h)) e))
+      | inr e ↦
+          let none = no_ups_with (places first (past first h)) u (numbering first (past first h)) (numbers_below first (past first h)) (ltb-false u (places first (past first h)) e) in
+          rw none (omega arith)
+    ]
 
 pub bounds-hold : BoundsHold
 bounds-hold first h accepted = (
@@ -135,5 +153,5 @@ bounds-hold first h accepted = (
       subst P (sym (session_is first h c k found)) (line-bound (last_of (parts (input c h))))),
   (λ u d found.
       let P : Supply → Type 0 = λ x. IsBoundedSupply x in
-      subst P (sym (supply_is first h u d found)) (waits-bound first h u (found_below u (length (configuration first (past first h)).upses) (supply first h) d found))),
+      subst P (sym (supply_is first h u d found)) (waits-bound first h u (found_below u (places first (past first h)) (supply first h) d found))),
 )

@@ -1,14 +1,14 @@
 -- How many connections are open, and how many were opened.
-use Rattle.std.proofs.Common.{◌≡◌, ◌≤◌, List, [], ◌∷◌, ap, arith}
+use Rattle.std.proofs.Common.{◌≤◌, List, [], ◌∷◌, arith}
 use Rattle.nut_server_spec.specs.Configuration.{Configuration}
-use Rattle.nut_server_spec.specs.Event.{Event, Moment, Open, Bytes, Took, Close, WriteFailed, DriverUp, DriverBytes, DriverTook, DriverDown, input, driver_input, steps, brought}
+use Rattle.nut_server_spec.specs.Event.{Event, Moment, Open, Bytes, Took, Close, WriteFailed, DriverUp, DriverBytes, DriverTook, DriverDown, input, driver_input, steps, brought, Reload}
 use Rattle.nut_server_spec.specs.Trace.{opened}
 use Rattle.nut_server_spec.specs.Content.{content, past}
 use Rattle.nut_server_spec.specs.Acceptance.{IsAccepted}
 use Rattle.nut_server_spec.specs.laws.Laws.{ConnectionsAreFew}
 use Rattle.nut_server_spec.proofs.Kept.{opened_lines, opened_reports}
 use Rattle.nut_server_spec.proofs.Numbers.{numbers-rise}
-use Rattle.nut_server_spec.proofs.Waiting.{configuration_stays, few_history, opened_few}
+use Rattle.nut_server_spec.proofs.Waiting.{few_history, opened_few}
 use Rattle.nut_server_spec.specs.declared.limits.TheConstants.{OPENED_MAX}
 
 opened-most : (first : Configuration) (h : List Event) → IsAccepted first h → opened (past first h) ≤ OPENED_MAX
@@ -23,12 +23,11 @@ opened-most first (DriverUp u ∷ h) accepted = opened-most first h accepted.0
 opened-most first (DriverBytes u piece ∷ h) accepted = omega (arith, opened_reports first u (brought (driver_input u h) piece) (steps h), opened-most first h accepted.0)
 opened-most first (DriverTook u n ∷ h) accepted = opened-most first h accepted.0
 opened-most first (DriverDown u ∷ h) accepted = opened-most first h accepted.0
+opened-most first (Reload k ∷ h) accepted = opened-most first h accepted.0
 
 pub connections-few : ConnectionsAreFew
-connections-few first h accepted =
-    let same : (content first h).configuration.most_connections ≡ first.most_connections = ap (λ (c : Configuration). c.most_connections) (configuration_stays first (past first h)) in
-    record {
-      few = omega (arith, same, (few_history first h accepted).few);
-      given = opened-most first h accepted;
-      each = (numbers-rise first h).2;
-    }
+connections-few first h accepted = record {
+  few = (few_history first h accepted).few;
+  given = opened-most first h accepted;
+  each = (numbers-rise first h).2;
+}

@@ -6,26 +6,29 @@ use Rattle.std.proofs.lemmas.List.{take-append-le, take-append-drop}
 use Rattle.std.proofs.Math.Seq.{take-add}
 use Rattle.nut_words.specs.Lines.{LineText}
 use Rattle.nut_words.specs.Quoting.{Begins}
-use Rattle.nut_server_spec.specs.declared.Place.TheVariants.{Line, Report}
+use Rattle.nut_server_spec.specs.declared.Place.TheVariants.{Line, Report, NewUpses}
 use Rattle.nut_server_spec.specs.declared.Refused.{Refused}
 use Rattle.nut_server_spec.specs.declared.Refused.TheVariants.{NoSuchConnection, NotConnected, PieceTooLong, Busy, TooMuchTaken, BadAddress, Full, Memory}
 use Rattle.nut_server_spec.specs.Configuration.{Configuration}
-use Rattle.nut_server_spec.specs.Event.{Event, Moment, Open, Bytes, Took, Close, WriteFailed, DriverUp, DriverBytes, DriverTook, DriverDown, Step, Clock, Said, Reported, input, driver_input, steps, with_lines, with_reports, brought}
-use Rattle.nut_server_spec.specs.Trace.{connected, driver_due, driver_taken, driver_sent, driver_waits, with_request, asks_at, trace}
+use Rattle.nut_server_spec.specs.Event.{Event, Moment, Open, Bytes, Took, Close, WriteFailed, DriverUp, DriverBytes, DriverTook, DriverDown, Step, Clock, Said, Reported, input, driver_input, steps, with_lines, with_reports, brought, Reload}
+use Rattle.nut_server_spec.specs.Trace.{connected, driver_due, driver_taken, driver_sent, driver_waits, with_request, asks_at, trace, numbering}
 use Rattle.nut_server_spec.specs.Content.{Supply, Content, past, content}
 use Rattle.nut_server_spec.specs.Acceptance.{refusal, IsAccepted, Tells, supply_of, drain_refusal, asks_in, asks_of, front, lost, lost_report}
 use Rattle.nut_server_spec.specs.Outcome.{after_refusal}
 use Rattle.nut_server_spec.specs.laws.Laws.{driver_received, DriverSentIsReceived, DriverSentAndWaitingIsDue}
 use Rattle.nut_server_spec.proofs.Kept.{supply_is, drivers_covered}
+use Rattle.nut_server_spec.specs.Numbering.{Fate, Kept, Disconnected, Cleared, by_fate, fate_of, is_cleared}
 
--- how many bytes the driver of u takes in an event, and whether the event connects it anew
+-- how many bytes the driver of u takes in an event, and whether the event connects it anew or clears
+-- its UPS
 abbrev pub drained_by : ℕ → Event → ℕ
 drained_by u (DriverTook v n) = if v == u then n else 0
 drained_by u e = 0
 
-abbrev pub begins_anew : ℕ → Event → Bool
-begins_anew u (DriverUp v) = v == u
-begins_anew u e = false
+abbrev pub begins_anew : Configuration → List Event → ℕ → Event → Bool
+begins_anew first h u (DriverUp v) = v == u
+begins_anew first h u (Reload k) = is_cleared (fate_of k.upses (numbering first (past first h)) u)
+begins_anew first h u e = false
 
 -- ---- requests are added at the end
 
@@ -71,6 +74,16 @@ driver_sent-bytes first h c u piece accepted =
 pub driver_sent-reports : (first : Configuration) (h : List Event) (v u : ℕ) (piece : List ℕ) → driver_sent u (past first (DriverBytes v piece ∷ h)) ≡ driver_sent u (past first h)
 driver_sent-reports first h v u piece = sent_reports first v u (brought (driver_input v h) piece) (steps h)
 
+-- A reload leaves what a driver was sent as it is, unless it clears the UPS.
+sent_fated : (fate : Fate) (n : ℕ) (x : List ℕ) → take (by_fate fate 0 (λ before. before) n) (by_fate fate [] (λ before. before) x) ≡ (if is_cleared fate then [] else take n x)
+sent_fated Kept n x = refl
+sent_fated Disconnected n x = refl
+sent_fated Cleared n x = refl
+
+pub driver_sent-reload : (first : Configuration) (h : List Event) (u : ℕ) (k : Configuration)
+    → driver_sent u (past first (Reload k ∷ h)) ≡ (if is_cleared (fate_of k.upses (numbering first (past first h)) u) then [] else driver_sent u (past first h))
+driver_sent-reload first h u k = sent_fated (fate_of k.upses (numbering first (past first h)) u) (driver_taken u (past first h)) (driver_due u (past first h))
+
 -- If a driver may take bytes, it is connected.
 pub connected_took : (n : ℕ) (o : Option Supply) → drain_refusal n o ≡ None → (d : Supply) × (o ≡ Some d) × (d.device.connected ≡ true)
 connected_took n None accepted = absurd (let bad = accepted in cc)
@@ -114,9 +127,10 @@ driver_sent-took_told first h s u n told accepted =
     let P : Content → Type 0 = λ x. refusal x (DriverTook u n) ≡ None in
     driver_sent-took first h u n (subst P told.1 accepted) ∙ ap (λ bytes. driver_sent u (past first h) ++ take n bytes) (sym (asks_are_told first h s u found.0 told found.1))
 
--- An accepted event adds what the driver of u takes to what it was sent, unless the event connects it anew.
+-- An accepted event adds what the driver of u takes to what it was sent, unless the event connects it anew or
+-- clears its UPS.
 pub driver_sent-step : (first : Configuration) (h : List Event) (u : ℕ) (e : Event) → IsAccepted first (e ∷ h)
-    → driver_sent u (past first (e ∷ h)) ≡ (if begins_anew u e then [] else driver_sent u (past first h) ++ take (drained_by u e) (driver_waits u (past first h)))
+    → driver_sent u (past first (e ∷ h)) ≡ (if begins_anew first h u e then [] else driver_sent u (past first h) ++ take (drained_by u e) (driver_waits u (past first h)))
 driver_sent-step first h u (Moment t) accepted = driver_sent-moment first h u t accepted.0 ∙ sym (append-nil (driver_sent u (past first h)))
 driver_sent-step first h u (Open a) accepted = sym (append-nil (driver_sent u (past first h)))
 driver_sent-step first h u (Bytes c piece) accepted = driver_sent-bytes first h c u piece accepted.0 ∙ sym (append-nil (driver_sent u (past first h)))
@@ -133,9 +147,12 @@ driver_sent-step first h u (DriverTook v n) accepted =
       | inr e ↦ rw e (sym (append-nil (driver_sent u (past first h))))
     ]
 driver_sent-step first h u (DriverDown v) accepted = sym (append-nil (driver_sent u (past first h)))
+driver_sent-step first h u (Reload k) accepted =
+    driver_sent-reload first h u k
+    ∙ ap (λ bytes. if is_cleared (fate_of k.upses (numbering first (past first h)) u) then [] else bytes) (sym (append-nil (driver_sent u (past first h))))
 
 -- An event in which the driver of u takes nothing, and which doesn't connect it, changes nothing of what it was sent.
-pub driver_sent-other : (first : Configuration) (h : List Event) (u : ℕ) (e : Event) → IsAccepted first (e ∷ h) → drained_by u e ≡ 0 → begins_anew u e ≡ false
+pub driver_sent-other : (first : Configuration) (h : List Event) (u : ℕ) (e : Event) → IsAccepted first (e ∷ h) → drained_by u e ≡ 0 → begins_anew first h u e ≡ false
     → driver_sent u (past first (e ∷ h)) ≡ driver_sent u (past first h)
 driver_sent-other first h u e accepted nothing stays =
     driver_sent-step first h u e accepted
@@ -173,6 +190,9 @@ driver_sent-refused first h u (Memory (Line c k)) (DriverTook v n) accepted = re
 driver_sent-refused first h u (Memory (Report w k)) (DriverTook v n) accepted = refl
 driver_sent-refused first h u (Memory (Line c k)) (DriverDown v) accepted = refl
 driver_sent-refused first h u (Memory (Report w k)) (DriverDown v) accepted = refl
+driver_sent-refused first h u (Memory (Line c k)) (Reload j) accepted = refl
+driver_sent-refused first h u (Memory (Report w k)) (Reload j) accepted = refl
+driver_sent-refused first h u (Memory NewUpses) e accepted = refl
 driver_sent-refused first h u NoSuchConnection e accepted = refl
 driver_sent-refused first h u NotConnected e accepted = refl
 driver_sent-refused first h u PieceTooLong e accepted = refl
@@ -205,6 +225,8 @@ driver_sent-received first (DriverTook v n ∷ h) u accepted =
       | inr e ↦ rw e (driver_sent-received first h u accepted.0)
     ]
 driver_sent-received first (DriverDown v ∷ h) u accepted = driver_sent-received first h u accepted.0
+driver_sent-received first (Reload k ∷ h) u accepted =
+    driver_sent-reload first h u k ∙ ap (λ bytes. if is_cleared (fate_of k.upses (numbering first (past first h)) u) then [] else bytes) (driver_sent-received first h u accepted.0)
 
 waits_due : (is : Bool) (m : ℕ) (due : List ℕ) → is ≡ true → take m due ++ (if is then drop m due else []) ≡ due
 waits_due true m due is = take-append-drop m due

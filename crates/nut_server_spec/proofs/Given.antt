@@ -1,7 +1,6 @@
 -- A number that an answer gives is the next one, and its request is to a UPS that exists.
 use Rattle.std.proofs.Common.{◌≡◌, ℕ, ◌+◌, ◌<◌, Bool, true, false, List, length, subst, Option, Some, None}
 use Rattle.std.specs.Prelude.{if◌then◌else◌, is_none, map, filter}
-use Rattle.std.proofs.lemmas.List.Quantifiers.{position-Some}
 use Rattle.nut_proto.specs.declared.refusal.Refusal.{Refusal}
 use Rattle.nut_proto.specs.declared.refusal.Refusal.TheVariants as refusals
 use Rattle.nut_proto.specs.declared.request.ListQuery.{ListQuery}
@@ -11,11 +10,10 @@ use Rattle.nut_proto.specs.declared.reply.Reply.TheVariants as replies
 use Rattle.nut_proto.specs.Descriptions.{variable_description, command_description}
 use Rattle.nut_proto.specs.declared.driver_ask.DriverAsk.TheVariants as asks
 use Rattle.nut_state.specs.Table.{Entry, variable, has_command}
-use Rattle.std.specs.Str.{bytes_eq}
-use Rattle.nut_server_spec.specs.Configuration.{Ups, User, number_of_ups, ups_named, may_command}
+use Rattle.nut_server_spec.specs.Configuration.{Ups, User, ups_named, may_command}
 use Rattle.nut_server_spec.specs.Command.{Command, Blank, Malformed, Asks}
 use Rattle.nut_server_spec.specs.Device.{Device, trouble}
-use Rattle.nut_server_spec.specs.Answer.{Answer, Silence, Line, Listing, Scene, Caller, refused, check, guests_of, on_command, type_reply, var_row, rw_row, device_at, ups_number, on_device, on_data, on_variable, with_right, may_set, may_log_in, may_be_primary, may_force, misfit, parameter_misfit, set_answer, command_answer, tracking_answer, accepted, described, once, list_answer, answer}
+use Rattle.nut_server_spec.specs.Answer.{Answer, numbering_in, Silence, Line, Listing, Scene, Caller, refused, check, guests_of, on_command, type_reply, var_row, rw_row, device_at, ups_number, on_device, on_data, on_variable, with_right, may_set, may_log_in, may_be_primary, may_force, misfit, parameter_misfit, set_answer, command_answer, tracking_answer, accepted, described, once, list_answer, answer}
 use Rattle.nut_server_spec.specs.Effect.{number_in, target}
 use Rattle.nut_server_spec.proofs.Requests.{IsNext, require-case, check-case, unless-case, with_credentials-case, with_right-case, handed_on-case}
 
@@ -23,7 +21,7 @@ use Rattle.nut_server_spec.proofs.Requests.{IsNext, require-case, check-case, un
 abbrev pub IsGiven : Scene → Command → Answer → Type 0
 IsGiven s command reply =
     (number : ℕ) → number_in reply ≡ Some number →
-    (number ≡ s.given + 1) × ((u : ℕ) × (target s.configuration command ≡ Some u) × (u < length s.configuration.upses))
+    (number ≡ s.given + 1) × ((u : ℕ) × (target (numbering_in s) command ≡ Some u) × (u < length s.devices))
 
 module _ (s : Scene) (command : Command) where
   abbrev P : Answer → Type 0
@@ -66,71 +64,72 @@ module _ (s : Scene) (command : Command) where
       require-case P refusals.UnknownUps (ups_number s ups) _ (bad refusals.UnknownUps) (λ u there.
       unless-case P (trouble s.configuration.max_age s.clock (device_at s u)) (Listing (queries.Client ups) (map (λ g. replies.Client ups g.address) (guests_of u s.guests))) bad (λ number is. cc))
 
-  of_accepted : (number : Option ℕ) (u : ℕ) → IsNext s number → target s.configuration command ≡ Some u → u < length s.configuration.upses → P (accepted number)
+  of_accepted : (number : Option ℕ) (u : ℕ) → IsNext s number → target (numbering_in s) command ≡ Some u → u < length s.devices → P (accepted number)
   of_accepted None u next there within n is = cc
   of_accepted (Some number) u next there within n is =
       let same : number ≡ n = cc in
       (subst (λ m. m ≡ s.given + 1) same next.0, (u, there, within))
 
-within : (name : List ℕ) (upses : List Ups) (u : ℕ) → number_of_ups name upses ≡ Some u → u < length upses
-within name upses u is = (position-Some (λ u. bytes_eq u.name name) upses u (record { name = name; driver = name; description = name }) is).0
+-- Each UPS that has a name and a number is there.
+abbrev pub AreKnown : Scene → Type 0
+AreKnown s = (name : List ℕ) (u : ℕ) → ups_number s name ≡ Some u → u < length s.devices
 
-set_given : (s : Scene) (k : Caller) (ups name value : List ℕ) → IsGiven s (Asks (requests.SetVar ups name value)) (answer s k (Asks (requests.SetVar ups name value)))
-set_given s k ups name value =
+set_given : (s : Scene) → AreKnown s → (k : Caller) (ups name value : List ℕ) → IsGiven s (Asks (requests.SetVar ups name value)) (answer s k (Asks (requests.SetVar ups name value)))
+set_given s known k ups name value =
     let command = Asks (requests.SetVar ups name value) in
     with_right-case (IsGiven s command) s k may_set ups (λ u. on_data s u (λ d. set_answer s k d name value)) (bad s command) (λ u found.
     unless-case (IsGiven s command) (trouble s.configuration.max_age s.clock (device_at s u)) (set_answer s k (device_at s u) name value) (bad s command)
     (require-case (IsGiven s command) refusals.VarNotSupported (variable (device_at s u).table name) _ (bad s command refusals.VarNotSupported) (λ entry there.
     unless-case (IsGiven s command) (misfit entry value) _ (bad s command)
     (handed_on-case (IsGiven s command) refusals.SetFailed s k (λ number. asks.Set name value number) (device_at s u) (bad s command refusals.SetFailed)
-    (λ number next holds. of_accepted s command number u next found (within ups s.configuration.upses u found))))))
+    (λ number next holds. of_accepted s command number u next found (known ups u found))))))
 
-command_given : (s : Scene) (k : Caller) (ups name : List ℕ) (parameter : Option (List ℕ))
+command_given : (s : Scene) → AreKnown s → (k : Caller) (ups name : List ℕ) (parameter : Option (List ℕ))
     → IsGiven s (Asks (requests.InstCmd ups name parameter)) (answer s k (Asks (requests.InstCmd ups name parameter)))
-command_given s k ups name parameter =
+command_given s known k ups name parameter =
     let command = Asks (requests.InstCmd ups name parameter) in
     with_right-case (IsGiven s command) s k (may_command name) ups (λ u. on_data s u (λ d. command_answer s k d name parameter)) (bad s command) (λ u found.
     unless-case (IsGiven s command) (trouble s.configuration.max_age s.clock (device_at s u)) (command_answer s k (device_at s u) name parameter) (bad s command)
     (check-case (IsGiven s command) refusals.CmdNotSupported (has_command (device_at s u).table name) _ (bad s command refusals.CmdNotSupported) (λ there.
     unless-case (IsGiven s command) (parameter_misfit parameter) _ (bad s command)
     (handed_on-case (IsGiven s command) refusals.InstCmdFailed s k (λ number. asks.InstCmd name parameter number) (device_at s u) (bad s command refusals.InstCmdFailed)
-    (λ number next holds. of_accepted s command number u next found (within ups s.configuration.upses u found))))))
+    (λ number next holds. of_accepted s command number u next found (known ups u found))))))
 
-answer_given : (s : Scene) (k : Caller) (command : Command) → IsGiven s command (answer s k command)
-answer_given s k Blank = λ number is. cc
-answer_given s k (Malformed refusal) = λ number is. cc
-answer_given s k (Asks (requests.GetNumLogins ups)) =
+answer_given : (s : Scene) → AreKnown s → (k : Caller) (command : Command) → IsGiven s command (answer s k command)
+answer_given s known k Blank = λ number is. cc
+answer_given s known k (Malformed refusal) = λ number is. cc
+answer_given s known k (Asks (requests.GetNumLogins ups)) =
     let command = Asks (requests.GetNumLogins ups) in
     require-case (IsGiven s command) refusals.UnknownUps (ups_number s ups) _ (bad s command refusals.UnknownUps) (λ u there.
     unless-case (IsGiven s command) (trouble s.configuration.max_age s.clock (device_at s u)) (Line (replies.NumLogins ups (length (guests_of u s.guests)))) (bad s command) (λ number is. cc))
-answer_given s k (Asks (requests.GetUpsDesc ups)) = of_described s (Asks (requests.GetUpsDesc ups)) ups (ups_named ups s.configuration.upses)
-answer_given s k (Asks (requests.GetVar ups name)) = of_variable s (Asks (requests.GetVar ups name)) ups name (λ d v. Line (var_row ups d v)) (λ d v number is. cc)
-answer_given s k (Asks (requests.GetType ups name)) = of_variable s (Asks (requests.GetType ups name)) ups name (λ d v. Line (type_reply ups v)) (λ d v number is. cc)
-answer_given s k (Asks (requests.GetDesc ups name)) = of_variable s (Asks (requests.GetDesc ups name)) ups name (λ d v. Line (replies.Desc ups name (variable_description s.configuration.variable_texts name))) (λ d v number is. cc)
-answer_given s k (Asks (requests.GetCmdDesc ups name)) =
+answer_given s known k (Asks (requests.GetUpsDesc ups)) = of_described s (Asks (requests.GetUpsDesc ups)) ups (ups_named ups s.configuration.upses)
+answer_given s known k (Asks (requests.GetVar ups name)) = of_variable s (Asks (requests.GetVar ups name)) ups name (λ d v. Line (var_row ups d v)) (λ d v number is. cc)
+answer_given s known k (Asks (requests.GetType ups name)) = of_variable s (Asks (requests.GetType ups name)) ups name (λ d v. Line (type_reply ups v)) (λ d v number is. cc)
+answer_given s known k (Asks (requests.GetDesc ups name)) = of_variable s (Asks (requests.GetDesc ups name)) ups name (λ d v. Line (replies.Desc ups name (variable_description s.configuration.variable_texts name))) (λ d v number is. cc)
+answer_given s known k (Asks (requests.GetCmdDesc ups name)) =
     let command = Asks (requests.GetCmdDesc ups name) in
     let text = Line (replies.CmdDesc ups name (command_description s.configuration.command_texts name)) in
     of_device s command ups (λ d. on_command name d text) (λ d. check-case (IsGiven s command) refusals.CmdNotSupported (has_command d.table name) text (bad s command refusals.CmdNotSupported) (λ there number is. cc))
-answer_given s k (Asks requests.GetTracking) = λ number is. cc
-answer_given s k (Asks (requests.GetTrackingOf n)) = λ number is. cc
-answer_given s k (Asks (requests.List query)) = of_list s (Asks (requests.List query)) query
-answer_given s k (Asks (requests.SetVar ups name value)) = set_given s k ups name value
-answer_given s k (Asks (requests.SetTracking on)) = of_tracking s (Asks (requests.SetTracking on)) k
-answer_given s k (Asks (requests.InstCmd ups name parameter)) = command_given s k ups name parameter
-answer_given s k (Asks (requests.Username name)) = of_once s (Asks (requests.Username name)) refusals.AlreadySetUsername k.user
-answer_given s k (Asks (requests.Password password)) = of_once s (Asks (requests.Password password)) refusals.AlreadySetPassword k.password
-answer_given s k (Asks (requests.Login ups)) =
+answer_given s known k (Asks requests.GetTracking) = λ number is. cc
+answer_given s known k (Asks (requests.GetTrackingOf n)) = λ number is. cc
+answer_given s known k (Asks (requests.List query)) = of_list s (Asks (requests.List query)) query
+answer_given s known k (Asks (requests.SetVar ups name value)) = set_given s known k ups name value
+answer_given s known k (Asks (requests.SetTracking on)) = of_tracking s (Asks (requests.SetTracking on)) k
+answer_given s known k (Asks (requests.InstCmd ups name parameter)) = command_given s known k ups name parameter
+answer_given s known k (Asks (requests.Username name)) = of_once s (Asks (requests.Username name)) refusals.AlreadySetUsername k.user
+answer_given s known k (Asks (requests.Password password)) = of_once s (Asks (requests.Password password)) refusals.AlreadySetPassword k.password
+answer_given s known k (Asks (requests.Login ups)) =
     let command = Asks (requests.Login ups) in
     of_right s command k may_log_in ups (λ u. check refusals.AlreadyLoggedIn (is_none k.login) (Line replies.Accepted)) (λ u. check-case (IsGiven s command) refusals.AlreadyLoggedIn (is_none k.login) (Line replies.Accepted) (bad s command refusals.AlreadyLoggedIn) (λ free number is. cc))
-answer_given s k (Asks (requests.Primary ups)) = of_right s (Asks (requests.Primary ups)) k may_be_primary ups (λ u. Line replies.Accepted) (λ u number is. cc)
-answer_given s k (Asks (requests.Fsd ups)) = of_right s (Asks (requests.Fsd ups)) k may_force ups (λ u. Line replies.FsdSet) (λ u number is. cc)
-answer_given s k (Asks requests.Logout) = λ number is. cc
-answer_given s k (Asks requests.Ver) = λ number is. cc
-answer_given s k (Asks requests.NetVer) = λ number is. cc
-answer_given s k (Asks requests.Help) = λ number is. cc
-answer_given s k (Asks requests.StartTls) = λ number is. cc
+answer_given s known k (Asks (requests.Primary ups)) = of_right s (Asks (requests.Primary ups)) k may_be_primary ups (λ u. Line replies.Accepted) (λ u number is. cc)
+answer_given s known k (Asks (requests.Fsd ups)) = of_right s (Asks (requests.Fsd ups)) k may_force ups (λ u. Line replies.FsdSet) (λ u number is. cc)
+answer_given s known k (Asks requests.Logout) = λ number is. cc
+answer_given s known k (Asks requests.Ver) = λ number is. cc
+answer_given s known k (Asks requests.NetVer) = λ number is. cc
+answer_given s known k (Asks requests.Help) = λ number is. cc
+answer_given s known k (Asks requests.StartTls) = λ number is. cc
 
 -- the same of a client that may have logged out
-pub answered_given : (s : Scene) (k : Caller) (command : Command) (out : Bool) → IsGiven s command (if out then Silence else answer s k command)
-answered_given s k command true = λ number is. cc
-answered_given s k command false = answer_given s k command
+pub answered_given : (s : Scene) → AreKnown s → (k : Caller) (command : Command) (out : Bool) → IsGiven s command (if out then Silence else answer s k command)
+answered_given s known k command true = λ number is. cc
+answered_given s known k command false = answer_given s known k command

@@ -9,7 +9,7 @@ use Rattle.nut_server_spec.specs.Answer.{Answer, Silence, answer}
 use Rattle.nut_server_spec.specs.Content.{Session, Supply, Content}
 use Rattle.nut_server_spec.specs.Acceptance.{session_of}
 use Rattle.nut_server_spec.specs.Trace.{given_then}
-use Rattle.nut_server_spec.specs.machine.Machine.{update, update_at, with_rest, with_sessions, guest_of, caller_of, scene_of, answered, answer_in, act_on, acted, after_answer, line_heard, byte_heard, bytes_heard}
+use Rattle.nut_server_spec.specs.machine.Machine.{numbering_of, update, update_at, with_rest, with_sessions, guest_of, caller_of, scene_of, answered, answer_in, act_on, acted, after_answer, line_heard, byte_heard, bytes_heard}
 use Rattle.nut_server_spec.specs.laws.Laws.{numbers}
 use Rattle.nut_server_spec.proofs.Sessions.{KeepsNumber, session_of-update}
 
@@ -66,8 +66,8 @@ answer-unfinished c r s command k = ap (λ scene. if k.logged_out then Silence e
 
 after-unfinished : (c : ℕ) (r : LineText) (s : Content) (command : Command) (reply : Answer) → after_answer c command reply (with_unfinished c r s) ≡ after_answer c command reply s
 after-unfinished c r s command reply =
-    ap (λ sessions. record s { given = given_then reply s.given; sessions = sessions; supplies = act_on (target s.configuration command) (acted command reply) s.supplies })
-    (update-update c (with_rest r) (λ k. with_rest (Text []) (answered s.configuration command reply k)) s.sessions (λ k. refl))
+    ap (λ sessions. record s { given = given_then reply s.given; sessions = sessions; supplies = act_on (target (numbering_of s) command) (acted command reply) s.supplies })
+    (update-update c (with_rest r) (λ k. with_rest (Text []) (answered (numbering_of s) command reply k)) s.sessions (λ k. refl))
 
 pub byte_feed : (c b : ℕ) (r : LineText) (s : Content) (k : Session) → session_of c s.sessions ≡ Some k → eqb b 10 ≡ true
     → byte_heard c b (with_unfinished c r s) ≡ after_answer c (command_of r) (answer_in s (command_of r) k) s
@@ -102,8 +102,8 @@ after_answer-leaves c command reply s = record {
   configuration = refl;
   clock = refl;
   opened = refl;
-  numbers = update-map (λ k. k.number) c (λ k. with_rest (Text []) (answered s.configuration command reply k)) s.sessions (λ k. refl);
-  supplies = length-act_on (target s.configuration command) (acted command reply) s.supplies;
+  numbers = update-map (λ k. k.number) c (λ k. with_rest (Text []) (answered (numbering_of s) command reply k)) s.sessions (λ k. refl);
+  supplies = length-act_on (target (numbering_of s) command) (acted command reply) s.supplies;
 }
 
 line_heard-leaves : (c : ℕ) (o : Option Session) (s : Content) → LeavesFrame s (line_heard c o s)

@@ -6,13 +6,15 @@ use Rattle.std.proofs.lemmas.List.{map-append}
 use Rattle.nut_words.specs.Lines.{LineText}
 use Rattle.nut_server_spec.specs.declared.Refused.TheVariants.{TooMuchTaken}
 use Rattle.nut_server_spec.specs.Configuration.{Configuration}
-use Rattle.nut_server_spec.specs.Event.{Event, Moment, Open, Bytes, Took, Close, WriteFailed, DriverUp, DriverBytes, DriverTook, DriverDown, Step, Clock, Opened, Said, Gone, Up, Reported, Drained, Down, input, taken, driver_input, steps, with_lines, with_reports, brought}
-use Rattle.nut_server_spec.specs.Trace.{Entry, configuration, opened, open_numbers, user, password, login, logged_out, tracking, due, connected, driver_due, driver_taken, driver_waits, ups_numbers, asks_at, trace}
+use Rattle.nut_server_spec.specs.Event.{Event, Moment, Open, Bytes, Took, Close, WriteFailed, DriverUp, DriverBytes, DriverTook, DriverDown, Reload, Step, Clock, Opened, Said, Gone, Up, Reported, Drained, Down, Reloaded, input, taken, driver_input, steps, with_lines, with_reports, brought}
+use Rattle.nut_server_spec.specs.Trace.{Entry, places, numbering, opened, open_numbers, user, password, login, logged_out, tracking, due, connected, driver_due, driver_taken, driver_waits, ups_numbers, asks_at, trace}
 use Rattle.nut_server_spec.specs.Content.{Session, Supply, past, content, session, supply}
-use Rattle.nut_server_spec.specs.Acceptance.{refusal, IsAccepted, session_of, supply_of, bytes_refusal, took_refusal, drain_refusal}
+use Rattle.nut_server_spec.specs.Acceptance.{refusal, IsAccepted, session_of, supply_of, bytes_refusal, took_refusal, report_refusal, drain_refusal}
 use Rattle.nut_server_spec.specs.machine.Machine.{advance, fresh, KeepsContent}
 use Rattle.nut_server_spec.specs.laws.Laws.{IsUpTo}
+use Rattle.nut_server_spec.specs.Numbering.{Fate, Kept, Disconnected, Cleared, fate_of, by_fate}
 use Rattle.nut_server_spec.proofs.Numbers.{numbers_up_to}
+use Rattle.nut_server_spec.proofs.Reloads.{law-reload}
 use Rattle.nut_server_spec.proofs.Places.{found_at, below_counts}
 use Rattle.nut_server_spec.proofs.Law.{IsDriverCovered, law-moment, law-close, law-write_failed, law-took, law-driver_up, law-driver_took, law-driver_down}
 use Rattle.nut_server_spec.proofs.Pieces.{IsCovered, AreDriversCovered, IsThere, law-bytes, law-driver_bytes, covered_bytes, drivers_bytes, request_grows}
@@ -48,7 +50,7 @@ session_is first h c k found = found_is c (session first h) (open_numbers (past 
 
 -- The UPS that a content has under a number is the one that the history says.
 pub supply_is : (first : Configuration) (h : List Event) (u : ℕ) (d : Supply) → supply_of u (content first h).supplies ≡ Some d → d ≡ supply first h u
-supply_is first h u d found = found_at u u 0 (supply first h) (ups_numbers first (past first h)) d (below_counts (length (configuration first (past first h)).upses)) (omega arith) found
+supply_is first h u d found = found_at u u 0 (supply first h) (ups_numbers first (past first h)) d (below_counts (places first (past first h))) (omega arith) found
 
 session_up : (first : Configuration) (h : List Event) (c : ℕ) → (session_of c (content first h).sessions ≡ None → ⊥) → c ≤ opened (past first h)
 session_up first h c found = found_up c (opened (past first h)) (session first h) (open_numbers (past first h)) (λ d. refl) (numbers_up_to (past first h)) found
@@ -97,6 +99,7 @@ all_covered first (DriverBytes u piece ∷ h) c accepted =
     omega (arith, all_covered first h c accepted.0, ap length (due_reports first c u (brought (driver_input u h) piece) (steps h)))
 all_covered first (DriverTook u n ∷ h) c accepted = all_covered first h c accepted.0
 all_covered first (DriverDown u ∷ h) c accepted = all_covered first h c accepted.0
+all_covered first (Reload k ∷ h) c accepted = all_covered first h c accepted.0
 
 -- no more was taken by drivers than was due to them
 waits-length : (is : Bool) (m : ℕ) (x : List ℕ) → length (if is then drop m x else []) ≤ length x - m
@@ -124,6 +127,11 @@ drivers_reports : (first : Configuration) (u : ℕ) (ls : List LineText) (s : Li
 drivers_reports first u [] s covered v = covered v
 drivers_reports first u (l ∷ ls) s covered v = drivers_reports first u ls (Reported u l ∷ s) covered v
 
+fated_covered : (fate : Fate) (m : ℕ) (due : List ℕ) → m ≤ length due → by_fate fate 0 (λ before. before) m ≤ length (by_fate fate [] (λ before. before) due)
+fated_covered Kept m due covered = covered
+fated_covered Disconnected m due covered = covered
+fated_covered Cleared m due covered = omega arith
+
 pub drivers_covered : (first : Configuration) (h : List Event) → IsAccepted first h → AreDriversCovered first h
 drivers_covered first [] accepted v = omega arith
 drivers_covered first (Moment t ∷ h) accepted v =
@@ -144,6 +152,8 @@ drivers_covered first (DriverTook u n ∷ h) accepted v =
       | inr e ↦ rw e (drivers_covered first h accepted.0 v)
     ]
 drivers_covered first (DriverDown u ∷ h) accepted v = drivers_covered first h accepted.0 v
+drivers_covered first (Reload k ∷ h) accepted v =
+    fated_covered (fate_of k.upses (numbering first (past first h)) v) (driver_taken v (past first h)) (driver_due v (past first h)) (drivers_covered first h accepted.0 v)
 
 -- ---- a connection that hasn't been opened
 
@@ -229,6 +239,9 @@ unknown first (DriverTook u n ∷ h) c accepted later =
 unknown first (DriverDown u ∷ h) c accepted later =
     let before = unknown first h c accepted.0 later in
     record { silent = silent_on first (Down u) c (steps h) before.silent refl refl refl refl refl refl; input = before.input; taken = before.taken }
+unknown first (Reload k ∷ h) c accepted later =
+    let before = unknown first h c accepted.0 later in
+    record { silent = silent_on first (Reloaded k) c (steps h) before.silent refl refl refl refl refl refl; input = before.input; taken = before.taken }
 
 map-up_to : (n : ℕ) (f g : ℕ → Session) (ns : List ℕ) → IsUpTo n ns → ((d : ℕ) → d ≤ n → g d ≡ f d) → map g ns ≡ map f ns
 map-up_to n f g [] up same = refl
@@ -255,6 +268,15 @@ is_there : (first : Configuration) (h : List Event) (c : ℕ) (piece : List ℕ)
 is_there first h c piece None found accepted = cc
 is_there first h c piece (Some k) found accepted = found ∙ ap (λ x. Some x) (session_is first h c k found)
 
+-- If the bytes of a driver are accepted, it is connected.
+is_up : (first : Configuration) (h : List Event) (u : ℕ) (piece : List ℕ) (o : Option Supply) → supply_of u (content first h).supplies ≡ o → report_refusal piece o ≡ None → connected u (past first h) ≡ true
+is_up first h u piece None found accepted = cc
+is_up first h u piece (Some d) found accepted =
+    elim (cases_Bool d.device.connected) [
+      | inl e ↦ sym (ap (λ d. d.device.connected) (supply_is first h u d found)) ∙ e
+      | inr e ↦ absurd (let bad = rw e at accepted in cc)
+    ]
+
 pub keeps-content : KeepsContent
 keeps-content first h (Moment t) accepted = law-moment first h t (drivers_covered first h accepted.0)
 keeps-content first h (Open a) accepted = law-open first h a accepted.0
@@ -264,6 +286,7 @@ keeps-content first h (Took c n) accepted = law-took first h c n
 keeps-content first h (Close c) accepted = law-close first h c
 keeps-content first h (WriteFailed c) accepted = law-write_failed first h c
 keeps-content first h (DriverUp u) accepted = law-driver_up first h u
-keeps-content first h (DriverBytes u piece) accepted = law-driver_bytes first h u piece
+keeps-content first h (DriverBytes u piece) accepted = law-driver_bytes first h u piece (is_up first h u piece (supply_of u (content first h).supplies) refl accepted.1)
 keeps-content first h (DriverTook u n) accepted = law-driver_took first h u n
 keeps-content first h (DriverDown u) accepted = law-driver_down first h u
+keeps-content first h (Reload k) accepted = law-reload first h k

@@ -14,10 +14,11 @@ use Rattle.nut_server_spec.specs.Effect.{target, number_in, forced_then, request
 use Rattle.nut_server_spec.specs.Tracking.{with_tracked}
 use Rattle.nut_server_spec.specs.Event.{Event, Moment, Took, Close, WriteFailed, DriverUp, DriverTook, DriverDown, Said, Reported, input, taken, driver_input}
 use Rattle.nut_server_spec.specs.Answer.{Answer, text_of}
-use Rattle.nut_server_spec.specs.Trace.{Entry, configuration, clock, opened, open_numbers, address, user, password, login, logged_out, tracking, given, tracked, due, device, connected, forced, driver_due, driver_taken, driver_waits, ups_numbers, scene, with_request, request_for, ping, pinged_then, pinged_at}
+use Rattle.nut_server_spec.specs.Trace.{Entry, configuration, numbers, numbering, places, clock, opened, open_numbers, address, user, password, login, logged_out, tracking, given, tracked, due, device, connected, forced, driver_due, driver_taken, driver_waits, ups_numbers, scene, with_request, request_for, ping, pinged_then, pinged_at}
 use Rattle.nut_server_spec.specs.Content.{Session, Supply, Content, past, content, session, supply}
 use Rattle.nut_server_spec.specs.laws.Laws.{IsBelow, IsRising}
 use Rattle.nut_server_spec.specs.machine.Machine.{advance, update, with_rest, with_sessions, with_supplies, without, answered, acted, act_on, reported_by, ticked, up, down, drained, guest_of, scene_of}
+use Rattle.nut_server_spec.specs.Numbering.{Kept}
 use Rattle.nut_server_spec.proofs.Numbers.{open_numbers_rise}
 use Rattle.nut_server_spec.proofs.Places.{update-below, map-twice, map-same}
 
@@ -36,11 +37,12 @@ session_from first t rests takes c = record {
 }
 
 abbrev pub supply_from : Configuration → List Entry → (ℕ → LineText) → ℕ → Supply
-supply_from first t reports u = record { device = device first t u; rest = reports u }
+supply_from first t reports u = record { device = device first t u; rest = if connected u t then reports u else Text [] }
 
 abbrev pub content_from : Configuration → List Entry → (ℕ → LineText) → (ℕ → ℕ) → (ℕ → LineText) → Content
 content_from first t rests takes reports = record {
   configuration = configuration first t;
+  numbers = numbers first t;
   clock = clock t;
   opened = opened t;
   given = given t;
@@ -136,26 +138,26 @@ law-write_failed first h c = law-close first h c
 -- It changes no other session.
 session_other : (first : Configuration) (t : List Entry) (c : ℕ) (line : LineText) (reply : Answer) (asks : ℕ → Option (List ℕ)) (rests rests' : ℕ → LineText) (takes : ℕ → ℕ) (d : ℕ)
     → eqb d c ≡ false → rests' d ≡ rests d
-    → session_from first (record { step = Said c line; answer = reply; asks = asks } ∷ t) rests' takes d ≡ session_from first t rests takes d
+    → session_from first (record { step = Said c line; answer = reply; asks = asks; fate = λ u. Kept; closes = λ d. false } ∷ t) rests' takes d ≡ session_from first t rests takes d
 session_other first t c line reply asks rests rests' takes d differ same = rw (eqb_turn d c differ, same) refl
 
 session_self : (first : Configuration) (t : List Entry) (c : ℕ) (line : LineText) (reply : Answer) (asks : ℕ → Option (List ℕ)) (rests rests' : ℕ → LineText) (takes : ℕ → ℕ)
     → takes c ≤ length (due c t)
-    → session_from first (record { step = Said c line; answer = reply; asks = asks } ∷ t) rests' takes c
-    ≡ with_rest (rests' c) (answered (configuration first t) (command_of line) reply (session_from first t rests takes c))
+    → session_from first (record { step = Said c line; answer = reply; asks = asks; fate = λ u. Kept; closes = λ d. false } ∷ t) rests' takes c
+    ≡ with_rest (rests' c) (answered (numbering first t) (command_of line) reply (session_from first t rests takes c))
 session_self first t c line reply asks rests rests' takes covered =
     rw (eq-eqb c c refl, drop-append-le (takes c) (due c t) (text_of reply) covered) refl
 
 pub said_sessions : (first : Configuration) (t : List Entry) (c : ℕ) (line : LineText) (reply : Answer) (asks : ℕ → Option (List ℕ)) (rests rests' : ℕ → LineText) (takes : ℕ → ℕ)
     → takes c ≤ length (due c t) → ((d : ℕ) → eqb d c ≡ false → rests' d ≡ rests d) → rests' c ≡ Text []
-    → map (session_from first (record { step = Said c line; answer = reply; asks = asks } ∷ t) rests' takes) (open_numbers t)
-    ≡ update c (λ k. with_rest (Text []) (answered (configuration first t) (command_of line) reply k)) (map (session_from first t rests takes) (open_numbers t))
+    → map (session_from first (record { step = Said c line; answer = reply; asks = asks; fate = λ u. Kept; closes = λ d. false } ∷ t) rests' takes) (open_numbers t)
+    ≡ update c (λ k. with_rest (Text []) (answered (numbering first t) (command_of line) reply k)) (map (session_from first t rests takes) (open_numbers t))
 said_sessions first t c line reply asks rests rests' takes covered same ended =
-    update-map c (session_from first t rests takes) (session_from first (record { step = Said c line; answer = reply; asks = asks } ∷ t) rests' takes)
-    (λ k. with_rest (Text []) (answered (configuration first t) (command_of line) reply k)) (open_numbers t) (open_numbers_rise t) (λ d. refl)
+    update-map c (session_from first t rests takes) (session_from first (record { step = Said c line; answer = reply; asks = asks; fate = λ u. Kept; closes = λ d. false } ∷ t) rests' takes)
+    (λ k. with_rest (Text []) (answered (numbering first t) (command_of line) reply k)) (open_numbers t) (open_numbers_rise t) (λ d. refl)
     (λ d differ. session_other first t c line reply asks rests rests' takes d differ (same d differ))
     (session_self first t c line reply asks rests rests' takes covered
-    ∙ ap (λ r. with_rest r (answered (configuration first t) (command_of line) reply (session_from first t rests takes c))) ended)
+    ∙ ap (λ r. with_rest r (answered (numbering first t) (command_of line) reply (session_from first t rests takes c))) ended)
 
 -- The driver took no more than was due to it.
 abbrev pub IsDriverCovered : List Entry → ℕ → Type 0
@@ -175,7 +177,7 @@ supply_said first t command reply goal reports u = record {
     tracked = at_target u goal (with_tracked (number_in reply)) (tracked first u t);
     waits = if connected u t then drop (driver_taken u t) (with_request (request_for u goal (request_of command reply)) (driver_due u t)) else [];
   };
-  rest = reports u;
+  rest = if connected u t then reports u else Text [];
 }
 
 -- The line changes that UPS, and no other.
@@ -183,11 +185,11 @@ supplies_said : (first : Configuration) (t : List Entry) (command : Command) (re
     → map (supply_said first t command reply goal reports) (ups_numbers first t) ≡ act_on goal (acted command reply) (map (supply_from first t reports) (ups_numbers first t))
 supplies_said first t command reply None reports covered = refl
 supplies_said first t command reply (Some v) reports covered =
-    update-below v (length (configuration first t).upses) (supply_from first t reports) (supply_said first t command reply (Some v) reports) (acted command reply)
+    update-below v (places first t) (supply_from first t reports) (supply_said first t command reply (Some v) reports) (acted command reply)
     (λ d differ. rw (eqb_turn d v differ) refl)
     (rw (eq-eqb v v refl) (ap (λ w. record {
       device = record (device first t v) { forced = forced_then command reply (forced first v t); waits = w; tracked = with_tracked (number_in reply) (tracked first v t) };
-      rest = reports v;
+      rest = if connected v t then reports v else Text [];
     }) (waits-asked (connected v t) (driver_taken v t) (driver_due v t) (request_of command reply) (covered v))))
 
 -- the past after a line of c with this answer
@@ -195,24 +197,26 @@ abbrev pub answered_past : Configuration → List Entry → ℕ → LineText →
 answered_past first t c line reply = record {
   step = Said c line;
   answer = reply;
-  asks = λ u. request_for u (target (configuration first t) (command_of line)) (request_of (command_of line) reply);
+  asks = λ u. request_for u (target (numbering first t) (command_of line)) (request_of (command_of line) reply);
+  fate = λ u. Kept;
+  closes = λ d. false;
 } ∷ t
 
 pub said_supplies : (first : Configuration) (t : List Entry) (c : ℕ) (line : LineText) (reply : Answer) (reports : ℕ → LineText) → ((u : ℕ) → IsDriverCovered t u)
     → map (supply_from first (answered_past first t c line reply) reports) (ups_numbers first t)
-    ≡ act_on (target (configuration first t) (command_of line)) (acted (command_of line) reply) (map (supply_from first t reports) (ups_numbers first t))
-said_supplies first t c line reply reports covered = supplies_said first t (command_of line) reply (target (configuration first t) (command_of line)) reports covered
+    ≡ act_on (target (numbering first t) (command_of line)) (acted (command_of line) reply) (map (supply_from first t reports) (ups_numbers first t))
+said_supplies first t c line reply reports covered = supplies_said first t (command_of line) reply (target (numbering first t) (command_of line)) reports covered
 
 -- ---- drivers
 
 pub law-driver_up : (first : Configuration) (h : List Event) (u : ℕ) → content first (DriverUp u ∷ h) ≡ advance (content first h) (DriverUp u)
 law-driver_up first h u = ap (λ supplies. with_supplies supplies (content first h))
-    (update-below u (length (configuration first (past first h)).upses) (supply first h) (supply first (DriverUp u ∷ h)) (up (clock (past first h)))
+    (update-below u (places first (past first h)) (supply first h) (supply first (DriverUp u ∷ h)) (up (clock (past first h)))
     (λ d differ. rw (eqb_turn d u differ) refl) (rw (eq-eqb u u refl) refl))
 
 pub law-driver_down : (first : Configuration) (h : List Event) (u : ℕ) → content first (DriverDown u ∷ h) ≡ advance (content first h) (DriverDown u)
 law-driver_down first h u = ap (λ supplies. with_supplies supplies (content first h))
-    (update-below u (length (configuration first (past first h)).upses) (supply first h) (supply first (DriverDown u ∷ h)) down
+    (update-below u (places first (past first h)) (supply first h) (supply first (DriverDown u ∷ h)) down
     (λ d differ. rw (eqb_turn d u differ) refl) (rw (eq-eqb u u refl) refl))
 
 waits-drained : (is : Bool) (m n : ℕ) (due : List ℕ) → (if is then drop (m + n) due else []) ≡ drop n (if is then drop m due else [])
@@ -221,9 +225,9 @@ waits-drained false m n due = sym (drop-nil n)
 
 pub law-driver_took : (first : Configuration) (h : List Event) (u n : ℕ) → content first (DriverTook u n ∷ h) ≡ advance (content first h) (DriverTook u n)
 law-driver_took first h u n = ap (λ supplies. with_supplies supplies (content first h))
-    (update-below u (length (configuration first (past first h)).upses) (supply first h) (supply first (DriverTook u n ∷ h)) (drained n)
+    (update-below u (places first (past first h)) (supply first h) (supply first (DriverTook u n ∷ h)) (drained n)
     (λ d differ. rw (eqb_turn d u differ) refl)
-    (rw (eq-eqb u u refl) (ap (λ w. record { device = record (device first (past first h) u) { waits = w }; rest = reports_of h u })
+    (rw (eq-eqb u u refl) (ap (λ w. record { device = record (device first (past first h) u) { waits = w }; rest = if connected u (past first h) then reports_of h u else Text [] })
     (waits-drained (connected u (past first h)) (driver_taken u (past first h)) n (driver_due u (past first h))))))
 
 -- A driver that needs PING is connected.
@@ -241,12 +245,12 @@ supply_ticked first t time reports u needed = record {
     pinged_at = pinged_then (ping needed) time (pinged_at u t);
     waits = if connected u t then drop (driver_taken u t) (with_request (ping needed) (driver_due u t)) else [];
   };
-  rest = reports u;
+  rest = if connected u t then reports u else Text [];
 }
 
 ticks : (first : Configuration) (t : List Entry) (time : ℕ) (reports : ℕ → LineText) (u : ℕ) (needed : Bool) → IsDriverCovered t u → (needed ≡ true → connected u t ≡ true)
     → supply_ticked first t time reports u needed
-    ≡ (if needed then record { device = record (device first t u) { pinged_at = Some time; waits = driver_waits u t ++ ask_line Ping }; rest = reports u } else supply_from first t reports u)
+    ≡ (if needed then record { device = record (device first t u) { pinged_at = Some time; waits = driver_waits u t ++ ask_line Ping }; rest = if connected u t then reports u else Text [] } else supply_from first t reports u)
 ticks first t time reports u false covered is = refl
 ticks first t time reports u true covered is =
     let up' : connected u t ≡ true = is refl in
@@ -267,7 +271,7 @@ law-moment first h t covered =
 
 -- a line of a driver
 pub reported_self : (first : Configuration) (t : List Entry) (u : ℕ) (line : LineText) (reply : Answer) (asks : ℕ → Option (List ℕ)) (reports reports' : ℕ → LineText)
-    → asks u ≡ None → reports' u ≡ Text []
-    → supply_from first (record { step = Reported u line; answer = reply; asks = asks } ∷ t) reports' u ≡ reported_by (clock t) line (supply_from first t reports u)
-reported_self first t u (Text line) reply asks reports reports' none ended = rw (eq-eqb u u refl, none, ended) refl
-reported_self first t u TooLong reply asks reports reports' none ended = rw (eq-eqb u u refl, none, ended) refl
+    → asks u ≡ None → reports' u ≡ Text [] → connected u t ≡ true
+    → supply_from first (record { step = Reported u line; answer = reply; asks = asks; fate = λ u. Kept; closes = λ d. false } ∷ t) reports' u ≡ reported_by (clock t) line (supply_from first t reports u)
+reported_self first t u (Text line) reply asks reports reports' none ended is = rw (eq-eqb u u refl, none, ended, is) refl
+reported_self first t u TooLong reply asks reports reports' none ended is = rw (eq-eqb u u refl, none, ended, is) refl

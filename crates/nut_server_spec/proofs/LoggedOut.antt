@@ -11,10 +11,11 @@ use Rattle.nut_server_spec.specs.Device.{Device}
 use Rattle.nut_server_spec.specs.Event.{Event, Bytes, Step, Said, input, taken, steps, with_lines, brought}
 use Rattle.nut_server_spec.specs.Answer.{Answer, Silence, text_of, answer}
 use Rattle.nut_server_spec.specs.Effect.{user_then, password_then, login_then, logged_out_then, tracking_then, number_in, due_then, target, forced_then, request_of, at_target}
-use Rattle.nut_server_spec.specs.Trace.{Entry, configuration, address, user, password, login, logged_out, tracking, tracked, due, connected, reports, heard_at, pinged_at, forced, driver_due, driver_taken, scene, caller, with_request, request_for, answer_to, trace}
+use Rattle.nut_server_spec.specs.Trace.{Entry, address, user, password, login, logged_out, tracking, tracked, due, connected, reports, heard_at, pinged_at, forced, driver_due, driver_taken, scene, caller, with_request, request_for, answer_to, trace, numbering}
 use Rattle.nut_server_spec.specs.Tracking.{Tracked, with_tracked}
 use Rattle.nut_server_spec.specs.Content.{Session, past}
 use Rattle.nut_server_spec.specs.laws.Laws.{LogoutIsFinal}
+use Rattle.nut_server_spec.specs.Numbering.{Numbering, Kept}
 
 -- ---- a silent answer changes nothing
 
@@ -26,7 +27,7 @@ password-silent : (command : Command) (before : Option (List ℕ)) → password_
 password-silent (Asks (requests.Password password)) before = refl
 password-silent command before = refl
 
-login-silent : (c : Configuration) (command : Command) (before : Option ℕ) → login_then c command Silence before ≡ before
+login-silent : (c : Numbering) (command : Command) (before : Option ℕ) → login_then c command Silence before ≡ before
 login-silent c (Asks (requests.Login ups)) before = refl
 login-silent c command before = refl
 
@@ -106,19 +107,21 @@ module _ (first : Configuration) (c : ℕ) (line : LineText) (t : List Entry) wh
   said reply = record {
     step = Said c line;
     answer = reply;
-    asks = λ u. request_for u (target (configuration first t) (command_of line)) (request_of (command_of line) reply);
+    asks = λ u. request_for u (target (numbering first t) (command_of line)) (request_of (command_of line) reply);
+    fate = λ u. Kept;
+    closes = λ d. false;
   }
 
   silent-entry : known first (said Silence ∷ t) ≡ known first t
   silent-entry =
       let command = command_of line in
-      let o = target (configuration first t) command in
+      let o = target (numbering first t) command in
       let k : Known = known first (said Silence ∷ t) in
       let n : Known = known first t in
       ap (λ f. let r : Known = record k { users = f } in r) (fun_ext (λ d. either (eqb c d) _ _ (user-silent command (user d t))))
       ∙ ap (λ f. let r : Known = record k { users = n.users; passwords = f } in r) (fun_ext (λ d. either (eqb c d) _ _ (password-silent command (password d t))))
       ∙ ap (λ f. let r : Known = record k { users = n.users; passwords = n.passwords; logins = f } in r)
-      (fun_ext (λ d. either (eqb c d) _ _ (login-silent (configuration first t) command (login first d t))))
+      (fun_ext (λ d. either (eqb c d) _ _ (login-silent (numbering first t) command (login first d t))))
       ∙ ap (λ f. let r : Known = record k { users = n.users; passwords = n.passwords; logins = n.logins; outs = f } in r)
       (fun_ext (λ d. either (eqb c d) (logged_out_then command Silence (logged_out d t)) (logged_out d t) refl))
       ∙ ap (λ f. let r : Known = record n { tracks = f; owed = k.owed; forces = k.forces; asked = k.asked; followed = k.followed } in r)

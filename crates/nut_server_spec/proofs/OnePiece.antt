@@ -3,7 +3,7 @@ use Rattle.std.proofs.Common.{◌≡◌, ℕ, ◌≤◌, eqb, List, [], ◌∷�
 use Rattle.std.proofs.lemmas.Bool.{cases_Bool, eqb-true}
 use Rattle.nut_words.specs.Quoting.{Begins}
 use Rattle.nut_server_spec.specs.Configuration.{Configuration}
-use Rattle.nut_server_spec.specs.Event.{Event, Moment, Open, Bytes, Took, Close, WriteFailed, DriverUp, DriverBytes, DriverTook, DriverDown}
+use Rattle.nut_server_spec.specs.Event.{Event, Moment, Open, Bytes, Took, Close, WriteFailed, DriverUp, DriverBytes, DriverTook, DriverDown, Reload}
 use Rattle.nut_server_spec.specs.Trace.{due}
 use Rattle.nut_server_spec.specs.Content.{Session, content, past, sent, waits}
 use Rattle.nut_server_spec.specs.Acceptance.{IsAccepted, bytes_refusal, refusal, session_of, waiting_of}
@@ -58,6 +58,7 @@ earlier_sent first (DriverUp u ∷ h) c accepted = sent_grows first h c (DriverU
 earlier_sent first (DriverBytes u piece ∷ h) c accepted = sent_grows first h c (DriverBytes u piece) (due c (past first (before_piece c h))) accepted.0 (earlier_sent first h c accepted.0)
 earlier_sent first (DriverTook u n ∷ h) c accepted = sent_grows first h c (DriverTook u n) (due c (past first (before_piece c h))) accepted.0 (earlier_sent first h c accepted.0)
 earlier_sent first (DriverDown u ∷ h) c accepted = sent_grows first h c (DriverDown u) (due c (past first (before_piece c h))) accepted.0 (earlier_sent first h c accepted.0)
+earlier_sent first (Reload k ∷ h) c accepted = sent_grows first h c (Reload k) (due c (past first (before_piece c h))) accepted.0 (earlier_sent first h c accepted.0)
 
 pub waits-for-one-piece : WaitsForOnePiece
 waits-for-one-piece first h c k accepted found =

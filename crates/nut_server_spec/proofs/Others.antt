@@ -1,33 +1,40 @@
 -- Which connections and which UPSes an event changes.
-use Rattle.std.proofs.Common.{◌≡◌, ℕ, ◌+◌, ◌≤◌, ◌<◌, false, eqb, List, [], ◌∷◌, drop, map, refl, sym, ◌∙◌, ap, arith, inl, inr, Option, Some, None, subst}
-use Rattle.std.specs.Prelude.{option_map}
+use Rattle.std.proofs.Common.{◌≡◌, ℕ, ◌+◌, ◌≤◌, ◌<◌, true, false, eqb, List, [], ◌∷◌, drop, map, refl, sym, ◌∙◌, ap, arith, inl, inr, Option, Some, None, subst}
+use Rattle.std.specs.Prelude.{option_map, not}
+use Rattle.std.specs.Option.{option_map_or}
 use Rattle.std.proofs.lemmas.Bool.{cases_Bool, eqb-true, ne_eqb}
 use Rattle.nut_words.specs.Lines.{LineText}
 use Rattle.nut_server_spec.specs.Configuration.{Configuration}
-use Rattle.nut_server_spec.specs.Event.{Event, Moment, Open, Bytes, Took, Close, WriteFailed, DriverUp, DriverBytes, DriverTook, DriverDown, Step, Said, Reported, with_lines, with_reports}
+use Rattle.nut_server_spec.specs.Event.{Event, Moment, Open, Bytes, Took, Close, WriteFailed, DriverUp, DriverBytes, DriverTook, DriverDown, Reload, Step, Said, Reported, with_lines, with_reports}
 use Rattle.nut_server_spec.specs.Trace.{configuration, opened, open_numbers, trace}
 use Rattle.nut_server_spec.specs.Content.{Session, Content, past, content, session}
 use Rattle.nut_server_spec.specs.Acceptance.{refusal, Tells, session_of, supply_of, bytes_refusal, took_refusal, close_refusal, waiting_of, asks_of}
-use Rattle.nut_server_spec.specs.machine.Machine.{advance, bytes_reported, up, down, drained, fresh}
-use Rattle.nut_server_spec.specs.laws.Laws.{IsUpTo, IsOther, connection_of, driver_of, OthersStay, OtherDriversStay, OpenedIsFresh, ClosedStaysClosed}
+use Rattle.nut_server_spec.specs.machine.Machine.{advance, numbering_of, bytes_reported, up, down, drained, fresh}
+use Rattle.nut_server_spec.specs.laws.Laws.{IsUpTo, IsOther, closes, connection_of, driver_of, OthersStay, OtherDriversStay, OpenedIsFresh, ClosedStaysClosed}
+use Rattle.nut_server_spec.specs.Numbering.{fate_of, is_to_cleared}
 use Rattle.nut_server_spec.proofs.Law.{eqb_turn}
 use Rattle.nut_server_spec.proofs.Numbers.{numbers_up_to}
 use Rattle.nut_server_spec.proofs.Kept.{keeps-content}
-use Rattle.nut_server_spec.proofs.Sessions.{session_of-update_other, session_of-without, session_of-without_other, session_of-push, session_of-push_other, bytes_heard-other, waiting_of-took}
+use Rattle.nut_server_spec.proofs.Sessions.{session_of-filter, session_of-update_other, session_of-without, session_of-without_other, session_of-push, session_of-push_other, bytes_heard-other, waiting_of-took}
 use Rattle.nut_server_spec.proofs.Supplies.{supply_of-update, supply_of-update_other, asks_of-drained}
 
 -- An event leaves the sessions of other connections as they are.
-pub advance-other : (s : Content) (e : Event) (d : ℕ) → IsOther d (connection_of s e) → session_of d (advance s e).sessions ≡ session_of d s.sessions
-advance-other s (Moment t) d differ = refl
-advance-other s (Open address) d differ = session_of-push_other d (fresh (s.opened + 1) address) s.sessions differ
-advance-other s (Bytes c piece) d differ = bytes_heard-other c d piece s (eqb_turn c d differ)
-advance-other s (Took c n) d differ = session_of-update_other c d (λ k. record k { waits = drop n k.waits }) s.sessions (λ k. refl) (eqb_turn c d differ)
-advance-other s (Close c) d differ = session_of-without_other c d s.sessions (eqb_turn c d differ)
-advance-other s (WriteFailed c) d differ = session_of-without_other c d s.sessions (eqb_turn c d differ)
-advance-other s (DriverUp u) d differ = refl
-advance-other s (DriverBytes u piece) d differ = refl
-advance-other s (DriverTook u n) d differ = refl
-advance-other s (DriverDown u) d differ = refl
+pub advance-other : (s : Content) (e : Event) (d : ℕ) → IsOther d (connection_of s e) → closes s e d ≡ false → session_of d (advance s e).sessions ≡ session_of d s.sessions
+advance-other s (Moment t) d differ stays = refl
+advance-other s (Open address) d differ stays = session_of-push_other d (fresh (s.opened + 1) address) s.sessions differ
+advance-other s (Bytes c piece) d differ stays = bytes_heard-other c d piece s (eqb_turn c d differ)
+advance-other s (Took c n) d differ stays = session_of-update_other c d (λ k. record k { waits = drop n k.waits }) s.sessions (λ k. refl) (eqb_turn c d differ)
+advance-other s (Close c) d differ stays = session_of-without_other c d s.sessions (eqb_turn c d differ)
+advance-other s (WriteFailed c) d differ stays = session_of-without_other c d s.sessions (eqb_turn c d differ)
+advance-other s (DriverUp u) d differ stays = refl
+advance-other s (DriverBytes u piece) d differ stays = refl
+advance-other s (DriverTook u n) d differ stays = refl
+advance-other s (DriverDown u) d differ stays = refl
+advance-other s (Reload k) d differ stays = session_of-filter d (λ j. not (is_to_cleared (fate_of k.upses (numbering_of s)) j.login)) s.sessions (kept (session_of d s.sessions) stays) where
+  kept : (o : Option Session) → option_map_or (λ j. is_to_cleared (fate_of k.upses (numbering_of s)) j.login) o false ≡ false
+      → option_map_or (λ j. not (is_to_cleared (fate_of k.upses (numbering_of s)) j.login)) o true ≡ true
+  kept None e = refl
+  kept (Some j) e = ap not e
 
 -- how each event changes its own connection
 pub advance-took : (s : Content) (c n : ℕ) → waiting_of c (advance s (Took c n)).sessions ≡ drop n (waiting_of c s.sessions)
@@ -40,8 +47,8 @@ pub advance-write_failed : (s : Content) (c : ℕ) → session_of c (advance s (
 advance-write_failed s c = session_of-without c s.sessions
 
 pub others-stay : OthersStay
-others-stay first h e d accepted differ =
-    ap (λ s. session_of d s.sessions) (keeps-content first h e accepted) ∙ advance-other (content first h) e d differ
+others-stay first h e d accepted differ stays =
+    ap (λ s. session_of d s.sessions) (keeps-content first h e accepted) ∙ advance-other (content first h) e d differ stays
 
 -- ---- UPSes
 
@@ -59,6 +66,7 @@ advance-other_driver s (WriteFailed c) u v is differ = cc
 advance-other_driver s (DriverUp w) u v is differ = supply_of-update_other w u (up s.clock) s.supplies (turned w u v is differ)
 advance-other_driver s (DriverBytes w piece) u v is differ = supply_of-update_other w u (bytes_reported s.clock piece) s.supplies (turned w u v is differ)
 advance-other_driver s (DriverTook w n) u v is differ = supply_of-update_other w u (drained n) s.supplies (turned w u v is differ)
+advance-other_driver s (Reload k) u v is differ = cc
 advance-other_driver s (DriverDown w) u v is differ = supply_of-update_other w u down s.supplies (turned w u v is differ)
 
 -- how each event changes its own UPS
@@ -125,6 +133,21 @@ not_closed s (DriverUp u) c d le none accepted is same = cc
 not_closed s (DriverBytes u piece) c d le none accepted is same = cc
 not_closed s (DriverTook u n) c d le none accepted is same = cc
 not_closed s (DriverDown u) c d le none accepted is same = cc
+not_closed s (Reload k) c d le none accepted is same = cc
+
+-- A connection that isn't open isn't closed.
+closes_none : (s : Content) (e : Event) (d : ℕ) → session_of d s.sessions ≡ None → closes s e d ≡ false
+closes_none s (Moment t) d none = refl
+closes_none s (Open address) d none = refl
+closes_none s (Bytes c piece) d none = refl
+closes_none s (Took c n) d none = refl
+closes_none s (Close c) d none = refl
+closes_none s (WriteFailed c) d none = refl
+closes_none s (DriverUp u) d none = refl
+closes_none s (DriverBytes u piece) d none = refl
+closes_none s (DriverTook u n) d none = refl
+closes_none s (DriverDown u) d none = refl
+closes_none s (Reload k) d none = ap (λ o. option_map_or (λ j. is_to_cleared (fate_of k.upses (numbering_of s)) j.login) o false) none
 
 pub closed-stays : ClosedStaysClosed
 closed-stays first h e d accepted le none = stays (connection_of (content first h) e) refl where
@@ -132,11 +155,11 @@ closed-stays first h e d accepted le none = stays (connection_of (content first 
   P o = IsOther d o
 
   stays : (o : Option ℕ) → connection_of (content first h) e ≡ o → session_of d (content first (e ∷ h)).sessions ≡ None
-  stays None is = others-stay first h e d accepted (subst P (sym is) tt) ∙ none
+  stays None is = others-stay first h e d accepted (subst P (sym is) tt) (closes_none (content first h) e d none) ∙ none
   stays (Some c) is =
       elim (cases_Bool (eqb c d)) [
         | inl same ↦ absurd (not_closed (content first h) e c d le none accepted.1 is (eqb-true c d same))
-        | inr differ ↦ others-stay first h e d accepted (subst P (sym is) differ) ∙ none
+        | inr differ ↦ others-stay first h e d accepted (subst P (sym is) differ) (closes_none (content first h) e d none) ∙ none
       ]
 
 -- ---- what lines leave as it is

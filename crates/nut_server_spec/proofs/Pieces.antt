@@ -2,17 +2,17 @@
 use Rattle.std.proofs.Common.{◌≡◌, ℕ, ◌≤◌, true, false, eqb, List, [], ◌∷◌, ◌++◌, map, length, refl, sym, ◌∙◌, ap, arith, inl, inr, length-append, Option, Some, None, subst}
 use Rattle.std.specs.Prelude.{if◌then◌else◌}
 use Rattle.std.proofs.lemmas.Bool.{cases_Bool, eqb-true, eqb-false, eq-eqb}
-use Rattle.nut_words.specs.Lines.{LineText, joined, rest}
+use Rattle.nut_words.specs.Lines.{LineText, Text, joined, rest}
 use Rattle.nut_words.proofs.StreamGrowth.{rest_at_line_feed, rest_within}
 use Rattle.nut_server_spec.specs.Configuration.{Configuration}
 use Rattle.nut_server_spec.specs.Command.{command_of}
 use Rattle.nut_server_spec.specs.Effect.{target, request_of}
 use Rattle.nut_server_spec.specs.Event.{Event, Bytes, DriverBytes, Step, Said, Reported, input, driver_input, steps, with_lines, with_reports, brought}
 use Rattle.nut_server_spec.specs.Answer.{Silence, answer, text_of}
-use Rattle.nut_server_spec.specs.Trace.{configuration, clock, given, given_then, open_numbers, logged_out, due, driver_due, ups_numbers, caller, with_request, request_for, trace, answer_to, asks_at}
+use Rattle.nut_server_spec.specs.Trace.{numbering, places, connected, clock, given, given_then, open_numbers, logged_out, due, driver_due, ups_numbers, caller, with_request, request_for, trace, answer_to, asks_at}
 use Rattle.nut_server_spec.specs.Content.{Session, Content, past, content, session, supply}
 use Rattle.nut_server_spec.specs.Acceptance.{session_of}
-use Rattle.nut_server_spec.specs.machine.Machine.{advance, answer_in, line_heard, update_at, with_rest, with_supplies, after_answer, byte_heard, bytes_heard, byte_reported, bytes_reported}
+use Rattle.nut_server_spec.specs.machine.Machine.{reported_by, advance, answer_in, line_heard, update_at, with_rest, with_supplies, after_answer, byte_heard, bytes_heard, byte_reported, bytes_reported}
 use Rattle.nut_server_spec.proofs.LineLaws.{brought_line_feed, brought_within}
 use Rattle.nut_server_spec.proofs.Places.{update-below, update_at-none, update_at-twice}
 use Rattle.nut_server_spec.proofs.Law.{content_from, supply_from, rests_of, takes_of, reports_of, scene_is, eqb_turn, rest-law, said_sessions, said_supplies, answered_past, reported_self, IsDriverCovered}
@@ -54,7 +54,7 @@ law-feed first h c covered drivers there =
     let t = answered_past first p c line reply in
     ap (λ ls. content_from first (trace first (with_lines c ls (steps h))) rests' (takes_of h) (reports_of h)) (brought_line_feed (input c h))
     ∙ ap (λ sessions. record s { given = given_then reply (given p); sessions = sessions; supplies = map (supply_from first t (reports_of h)) (ups_numbers first p) })
-    (said_sessions first p c line reply (λ u. request_for u (target (configuration first p) (command_of line)) (request_of (command_of line) reply))
+    (said_sessions first p c line reply (λ u. request_for u (target (numbering first p) (command_of line)) (request_of (command_of line) reply))
     (rests_of h) rests' (takes_of h) covered (rests_other h c (10 ∷ [])) (rests_self h c (10 ∷ []) ∙ rest_at_line_feed (input c h)))
     ∙ ap (λ supplies. record (after_answer c (command_of line) reply s) { supplies = supplies }) (said_supplies first p c line reply (reports_of h) drivers)
     ∙ ap (λ r. after_answer c (command_of line) r s) (answer_is first h c line)
@@ -146,38 +146,45 @@ reports_self h u piece = rw (eq-eqb u u refl) refl
 abbrev after_report : ℕ → ℕ → Content → Content
 after_report u b s = with_supplies (update_at u (byte_reported s.clock b) s.supplies) s
 
-law-report_feed : (first : Configuration) (h : List Event) (u : ℕ) → content first (DriverBytes u (10 ∷ []) ∷ h) ≡ after_report u 10 (content first h)
-law-report_feed first h u =
+law-report_feed : (first : Configuration) (h : List Event) (u : ℕ) → connected u (past first h) ≡ true → content first (DriverBytes u (10 ∷ []) ∷ h) ≡ after_report u 10 (content first h)
+law-report_feed first h u is =
     let p = past first h in
     let reports' = reports_of (DriverBytes u (10 ∷ []) ∷ h) in
     ap (λ ls. content_from first (trace first (with_reports u ls (steps h))) (rests_of h) (takes_of h) reports') (brought_line_feed (driver_input u h))
     ∙ ap (λ supplies. with_supplies supplies (content first h))
-    (update-below u (length (configuration first p).upses) (supply first h) (supply_from first (trace first (Reported u (reports_of h u) ∷ steps h)) reports') (byte_reported (clock p) 10)
+    (update-below u (places first p) (supply first h) (supply_from first (trace first (Reported u (reports_of h u) ∷ steps h)) reports') (byte_reported (clock p) 10)
     (λ d differ. rw (eqb_turn d u differ) (refl {a = supply first h d}))
-    (reported_self first p u (reports_of h u) Silence (λ v. None) (reports_of h) reports' refl (reports_self h u (10 ∷ []) ∙ rest_at_line_feed (driver_input u h))))
+    (reported_self first p u (reports_of h u) Silence (λ v. None) (reports_of h) reports' refl (reports_self h u (10 ∷ []) ∙ rest_at_line_feed (driver_input u h)) is
+    ∙ sym (ap (λ up. reported_by (clock p) (if up then reports_of h u else Text []) (supply first h u)) is)))
 
-law-report_other : (first : Configuration) (h : List Event) (u b : ℕ) → eqb b 10 ≡ false → content first (DriverBytes u (b ∷ []) ∷ h) ≡ after_report u b (content first h)
-law-report_other first h u b other =
+law-report_other : (first : Configuration) (h : List Event) (u b : ℕ) → connected u (past first h) ≡ true → eqb b 10 ≡ false → content first (DriverBytes u (b ∷ []) ∷ h) ≡ after_report u b (content first h)
+law-report_other first h u b is other =
     let reports' = reports_of (DriverBytes u (b ∷ []) ∷ h) in
     ap (λ ls. content_from first (trace first (with_reports u ls (steps h))) (rests_of h) (takes_of h) reports') (brought_within (driver_input u h) b other)
     ∙ ap (λ supplies. with_supplies supplies (content first h))
-    (update-below u (length (configuration first (past first h)).upses) (supply first h) (supply_from first (past first h) reports') (byte_reported (clock (past first h)) b)
+    (update-below u (places first (past first h)) (supply first h) (supply_from first (past first h) reports') (byte_reported (clock (past first h)) b)
     (λ d differ. rw (eqb_turn d u differ) (refl {a = supply first h d}))
-    (rw other (ap (λ r. record (supply first h u) { rest = r }) (reports_self h u (b ∷ []) ∙ rest_within (driver_input u h) b (eqb-false b 10 other)))))
+    (rw other (ap (λ up. record (supply first h u) { rest = if up then reports' u else Text [] }) is
+    ∙ ap (λ r. record (supply first h u) { rest = r }) (reports_self h u (b ∷ []) ∙ rest_within (driver_input u h) b (eqb-false b 10 other))
+    ∙ sym (ap (λ up. record (supply first h u) { rest = joined (if up then reports_of h u else Text []) (b ∷ []) }) is))))
 
-law-report_byte : (first : Configuration) (h : List Event) (u b : ℕ) → content first (DriverBytes u (b ∷ []) ∷ h) ≡ after_report u b (content first h)
-law-report_byte first h u b =
+law-report_byte : (first : Configuration) (h : List Event) (u b : ℕ) → connected u (past first h) ≡ true → content first (DriverBytes u (b ∷ []) ∷ h) ≡ after_report u b (content first h)
+law-report_byte first h u b up =
     elim (cases_Bool (eqb b 10)) [
-      | inl is ↦ let P : ℕ → Type 0 = λ x. content first (DriverBytes u (x ∷ []) ∷ h) ≡ after_report u x (content first h) in subst P (sym (eqb-true b 10 is)) (law-report_feed first h u)
-      | inr other ↦ law-report_other first h u b other
+      | inl is ↦ let P : ℕ → Type 0 = λ x. content first (DriverBytes u (x ∷ []) ∷ h) ≡ after_report u x (content first h) in subst P (sym (eqb-true b 10 is)) (law-report_feed first h u up)
+      | inr other ↦ law-report_other first h u b up other
     ]
 
-pub law-driver_bytes : (first : Configuration) (h : List Event) (u : ℕ) (piece : List ℕ) → content first (DriverBytes u piece ∷ h) ≡ advance (content first h) (DriverBytes u piece)
-law-driver_bytes first h u [] =
+pub connected_reports : (first : Configuration) (u v : ℕ) (ls : List LineText) (s : List Step) → connected v (trace first (with_reports u ls s)) ≡ connected v (trace first s)
+connected_reports first u v [] s = refl
+connected_reports first u v (l ∷ ls) s = connected_reports first u v ls (Reported u l ∷ s)
+
+pub law-driver_bytes : (first : Configuration) (h : List Event) (u : ℕ) (piece : List ℕ) → connected u (past first h) ≡ true → content first (DriverBytes u piece ∷ h) ≡ advance (content first h) (DriverBytes u piece)
+law-driver_bytes first h u [] up =
     law-no_report first h u ∙ sym (ap (λ supplies. with_supplies supplies (content first h)) (update_at-none u (bytes_reported (content first h).clock []) (content first h).supplies (λ d. refl)))
-law-driver_bytes first h u (b ∷ piece) =
+law-driver_bytes first h u (b ∷ piece) up =
     let s = content first h in
     driver_cut-law first h u (b ∷ []) piece
-    ∙ law-driver_bytes first (DriverBytes u (b ∷ []) ∷ h) u piece
-    ∙ ap (λ x. advance x (DriverBytes u piece)) (law-report_byte first h u b)
+    ∙ law-driver_bytes first (DriverBytes u (b ∷ []) ∷ h) u piece (connected_reports first u u (brought (driver_input u h) (b ∷ [])) (steps h) ∙ up)
+    ∙ ap (λ x. advance x (DriverBytes u piece)) (law-report_byte first h u b up)
     ∙ ap (λ supplies. with_supplies supplies s) (update_at-twice u (byte_reported s.clock b) (bytes_reported s.clock piece) s.supplies)

@@ -6,7 +6,7 @@ use Rattle.std.proofs.lemmas.List.{length-map}
 use Rattle.std.proofs.lemmas.Option.{slice_get_within}
 use Rattle.nut_server_spec.specs.Content.{Supply}
 use Rattle.nut_server_spec.specs.machine.Machine.{update_at}
-use Rattle.nut_server_spec.specs.Trace.{below}
+use Rattle.nut_server_spec.specs.Numbering.{below}
 
 -- These are the numbers from k on, one by one.
 abbrev pub IsCount : ℕ → List ℕ → Type 0
@@ -17,7 +17,7 @@ IsCount-push : (k m : ℕ) (ns : List ℕ) → IsCount k ns → m ≡ length ns 
 IsCount-push k m [] counts is = (omega (arith, is), tt)
 IsCount-push k m (n ∷ ns) counts is = (counts.0, IsCount-push (suc k) m ns counts.1 (omega (arith, is)))
 
-below-length : (n : ℕ) → length (below n) ≡ n
+pub below-length : (n : ℕ) → length (below n) ≡ n
 below-length zero = refl
 below-length (suc n) = omega (arith, length-append (below n) (n ∷ []), below-length n)
 

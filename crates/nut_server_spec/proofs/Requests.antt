@@ -10,10 +10,10 @@ use Rattle.nut_proto.specs.declared.driver_ask.DriverAsk.TheVariants as asks
 use Rattle.nut_proto.specs.declared.limits.TheConstants.{TRACKING_NUMBER_MAX}
 use Rattle.nut_proto.specs.DriverAsks.{ask_line}
 use Rattle.nut_state.specs.Table.{variable, has_command}
-use Rattle.nut_server_spec.specs.Configuration.{User, number_of_ups, user_named, may_command}
+use Rattle.nut_server_spec.specs.Configuration.{User, user_named, may_command}
 use Rattle.nut_server_spec.specs.Command.{Command, Blank, Malformed, Asks}
 use Rattle.nut_server_spec.specs.Device.{Device, trouble, fits}
-use Rattle.nut_server_spec.specs.Answer.{Answer, Silence, Scene, Caller, refused, require, check, unless, with_credentials, with_right, on_data, device_at, has_right, may_set, misfit, parameter_misfit, numbered, accepted, handed_on, set_answer, command_answer, answer}
+use Rattle.nut_server_spec.specs.Answer.{Answer, Silence, Scene, Caller, refused, require, check, unless, with_credentials, with_right, on_data, device_at, has_right, may_set, misfit, parameter_misfit, numbered, accepted, handed_on, set_answer, command_answer, answer, ups_number, numbering_in}
 use Rattle.nut_server_spec.specs.Effect.{number_in, target, request_of}
 
 -- ---- what holds of every refusal, and of the next step of a test, holds of the answer
@@ -37,10 +37,10 @@ with_credentials-case P k next bad good =
     require-case P refusals.PasswordRequired k.password (next user) (bad refusals.PasswordRequired) (λ password given'. good user password))
 
 pub with_right-case : (P : Answer → Type 0) (s : Scene) (k : Caller) (right : User → Bool) (name : List ℕ) (next : ℕ → Answer) → ((r : Refusal) → P (refused r))
-    → ((u : ℕ) → number_of_ups name s.configuration.upses ≡ Some u → P (next u)) → P (with_right s k right name next)
+    → ((u : ℕ) → ups_number s name ≡ Some u → P (next u)) → P (with_right s k right name next)
 with_right-case P s k right name next bad good =
     with_credentials-case P k _ bad (λ user password.
-    require-case P refusals.UnknownUps (number_of_ups name s.configuration.upses) _ (bad refusals.UnknownUps) (λ u found.
+    require-case P refusals.UnknownUps (ups_number s name) _ (bad refusals.UnknownUps) (λ u found.
     check-case P refusals.AccessDenied (has_right right password (user_named user s.configuration.users)) (next u) (bad refusals.AccessDenied) (λ holds. good u found)))
 
 -- ---- SET and INSTCMD
@@ -72,7 +72,7 @@ pub handed_on-case : (P : Answer → Type 0) (refusal : Refusal) (s : Scene) (k 
 handed_on-case P refusal s k ask d bad good =
     numbered-case P refusal s k _ bad (λ number next. check-case P refusal (fits (ask_line (ask number)) d) (accepted number) bad (good number next))
 
-set-fits : (s : Scene) (k : Caller) (ups name value : List ℕ) (v : ℕ) → number_of_ups ups s.configuration.upses ≡ Some v → (line : List ℕ)
+set-fits : (s : Scene) (k : Caller) (ups name value : List ℕ) (v : ℕ) → ups_number s ups ≡ Some v → (line : List ℕ)
     → request_of (Asks (requests.SetVar ups name value)) (answer s k (Asks (requests.SetVar ups name value))) ≡ Some line → fits line (device_at s v) ≡ true
 set-fits s k ups name value v place line =
     with_right-case P s k may_set ups (λ u. on_data s u (λ d. set_answer s k d name value)) (λ r bad. cc) (λ u found.
@@ -83,11 +83,11 @@ set-fits s k ups name value v place line =
       P : Answer → Type 0
       P reply = request_of (Asks (requests.SetVar ups name value)) reply ≡ Some line → fits line (device_at s v) ≡ true
 
-      by : (u : ℕ) → number_of_ups ups s.configuration.upses ≡ Some u → (number : Option ℕ) → fits (ask_line (asks.Set name value number)) (device_at s u) ≡ true → P (accepted number)
+      by : (u : ℕ) → ups_number s ups ≡ Some u → (number : Option ℕ) → fits (ask_line (asks.Set name value number)) (device_at s u) ≡ true → P (accepted number)
       by u found None holds is = fits-there s u v line (ask_line (asks.Set name value None)) (sym found ∙ place) is holds
       by u found (Some number) holds is = fits-there s u v line (ask_line (asks.Set name value (Some number))) (sym found ∙ place) is holds
 
-command-fits : (s : Scene) (k : Caller) (ups name : List ℕ) (parameter : Option (List ℕ)) (v : ℕ) → number_of_ups ups s.configuration.upses ≡ Some v → (line : List ℕ)
+command-fits : (s : Scene) (k : Caller) (ups name : List ℕ) (parameter : Option (List ℕ)) (v : ℕ) → ups_number s ups ≡ Some v → (line : List ℕ)
     → request_of (Asks (requests.InstCmd ups name parameter)) (answer s k (Asks (requests.InstCmd ups name parameter))) ≡ Some line → fits line (device_at s v) ≡ true
 command-fits s k ups name parameter v place line =
     with_right-case P s k (may_command name) ups (λ u. on_data s u (λ d. command_answer s k d name parameter)) (λ r bad. cc) (λ u found.
@@ -98,13 +98,13 @@ command-fits s k ups name parameter v place line =
       P : Answer → Type 0
       P reply = request_of (Asks (requests.InstCmd ups name parameter)) reply ≡ Some line → fits line (device_at s v) ≡ true
 
-      by : (u : ℕ) → number_of_ups ups s.configuration.upses ≡ Some u → (number : Option ℕ) → fits (ask_line (asks.InstCmd name parameter number)) (device_at s u) ≡ true → P (accepted number)
+      by : (u : ℕ) → ups_number s ups ≡ Some u → (number : Option ℕ) → fits (ask_line (asks.InstCmd name parameter number)) (device_at s u) ≡ true → P (accepted number)
       by u found None holds is = fits-there s u v line (ask_line (asks.InstCmd name parameter None)) (sym found ∙ place) is holds
       by u found (Some number) holds is = fits-there s u v line (ask_line (asks.InstCmd name parameter (Some number))) (sym found ∙ place) is holds
 
 -- A line's request to a driver fits behind what waits for it. The line of a client that has logged out makes no
 -- request.
-pub asked-fits : (s : Scene) (k : Caller) (command : Command) (v : ℕ) (out : Bool) → target s.configuration command ≡ Some v → (line : List ℕ)
+pub asked-fits : (s : Scene) (k : Caller) (command : Command) (v : ℕ) (out : Bool) → target (numbering_in s) command ≡ Some v → (line : List ℕ)
     → request_of command (if out then Silence else answer s k command) ≡ Some line → fits line (device_at s v) ≡ true
 asked-fits s k Blank v out goal line is = cc
 asked-fits s k (Malformed refusal) v out goal line is = cc

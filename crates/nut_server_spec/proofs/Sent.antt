@@ -6,11 +6,11 @@ use Rattle.std.proofs.lemmas.List.{take-append-le, take-append-drop}
 use Rattle.std.proofs.Math.Seq.{take-add}
 use Rattle.nut_words.specs.Lines.{LineText}
 use Rattle.nut_words.specs.Quoting.{Begins}
-use Rattle.nut_server_spec.specs.declared.Place.TheVariants.{Line, Report}
+use Rattle.nut_server_spec.specs.declared.Place.TheVariants.{Line, Report, NewUpses}
 use Rattle.nut_server_spec.specs.declared.Refused.{Refused}
 use Rattle.nut_server_spec.specs.declared.Refused.TheVariants.{NoSuchConnection, NotConnected, PieceTooLong, Busy, TooMuchTaken, BadAddress, Full, Memory}
 use Rattle.nut_server_spec.specs.Configuration.{Configuration}
-use Rattle.nut_server_spec.specs.Event.{Event, Moment, Open, Bytes, Took, Close, WriteFailed, DriverUp, DriverBytes, DriverTook, DriverDown, Step, Said, input, taken, driver_input, steps, with_lines, brought}
+use Rattle.nut_server_spec.specs.Event.{Event, Moment, Open, Bytes, Took, Close, WriteFailed, DriverUp, DriverBytes, DriverTook, DriverDown, Step, Said, input, taken, driver_input, steps, with_lines, brought, Reload}
 use Rattle.nut_server_spec.specs.Answer.{text_of}
 use Rattle.nut_server_spec.specs.Trace.{due, trace, answer_to}
 use Rattle.nut_server_spec.specs.Content.{Session, Content, past, content, sent, waits}
@@ -73,6 +73,7 @@ sent-step first h c (DriverUp u) accepted = sym (append-nil (sent first c h))
 sent-step first h c (DriverBytes u piece) accepted = sent-reports first h u c piece ∙ sym (append-nil (sent first c h))
 sent-step first h c (DriverTook u n) accepted = sym (append-nil (sent first c h))
 sent-step first h c (DriverDown u) accepted = sym (append-nil (sent first c h))
+sent-step first h c (Reload k) accepted = sym (append-nil (sent first c h))
 
 -- An event in which c takes nothing changes nothing of what it was sent.
 pub sent-other : (first : Configuration) (h : List Event) (c : ℕ) (e : Event) → IsAccepted first h → taken_by c e ≡ 0 → sent first c (e ∷ h) ≡ sent first c h
@@ -109,6 +110,9 @@ sent-refused first h d (Memory (Line c k)) (DriverTook u n) accepted = refl
 sent-refused first h d (Memory (Report v k)) (DriverTook u n) accepted = refl
 sent-refused first h d (Memory (Line c k)) (DriverDown u) accepted = refl
 sent-refused first h d (Memory (Report v k)) (DriverDown u) accepted = refl
+sent-refused first h d (Memory (Line c k)) (Reload j) accepted = refl
+sent-refused first h d (Memory (Report v k)) (Reload j) accepted = refl
+sent-refused first h d (Memory NewUpses) e accepted = refl
 sent-refused first h d NoSuchConnection e accepted = refl
 sent-refused first h d NotConnected e accepted = refl
 sent-refused first h d PieceTooLong e accepted = refl
@@ -159,6 +163,7 @@ sent-received first (DriverUp u ∷ h) c accepted = sent-received first h c acce
 sent-received first (DriverBytes u piece ∷ h) c accepted = sent-reports first h u c piece ∙ sent-received first h c accepted.0
 sent-received first (DriverTook u n ∷ h) c accepted = sent-received first h c accepted.0
 sent-received first (DriverDown u ∷ h) c accepted = sent-received first h c accepted.0
+sent-received first (Reload k ∷ h) c accepted = sent-received first h c accepted.0
 
 pub sent-waits : (first : Configuration) (h : List Event) (c : ℕ) → sent first c h ++ waits first c h ≡ due c (past first h)
 sent-waits first h c = take-append-drop (taken c h) (due c (past first h))

@@ -1,5 +1,5 @@
 -- The session found under a number after one session is changed or removed, and after bytes of one.
-use Rattle.std.proofs.Common.{◌≡◌, ℕ, true, false, eqb, List, [], ◌∷◌, ◌++◌, drop, refl, ◌∙◌, ap, inl, inr, Option, Some, None}
+use Rattle.std.proofs.Common.{◌≡◌, ℕ, true, false, eqb, List, [], ◌∷◌, ◌++◌, drop, refl, ◌∙◌, ap, inl, inr, Option, Some, None, Bool, filter}
 use Rattle.std.specs.Prelude.{option_map}
 use Rattle.std.proofs.Common.{sym}
 use Rattle.std.proofs.Math.Seq.{drop-nil}
@@ -9,8 +9,9 @@ use Rattle.nut_server_spec.specs.Command.{Command, command_of}
 use Rattle.nut_server_spec.specs.Answer.{Answer}
 use Rattle.nut_server_spec.specs.Content.{Session, Content}
 use Rattle.nut_server_spec.specs.Acceptance.{session_of, waiting_in, waiting_of}
-use Rattle.nut_server_spec.specs.machine.Machine.{update, without, with_rest, with_sessions, answered, answer_in, after_answer, line_heard, byte_heard, bytes_heard}
+use Rattle.nut_server_spec.specs.machine.Machine.{numbering_of, update, without, with_rest, with_sessions, answered, answer_in, after_answer, line_heard, byte_heard, bytes_heard}
 use Rattle.nut_server_spec.proofs.Law.{eqb_turn}
+use Rattle.std.specs.Option.{option_map_or}
 
 -- a change that keeps the number of a session
 abbrev pub KeepsNumber : (Session → Session) → Type 0
@@ -102,7 +103,7 @@ waiting_of-took c n sessions =
 -- A line of c leaves the sessions of other connections as they are.
 after_answer-other : (c d : ℕ) (command : Command) (reply : Answer) (s : Content) → eqb d c ≡ false → session_of d (after_answer c command reply s).sessions ≡ session_of d s.sessions
 after_answer-other c d command reply s differ =
-    session_of-update_other c d (λ k. with_rest (Text []) (answered s.configuration command reply k)) s.sessions (λ k. refl) differ
+    session_of-update_other c d (λ k. with_rest (Text []) (answered (numbering_of s) command reply k)) s.sessions (λ k. refl) differ
 
 line_heard-other : (c d : ℕ) (o : Option Session) (s : Content) → eqb d c ≡ false → session_of d (line_heard c o s).sessions ≡ session_of d s.sessions
 line_heard-other c d None s differ = refl
@@ -130,7 +131,7 @@ line_heard-open : (c : ℕ) (o : Option Session) (s : Content) → IsOpen c s �
 line_heard-open c None s is = is
 line_heard-open c (Some k) s is =
     let command = command_of k.rest in
-    update-open c (λ j. with_rest (Text []) (answered s.configuration command (answer_in s command k) j)) s (λ j. refl) is
+    update-open c (λ j. with_rest (Text []) (answered (numbering_of s) command (answer_in s command k) j)) s (λ j. refl) is
 
 byte_heard-open : (c b : ℕ) (s : Content) → IsOpen c s → IsOpen c (byte_heard c b s)
 byte_heard-open c b s is =
@@ -142,3 +143,18 @@ byte_heard-open c b s is =
 pub bytes_heard-open : (c : ℕ) (piece : List ℕ) (s : Content) → IsOpen c s → IsOpen c (bytes_heard c piece s)
 bytes_heard-open c [] s is = is
 bytes_heard-open c (b ∷ piece) s is = bytes_heard-open c piece (byte_heard c b s) (byte_heard-open c b s is)
+
+-- ---- some connections are closed
+
+pub session_of-filter : (d : ℕ) (q : Session → Bool) (sessions : List Session) → option_map_or q (session_of d sessions) true ≡ true → session_of d (filter q sessions) ≡ session_of d sessions
+session_of-filter d q [] stays = refl
+session_of-filter d q (k ∷ sessions) stays =
+    elim (cases_Bool (eqb k.number d)) [
+      | inl e ↦ let here : q k ≡ true = rw e at stays in rw (here, e) refl
+      | inr e ↦
+          let later : option_map_or q (session_of d sessions) true ≡ true = rw e at stays in
+          elim (cases_Bool (q k)) [
+            | inl f ↦ rw (f, e) (session_of-filter d q sessions later)
+            | inr f ↦ rw (f, e) (session_of-filter d q sessions later)
+          ]
+    ]

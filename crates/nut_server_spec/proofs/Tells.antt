@@ -6,20 +6,22 @@ use Rattle.nut_words.specs.Lines.{LineText, lines_after}
 use Rattle.std.proofs.lemmas.Bool.{cases_Bool, ltb-false, le-ltb}
 use Rattle.nut_words.specs.declared.limits.TheConstants.{PIECE_MAX}
 use Rattle.nut_server_spec.specs.declared.Place.{Place}
-use Rattle.nut_server_spec.specs.declared.Place.TheVariants.{Line, Report}
+use Rattle.nut_server_spec.specs.declared.Place.TheVariants.{Line, Report, NewUpses}
 use Rattle.nut_server_spec.specs.declared.Refused.{Refused}
 use Rattle.nut_server_spec.specs.declared.Refused.TheVariants.{NoSuchConnection, NotConnected, PieceTooLong, Busy, TooMuchTaken, BadAddress, Full, Memory}
 use Rattle.nut_server_spec.specs.Configuration.{Configuration}
-use Rattle.nut_server_spec.specs.Event.{Event, Moment, Open, Bytes, Took, Close, WriteFailed, DriverUp, DriverBytes, DriverTook, DriverDown}
-use Rattle.nut_server_spec.specs.Content.{Session, Supply, Content, content}
+use Rattle.nut_server_spec.specs.Event.{Event, Moment, Open, Bytes, Took, Close, WriteFailed, DriverUp, DriverBytes, DriverTook, DriverDown, Reload}
+use Rattle.nut_server_spec.specs.Content.{Session, Supply, Content, content, supply, past}
 use Rattle.nut_server_spec.specs.Acceptance.{refusal, IsAccepted, Tells, front, lost, lost_report, session_of, supply_of, bytes_refusal, close_refusal, report_refusal, down_refusal}
 use Rattle.nut_server_spec.specs.machine.Machine.{advance, bytes_reported, with_supplies}
 use Rattle.nut_server_spec.specs.Outcome.{IsAnswer, IsRefusal, MayLack, MayRunOut, MayRunOutOf, after, after_refusal, after_lack, line_takes, report_takes, unfinished_of, unfinished_report}
 use Rattle.nut_server_spec.specs.MachineOutcome.{Answers, Refuses, Lacks, RunsOut, RunsOutOf, supply_after, content_after, content_after_refusal, content_after_lack, content_lost, content_lost_report}
 use Rattle.nut_server_spec.proofs.Kept.{keeps-content}
-use Rattle.nut_server_spec.proofs.Places.{update_at-none}
+use Rattle.nut_server_spec.proofs.Places.{update_at-none, below-length}
 use Rattle.nut_server_spec.proofs.Sessions.{bytes_heard-open, IsOpen}
 use Rattle.nut_server_spec.proofs.Supplies.{supply_of-update, bytes_reported-connected}
+use Rattle.nut_server_spec.specs.Trace.{places, ups_numbers}
+use Rattle.std.proofs.lemmas.List.{length-map}
 
 -- one accepted event more
 step-here : (first : Configuration) (h : List Event) (e : Event) → IsAccepted first h → refusal (content first h) e ≡ None → Tells first (e ∷ h) (advance (content first h) e)
@@ -140,6 +142,9 @@ lack first h s (DriverTook v n) (Line c k) told accepted may = absurd may
 lack first h s (DriverTook v n) (Report u k) told accepted may = absurd may
 lack first h s (DriverDown v) (Line c k) told accepted may = absurd may
 lack first h s (DriverDown v) (Report u k) told accepted may = absurd may
+lack first h s (Reload j) (Line c k) told accepted may = absurd may
+lack first h s (Reload j) (Report u k) told accepted may = absurd may
+lack first h s e NewUpses told accepted may = told
 
 refused : (first : Configuration) (h : List Event) (s : Content) (e : Event) (r : Refused) → Tells first h s → Refuses s e r
     → Tells first (after_refusal r e h) (content_after_refusal r e s)
@@ -206,6 +211,10 @@ runs_out_of first h s u piece (suc k) told accepted may =
     subst (λ x. ReportTakes piece (suc k) (supply_of u x.supplies) (supply_of u (content first (DriverBytes u part ∷ h)).supplies)) told.1
     (subst (λ o. ReportTakes piece (suc k) (supply_of u s.supplies) o) later may)
 
+-- there are as many UPSes as there are numbers for them
+supplies_are : (first : Configuration) (h : List Event) → length (content first h).supplies ≡ places first (past first h)
+supplies_are first h = length-map (ups_numbers first (past first h)) (supply first h) ∙ below-length (places first (past first h))
+
 lacks : (first : Configuration) (h : List Event) (s : Content) (e : Event) (place : Place) → Tells first h s → refusal s e ≡ None → Lacks s place e → MayLack first h place e
 lacks first h s (Moment t) (Line c k) told accepted may = absurd may
 lacks first h s (Moment t) (Report u k) told accepted may = absurd may
@@ -227,6 +236,19 @@ lacks first h s (DriverTook v n) (Line c k) told accepted may = absurd may
 lacks first h s (DriverTook v n) (Report u k) told accepted may = absurd may
 lacks first h s (DriverDown v) (Line c k) told accepted may = absurd may
 lacks first h s (DriverDown v) (Report u k) told accepted may = absurd may
+lacks first h s (Reload j) (Line c k) told accepted may = absurd may
+lacks first h s (Reload j) (Report u k) told accepted may = absurd may
+lacks first h s (Reload j) NewUpses told accepted may = omega (arith, may, ap (λ (x : Content). length x.supplies) told.1, supplies_are first h)
+lacks first h s (Moment t) NewUpses told accepted may = absurd may
+lacks first h s (Open address) NewUpses told accepted may = absurd may
+lacks first h s (Bytes d piece) NewUpses told accepted may = absurd may
+lacks first h s (Took d n) NewUpses told accepted may = absurd may
+lacks first h s (Close d) NewUpses told accepted may = absurd may
+lacks first h s (WriteFailed d) NewUpses told accepted may = absurd may
+lacks first h s (DriverUp v) NewUpses told accepted may = absurd may
+lacks first h s (DriverBytes v piece) NewUpses told accepted may = absurd may
+lacks first h s (DriverTook v n) NewUpses told accepted may = absurd may
+lacks first h s (DriverDown v) NewUpses told accepted may = absurd may
 
 refuses : (first : Configuration) (h : List Event) (s : Content) (e : Event) (r : Refused) → Tells first h s → Refuses s e r → IsRefusal first h e r
 refuses first h s e (Memory place) told is = (subst (λ x. refusal x e ≡ None) told.1 is.0, lacks first h s e place told is.0 is.1)

@@ -1,6 +1,6 @@
 -- What waits for a client: the answers to the lines of one piece, none longer than the longest.
 use Rattle.std.proofs.Common.{◌≡◌, ℕ, zero, suc, ◌+◌, ◌*◌, ◌<◌, ◌≤◌, Bool, true, false, eqb, List, [], ◌∷◌, length, map, drop, refl, sym, subst, ◌∙◌, ap, arith, inl, inr, Option, Some, None, length-append, length-drop}
-use Rattle.std.specs.Prelude.{◌&&◌, if◌then◌else◌, not, nat_lt, nat_le, option_map}
+use Rattle.std.specs.Prelude.{◌&&◌, if◌then◌else◌, not, nat_lt, nat_le, option_map, filter}
 use Rattle.std.specs.List.{AllByRecursion, list_all}
 use Rattle.std.proofs.lemmas.Bool.{cases_Bool, eqb-true, ltb-true, ltb-false, leb-true}
 use Rattle.std.proofs.lemmas.List.{length-map}
@@ -14,23 +14,25 @@ use Rattle.nut_state.specs.Table.{empty}
 use Rattle.nut_server_spec.specs.declared.Refused.TheVariants.{PieceTooLong, Busy, BadAddress, Full}
 use Rattle.nut_server_spec.specs.Configuration.{Configuration}
 use Rattle.nut_server_spec.specs.Command.{Command, Blank, command_of}
-use Rattle.nut_server_spec.specs.Event.{Event, Moment, Open, Bytes, Took, Close, WriteFailed, DriverUp, DriverBytes, DriverTook, DriverDown}
+use Rattle.nut_server_spec.specs.Event.{Event, Moment, Open, Bytes, Took, Close, WriteFailed, DriverUp, DriverBytes, DriverTook, DriverDown, Reload, input, driver_input, steps, brought}
 use Rattle.nut_server_spec.specs.Answer.{Answer, Silence, Guest, text_of, answer}
 use Rattle.nut_server_spec.specs.Device.{Device}
 use Rattle.nut_server_spec.specs.Effect.{target}
-use Rattle.nut_server_spec.specs.Trace.{Entry, configuration, reports, ups_numbers}
+use Rattle.nut_server_spec.specs.Trace.{configuration, reports, ups_numbers}
 use Rattle.nut_server_spec.specs.Content.{Session, Supply, Content, content, past, supply}
 use Rattle.nut_server_spec.specs.Acceptance.{IsAccepted, refusal, session_of, waiting_in, waiting_of, is_address, open_refusal, bytes_refusal}
-use Rattle.nut_server_spec.specs.machine.Machine.{advance, update, update_at, act_on, acted, answered, after_answer, answer_in, caller_of, scene_of, guest_of, with_rest, line_heard, byte_heard, bytes_heard, without, fresh}
-use Rattle.nut_server_spec.specs.laws.Laws.{IsOther, connection_of}
-use Rattle.nut_server_spec.specs.laws.Limits.{IsWithin, WaitsAreBounded, most_waits}
+use Rattle.nut_server_spec.specs.machine.Machine.{advance, numbering_of, update, update_at, act_on, acted, answered, after_answer, answer_in, caller_of, scene_of, guest_of, with_rest, line_heard, byte_heard, bytes_heard, without, fresh}
+use Rattle.nut_server_spec.specs.laws.Laws.{IsOther, connection_of, closes, most_allowed}
+use Rattle.nut_server_spec.specs.laws.Limits.{IsWithin, WaitsAreBounded, most_waits, AreWithin}
 use Rattle.nut_server_spec.proofs.Alls.{all_append, all_filter, all_map}
 use Rattle.nut_server_spec.proofs.AnswerLengths.{IsFit, IsShortScene, answer_fit, fewer, fit_silence, IsReadableCommand, readable-command}
-use Rattle.nut_server_spec.proofs.Kept.{keeps-content}
-use Rattle.nut_server_spec.proofs.Others.{advance-other, advance-took, advance-close, advance-write_failed, opened-fresh}
-use Rattle.nut_server_spec.proofs.Sessions.{session_of-update}
+use Rattle.nut_server_spec.proofs.Kept.{keeps-content, session_is}
+use Rattle.nut_server_spec.proofs.Others.{advance-other, advance-took, advance-close, advance-write_failed, opened-fresh, configuration_lines, configuration_reports}
+use Rattle.nut_server_spec.proofs.Sessions.{session_of-update, session_of-filter}
 use Rattle.nut_server_spec.proofs.Tables.{IsShortTable, table_short}
 use Rattle.nut_server_spec.specs.declared.limits.TheConstants.{ADDRESS_MAX, OPENED_MAX}
+use Rattle.nut_server_spec.specs.Numbering.{fate_of, is_to_cleared}
+use Rattle.std.specs.Option.{option_map_or}
 
 -- ---- open connections
 
@@ -53,13 +55,14 @@ few_update m c change ks keeps are = record { few = omega (arith, as_long ks, ar
         | inr e ↦ rw e (all.0, each ks all.1)
       ]
 
+few_filter : (m : ℕ) (p : Session → Bool) (ks : List Session) → AreFew m ks → AreFew m (filter p ks)
+few_filter m p ks are = record { few = omega (arith, fewer p ks, are.few); addresses = all_filter _ p ks are.addresses }
+
 few_without : (m c : ℕ) (ks : List Session) → AreFew m ks → AreFew m (without c ks)
-few_without m c ks are =
-    let p : Session → Bool = λ k. not (eqb k.number c) in
-    record { few = omega (arith, fewer p ks, are.few); addresses = all_filter _ p ks are.addresses }
+few_without m c ks are = few_filter m (λ k. not (eqb k.number c)) ks are
 
 few_answer : (m c : ℕ) (command : Command) (reply : Answer) (s : Content) → AreFew m s.sessions → AreFew m (after_answer c command reply s).sessions
-few_answer m c command reply s are = few_update m c (λ k. with_rest (Text []) (answered s.configuration command reply k)) s.sessions (λ k. refl) are
+few_answer m c command reply s are = few_update m c (λ k. with_rest (Text []) (answered (numbering_of s) command reply k)) s.sessions (λ k. refl) are
 
 few_line : (m c : ℕ) (o : Option Session) (s : Content) → AreFew m s.sessions → AreFew m (line_heard c o s).sessions
 few_line m c None s are = are
@@ -97,35 +100,93 @@ opened_few s address accepted =
       | inr e ↦ absurd (let bad : Some BadAddress ≡ None = rw e at accepted in cc)
     ]
 
-few_advance : (s : Content) (e : Event) → refusal s e ≡ None → AreFew s.configuration.most_connections s.sessions → AreFew s.configuration.most_connections (advance s e).sessions
-few_advance s (Moment t) accepted are = are
-few_advance s (Open address) accepted are =
+few_advance : (most : ℕ) (s : Content) (e : Event) → refusal s e ≡ None → s.configuration.most_connections ≤ most → AreFew most s.sessions → AreFew most (advance s e).sessions
+few_advance most s (Moment t) accepted allowed are = are
+few_advance most s (Open address) accepted allowed are =
     let k = fresh (s.opened + 1) address in
     let room = opened_few s address accepted in
-    record { few = omega (arith, length-append s.sessions (k ∷ []), room.1); addresses = all_append (λ k. length k.address ≤ ADDRESS_MAX) s.sessions (k ∷ []) are.addresses (room.0, tt) }
-few_advance s (Bytes c piece) accepted are = few_bytes s.configuration.most_connections c piece s are
-few_advance s (Took c n) accepted are = few_update s.configuration.most_connections c (λ k. record k { waits = drop n k.waits }) s.sessions (λ k. refl) are
-few_advance s (Close c) accepted are = few_without s.configuration.most_connections c s.sessions are
-few_advance s (WriteFailed c) accepted are = few_without s.configuration.most_connections c s.sessions are
-few_advance s (DriverUp u) accepted are = are
-few_advance s (DriverBytes u piece) accepted are = are
-few_advance s (DriverTook u n) accepted are = are
-few_advance s (DriverDown u) accepted are = are
+    record { few = omega (arith, length-append s.sessions (k ∷ []), room.1, allowed); addresses = all_append (λ k. length k.address ≤ ADDRESS_MAX) s.sessions (k ∷ []) are.addresses (room.0, tt) }
+few_advance most s (Bytes c piece) accepted allowed are = few_bytes most c piece s are
+few_advance most s (Took c n) accepted allowed are = few_update most c (λ k. record k { waits = drop n k.waits }) s.sessions (λ k. refl) are
+few_advance most s (Close c) accepted allowed are = few_without most c s.sessions are
+few_advance most s (WriteFailed c) accepted allowed are = few_without most c s.sessions are
+few_advance most s (DriverUp u) accepted allowed are = are
+few_advance most s (DriverBytes u piece) accepted allowed are = are
+few_advance most s (DriverTook u n) accepted allowed are = are
+few_advance most s (DriverDown u) accepted allowed are = are
+few_advance most s (Reload k) accepted allowed are = few_filter most (λ j. not (is_to_cleared (fate_of k.upses (numbering_of s)) j.login)) s.sessions are
 
--- No step changes the configuration.
-pub configuration_stays : (first : Configuration) (t : List Entry) → configuration first t ≡ first
-configuration_stays first [] = refl
-configuration_stays first (e ∷ t) = configuration_stays first t
+-- ---- the configurations of a history
 
-pub few_history : (first : Configuration) (h : List Event) → IsAccepted first h → AreFew first.most_connections (content first h).sessions
+-- The configuration in force allows no more connections than one of those so far. If all are within the limits, so is it,
+-- and so are the connections.
+pub record IsAllowed (first : Configuration) (h : List Event) : Type 0 where
+  pub now : (configuration first (past first h)).most_connections ≤ most_allowed first h
+  pub within : AreWithin first h → IsWithin (configuration first (past first h))
+  pub few : AreWithin first h → most_allowed first h ≤ CONNECTIONS_MAX
+
+-- events after which the configuration is the one before
+same_allowed : (first : Configuration) (h : List Event) (later : Configuration) → later ≡ configuration first (past first h) → IsAllowed first h
+    → (later.most_connections ≤ most_allowed first h) × (AreWithin first h → IsWithin later)
+same_allowed first h later is before =
+    (omega (arith, before.now, ap (λ (c : Configuration). c.most_connections) is), λ within. subst IsWithin (sym is) (before.within within))
+
+pub allowed : (first : Configuration) (h : List Event) → IsAllowed first h
+allowed first [] = record { now = omega arith; within = λ within. within; few = λ within. within.connections }
+allowed first (Moment t ∷ h) = let before = allowed first h in record { now = before.now; within = before.within; few = before.few }
+allowed first (Open address ∷ h) = let before = allowed first h in record { now = before.now; within = before.within; few = before.few }
+allowed first (Took c n ∷ h) = let before = allowed first h in record { now = before.now; within = before.within; few = before.few }
+allowed first (Close c ∷ h) = let before = allowed first h in record { now = before.now; within = before.within; few = before.few }
+allowed first (WriteFailed c ∷ h) = let before = allowed first h in record { now = before.now; within = before.within; few = before.few }
+allowed first (DriverUp u ∷ h) = let before = allowed first h in record { now = before.now; within = before.within; few = before.few }
+allowed first (DriverTook u n ∷ h) = let before = allowed first h in record { now = before.now; within = before.within; few = before.few }
+allowed first (DriverDown u ∷ h) = let before = allowed first h in record { now = before.now; within = before.within; few = before.few }
+allowed first (Bytes c piece ∷ h) =
+    let before = allowed first h in
+    let now = same_allowed first h (configuration first (past first (Bytes c piece ∷ h))) (configuration_lines first c (brought (input c h) piece) (steps h)) before in
+    record { now = now.0; within = now.1; few = before.few }
+allowed first (DriverBytes u piece ∷ h) =
+    let before = allowed first h in
+    let now = same_allowed first h (configuration first (past first (DriverBytes u piece ∷ h))) (configuration_reports first u (brought (driver_input u h) piece) (steps h)) before in
+    record { now = now.0; within = now.1; few = before.few }
+allowed first (Reload k ∷ h) =
+    let before = allowed first h in
+    record { now = omega arith; within = λ within. within.0; few = λ within. let own = within.0.connections in let earlier = before.few within.1 in omega (arith, own, earlier) }
+
+pub were_within : (first : Configuration) (e : Event) (h : List Event) → AreWithin first (e ∷ h) → AreWithin first h
+were_within first (Moment t) h within = within
+were_within first (Open address) h within = within
+were_within first (Bytes c piece) h within = within
+were_within first (Took c n) h within = within
+were_within first (Close c) h within = within
+were_within first (WriteFailed c) h within = within
+were_within first (DriverUp u) h within = within
+were_within first (DriverBytes u piece) h within = within
+were_within first (DriverTook u n) h within = within
+were_within first (DriverDown u) h within = within
+were_within first (Reload k) h within = within.1
+
+few_next : (first : Configuration) (h : List Event) (e : Event) → IsAccepted first (e ∷ h) → AreFew (most_allowed first h) (content first h).sessions
+    → AreFew (most_allowed first h) (content first (e ∷ h)).sessions
+few_next first h e accepted before =
+    let now' : (content first (e ∷ h)).sessions ≡ (advance (content first h) e).sessions = ap (λ (s : Content). s.sessions) (keeps-content first h e accepted) in
+    subst (λ ks. AreFew (most_allowed first h) ks) (sym now') (few_advance (most_allowed first h) (content first h) e accepted.1 (allowed first h).now before)
+
+pub few_history : (first : Configuration) (h : List Event) → IsAccepted first h → AreFew (most_allowed first h) (content first h).sessions
 few_history first [] accepted = record { few = omega arith; addresses = tt }
-few_history first (e ∷ h) accepted =
-    let s = content first h in
-    let same : s.configuration.most_connections ≡ first.most_connections = ap (λ (c : Configuration). c.most_connections) (configuration_stays first (past first h)) in
-    let before = few_history first h accepted.0 in
-    let moved = few_advance s e accepted.1 (subst (λ m. AreFew m s.sessions) (sym same) before) in
-    let now' : (content first (e ∷ h)).sessions ≡ (advance s e).sessions = ap (λ (s : Content). s.sessions) (keeps-content first h e accepted) in
-    subst (λ ks. AreFew first.most_connections ks) (sym now') (subst (λ m. AreFew m (advance s e).sessions) same moved)
+few_history first (Moment t ∷ h) accepted = few_next first h (Moment t) accepted (few_history first h accepted.0)
+few_history first (Open address ∷ h) accepted = few_next first h (Open address) accepted (few_history first h accepted.0)
+few_history first (Bytes c piece ∷ h) accepted = few_next first h (Bytes c piece) accepted (few_history first h accepted.0)
+few_history first (Took c n ∷ h) accepted = few_next first h (Took c n) accepted (few_history first h accepted.0)
+few_history first (Close c ∷ h) accepted = few_next first h (Close c) accepted (few_history first h accepted.0)
+few_history first (WriteFailed c ∷ h) accepted = few_next first h (WriteFailed c) accepted (few_history first h accepted.0)
+few_history first (DriverUp u ∷ h) accepted = few_next first h (DriverUp u) accepted (few_history first h accepted.0)
+few_history first (DriverBytes u piece ∷ h) accepted = few_next first h (DriverBytes u piece) accepted (few_history first h accepted.0)
+few_history first (DriverTook u n ∷ h) accepted = few_next first h (DriverTook u n) accepted (few_history first h accepted.0)
+few_history first (DriverDown u ∷ h) accepted = few_next first h (DriverDown u) accepted (few_history first h accepted.0)
+few_history first (Reload k ∷ h) accepted =
+    let are = few_next first h (Reload k) accepted (few_history first h accepted.0) in
+    record { few = omega (arith, are.few); addresses = are.addresses }
 
 -- ---- a content within its limits
 
@@ -169,7 +230,7 @@ short_line c (Some k) s short =
     let reply = answer_in s command k in
     record {
       configured = short.configured;
-      tables = tables_acted (target s.configuration command) command reply s.supplies short.tables;
+      tables = tables_acted (target (numbering_of s) command) command reply s.supplies short.tables;
       nothing = short.nothing;
       sessions = few_answer CONNECTIONS_MAX c command reply s short.sessions;
     }
@@ -186,14 +247,14 @@ short_byte c b s short =
       })
     ]
 
-short_history : EveryTableHolds → (first : Configuration) (h : List Event) → IsWithin first → IsAccepted first h → IsShort (content first h)
+short_history : EveryTableHolds → (first : Configuration) (h : List Event) → AreWithin first h → IsAccepted first h → IsShort (content first h)
 short_history every first h within accepted =
     let are = few_history first h accepted in
     record {
-      configured = subst IsWithin (sym (configuration_stays first (past first h))) within;
+      configured = (allowed first h).within within;
       tables = all_map (λ (d : Supply). IsShortTable d.device.table) (supply first h) (ups_numbers first (past first h)) (λ u. table_short every (reports u (past first h)));
       nothing = table_short every [];
-      sessions = record { few = omega (arith, are.few, within.connections); addresses = are.addresses };
+      sessions = record { few = omega (arith, are.few, (allowed first h).few within); addresses = are.addresses };
     }
 
 -- ---- the answers to a piece
@@ -238,13 +299,13 @@ answer_in_fit s command k short readable = by_test k.logged_out where
   by_test false = answer_fit (scene_of s) (scene_short s short) (caller_of k) command readable
 
 served_line : (n : ℕ) (s : Content) (k : Session) → IsShort s → IsServed n k
-    → IsServed (n + 1) (with_rest (Text []) (answered s.configuration (command_of k.rest) (answer_in s (command_of k.rest) k) k))
+    → IsServed (n + 1) (with_rest (Text []) (answered (numbering_of s) (command_of k.rest) (answer_in s (command_of k.rest) k) k))
 served_line n s k short served = by_rest k.rest refl where
   reply : Answer
   reply = answer_in s (command_of k.rest) k
 
   later : Session
-  later = with_rest (Text []) (answered s.configuration (command_of k.rest) reply k)
+  later = with_rest (Text []) (answered (numbering_of s) (command_of k.rest) reply k)
 
   one_more : unfinished k.rest ≡ 1 → IsServed (n + 1) later
   one_more is = record {
@@ -279,7 +340,7 @@ found_changed c change ks k keeps there = by_found (session_of c ks) refl where
 served_feed : (c n : ℕ) (s : Content) (o : Option Session) → IsShort s → session_of c s.sessions ≡ o → AreServed c n s → AreServed c (n + 1) (line_heard c o s)
 served_feed c n s None short is served k there = absurd (let bad : None ≡ Some k = sym is ∙ there in cc)
 served_feed c n s (Some j) short is served k there =
-    let change : Session → Session = λ k. with_rest (Text []) (answered s.configuration (command_of j.rest) (answer_in s (command_of j.rest) j) k) in
+    let change : Session → Session = λ k. with_rest (Text []) (answered (numbering_of s) (command_of j.rest) (answer_in s (command_of j.rest) j) k) in
     let found = found_changed c change s.sessions k (λ k. refl) there in
     let one : Some found.0 ≡ Some j = sym found.1 ∙ is in
     let this : found.0 ≡ j = cc in
@@ -337,48 +398,62 @@ waiting_bounded (Some k) bounded = bounded k refl
 abbrev AreBounded : ℕ → Content → Type 0
 AreBounded d s = (k : Session) → session_of d s.sessions ≡ Some k → length k.waits ≤ most_waits
 
-bounded_other : (s : Content) (e : Event) (d : ℕ) → IsOther d (connection_of s e) → AreBounded d s → AreBounded d (advance s e)
-bounded_other s e d other bounded k there = bounded k (sym (advance-other s e d other) ∙ there)
+bounded_other : (s : Content) (e : Event) (d : ℕ) → IsOther d (connection_of s e) → closes s e d ≡ false → AreBounded d s → AreBounded d (advance s e)
+bounded_other s e d other stays bounded k there = bounded k (sym (advance-other s e d other stays) ∙ there)
 
 module _ (first : Configuration) (h : List Event) (d : ℕ) (short : IsShort (content first h)) (bounded : AreBounded d (content first h)) where
   -- an event of d itself, or of another connection
-  bounded_of : (e : Event) (c : ℕ) → connection_of (content first h) e ≡ Some c → (c ≡ d → AreBounded d (advance (content first h) e)) → AreBounded d (advance (content first h) e)
-  bounded_of e c is own =
+  bounded_of : (e : Event) (c : ℕ) → connection_of (content first h) e ≡ Some c → closes (content first h) e d ≡ false → (c ≡ d → AreBounded d (advance (content first h) e)) → AreBounded d (advance (content first h) e)
+  bounded_of e c is stays own =
       elim (cases_Bool (eqb c d)) [
         | inl t ↦ own (eqb-true c d t)
-        | inr t ↦ bounded_other (content first h) e d (let P : Option ℕ → Type 0 = IsOther d in subst P (sym is) t) bounded
+        | inr t ↦ bounded_other (content first h) e d (let P : Option ℕ → Type 0 = IsOther d in subst P (sym is) t) stays bounded
       ]
 
   bounded_advance : (e : Event) → IsAccepted first (e ∷ h) → AreBounded d (advance (content first h) e)
-  bounded_advance (Moment t) accepted = bounded_other (content first h) (Moment t) d tt bounded
-  bounded_advance (Open address) accepted = bounded_of (Open address) ((content first h).opened + 1) refl (λ is k there.
+  bounded_advance (Moment t) accepted = bounded_other (content first h) (Moment t) d tt refl bounded
+  bounded_advance (Open address) accepted = bounded_of (Open address) ((content first h).opened + 1) refl refl (λ is k there.
       let s = content first h in
       let opened : session_of (s.opened + 1) (advance s (Open address)).sessions ≡ Some (fresh (s.opened + 1) address) =
       sym (ap (λ (t : Content). session_of (s.opened + 1) t.sessions) (keeps-content first h (Open address) accepted)) ∙ opened-fresh first h address accepted in
       let same : Some (fresh (s.opened + 1) address) ≡ Some k = sym opened ∙ ap (λ n. session_of n (advance s (Open address)).sessions) is ∙ there in
       let this : fresh (s.opened + 1) address ≡ k = cc in
       omega (arith, ap (λ (k : Session). length k.waits) this))
-  bounded_advance (Bytes c piece) accepted = bounded_of (Bytes c piece) c refl (λ is k there.
+  bounded_advance (Bytes c piece) accepted = bounded_of (Bytes c piece) c refl refl (λ is k there.
       piece_bounded (content first h) c piece k short accepted.1 (ap (λ n. session_of n (bytes_heard c piece (content first h)).sessions) is ∙ there))
-  bounded_advance (Took c n) accepted = bounded_of (Took c n) c refl (λ is k there.
+  bounded_advance (Took c n) accepted = bounded_of (Took c n) c refl refl (λ is k there.
       let s = content first h in
       let left : k.waits ≡ drop n (waiting_of c s.sessions) = sym (ap waiting_in there) ∙ ap (λ m. waiting_of m (advance s (Took c n)).sessions) (sym is) ∙ advance-took s c n in
       let before : length (waiting_of c s.sessions) ≤ most_waits = waiting_bounded (session_of c s.sessions) (λ j found. bounded j (ap (λ m. session_of m s.sessions) (sym is) ∙ found)) in
       omega (arith, ap length left, length-drop n (waiting_of c s.sessions), before))
-  bounded_advance (Close c) accepted = bounded_of (Close c) c refl (λ is k there.
+  bounded_advance (Close c) accepted = bounded_of (Close c) c refl refl (λ is k there.
       absurd (let bad : None ≡ Some k = sym (advance-close (content first h) c) ∙ ap (λ m. session_of m (advance (content first h) (Close c)).sessions) is ∙ there in cc))
-  bounded_advance (WriteFailed c) accepted = bounded_of (WriteFailed c) c refl (λ is k there.
+  bounded_advance (WriteFailed c) accepted = bounded_of (WriteFailed c) c refl refl (λ is k there.
       absurd (let bad : None ≡ Some k = sym (advance-write_failed (content first h) c) ∙ ap (λ m. session_of m (advance (content first h) (WriteFailed c)).sessions) is ∙ there in cc))
-  bounded_advance (DriverUp u) accepted = bounded_other (content first h) (DriverUp u) d tt bounded
-  bounded_advance (DriverBytes u piece) accepted = bounded_other (content first h) (DriverBytes u piece) d tt bounded
-  bounded_advance (DriverTook u n) accepted = bounded_other (content first h) (DriverTook u n) d tt bounded
-  bounded_advance (DriverDown u) accepted = bounded_other (content first h) (DriverDown u) d tt bounded
+  bounded_advance (DriverUp u) accepted = bounded_other (content first h) (DriverUp u) d tt refl bounded
+  bounded_advance (DriverBytes u piece) accepted = bounded_other (content first h) (DriverBytes u piece) d tt refl bounded
+  bounded_advance (DriverTook u n) accepted = bounded_other (content first h) (DriverTook u n) d tt refl bounded
+  bounded_advance (DriverDown u) accepted = bounded_other (content first h) (DriverDown u) d tt refl bounded
+  bounded_advance (Reload c) accepted = λ k there. was_open k there (session_of d (content first h).sessions) refl where
+    q : Session → Bool
+    q j = not (is_to_cleared (fate_of c.upses (numbering_of (content first h))) j.login)
 
-waits_history : EveryTableHolds → (first : Configuration) (h : List Event) (d : ℕ) → IsWithin first → IsAccepted first h → AreBounded d (content first h)
+    was_open : (k : Session) → session_of d (advance (content first h) (Reload c)).sessions ≡ Some k → (o : Option Session) → session_of d (content first h).sessions ≡ o → length k.waits ≤ most_waits
+    was_open k there None none =
+        let gone = session_of-filter d q (content first h).sessions (ap (λ o. option_map_or q o true) none) ∙ none in
+        let bad : None ≡ Some k = sym gone ∙ there in
+        absurd (cc)
+    was_open k there (Some j) found =
+        let later : session_of d (content first (Reload c ∷ h)).sessions ≡ Some k = ap (λ (s : Content). session_of d s.sessions) (keeps-content first h (Reload c) accepted) ∙ there in
+        let same : k ≡ j = session_is first (Reload c ∷ h) d k later ∙ sym (session_is first h d j found) in
+        omega (arith, bounded j found, ap (λ (j : Session). length j.waits) same)
+
+waits_history : EveryTableHolds → (first : Configuration) (h : List Event) (d : ℕ) → AreWithin first h → IsAccepted first h → AreBounded d (content first h)
 waits_history every first [] d within accepted k there = absurd (cc)
 waits_history every first (e ∷ h) d within accepted k there =
-    let before = waits_history every first h d within accepted.0 in
-    let short = short_history every first h within accepted.0 in
+    let earlier = were_within first e h within in
+    let before = waits_history every first h d earlier accepted.0 in
+    let short = short_history every first h earlier accepted.0 in
     bounded_advance first h d short before e accepted k (sym (ap (λ (s : Content). session_of d s.sessions) (keeps-content first h e accepted)) ∙ there)
 
 pub waits-bounded : EveryTableHolds → WaitsAreBounded

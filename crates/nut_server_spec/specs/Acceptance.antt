@@ -1,5 +1,5 @@
 -- Which events a server refuses, in the order of its tests, and the histories without a refused event.
-use Rattle.std.specs.Prelude.{ℕ, zero, suc, ◌≡◌, ◌==◌, nat_lt, nat_le, Bool, false, not, ◌&&◌, if◌then◌else◌, List, [], ◌∷◌, length, find, slice_get, Option, Some, None}
+use Rattle.std.specs.Prelude.{ℕ, zero, suc, ◌≡◌, ◌==◌, nat_lt, nat_le, Bool, true, false, not, ◌&&◌, if◌then◌else◌, List, [], ◌∷◌, length, find, slice_get, Option, Some, None}
 use Rattle.std.specs.List.{list_all}
 use Rattle.nut_words.specs.Bytes.{line_feed}
 use Rattle.nut_words.specs.Spelling.{is_bare}
@@ -8,8 +8,9 @@ use Rattle.nut_words.specs.declared.limits.TheConstants.{PIECE_MAX}
 use Rattle.nut_server_spec.specs.declared.Refused.{Refused}
 use Rattle.nut_server_spec.specs.declared.Refused.TheVariants.{NoSuchConnection, NotConnected, PieceTooLong, Busy, TooMuchTaken, BadAddress, Full}
 use Rattle.nut_server_spec.specs.Configuration.{Configuration}
-use Rattle.nut_server_spec.specs.Event.{Event, Moment, Open, Bytes, Took, Close, WriteFailed, DriverUp, DriverBytes, DriverTook, DriverDown}
+use Rattle.nut_server_spec.specs.Event.{Event, Moment, Open, Bytes, Took, Close, WriteFailed, DriverUp, DriverBytes, DriverTook, DriverDown, Reload}
 use Rattle.nut_server_spec.specs.Content.{Session, Supply, Content, content}
+use Rattle.nut_server_spec.specs.Numbering.{is_taken}
 use Rattle.nut_server_spec.specs.declared.limits.TheConstants.{ADDRESS_MAX, OPENED_MAX}
 
 -- the session of the connection c, if it is open
@@ -48,10 +49,10 @@ abbrev pub close_refusal : Option Session → Option Refused
 close_refusal None = Some NoSuchConnection
 close_refusal (Some k) = None
 
--- Why a driver can't be connected: there is no such UPS.
-abbrev pub up_refusal : Option Supply → Option Refused
-up_refusal None = Some NotConnected
-up_refusal (Some d) = None
+-- Why a driver can't be connected: no UPS has this number.
+abbrev pub up_refusal : Bool → Option Refused
+up_refusal true = None
+up_refusal false = Some NotConnected
 
 -- Of a connected driver come pieces of at most PIECE_MAX bytes.
 abbrev pub report_refusal : List ℕ → Option Supply → Option Refused
@@ -72,7 +73,8 @@ abbrev pub down_refusal : Option Supply → Option Refused
 down_refusal None = Some NotConnected
 down_refusal (Some d) = if d.device.connected then None else Some NotConnected
 
--- why the event is refused, apart from a lack of memory: the first test that fails; a moment is never refused
+-- why the event is refused, apart from a lack of memory: the first test that fails; a moment and a reload are never
+-- refused
 abbrev pub refusal : Content → Event → Option Refused
 refusal s (Moment t) = None
 refusal s (Open address) = open_refusal s address
@@ -80,10 +82,11 @@ refusal s (Bytes c piece) = bytes_refusal piece (session_of c s.sessions)
 refusal s (Took c n) = took_refusal n (session_of c s.sessions)
 refusal s (Close c) = close_refusal (session_of c s.sessions)
 refusal s (WriteFailed c) = close_refusal (session_of c s.sessions)
-refusal s (DriverUp u) = up_refusal (supply_of u s.supplies)
+refusal s (DriverUp u) = up_refusal (is_taken u s.numbers)
 refusal s (DriverBytes u piece) = report_refusal piece (supply_of u s.supplies)
 refusal s (DriverTook u n) = drain_refusal n (supply_of u s.supplies)
 refusal s (DriverDown u) = down_refusal (supply_of u s.supplies)
+refusal s (Reload configuration) = None
 
 -- No event of the history was refused.
 abbrev pub IsAccepted : Configuration → List Event → Type 0

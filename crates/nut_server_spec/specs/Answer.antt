@@ -30,9 +30,10 @@ use Rattle.nut_proto.specs.Descriptions.{variable_description, command_descripti
 use Rattle.nut_proto.specs.DriverAsks.{ask_line}
 use Rattle.nut_proto.specs.Replies.{reply_line}
 use Rattle.nut_proto.specs.Requests.{begin_line, end_line}
-use Rattle.nut_server_spec.specs.Configuration.{Ups, User, Configuration, ups_named, number_of_ups, user_named, has_password, may_act, may_command}
+use Rattle.nut_server_spec.specs.Configuration.{Ups, User, Configuration, ups_named, user_named, has_password, may_act, may_command}
 use Rattle.nut_server_spec.specs.Command.{Command, Blank, Malformed, Asks}
 use Rattle.nut_server_spec.specs.Device.{Device, absent, trouble, fits}
+use Rattle.nut_server_spec.specs.Numbering.{Numbering, number_of}
 
 -- An answer before it is written as bytes: nothing, one line, or the rows of a list between its first and its last
 -- line.
@@ -52,10 +53,11 @@ pub record Guest : Type 0 where
   pub address : List ℕ
   pub login : Option ℕ
 
--- What the server knows when it answers a line: the configuration, the time, how many numbers it gave to requests, the
--- UPSes in the order of their numbers, and the open connections by rising number.
+-- What the server knows when it answers a line: the configuration, the numbers of its UPSes, the time, how many numbers it
+-- gave to requests, the UPSes by their numbers, and the open connections by rising number.
 pub record Scene : Type 0 where
   pub configuration : Configuration
+  pub numbers : List ℕ
   pub clock : ℕ
   pub given : ℕ
   pub devices : List Device
@@ -73,9 +75,13 @@ pub record Caller : Type 0 where
 abbrev pub refused : Refusal → Answer
 refused refusal = Line (replies.Refused refusal)
 
+-- the UPSes and their numbers
+abbrev pub numbering_in : Scene → Numbering
+numbering_in s = record { upses = s.configuration.upses; numbers = s.numbers }
+
 -- the number of the UPS with this name, if there is one
 abbrev pub ups_number : Scene → List ℕ → Option ℕ
-ups_number s name = number_of_ups name s.configuration.upses
+ups_number s name = number_of name (numbering_in s)
 
 -- the UPS with this number, or one without a driver if there is none
 abbrev pub device_at : Scene → ℕ → Device

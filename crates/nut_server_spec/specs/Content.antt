@@ -1,11 +1,11 @@
 -- The content of a history: what a server has to know of it. If two histories have the same content, their next events
 -- are answered alike.
-use Rattle.std.specs.Prelude.{ℕ, Bool, List, map, take, drop, Option}
-use Rattle.nut_words.specs.Lines.{LineText, rest}
+use Rattle.std.specs.Prelude.{ℕ, Bool, if◌then◌else◌, List, [], map, take, drop, Option}
+use Rattle.nut_words.specs.Lines.{LineText, Text, rest}
 use Rattle.nut_server_spec.specs.Configuration.{Configuration}
 use Rattle.nut_server_spec.specs.Device.{Device}
 use Rattle.nut_server_spec.specs.Event.{Event, input, taken, driver_input, steps}
-use Rattle.nut_server_spec.specs.Trace.{Entry, configuration, clock, opened, open_numbers, address, user, password, login, logged_out, tracking, given, due, device, ups_numbers, trace}
+use Rattle.nut_server_spec.specs.Trace.{Entry, configuration, numbers, clock, opened, open_numbers, address, user, password, login, logged_out, tracking, given, due, connected, device, ups_numbers, trace}
 
 -- An open connection: what it said of itself, its unfinished line, and the bytes that wait for it.
 pub record Session : Type 0 where
@@ -19,15 +19,17 @@ pub record Session : Type 0 where
   pub rest : LineText
   pub waits : List ℕ
 
--- A UPS: what its driver told, and the driver's unfinished line.
+-- A UPS: what its driver told, and the driver's unfinished line while it is connected.
 pub record Supply : Type 0 where
   pub device : Device
   pub rest : LineText
 
--- `opened` is the number of connections opened so far, `given` that of the numbers given to requests. `sessions` are
--- the open ones, by rising number. `supplies` are the UPSes, in the order of their numbers.
+-- `numbers` are those of the UPSes, in the order of the configuration. `opened` is the number of connections opened so far,
+-- `given` that of the numbers given to requests. `sessions` are the open connections, by rising number. `supplies` are
+-- the UPSes by their numbers, also those whose number is free.
 pub record Content : Type 0 where
   pub configuration : Configuration
+  pub numbers : List ℕ
   pub clock : ℕ
   pub opened : ℕ
   pub given : ℕ
@@ -64,12 +66,16 @@ session first h c = record {
 
 -- what the history h says about the UPS u
 abbrev pub supply : Configuration → List Event → ℕ → Supply
-supply first h u = record { device = device first (past first h) u; rest = rest (driver_input u h) }
+supply first h u = record {
+  device = device first (past first h) u;
+  rest = if connected u (past first h) then rest (driver_input u h) else Text [];
+}
 
 -- the content of a server that was made with the configuration `first` and told the history h
 abbrev pub content : Configuration → List Event → Content
 content first h = record {
   configuration = configuration first (past first h);
+  numbers = numbers first (past first h);
   clock = clock (past first h);
   opened = opened (past first h);
   given = given (past first h);

@@ -5,7 +5,7 @@ use Rattle.nut_proto.specs.declared.request.Request.TheVariants as requests
 use Rattle.nut_proto.specs.declared.reply.Reply.TheVariants as replies
 use Rattle.nut_proto.specs.declared.driver_ask.DriverAsk.TheVariants as asks
 use Rattle.nut_proto.specs.DriverAsks.{ask_line}
-use Rattle.nut_server_spec.specs.Configuration.{Configuration, number_of_ups}
+use Rattle.nut_server_spec.specs.Numbering.{Numbering, number_of}
 use Rattle.nut_server_spec.specs.Command.{Command, Asks}
 use Rattle.nut_server_spec.specs.Answer.{Answer, Line, text_of}
 
@@ -22,10 +22,10 @@ password_then (Asks (requests.Password password)) (Line replies.Accepted) before
 password_then command reply before = before
 
 -- the UPS that a connection is logged in to: that of the LOGIN that was answered OK, until a LOGOUT is answered
-abbrev pub login_then : Configuration → Command → Answer → Option ℕ → Option ℕ
-login_then configuration (Asks (requests.Login ups)) (Line replies.Accepted) before = number_of_ups ups configuration.upses
-login_then configuration command (Line replies.Goodbye) before = None
-login_then configuration command reply before = before
+abbrev pub login_then : Numbering → Command → Answer → Option ℕ → Option ℕ
+login_then now (Asks (requests.Login ups)) (Line replies.Accepted) before = number_of ups now
+login_then now command (Line replies.Goodbye) before = None
+login_then now command reply before = before
 
 -- whether a connection has logged out: a LOGOUT was answered
 abbrev pub logged_out_then : Command → Answer → Bool → Bool
@@ -54,8 +54,8 @@ target_name (Asks (requests.Fsd ups)) = Some ups
 target_name command = None
 
 -- the number of the UPS on which a command acts, if it acts on one that exists
-abbrev pub target : Configuration → Command → Option ℕ
-target configuration command = option_and_then (λ name. number_of_ups name configuration.upses) (target_name command)
+abbrev pub target : Numbering → Command → Option ℕ
+target now command = option_and_then (λ name. number_of name now) (target_name command)
 
 -- whether a shutdown of the UPS was forced, for the UPS on which the command acts
 abbrev pub forced_then : Command → Answer → Bool → Bool

@@ -1,9 +1,10 @@
 -- What a server is told: events, and histories of events. A history is a list with the newest event first.
 use Rattle.std.specs.Prelude.{ℕ, ◌==◌, if◌then◌else◌, ◌+◌, List, [], ◌∷◌, ◌++◌, drop, length}
 use Rattle.nut_words.specs.Lines.{LineText, lines}
+use Rattle.nut_server_spec.specs.Configuration.{Configuration}
 
 -- Connections are numbered from 1 in the order in which they are opened, and no number is used again. The number of a
--- UPS, and of its driver, is its place in the file, counted from 0.
+-- UPS, and of its driver, is its place in the file, counted from 0, until a reload: see Numbering.
 pub data Event : Type 0 where
   -- t seconds have passed since the start
   Moment : (t : ℕ) → Event
@@ -25,6 +26,8 @@ pub data Event : Type 0 where
   DriverTook : (u : ℕ) (n : ℕ) → Event
   -- the driver of u was disconnected
   DriverDown : (u : ℕ) → Event
+  -- this configuration takes the place of the one before
+  Reload : (configuration : Configuration) → Event
 
 -- all bytes that c sent, joined
 abbrev pub input : ℕ → List Event → List ℕ
@@ -38,12 +41,11 @@ taken c [] = 0
 taken c (Took d n ∷ h) = if d == c then taken c h + n else taken c h
 taken c (e ∷ h) = taken c h
 
--- all bytes that the driver of u sent since it was last connected, joined; none after it is disconnected
+-- all bytes that the driver of u sent since it was last connected, joined
 abbrev pub driver_input : ℕ → List Event → List ℕ
 driver_input u [] = []
 driver_input u (DriverUp v ∷ h) = if v == u then [] else driver_input u h
 driver_input u (DriverBytes v piece ∷ h) = if v == u then driver_input u h ++ piece else driver_input u h
-driver_input u (DriverDown v ∷ h) = if v == u then [] else driver_input u h
 driver_input u (e ∷ h) = driver_input u h
 
 -- What a history comes to, with lines in place of pieces: how the bytes were cut doesn't show.
@@ -64,6 +66,8 @@ pub data Step : Type 0 where
   Drained : (u : ℕ) (n : ℕ) → Step
   -- the driver of u was disconnected
   Down : (u : ℕ) → Step
+  -- this configuration took the place of the one before
+  Reloaded : (configuration : Configuration) → Step
 
 -- the lines that a piece completes, if the bytes `before` came before it
 abbrev pub brought : List ℕ → List ℕ → List LineText
@@ -92,3 +96,4 @@ steps (DriverUp u ∷ h) = Up u ∷ steps h
 steps (DriverBytes u piece ∷ h) = with_reports u (brought (driver_input u h) piece) (steps h)
 steps (DriverTook u n ∷ h) = Drained u n ∷ steps h
 steps (DriverDown u ∷ h) = Down u ∷ steps h
+steps (Reload configuration ∷ h) = Reloaded configuration ∷ steps h

@@ -1,5 +1,6 @@
 pub mod Configuration
 pub mod Command
+pub mod Numbering
 pub mod Event
 pub mod Tracking
 pub mod Device

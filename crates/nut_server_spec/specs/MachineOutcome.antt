@@ -1,12 +1,12 @@
 -- How the machine answers an event, and the content after it: the twin of `Outcome`, whose histories it doesn't know.
-use Rattle.std.specs.Prelude.{◌≡◌, ℕ, false, IsTrue, List, slice_get, Option, Some, None, Result, Ok, Err}
+use Rattle.std.specs.Prelude.{◌≡◌, ℕ, ◌<◌, length, false, IsTrue, List, slice_get, Option, Some, None, Result, Ok, Err}
 use Rattle.std.specs.Option.{option_map_or}
 use Rattle.nut_words.specs.Lines.{LineText, lines_after}
 use Rattle.nut_server_spec.specs.declared.Place.{Place}
-use Rattle.nut_server_spec.specs.declared.Place.TheVariants.{Line, Report}
+use Rattle.nut_server_spec.specs.declared.Place.TheVariants.{Line, Report, NewUpses}
 use Rattle.nut_server_spec.specs.declared.Refused.{Refused}
 use Rattle.nut_server_spec.specs.declared.Refused.TheVariants.{NoSuchConnection, NotConnected, PieceTooLong, Busy, TooMuchTaken, BadAddress, Full, Memory}
-use Rattle.nut_server_spec.specs.Event.{Event, Bytes, Close, DriverBytes, DriverDown}
+use Rattle.nut_server_spec.specs.Event.{Event, Bytes, Close, DriverBytes, DriverDown, Reload}
 use Rattle.nut_server_spec.specs.Content.{Session, Supply, Content}
 use Rattle.nut_server_spec.specs.Acceptance.{refusal, front, session_of, supply_of}
 use Rattle.nut_server_spec.specs.Outcome.{line_takes, report_takes, unfinished_of, unfinished_report}
@@ -31,11 +31,12 @@ RunsOutOf time piece k o =
     let lines : List LineText = lines_after (unfinished_report o) piece in
     IsTrue (option_map_or (λ line. report_takes line (supply_after time piece k o)) (slice_get lines k) false)
 
--- Memory may run out in a piece alone, behind k lines of it that were done, at one that it completes and that may take
--- memory. All other events take none.
+-- Memory may run out in a piece, behind k lines of it that were done, at one that it completes and that may take memory,
+-- and at a reload whose UPSes are more than there are numbers. All other events take none.
 abbrev pub Lacks : Content → Place → Event → Type 0
 Lacks s (Line c k) (Bytes d piece) = (c ≡ d) × RunsOut d piece k s
 Lacks s (Report u k) (DriverBytes v piece) = (u ≡ v) × RunsOutOf s.clock piece k (supply_of v s.supplies)
+Lacks s NewUpses (Reload configuration) = length s.supplies < length configuration.upses
 Lacks s place e = ⊥
 
 -- A server with this content may answer so: a refusal names the first test that refuses the event, and memory

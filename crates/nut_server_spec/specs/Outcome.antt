@@ -1,18 +1,19 @@
 -- How a server may answer an event, and what the history is after the answer.
-use Rattle.std.specs.Prelude.{◌≡◌, ℕ, Bool, true, false, not, ◌&&◌, ◌||◌, IsTrue, List, [], ◌∷◌, slice_get, Option, Some, None, Result, Ok, Err}
+use Rattle.std.specs.Prelude.{◌≡◌, ℕ, ◌<◌, length, Bool, true, false, not, ◌&&◌, ◌||◌, IsTrue, List, [], ◌∷◌, slice_get, Option, Some, None, Result, Ok, Err}
 use Rattle.std.specs.Option.{option_map_or}
 use Rattle.nut_words.specs.Lines.{LineText, Text, TooLong, lines_after}
 use Rattle.nut_words.specs.Reader.{has_backslash}
 use Rattle.nut_state.specs.Table.{Table}
 use Rattle.nut_state.specs.Step.{line_adds}
 use Rattle.nut_server_spec.specs.declared.Place.{Place}
-use Rattle.nut_server_spec.specs.declared.Place.TheVariants.{Line, Report}
+use Rattle.nut_server_spec.specs.declared.Place.TheVariants.{Line, Report, NewUpses}
 use Rattle.nut_server_spec.specs.declared.Refused.{Refused}
 use Rattle.nut_server_spec.specs.declared.Refused.TheVariants.{NoSuchConnection, NotConnected, PieceTooLong, Busy, TooMuchTaken, BadAddress, Full, Memory}
 use Rattle.nut_server_spec.specs.Command.{Command, Blank, Malformed, Asks, command_of}
-use Rattle.nut_server_spec.specs.Event.{Event, Bytes, DriverBytes}
+use Rattle.nut_server_spec.specs.Event.{Event, Bytes, DriverBytes, Reload}
 use Rattle.nut_server_spec.specs.Configuration.{Configuration}
-use Rattle.nut_server_spec.specs.Content.{Session, Supply, content}
+use Rattle.nut_server_spec.specs.Content.{Session, Supply, content, past}
+use Rattle.nut_server_spec.specs.Trace.{places}
 use Rattle.nut_server_spec.specs.Acceptance.{refusal, behind, behind_report, lost, lost_report, session_of, supply_of}
 
 -- ---- where memory may run out
@@ -74,11 +75,12 @@ MayRunOutOf first h u piece k =
     let lines : List LineText = lines_after (unfinished_report (supply_in first h u)) piece in
     IsTrue (option_map_or (λ line. report_takes line (supply_in first (behind_report u piece k h) u)) (slice_get lines k) false)
 
--- Memory can run out only in a piece, at a line that it completes and that may allocate memory. The k lines before it
--- were done. No other event allocates memory.
+-- Memory can run out in a piece, at a line that it completes and that may allocate memory. The k lines before it were
+-- done. It can run out at a reload whose UPSes are more than there are numbers. No other event allocates memory.
 abbrev pub MayLack : Configuration → List Event → Place → Event → Type 0
 MayLack first h (Line c k) (Bytes d piece) = (c ≡ d) × MayRunOut first h d piece k
 MayLack first h (Report u k) (DriverBytes v piece) = (u ≡ v) × MayRunOutOf first h v piece k
+MayLack first h NewUpses (Reload configuration) = places first (past first h) < length configuration.upses
 MayLack first h place e = ⊥
 
 -- A server that was told the history h may answer so: a refusal names the first test that refuses the event, and memory
@@ -107,7 +109,7 @@ after_lack (Line c k) (Bytes d piece) h = lost d piece k h
 after_lack (Report u k) (DriverBytes v piece) h = lost_report v piece k h
 after_lack place e h = h
 
--- the history after a refusal: only a lack of memory changes it
+-- the history after a refusal: only a lack of memory in a piece changes it
 abbrev pub after_refusal : Refused → Event → List Event → List Event
 after_refusal (Memory place) e h = after_lack place e h
 after_refusal r e h = h

@@ -1,6 +1,6 @@
 -- The past: each step with its answer and its requests to drivers, the newest first, and what the past says. Each
 -- function here finds the newest entry that decides a value; all other entries leave the value as it was.
-use Rattle.std.specs.Prelude.{ℕ, zero, suc, ◌==◌, ◌+◌, max, Bool, true, false, not, if◌then◌else◌, List, [], ◌∷◌, ◌++◌, length, map, filter, take, drop, Option, Some, None, is_some}
+use Rattle.std.specs.Prelude.{ℕ, ◌==◌, ◌+◌, max, Bool, true, false, not, if◌then◌else◌, List, [], ◌∷◌, ◌++◌, length, map, filter, take, drop, Option, Some, None, is_some}
 use Rattle.nut_words.specs.Lines.{LineText, Text, TooLong}
 use Rattle.nut_state.specs.Change.{heard}
 use Rattle.nut_state.specs.Step.{table_of}
@@ -8,30 +8,60 @@ use Rattle.nut_proto.specs.declared.driver_ask.DriverAsk.TheVariants.{Ping, Dump
 use Rattle.nut_proto.specs.DriverAsks.{ask_line}
 use Rattle.nut_server_spec.specs.Configuration.{Configuration}
 use Rattle.nut_server_spec.specs.Command.{Command, command_of}
-use Rattle.nut_server_spec.specs.Event.{Step, Clock, Opened, Said, Gone, Up, Reported, Drained, Down}
+use Rattle.nut_server_spec.specs.Event.{Step, Clock, Opened, Said, Gone, Up, Reported, Drained, Down, Reloaded}
+use Rattle.nut_server_spec.specs.Numbering.{Numbering, Fate, Kept, below, first_numbers, renumbered, fate_of, by_fate, is_to_cleared}
 use Rattle.std.specs.Option.{option_map_or}
 use Rattle.nut_server_spec.specs.Tracking.{Tracked, told_in, with_tracked, all_ended_by, all_abandoned}
 use Rattle.nut_server_spec.specs.Device.{Device, needs_ping}
 use Rattle.nut_server_spec.specs.Answer.{Answer, Silence, Scene, Caller, Guest, answer}
 use Rattle.nut_server_spec.specs.Effect.{user_then, password_then, login_then, logged_out_then, tracking_then, number_in, due_then, target, forced_then, request_of, at_target}
 
--- A step, the answer to it, and its request to the driver of each UPS, by the number of the UPS. The answer to a step
--- that is no line of a client is silence.
+-- A step; the answer to it, which is silence if the step is no line of a client; its request to the driver of each UPS, and
+-- what it makes of each UPS, by the number of the UPS; and whether it closes a connection besides the one that it
+-- concerns, by the number of the connection.
 pub record Entry : Type 0 where
   pub step : Step
   pub answer : Answer
   pub asks : ℕ → Option (List ℕ)
+  pub fate : ℕ → Fate
+  pub closes : ℕ → Bool
 
 -- ---- the server
 
--- the configuration after a step, which never changes it
+-- the configuration after a step: only a reload changes it
 abbrev pub reconfigured : Step → Configuration → Configuration
+reconfigured (Reloaded configuration) before = configuration
 reconfigured step before = before
 
 -- the configuration after this past, if the server was made with `first`
 abbrev pub configuration : Configuration → List Entry → Configuration
 configuration first [] = first
 configuration first (e ∷ past) = reconfigured e.step (configuration first past)
+
+-- the numbers of the UPSes after a step, by those before: only a reload changes them
+abbrev pub renumbered_by : Step → Numbering → List ℕ
+renumbered_by (Reloaded configuration) before = renumbered configuration.upses before
+renumbered_by step before = before.numbers
+
+-- the numbers of the UPSes after this past, in the order of the configuration
+abbrev pub numbers : Configuration → List Entry → List ℕ
+numbers first [] = first_numbers first.upses
+numbers first (e ∷ past) =
+    renumbered_by e.step (record { upses = (configuration first past).upses; numbers = numbers first past })
+
+-- the UPSes after this past, and their numbers
+abbrev pub numbering : Configuration → List Entry → Numbering
+numbering first past = record { upses = (configuration first past).upses; numbers = numbers first past }
+
+-- how many numbers there are for UPSes after a step, if there were n before it
+abbrev pub places_after : Step → ℕ → ℕ
+places_after (Reloaded configuration) n = max n (length configuration.upses)
+places_after step n = n
+
+-- how many numbers there are for UPSes: as many as the configuration with the most UPSes has
+abbrev pub places : Configuration → List Entry → ℕ
+places first [] = length first.upses
+places first (e ∷ past) = places_after e.step (places first past)
 
 -- the time after a step: the greatest moment so far
 abbrev pub clock_after : Step → ℕ → ℕ
@@ -54,15 +84,16 @@ opened [] = 0
 opened (e ∷ past) = opened_after e.step (opened past)
 
 -- the numbers of the open connections after a step, if n connections had been opened before it
-abbrev pub numbers_after : Step → ℕ → List ℕ → List ℕ
-numbers_after (Opened address) n numbers = numbers ++ (n + 1) ∷ []
-numbers_after (Gone c) n numbers = filter (λ d. not (d == c)) numbers
-numbers_after step n numbers = numbers
+abbrev pub numbers_after : Step → (ℕ → Bool) → ℕ → List ℕ → List ℕ
+numbers_after (Opened address) closes n numbers = numbers ++ (n + 1) ∷ []
+numbers_after (Gone c) closes n numbers = filter (λ d. not (d == c)) numbers
+numbers_after (Reloaded configuration) closes n numbers = filter (λ d. not (closes d)) numbers
+numbers_after step closes n numbers = numbers
 
 -- the numbers of the open connections, rising
 abbrev pub open_numbers : List Entry → List ℕ
 open_numbers [] = []
-open_numbers (e ∷ past) = numbers_after e.step (opened past) (open_numbers past)
+open_numbers (e ∷ past) = numbers_after e.step e.closes (opened past) (open_numbers past)
 
 -- how many numbers have been given to requests, if n had been before this answer
 abbrev pub given_then : Answer → ℕ → ℕ
@@ -104,7 +135,7 @@ password c (e ∷ past) = after_line password_then c e.step e.answer (password c
 -- the UPS that c is logged in to
 abbrev pub login : Configuration → ℕ → List Entry → Option ℕ
 login first c [] = None
-login first c (e ∷ past) = after_line (login_then (configuration first past)) c e.step e.answer (login first c past)
+login first c (e ∷ past) = after_line (login_then (numbering first past)) c e.step e.answer (login first c past)
 
 -- whether c has logged out
 abbrev pub logged_out : ℕ → List Entry → Bool
@@ -132,7 +163,7 @@ connected_after u step before = before
 -- whether the driver of u is connected
 abbrev pub connected : ℕ → List Entry → Bool
 connected u [] = false
-connected u (e ∷ past) = connected_after u e.step (connected u past)
+connected u (e ∷ past) = by_fate (e.fate u) false (λ before. false) (connected_after u e.step (connected u past))
 
 -- the lines of a driver, the newest first, with one more; a line that is too long isn't added
 abbrev pub reported : LineText → List (List ℕ) → List (List ℕ)
@@ -148,7 +179,7 @@ reports_after u step before = before
 -- the lines of the driver of u since it was last connected, the newest first
 abbrev pub reports : ℕ → List Entry → List (List ℕ)
 reports u [] = []
-reports u (e ∷ past) = reports_after u e.step (reports u past)
+reports u (e ∷ past) = by_fate (e.fate u) [] (λ before. before) (reports_after u e.step (reports u past))
 
 -- whether a driver's line is heard: it reads as words, its first word is known, and it has as many words as that word
 -- takes
@@ -165,7 +196,7 @@ heard_after u step time before = before
 -- the moment at which a line of the driver of u was last heard or it was connected, 0 before any
 abbrev pub heard_at : ℕ → List Entry → ℕ
 heard_at u [] = 0
-heard_at u (e ∷ past) = heard_after u e.step (clock past) (heard_at u past)
+heard_at u (e ∷ past) = by_fate (e.fate u) 0 (λ before. before) (heard_after u e.step (clock past) (heard_at u past))
 
 -- the moment of the last PING: `time` if a PING is sent at it, else the moment before
 abbrev pub pinged_then : Option (List ℕ) → ℕ → Option ℕ → Option ℕ
@@ -181,33 +212,35 @@ pinged_after u step asked time before = before
 -- the moment of the last PING to the driver of u since it was connected, if there was one
 abbrev pub pinged_at : ℕ → List Entry → Option ℕ
 pinged_at u [] = None
-pinged_at u (e ∷ past) = pinged_after u e.step (e.asks u) (clock past) (pinged_at u past)
+pinged_at u (e ∷ past) = by_fate (e.fate u) None (λ before. before) (pinged_after u e.step (e.asks u) (clock past) (pinged_at u past))
 
 -- whether a shutdown of u was forced, after a step: its FSD was answered `OK FSD-SET`
-abbrev pub forced_after : Configuration → ℕ → Step → Answer → Bool → Bool
-forced_after configuration u (Said c line) reply before =
-    at_target u (target configuration (command_of line)) (forced_then (command_of line) reply) before
-forced_after configuration u step reply before = before
+abbrev pub forced_after : Numbering → ℕ → Step → Answer → Bool → Bool
+forced_after now u (Said c line) reply before =
+    at_target u (target now (command_of line)) (forced_then (command_of line) reply) before
+forced_after now u step reply before = before
 
 -- whether a shutdown of u was forced
 abbrev pub forced : Configuration → ℕ → List Entry → Bool
 forced first u [] = false
-forced first u (e ∷ past) = forced_after (configuration first past) u e.step e.answer (forced first u past)
+forced first u (e ∷ past) =
+    by_fate (e.fate u) false (λ before. before) (forced_after (numbering first past) u e.step e.answer (forced first u past))
 
 -- The tracked requests to u after a step. One is added where it is given its number. The first line of the driver that
 -- tells of it says how it ended; if the driver is disconnected or connected anew before that, the request failed.
-abbrev pub tracked_after : Configuration → ℕ → Step → Answer → List Tracked → List Tracked
-tracked_after configuration u (Said c line) reply before =
-    at_target u (target configuration (command_of line)) (with_tracked (number_in reply)) before
-tracked_after configuration u (Reported v line) reply before = if v == u then all_ended_by (told_in line) before else before
-tracked_after configuration u (Up v) reply before = if v == u then all_abandoned before else before
-tracked_after configuration u (Down v) reply before = if v == u then all_abandoned before else before
-tracked_after configuration u step reply before = before
+abbrev pub tracked_after : Numbering → ℕ → Step → Answer → List Tracked → List Tracked
+tracked_after now u (Said c line) reply before =
+    at_target u (target now (command_of line)) (with_tracked (number_in reply)) before
+tracked_after now u (Reported v line) reply before = if v == u then all_ended_by (told_in line) before else before
+tracked_after now u (Up v) reply before = if v == u then all_abandoned before else before
+tracked_after now u (Down v) reply before = if v == u then all_abandoned before else before
+tracked_after now u step reply before = before
 
 -- the newest tracked requests to u, the newest first, at most TRACKED_MAX
 abbrev pub tracked : Configuration → ℕ → List Entry → List Tracked
 tracked first u [] = []
-tracked first u (e ∷ past) = tracked_after (configuration first past) u e.step e.answer (tracked first u past)
+tracked first u (e ∷ past) =
+    by_fate (e.fate u) [] all_abandoned (tracked_after (numbering first past) u e.step e.answer (tracked first u past))
 
 -- A value of the driver of u since it was connected: `start` when it is connected, else the value before.
 abbrev pub since_up : {A : Type 0} → A → ℕ → Step → A → A
@@ -222,7 +255,8 @@ with_request (Some line) before = before ++ line
 -- all requests to the driver of u since it was connected, joined
 abbrev pub driver_due : ℕ → List Entry → List ℕ
 driver_due u [] = []
-driver_due u (e ∷ past) = with_request (e.asks u) (since_up [] u e.step (driver_due u past))
+driver_due u (e ∷ past) =
+    by_fate (e.fate u) [] (λ before. before) (with_request (e.asks u) (since_up [] u e.step (driver_due u past)))
 
 -- how many bytes of them the driver of u has taken, after a step
 abbrev pub drained_after : ℕ → Step → ℕ → ℕ
@@ -233,7 +267,7 @@ drained_after u step before = before
 -- how many bytes of these requests the driver of u has taken
 abbrev pub driver_taken : ℕ → List Entry → ℕ
 driver_taken u [] = 0
-driver_taken u (e ∷ past) = drained_after u e.step (driver_taken u past)
+driver_taken u (e ∷ past) = by_fate (e.fate u) 0 (λ before. before) (drained_after u e.step (driver_taken u past))
 
 -- the bytes that the driver of u was sent since it was connected: the first of the requests due, as many bytes as it
 -- took
@@ -259,14 +293,9 @@ device first past u = record {
 
 -- ---- answers
 
--- the numbers less than n, rising
-abbrev pub below : ℕ → List ℕ
-below zero = []
-below (suc n) = below n ++ n ∷ []
-
--- the numbers of the UPSes
+-- all numbers for UPSes, whether a UPS has the number or it is free
 abbrev pub ups_numbers : Configuration → List Entry → List ℕ
-ups_numbers first past = below (length (configuration first past).upses)
+ups_numbers first past = below (places first past)
 
 -- what the server knows of the connection c when a line is answered
 abbrev pub guest : Configuration → List Entry → ℕ → Guest
@@ -276,6 +305,7 @@ guest first past c = record { address = address c past; login = login first c pa
 abbrev pub scene : Configuration → List Entry → Scene
 scene first past = record {
   configuration = configuration first past;
+  numbers = numbers first past;
   clock = clock past;
   given = given past;
   devices = map (device first past) (ups_numbers first past);
@@ -312,11 +342,23 @@ asks_at first past (Clock t) u =
     ping (needs_ping (configuration first past).max_age (max (clock past) t) (device first past u))
 asks_at first past (Up v) u = if v == u then Some (ask_line DumpAll) else None
 asks_at first past (Said c line) u =
-    request_for u (target (configuration first past) (command_of line)) (request_of (command_of line) (answer_to first past c line))
+    request_for u (target (numbering first past) (command_of line)) (request_of (command_of line) (answer_to first past c line))
 asks_at first past step u = None
 
--- The past that these steps lead to, if the server was made with `first`: each step with its answer and its requests,
--- which depend on the past before it.
+-- what a step makes of the UPS u after this past
+abbrev pub fate_at : Configuration → List Entry → Step → ℕ → Fate
+fate_at first past (Reloaded configuration) u = fate_of configuration.upses (numbering first past) u
+fate_at first past step u = Kept
+
+-- whether a step closes the connection c besides the one that it concerns: a reload closes those that are logged in to a
+-- UPS that goes
+abbrev pub closes_at : Configuration → List Entry → Step → ℕ → Bool
+closes_at first past (Reloaded configuration) c =
+    is_to_cleared (fate_of configuration.upses (numbering first past)) (login first c past)
+closes_at first past step c = false
+
+-- The past that these steps lead to, if the server was made with `first`: each step with its answer, its requests, and what
+-- it makes of UPSes and connections, which depend on the past before it.
 abbrev pub trace : Configuration → List Step → List Entry
 trace first [] = []
 trace first (s ∷ steps) =
@@ -324,4 +366,6 @@ trace first (s ∷ steps) =
       step = s;
       answer = answer_at first (trace first steps) s;
       asks = asks_at first (trace first steps) s;
+      fate = fate_at first (trace first steps) s;
+      closes = closes_at first (trace first steps) s;
     } ∷ trace first steps

@@ -15,7 +15,7 @@ pub use limits::{ADDRESS_MAX, OPENED_MAX, TRACKED_MAX, connection_limits};
 use nut_state::every_table_holds;
 use thiserror::Error;
 
-/// The line at which memory could not be allocated.
+/// Where memory could not be allocated.
 #[derive(Clone, Copy, Debug, PartialEq, Eq)]
 pub enum Place {
     /// `Line(c, k)`: in a piece of connection `c`, at the line after the first `k` lines of the piece. Those lines stay
@@ -24,6 +24,9 @@ pub enum Place {
     /// `Report(u, k)`: in a piece of the driver of UPS `u`, at the line after the first `k` lines of the piece. What
     /// those lines said stays. The line itself left no trace, and the driver counts as disconnected.
     Report(usize, usize),
+    /// At a reload, for what waits for the drivers of its UPSes, which are more than there have been so far. Nothing
+    /// changed.
+    NewUpses,
 }
 
 /// Why an event is refused. Only `Memory` changes anything.
@@ -50,7 +53,7 @@ pub enum Refused {
     /// As many connections are open as may be, or [`OPENED_MAX`] were opened.
     #[error("too many connections")]
     Full,
-    /// Memory cannot be allocated at this line.
+    /// Memory cannot be allocated at this place.
     #[error("out of memory")]
     Memory(Place),
 }

@@ -1,9 +1,9 @@
 -- What the decision on a request has to be: its answer, and its effect.
-use Rattle.std.specs.Prelude.{ℕ, ◌≡◌, List, Option, Result, Ok, Err}
+use Rattle.std.specs.Prelude.{ℕ, ◌≡◌, ◌<◌, List, length, Option, Some, Result, Ok, Err}
 use Rattle.nut_proto.specs.declared.refusal.Refusal.{Refusal}
 use Rattle.nut_proto.specs.declared.reply.Reply.{Reply}
 use Rattle.nut_server_spec.specs.Command.{Command}
-use Rattle.nut_server_spec.specs.Answer.{Answer, Scene, Caller, Line, accepted, answer, refused}
+use Rattle.nut_server_spec.specs.Answer.{Answer, Scene, Caller, Line, accepted, answer, refused, ups_number}
 use Rattle.nut_server_spec.specs.Trace.{given_then}
 use Rattle.nut_server.specs.inside.Answers.{given}
 use Rattle.nut_server.specs.inside.Effects.{Does, IsPossible, given_with}
@@ -11,6 +11,10 @@ use Rattle.nut_server.specs.declared.changes.HandedOn.{HandedOn}
 use Rattle.nut_server.specs.declared.effect.Effect.{Effect}
 use Rattle.nut_server.specs.declared.effect.Effect.TheVariants as effects
 use Rattle.nut_server.specs.declared.decision.Decision.{Decision}
+
+-- Each UPS that has a name and a number is there.
+abbrev pub AreThere : Scene → Type 0
+AreThere s = (name : List ℕ) (u : ℕ) → ups_number s name ≡ Some u → u < length s.devices
 
 -- The decision gives this answer. Its effect changes what the command with this answer changes, and is possible. `line`
 -- is the request to the driver, if there is one.

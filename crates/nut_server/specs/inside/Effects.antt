@@ -3,13 +3,13 @@ use Rattle.std.specs.Prelude.{ℕ, ◌≤◌, ◌<◌, ◌≡◌, true, List, �
 use Rattle.nut_words.specs.declared.limits.TheConstants.{CREDENTIAL_MAX}
 use Rattle.nut_proto.specs.declared.request.Request.TheVariants as requests
 use Rattle.nut_server_spec.specs.Command.{Command, Asks}
-use Rattle.nut_server_spec.specs.Answer.{Answer, Scene}
+use Rattle.nut_server_spec.specs.Answer.{Answer, Scene, numbering_in}
 use Rattle.nut_server_spec.specs.Content.{Session, Supply, Content}
 use Rattle.nut_server_spec.specs.Device.{Device, absent, fits}
 use Rattle.nut_server_spec.specs.Effect.{target}
 use Rattle.nut_server_spec.specs.Trace.{given_then}
 use Rattle.nut_server_spec.specs.Tracking.{with_tracked}
-use Rattle.nut_server_spec.specs.machine.Machine.{acted, act_on, answered, requested, update, update_at}
+use Rattle.nut_server_spec.specs.machine.Machine.{numbering_of, acted, act_on, answered, requested, update, update_at}
 use Rattle.nut_server.specs.declared.effect.Effect.{Effect}
 use Rattle.nut_server.specs.declared.effect.Effect.TheVariants as effects
 
@@ -61,8 +61,8 @@ IsPossible devices effect line = Unit {0}
 -- the UPSes, and how many numbers are given.
 abbrev pub Does : Scene → Command → Answer → Effect → List ℕ → Type 0
 Does s command reply effect line =
-    ((k : Session) → affected effect k ≡ record (answered s.configuration command reply k) { waits = k.waits })
-    × ((supplies : List Supply) → acting effect line supplies ≡ act_on (target s.configuration command) (acted command reply) supplies)
+    ((k : Session) → affected effect k ≡ record (answered (numbering_in s) command reply k) { waits = k.waits })
+    × ((supplies : List Supply) → acting effect line supplies ≡ act_on (target (numbering_in s) command) (acted command reply) supplies)
     × (given_with (number_of effect) s.given ≡ given_then reply s.given)
 
 -- ---- what a line and its answer change
@@ -80,7 +80,7 @@ HasShortNames command = Unit {0}
 -- the content after an answer to a command of c, with the unfinished line of c unchanged
 abbrev pub answered_by : ℕ → Command → Answer → Content → Content
 answered_by c command reply s = record s {
-  sessions = update c (λ k. answered s.configuration command reply k) s.sessions;
-  supplies = act_on (target s.configuration command) (acted command reply) s.supplies;
+  sessions = update c (λ k. answered (numbering_of s) command reply k) s.sessions;
+  supplies = act_on (target (numbering_of s) command) (acted command reply) s.supplies;
   given = given_then reply s.given;
 }

@@ -105,7 +105,7 @@ impl Server {
         ensures answered { Answers self.old (DriverUp u) result }
         ensures content { self.new ≡ content_after result self.old (DriverUp u) }
     {
-        if u >= self.devices.len() {
+        if !self.numbers.as_slice().contains(&u) {
             return Err(Refused::NotConnected);
         }
         self.devices[u].up(self.clock);

@@ -40,6 +40,7 @@ impl Server {
         self.scratch.clear();
         let scene = Scene {
             config: &self.config,
+            numbers: self.numbers.as_slice(),
             clock: self.clock,
             given: self.given,
             devices: self.devices.as_slice(),

@@ -1,5 +1,5 @@
 -- What holds of every history of accepted events. Each law here is the contract of a function of the crate.
-use Rattle.std.specs.Prelude.{◌≡◌, ℕ, ◌<◌, ◌≤◌, ◌==◌, ◌+◌, false, true, if◌then◌else◌, List, [], ◌∷◌, ◌++◌, length, map, take, Option, Some, None, Result}
+use Rattle.std.specs.Prelude.{◌≡◌, ℕ, ◌<◌, ◌≤◌, ◌==◌, ◌+◌, false, true, if◌then◌else◌, List, [], ◌∷◌, ◌++◌, length, map, max, take, Bool, Option, Some, None, Result}
 use Rattle.nut_queue.specs.declared.limits.TheConstants.{ASKS_MAX}
 use Rattle.nut_words.specs.Quoting.{Begins}
 use Rattle.nut_words.specs.Cutter.{kept_of}
@@ -7,12 +7,14 @@ use Rattle.nut_words.specs.Lines.{rest}
 use Rattle.nut_words.specs.declared.limits.TheConstants.{LINE_MAX}
 use Rattle.nut_server_spec.specs.Configuration.{Configuration}
 use Rattle.nut_server_spec.specs.Device.{Device}
-use Rattle.nut_server_spec.specs.Event.{Event, Moment, Open, Bytes, Took, Close, WriteFailed, DriverUp, DriverBytes, DriverTook, DriverDown, input, driver_input, steps}
-use Rattle.nut_server_spec.specs.Trace.{device, due, driver_due, driver_sent, logged_out}
+use Rattle.nut_server_spec.specs.Event.{Event, Moment, Open, Bytes, Took, Close, WriteFailed, DriverUp, DriverBytes, DriverTook, DriverDown, Reload, input, driver_input, steps}
+use Rattle.nut_server_spec.specs.Trace.{numbering, device, due, driver_due, driver_sent, logged_out}
 use Rattle.nut_server_spec.specs.Content.{Session, Supply, Content, content, past, sent, session}
 use Rattle.nut_server_spec.specs.declared.Refused.{Refused}
 use Rattle.nut_server_spec.specs.Acceptance.{IsAccepted, Tells, session_of, waiting_of, supply_of, asks_of}
-use Rattle.nut_server_spec.specs.machine.Machine.{fresh}
+use Rattle.nut_server_spec.specs.machine.Machine.{fresh, numbering_of}
+use Rattle.nut_server_spec.specs.Numbering.{fate_of, is_cleared, is_to_cleared}
+use Rattle.std.specs.Option.{option_map_or}
 use Rattle.nut_server_spec.specs.Outcome.{IsAnswer, after}
 use Rattle.nut_server_spec.specs.MachineOutcome.{Answers, content_after}
 use Rattle.nut_server_spec.specs.declared.limits.TheConstants.{OPENED_MAX}
@@ -130,6 +132,8 @@ driver_received first u [] = []
 driver_received first u (DriverTook v n ∷ h) =
     if v == u then driver_received first u h ++ take n (asks_of u (content first h).supplies) else driver_received first u h
 driver_received first u (DriverUp v ∷ h) = if v == u then [] else driver_received first u h
+driver_received first u (Reload configuration ∷ h) =
+    if is_cleared (fate_of configuration.upses (numbering first (past first h)) u) then [] else driver_received first u h
 driver_received first u (e ∷ h) = driver_received first u h
 
 -- What a driver was sent since it was connected is what it took, piece by piece, of the bytes that waited for it.
@@ -195,6 +199,7 @@ connection_of s (DriverUp u) = None
 connection_of s (DriverBytes u piece) = None
 connection_of s (DriverTook u n) = None
 connection_of s (DriverDown u) = None
+connection_of s (Reload configuration) = None
 
 -- the number of the UPS whose driver an event concerns, if it concerns one
 abbrev pub driver_of : Event → Option ℕ
@@ -209,11 +214,17 @@ abbrev pub IsOther : ℕ → Option ℕ → Type 0
 IsOther d None = Unit {0}
 IsOther d (Some c) = (c == d) ≡ false
 
--- An accepted event changes no connection except its own.
+-- whether an event closes the connection d besides its own: a reload does so where d is logged in to a UPS that goes
+abbrev pub closes : Content → Event → ℕ → Bool
+closes s (Reload configuration) d =
+    option_map_or (λ k. is_to_cleared (fate_of configuration.upses (numbering_of s)) k.login) (session_of d s.sessions) false
+closes s e d = false
+
+-- An accepted event changes no connection except its own and those that it closes.
 abbrev pub OthersStay : Type 0
 OthersStay =
     (first : Configuration) (h : List Event) (e : Event) (d : ℕ) → IsAccepted first (e ∷ h) → IsOther d (connection_of (content first h) e) →
-    session_of d (content first (e ∷ h)).sessions ≡ session_of d (content first h).sessions
+    closes (content first h) e d ≡ false → session_of d (content first (e ∷ h)).sessions ≡ session_of d (content first h).sessions
 
 -- An accepted event of a driver changes no UPS except its own.
 abbrev pub OtherDriversStay : Type 0
@@ -252,16 +263,22 @@ BoundsHold =
     ((c : ℕ) (k : Session) → session_of c (content first h).sessions ≡ Some k → IsBoundedSession k)
     × ((u : ℕ) (d : Supply) → supply_of u (content first h).supplies ≡ Some d → IsBoundedSupply d)
 
--- At most as many connections are open as the configuration allows, at most 4,294,967,295 were opened, and the number
--- of an open connection is at most the number of connections opened.
-pub record HasFewConnections (s : Content) : Type 0 where
-  pub few : length s.sessions ≤ s.configuration.most_connections
+-- At most so many connections are open, at most 4,294,967,295 were opened, and the number of an open connection is at most
+-- the number of connections opened.
+pub record HasFewConnections (most : ℕ) (s : Content) : Type 0 where
+  pub few : length s.sessions ≤ most
   pub given : s.opened ≤ OPENED_MAX
   pub each : IsUpTo s.opened (numbers s)
 
--- In every history of accepted events there are few connections, in this sense.
+-- the greatest number of connections that one of the configurations so far allowed
+abbrev pub most_allowed : Configuration → List Event → ℕ
+most_allowed first [] = first.most_connections
+most_allowed first (Reload configuration ∷ h) = max configuration.most_connections (most_allowed first h)
+most_allowed first (e ∷ h) = most_allowed first h
+
+-- In every history of accepted events, at most as many connections are open as one of the configurations so far allowed.
 abbrev pub ConnectionsAreFew : Type 0
-ConnectionsAreFew = (first : Configuration) (h : List Event) → IsAccepted first h → HasFewConnections (content first h)
+ConnectionsAreFew = (first : Configuration) (h : List Event) → IsAccepted first h → HasFewConnections (most_allowed first h) (content first h)
 
 -- the history before the newest piece of c, or the empty history if no piece came
 abbrev pub before_piece : ℕ → List Event → List Event

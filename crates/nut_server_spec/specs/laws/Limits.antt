@@ -1,13 +1,13 @@
 -- How long an answer may be, and how many bytes may wait for a client, if the configuration is within the limits of its
 -- files.
-use Rattle.std.specs.Prelude.{◌≡◌, ℕ, ◌≤◌, true, List, length, Some}
+use Rattle.std.specs.Prelude.{◌≡◌, ℕ, ◌≤◌, true, List, [], ◌∷◌, length, Some}
 use Rattle.std.specs.List.{AllByRecursion}
 use Rattle.nut_conf.specs.declared.limits.TheConstants.{CONNECTIONS_MAX, DESCRIPTION_MAX, UPSES_MAX}
 use Rattle.nut_words.specs.Lines.{LineText}
 use Rattle.nut_words.specs.Name.{is_name}
 use Rattle.nut_words.specs.declared.limits.TheConstants.{UPS_NAME_MAX}
 use Rattle.nut_server_spec.specs.Configuration.{Configuration, Ups}
-use Rattle.nut_server_spec.specs.Event.{Event}
+use Rattle.nut_server_spec.specs.Event.{Event, Reload}
 use Rattle.nut_server_spec.specs.Answer.{text_of}
 use Rattle.nut_server_spec.specs.Trace.{answer_to}
 use Rattle.nut_server_spec.specs.Content.{Session, content, past}
@@ -30,6 +30,12 @@ pub record IsWithin (configuration : Configuration) : Type 0 where
   pub variable_texts : AllByRecursion IsTextWithin configuration.variable_texts
   pub command_texts : AllByRecursion IsTextWithin configuration.command_texts
 
+-- The first configuration and those of all reloads of a history are within the limits.
+abbrev pub AreWithin : Configuration → List Event → Type 0
+AreWithin first [] = IsWithin first
+AreWithin first (Reload configuration ∷ h) = IsWithin configuration × AreWithin first h
+AreWithin first (e ∷ h) = AreWithin first h
+
 -- the longest answer to one line, a LIST VAR of VARIABLES_MAX variables
 abbrev pub longest_answer : ℕ
 longest_answer = 578_146
@@ -38,10 +44,10 @@ longest_answer = 578_146
 -- further line of any connection.
 pub record AnswersAreBounded : Type 0 where
   pub given :
-      (first : Configuration) (h : List Event) → IsWithin first → IsAccepted first h →
+      (first : Configuration) (h : List Event) → AreWithin first h → IsAccepted first h →
       AllByRecursion (λ e. length (text_of e.answer) ≤ longest_answer) (past first h)
   pub coming :
-      (first : Configuration) (h : List Event) (c : ℕ) (line : LineText) → IsWithin first → IsAccepted first h →
+      (first : Configuration) (h : List Event) (c : ℕ) (line : LineText) → AreWithin first h → IsAccepted first h →
       length (text_of (answer_to first (past first h) c line)) ≤ longest_answer
 
 -- A piece ends at most half as many lines that are answered as it has bytes. So many longest answers may wait for a client.
@@ -51,5 +57,5 @@ most_waits = 148_005_376
 -- In every history of accepted events, at most this many bytes wait for each client.
 abbrev pub WaitsAreBounded : Type 0
 WaitsAreBounded =
-    (first : Configuration) (h : List Event) → IsWithin first → IsAccepted first h →
+    (first : Configuration) (h : List Event) → AreWithin first h → IsAccepted first h →
     (c : ℕ) (k : Session) → session_of c (content first h).sessions ≡ Some k → length k.waits ≤ most_waits

@@ -1,22 +1,23 @@
 -- The server as a machine over its content: how an accepted event changes the content. The machine doesn't keep the
 -- past. The law `machine_keeps_content` says that it keeps the content of every history.
-use Rattle.std.specs.Prelude.{ℕ, zero, suc, true, false, not, ◌==◌, ◌≡◌, max, if◌then◌else◌, ◌+◌, List, [], ◌∷◌, ◌++◌, filter, map, drop, Option, Some, None}
+use Rattle.std.specs.Prelude.{ℕ, zero, suc, true, false, not, ◌==◌, ◌≡◌, max, if◌then◌else◌, ◌+◌, ◌-◌, List, [], ◌∷◌, ◌++◌, filter, length, map, drop, Option, Some, None}
 use Rattle.nut_words.specs.Bytes.{line_feed}
 use Rattle.nut_words.specs.Lines.{LineText, Text, TooLong, joined}
 use Rattle.nut_state.specs.Table.{Table, empty}
 use Rattle.nut_state.specs.Step.{applied}
 use Rattle.nut_proto.specs.declared.driver_ask.DriverAsk.TheVariants.{Ping, DumpAll}
 use Rattle.nut_proto.specs.DriverAsks.{ask_line}
-use Rattle.nut_server_spec.specs.Configuration.{Configuration}
+use Rattle.nut_server_spec.specs.Configuration.{Configuration, Ups}
 use Rattle.nut_server_spec.specs.Command.{Command, command_of}
-use Rattle.nut_server_spec.specs.Event.{Event, Moment, Open, Bytes, Took, Close, WriteFailed, DriverUp, DriverBytes, DriverTook, DriverDown}
+use Rattle.nut_server_spec.specs.Event.{Event, Moment, Open, Bytes, Took, Close, WriteFailed, DriverUp, DriverBytes, DriverTook, DriverDown, Reload}
 use Rattle.nut_server_spec.specs.Tracking.{told_in, with_tracked, all_ended_by, all_abandoned}
-use Rattle.nut_server_spec.specs.Device.{Device, needs_ping}
+use Rattle.nut_server_spec.specs.Device.{Device, absent, needs_ping}
 use Rattle.nut_server_spec.specs.Answer.{Answer, Silence, Guest, Scene, Caller, answer}
 use Rattle.nut_server_spec.specs.Effect.{user_then, password_then, login_then, logged_out_then, tracking_then, number_in, due_then, target, forced_then, request_of}
 use Rattle.nut_server_spec.specs.Trace.{given_then, is_heard, with_request}
 use Rattle.nut_server_spec.specs.Content.{Session, Supply, Content, content}
 use Rattle.nut_server_spec.specs.Acceptance.{IsAccepted, session_of}
+use Rattle.nut_server_spec.specs.Numbering.{Numbering, Fate, below, renumbered, fate_of, by_fate, is_to_cleared}
 
 -- the sessions, with the one with the number c changed
 abbrev pub update : ℕ → (Session → Session) → List Session → List Session
@@ -47,10 +48,15 @@ guest_of k = record { address = k.address; login = k.login }
 abbrev pub caller_of : Session → Caller
 caller_of k = record { user = k.user; password = k.password; login = k.login; tracking = k.tracking }
 
+-- the UPSes of a content and their numbers
+abbrev pub numbering_of : Content → Numbering
+numbering_of s = record { upses = s.configuration.upses; numbers = s.numbers }
+
 -- what the server knows when it answers a line
 abbrev pub scene_of : Content → Scene
 scene_of s = record {
   configuration = s.configuration;
+  numbers = s.numbers;
   clock = s.clock;
   given = s.given;
   devices = map (λ d. d.device) s.supplies;
@@ -62,13 +68,13 @@ abbrev pub answer_in : Content → Command → Session → Answer
 answer_in s command k = if k.logged_out then Silence else answer (scene_of s) (caller_of k) command
 
 -- a session after an answer to its command
-abbrev pub answered : Configuration → Command → Answer → Session → Session
-answered configuration command reply k = record {
+abbrev pub answered : Numbering → Command → Answer → Session → Session
+answered now command reply k = record {
   number = k.number;
   address = k.address;
   user = user_then command reply k.user;
   password = password_then command reply k.password;
-  login = login_then configuration command reply k.login;
+  login = login_then now command reply k.login;
   logged_out = logged_out_then command reply k.logged_out;
   tracking = tracking_then command reply k.tracking;
   rest = k.rest;
@@ -106,8 +112,8 @@ with_rest line k = record k { rest = line }
 -- the content after this answer to a command of c, whose line it completes
 abbrev pub after_answer : ℕ → Command → Answer → Content → Content
 after_answer c command reply s = record s {
-  sessions = update c (λ k. with_rest (Text []) (answered s.configuration command reply k)) s.sessions;
-  supplies = act_on (target s.configuration command) (acted command reply) s.supplies;
+  sessions = update c (λ k. with_rest (Text []) (answered (numbering_of s) command reply k)) s.sessions;
+  supplies = act_on (target (numbering_of s) command) (acted command reply) s.supplies;
   given = given_then reply s.given;
 }
 
@@ -203,6 +209,35 @@ ticked max_age time d =
     then record d { device = record d.device { pinged_at = Some time; waits = d.device.waits ++ ask_line Ping } }
     else d
 
+-- ---- a reload
+
+-- a UPS of which nothing is known
+abbrev pub unheard : Supply
+unheard = record { device = absent; rest = Text [] }
+
+-- the UPSes with the numbers from n on, each changed by its number
+abbrev pub changed_from : ℕ → (ℕ → Supply → Supply) → List Supply → List Supply
+changed_from n change [] = []
+changed_from n change (d ∷ supplies) = change n d ∷ changed_from (n + 1) change supplies
+
+-- a UPS after its fate
+abbrev pub fated : Fate → Supply → Supply
+fated fate d = by_fate fate unheard down d
+
+-- the UPSes after a reload: those before, each after its fate, and as many more as are needed
+abbrev pub supplies_after : List Ups → Numbering → List Supply → List Supply
+supplies_after upses now supplies =
+    changed_from 0 (λ u. fated (fate_of upses now u)) supplies ++ map (λ u. unheard) (below (length upses - length supplies))
+
+-- the content after a reload
+abbrev pub reloaded : Configuration → Content → Content
+reloaded configuration s = record s {
+  configuration = configuration;
+  numbers = renumbered configuration.upses (numbering_of s);
+  sessions = filter (λ k. not (is_to_cleared (fate_of configuration.upses (numbering_of s)) k.login)) s.sessions;
+  supplies = supplies_after configuration.upses (numbering_of s) s.supplies;
+}
+
 -- ---- the machine
 
 -- the content after an accepted event
@@ -218,6 +253,7 @@ advance s (DriverUp u) = with_supplies (update_at u (up s.clock) s.supplies) s
 advance s (DriverBytes u piece) = with_supplies (update_at u (bytes_reported s.clock piece) s.supplies) s
 advance s (DriverTook u n) = with_supplies (update_at u (drained n) s.supplies) s
 advance s (DriverDown u) = with_supplies (update_at u down s.supplies) s
+advance s (Reload configuration) = reloaded configuration s
 
 -- The machine keeps the content of every history of accepted events: the content after an event is what `advance` makes
 -- of the content before it.

@@ -1,4 +1,3 @@
-use Rattle.std.proofs.Common.{arith}
 use Rattle.std.proofs.lemmas.Result.{err_from_is_err_and}
 use Rattle.nut_proto.specs.declared.reply.Reply.TheVariants as replies
 use Rattle.nut_server_spec.specs.Answer.{Line}
@@ -14,5 +13,5 @@ pub returns : goal.returns
 returns c = λ line. (
   c.in_ok-u.ensures.0 (λ u. Line replies.FsdSet),
   forces c.args.scene.now c.args.ups.now c.in_ok-u.u line c.in_ok-u.ensures.1,
-  omega (arith, c.requires, c.in_ok-u.ensures.2),
+  c.requires c.args.ups.now c.in_ok-u.u c.in_ok-u.ensures.1,
 )

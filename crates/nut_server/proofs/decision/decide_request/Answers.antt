@@ -15,7 +15,7 @@ pub returns-in-GetNumLogins : goal.returns-in-GetNumLogins
 returns-in-GetNumLogins c =
     rw (c.in-GetNumLogins.is, ← c.as_bytes.ensures)
     (tells c.args.scene.now c.tell.result _ c.args.line.now.items (c.tell.ensures.answer ∙ c.count_logins.ensures) c.tell.ensures.effect
-    (of_ups c.args.scene.now c.as_bytes.result.now (λ u d. Line (replies.NumLogins c.as_bytes.result.now (length (guests_of u c.args.scene.now.guests)))) (λ u d. (λ b. refl, λ configuration b. refl, refl))))
+    (of_ups c.args.scene.now c.as_bytes.result.now (λ u d. Line (replies.NumLogins c.as_bytes.result.now (length (guests_of u c.args.scene.now.guests)))) (λ u d. (λ b. refl, λ now b. refl, refl))))
 
 pub returns-in-GetUpsDesc : goal.returns-in-GetUpsDesc
 returns-in-GetUpsDesc c =
@@ -28,25 +28,25 @@ pub returns-in-GetVar : goal.returns-in-GetVar
 returns-in-GetVar c =
     rw (c.in-GetVar.is, ← c.as_bytes-in-GetVar.ensures, ← c.as_bytes-in-GetVar-2.ensures)
     (tells c.args.scene.now c.tell-in-GetVar.result _ c.args.line.now.items (c.tell-in-GetVar.ensures.answer ∙ c.show_variable.ensures) c.tell-in-GetVar.ensures.effect
-    (of_variable c.args.scene.now c.as_bytes-in-GetVar.result.now c.as_bytes-in-GetVar-2.result.now (λ d v. Line (var_row c.as_bytes-in-GetVar.result.now d v)) (λ d v. (λ b. refl, λ configuration b. refl, refl))))
+    (of_variable c.args.scene.now c.as_bytes-in-GetVar.result.now c.as_bytes-in-GetVar-2.result.now (λ d v. Line (var_row c.as_bytes-in-GetVar.result.now d v)) (λ d v. (λ b. refl, λ now b. refl, refl))))
 
 pub returns-in-GetType : goal.returns-in-GetType
 returns-in-GetType c =
     rw (c.in-GetType.is, ← c.as_bytes-in-GetType.ensures, ← c.as_bytes-in-GetType-2.ensures)
     (tells c.args.scene.now c.tell-in-GetType.result _ c.args.line.now.items (c.tell-in-GetType.ensures.answer ∙ c.show_type.ensures) c.tell-in-GetType.ensures.effect
-    (of_variable c.args.scene.now c.as_bytes-in-GetType.result.now c.as_bytes-in-GetType-2.result.now (λ d v. Line (type_reply c.as_bytes-in-GetType.result.now v)) (λ d v. (λ b. refl, λ configuration b. refl, refl))))
+    (of_variable c.args.scene.now c.as_bytes-in-GetType.result.now c.as_bytes-in-GetType-2.result.now (λ d v. Line (type_reply c.as_bytes-in-GetType.result.now v)) (λ d v. (λ b. refl, λ now b. refl, refl))))
 
 pub returns-in-GetDesc : goal.returns-in-GetDesc
 returns-in-GetDesc c =
     rw (c.in-GetDesc.is, ← c.as_bytes-in-GetDesc.ensures, ← c.as_bytes-in-GetDesc-2.ensures)
     (tells c.args.scene.now c.tell-in-GetDesc.result _ c.args.line.now.items (c.tell-in-GetDesc.ensures.answer ∙ c.describe_variable.ensures) c.tell-in-GetDesc.ensures.effect
-    (of_variable c.args.scene.now c.as_bytes-in-GetDesc.result.now c.as_bytes-in-GetDesc-2.result.now (λ d v. Line (replies.Desc c.as_bytes-in-GetDesc.result.now c.as_bytes-in-GetDesc-2.result.now (variable_description c.args.scene.now.configuration.variable_texts c.as_bytes-in-GetDesc-2.result.now))) (λ d v. (λ b. refl, λ configuration b. refl, refl))))
+    (of_variable c.args.scene.now c.as_bytes-in-GetDesc.result.now c.as_bytes-in-GetDesc-2.result.now (λ d v. Line (replies.Desc c.as_bytes-in-GetDesc.result.now c.as_bytes-in-GetDesc-2.result.now (variable_description c.args.scene.now.configuration.variable_texts c.as_bytes-in-GetDesc-2.result.now))) (λ d v. (λ b. refl, λ now b. refl, refl))))
 
 pub returns-in-GetCmdDesc : goal.returns-in-GetCmdDesc
 returns-in-GetCmdDesc c =
     rw (c.in-GetCmdDesc.is, ← c.as_bytes-in-GetCmdDesc.ensures, ← c.as_bytes-in-GetCmdDesc-2.ensures)
     (tells c.args.scene.now c.tell-in-GetCmdDesc.result _ c.args.line.now.items (c.tell-in-GetCmdDesc.ensures.answer ∙ c.describe_command.ensures) c.tell-in-GetCmdDesc.ensures.effect
-    (of_command c.args.scene.now c.as_bytes-in-GetCmdDesc.result.now c.as_bytes-in-GetCmdDesc-2.result.now (Line (replies.CmdDesc c.as_bytes-in-GetCmdDesc.result.now c.as_bytes-in-GetCmdDesc-2.result.now (command_description c.args.scene.now.configuration.command_texts c.as_bytes-in-GetCmdDesc-2.result.now))) (λ b. refl, λ configuration b. refl, refl)))
+    (of_command c.args.scene.now c.as_bytes-in-GetCmdDesc.result.now c.as_bytes-in-GetCmdDesc-2.result.now (Line (replies.CmdDesc c.as_bytes-in-GetCmdDesc.result.now c.as_bytes-in-GetCmdDesc-2.result.now (command_description c.args.scene.now.configuration.command_texts c.as_bytes-in-GetCmdDesc-2.result.now))) (λ b. refl, λ now b. refl, refl)))
 
 pub returns-in-List : goal.returns-in-List
 returns-in-List c =

@@ -1,5 +1,5 @@
 use Rattle.std.proofs.Common.{Some, None, ◌∙◌, ap}
-use Rattle.nut_server_spec.specs.declared.Place.TheVariants.{Line, Report}
+use Rattle.nut_server_spec.specs.declared.Place.TheVariants.{Line, Report, NewUpses}
 use Rattle.nut_server_loop.proofs.Steps.{faulted}
 use Rattle.nut_server_loop.proofs.Writes.{closes_ended}
 use Rattle.nut_server_loop.proofs.Requests.{closes_driver}
@@ -39,3 +39,8 @@ returns-in-Some-Report-clause-ok g c =
     (gave_ending g.first _ _ _ _ _ _ _ _ _ (Some (Report c.in-Some-Report.u c.in-Some-Report.field-0-1)) c.requires.1.1 c.arrival_of.ensures c.in-Some.is c.arrive.ensures.answered c.arrive.ensures.stands c.place_of_lack.ensures
     (c.in-Some-Report.is ∙ ap Some c.in-Some-Report.field-0-is))
     c.close_driver.ensures.ok
+
+pub returns-in-Some-NewUpses-clause-ok : goal.returns-in-Some-NewUpses-clause-ok
+returns-in-Some-NewUpses-clause-ok g c =
+    gave_ending g.first _ _ _ _ _ _ _ _ _ (Some NewUpses) c.requires.1.1 c.arrival_of.ensures c.in-Some.is c.arrive.ensures.answered c.arrive.ensures.stands c.place_of_lack.ensures
+    (c.in-Some-NewUpses.is ∙ ap Some c.in-Some-NewUpses.field-0-is)

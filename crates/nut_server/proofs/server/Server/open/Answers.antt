@@ -14,7 +14,7 @@ invariant_of-self c =
     record {
       up_to = subst (λ ks. IsUpTo (c.self.inside.opened + 1) (numbers_of ks)) (sym c.add.ensures) more;
       few = omega (arith, c.if-self-ge-OPENED_MAX.false);
-      within = omega (arith, numbers-length c.add.new.self, ap length c.add.ensures, length-append c.self.inside.connections (c.new.result ∷ []), c.if-len-most_connections.false, c.len.ensures.length, c.most_connections.ensures.value);
+      within = omega (arith, numbers-length c.add.new.self, ap length c.add.ensures, length-append c.self.inside.connections (c.new.result ∷ []), c.if-len-most_connections.false, c.len.ensures.length, c.most_connections.ensures.value, c.most_connections.ensures.most);
       limits = c.self.invariant.limits;
-      all = c.self.invariant.all;
+      placed = c.self.invariant.placed;
     }

@@ -4,7 +4,7 @@ use Rattle.nut_words.specs.Cutter.{line_of}
 use Rattle.nut_server_spec.specs.Command.{command_of}
 use Rattle.nut_server_spec.specs.Content.{Content}
 use Rattle.nut_server_spec.specs.Outcome.{line_takes}
-use Rattle.nut_server_spec.specs.machine.Machine.{answer_in, answered}
+use Rattle.nut_server_spec.specs.machine.Machine.{answer_in, answered, numbering_of}
 use Rattle.nut_server.specs.inside.Lines.{command_done, with_content}
 use Rattle.nut_server.proofs.Heard.{standing, stands_updated}
 use Rattle.nut_server.proofs.Results.{err_both, on_ok}
@@ -25,7 +25,7 @@ returns-clause-goes_on c =
     let command = command_of (line_of c.args.line) in
     let it = standing h.c s.sessions h.at c.requires.goes_on in
     on_ok c.hear_line.result _ _
-    (λ said. stands_updated h.c (λ k. answered s.configuration command (answer_in s command it.0) k) s.sessions _ h.at (λ k. refl) (ap (λ (x : Content). x.sessions) said) c.requires.goes_on)
+    (λ said. stands_updated h.c (λ k. answered (numbering_of s) command (answer_in s command it.0) k) s.sessions _ h.at (λ k. refl) (ap (λ (x : Content). x.sessions) said) c.requires.goes_on)
     (c.hear_line.ensures.ok h.c it.0 c.requires.goes_on it.2)
 
 pub returns-clause-stops : goal.returns-clause-stops
