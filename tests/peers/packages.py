@@ -80,6 +80,7 @@ class Tests:
             nut = machine.do("id nut")
             self.exchange(machine)
             self.is_served_here(machine)
+            self.reloads(machine)
             self.client_sees_an_upgrade(machine)
             self.halts(machine)
             self.bring_back(machine)
@@ -173,6 +174,16 @@ class Tests:
         # NUT's own module for Python is a client that was kept
         said = machine.do("""python3 -c 'import PyNUT; print(PyNUT.PyNUTClient().GetUPSVars("su700")[b"ups.model"])'""")
         expect(said, "b'Peer'\n", "NUT's module for Python")
+
+    def reloads(self, machine):
+        """upsd reads its files again, though its user can't write to the folder, and upsmon looks for the same file."""
+        before = machine.do("systemctl show -p MainPID mulgefa-upsd")
+        text = machine.read("/etc/nut/ups.conf")
+        for added, names in (("[spare]\n", "su700\nspare"), ("", "su700")) * 3:
+            machine.write("/etc/nut/ups.conf", text + added)
+            machine.do("systemctl reload mulgefa-upsd")
+            machine.wait_for("upsc -l 2> /dev/null", names)
+        expect(machine.do("systemctl show -p MainPID mulgefa-upsd"), before, "the process of upsd")
 
     def client_sees_an_upgrade(self, machine):
         before = machine.do("systemctl show -p MainPID mulgefa-upsd mulgefa-upsmon mulgefa-dummy-ups@su700")

@@ -263,6 +263,8 @@ class Tests:
         before = state_of(root.folder)
         root.do("dpkg -i /root/mulgefa-*.deb")
         root.do("systemctl enable mulgefa-upsd mulgefa-upsmon mulgefa-dummy-ups@su700")
+        # what 'systemctl reload mulgefa-upsd' leaves
+        root.do("touch /etc/nut/reload")
         root.do("dpkg --purge mulgefa-server mulgefa-client")
         after = state_of(root.folder)
         expect({it: after.get(it) for it in after.keys() | before.keys() if after.get(it) != before.get(it)}, {}, "what a purge leaves")

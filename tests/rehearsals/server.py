@@ -23,9 +23,10 @@ import urllib.parse
 
 from tests.support.harness import Failed, ensure, expect, refusals, run_tests
 from tests.support.model import Config
-from tests.support.player import Player, conf_steps, escaped, line_of
+from tests.support.player import Player, conf_steps, escaped, line_of, reload_steps
+from tests.support.reload_rows import RELOADS
 from tests.support.server_rows import PROBE, ROOM, ROWS, told
-from tests.support.schedules import UPSES, USERS, ScheduleMaker, shifted
+from tests.support.schedules import UPSES, USERS, ScheduleMaker, shifted, variants
 from tests.support.stage import Stage
 from tests.support.table_rows import TABLES
 
@@ -90,8 +91,8 @@ def answered(name, config, steps, out):
     found = out.splitlines(keepends=True)
     expect(len(found), len(steps), f"{name}: lines")
     for step, line in zip(steps, found):
-        refused = re.match(rb"Memory\((?:Line|Report)\(\d+, (\d+)\)\)", line)
-        lost = int(refused[1]) if refused else None
+        refused = re.match(rb"Memory\((?:NewUpses|(?:Line|Report)\(\d+, (\d+)\))\)", line)
+        lost = int(refused[1] or 0) if refused else None
         if refused:
             expect(told, None, f"{name}: a refusal before this one")
             told = refused[0]
@@ -184,18 +185,24 @@ class Tests:
     def test_256_connections_and_100000_arrivals(self):
         begun = time.monotonic()
         config = Config(UPSES, USERS)
-        schedule, memory = self.rehearse(config, ScheduleMaker(1, config).steps(100_000))
+        maker = ScheduleMaker(1, config, others=variants(1, config))
+        schedule, memory = self.rehearse(config, maker.steps(100_000))
         expect(schedule.most_open, 256, "connections that were open at once")
         due = b"".join(schedule.due)
         for it in [f"ERR {it}%0A" for it in ERRORS] + [f"\n{it} " for it in REFUSALS]:
             if it.encode() not in due:
                 raise Failed(f"{it!r} isn't in the schedule")
-        print(f"   {schedule.player.model.opened} connections, 256 at once, in {memory} KiB; {time.monotonic() - begun:.1f} s")
+        opened, reloads = schedule.player.model.opened, due.count(b"; drivers [")
+        ensure(reloads > 400, f"{reloads} reloads")
+        took = time.monotonic() - begun
+        print(f"   {opened} connections, 256 at once, and {reloads} reloads, in {memory} KiB; {took:.1f} s")
 
     def test_memory_does_not_grow(self):
         config = Config(UPSES, USERS)
-        maker = ScheduleMaker(9, config)
+        maker = ScheduleMaker(9, config, others=variants(9, config))
         steps = [*maker.steps(10_000), *(("close", c) for c in maker.server.connections)]
+        # behind a configuration without UPSes, each turn begins alike
+        steps += [*reload_steps(Config([], {})), *reload_steps(config)]
         opened, now = maker.server.opened, maker.server.now
         _, once = self.rehearse(config, steps)
         again = (shifted(step, turn * opened, turn * now) for turn in range(10) for step in steps)
@@ -213,7 +220,8 @@ class Tests:
             (6, [(b"u%d" % it, b"") for it in range(32)], 2, 8),
         ):
             config = Config(upses, USERS, max_age, max_conn)
-            self.rehearse(config, ScheduleMaker(seed, config, forced=0.02).steps(6_000))
+            for others in ((), variants(seed, config)):
+                self.rehearse(config, ScheduleMaker(seed, config, forced=0.02, others=others).steps(3_000))
 
     def test_lines_that_are_no_steps(self):
         path = os.path.join(self.folder, "schedule")
@@ -224,6 +232,15 @@ class Tests:
             status, out, err, _ = self.run(path)
             wanted = (1, b"ok\n" * HEAD + b"# a comment\n\nok opened=1\n", b"rehearse: line 8 isn't a step\n")
             expect((status, out, err), wanted, line)
+
+    def test_texts_with_faults(self):
+        """A reload reads the texts that were given last, and reports a fault of them as a new server does."""
+        head = [*conf_steps(ROOM), ("open", b"a")]
+        for text in (("ups", b"[su700]\n[su700]\n"), ("users", b"[admin]\nactions = DANCE\n"), ("upsd", b"\nMAXAGE 0\n")):
+            wanted = self.stage.run([*head, text, ("server",)])
+            expect(wanted[0], 1, f"status of a server with {text}")
+            expect(self.stage.run([*head, text, ("reload",), ("open", b"b")]), wanted, f"a reload of {text}")
+        expect(self.stage.run([("reload",)]), (1, b"", b"rehearse: line 1 isn't a step\n"), "a reload of no server")
 
     def test_endless_line(self):
         steps = [("open", b"a"), *[("bytes", 1, b"a" * 500)] * 4000, ("bytes", 1, b"\n"), ("take", 1)]
@@ -261,14 +278,14 @@ class Tests:
             expect(found, table.listed, table.title)
 
     def test_worked_rows(self):
-        for row in ROWS:
+        for row in ROWS + RELOADS:
             self.play_row(row)
 
     def test_worked_rows_cut_at_each_place(self):
         """Wherever a line is cut, the answers to it and to all that follows are the same. The answers to the first part are
         taken before the second comes. Rows that fill a queue have no lines of their own."""
         cuts = 0
-        for row in ROWS:
+        for row in ROWS + RELOADS:
             if len(row.steps) > LONG_ROW:
                 continue
             schedule, _ = self.rehearse(row.config, row.steps)
@@ -301,7 +318,7 @@ class Tests:
 
     def test_worked_rows_with_each_allocation_refused(self):
         answers = ends = 0
-        for row in ROWS:
+        for row in ROWS + RELOADS:
             told, ended = self.refuse_in_turn(row.name, row.config, row.steps + PROBE)
             for it in row.wanted:
                 if it not in told:
@@ -312,7 +329,7 @@ class Tests:
     def test_random_schedules_with_each_allocation_refused(self):
         for seed in (7, 8):
             config = Config(UPSES[:2], USERS, 15, 4)
-            steps = list(ScheduleMaker(seed, config, forced=0.02).steps(400))
+            steps = list(ScheduleMaker(seed, config, forced=0.02, others=variants(seed, config)).steps(400))
             told, ended = self.refuse_in_turn(f"seed {seed}", config, steps)
             print(f"   {len(told)} refusals were answered, {ended} ended the program")
 

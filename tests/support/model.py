@@ -4,6 +4,7 @@ It keeps dictionaries and lists, cuts lines out of the bytes so far, and reads w
 texts are bytes."""
 
 import copy
+import itertools
 import re
 
 LINE_MAX = 2048
@@ -119,13 +120,21 @@ class User:
 
 
 class Config:
-    """The contents of the configuration files: (name, description) of each UPS, users by name, and two numbers."""
+    """The contents of the configuration files: (name, description) of each UPS, users by name, two numbers, and the driver of
+    each UPS by its name, where that isn't the default."""
 
-    def __init__(self, upses, users, max_age=15, max_conn=256):
+    def __init__(self, upses, users, max_age=15, max_conn=256, drivers=None):
         self.upses = upses
         self.users = users
         self.max_age = max_age
         self.max_conn = max_conn
+        self.drivers = drivers or {}
+
+    def names(self):
+        return [name for name, _ in self.upses]
+
+    def driver(self, name):
+        return self.drivers.get(name, b"dummy-ups")
 
 
 class Variable:
@@ -161,9 +170,12 @@ class Variable:
 
 
 class Ups:
-    def __init__(self, name, description):
+    def __init__(self, number, name):
+        self.number = number
         self.name = name
-        self.description = description
+        # the configuration sets these
+        self.description = None
+        self.driver = None
         self.is_forced = False
         self.is_connected = False
         # the statuses of tracked requests by their numbers, the oldest first
@@ -327,14 +339,35 @@ def cut(rest, piece):
 
 class Server:
     def __init__(self, config):
-        self.config = config
         self.now = 0
         self.opened = 0
         self.given = 0
         self.connections = {}
-        self.upses = [Ups(name, description) for name, description in config.upses]
+        # in the order of the file
+        self.upses = []
+        # how many numbers there have been for UPSes
+        self.places = 0
+        self.reload(config)
 
     # The server's arrivals. Each call returns the name of the refusal, or None.
+
+    def reload(self, config):
+        """Puts a configuration in force. A UPS whose name stays keeps its number and what is known of it; its driver is
+        disconnected if the configuration names another. What is known of other UPSes is dropped, and their clients are
+        closed. New UPSes take the least free numbers in the order of the file."""
+        drivers, connections = self.ended_by(config)
+        for number in drivers:
+            self.driver_down(number)
+        for number in connections:
+            self.close(number)
+        staying = {it.name: it for it in self.upses if it.name in config.names()}
+        taken = [it.number for it in staying.values()]
+        free = (number for number in itertools.count() if number not in taken)
+        self.upses = [staying.get(name) or Ups(next(free), name) for name in config.names()]
+        for ups, (name, description) in zip(self.upses, config.upses):
+            ups.description, ups.driver = description, config.driver(name)
+        self.places = max(self.places, len(self.upses))
+        self.config = config
 
     def moment(self, at):
         self.now = max(self.now, at)
@@ -384,7 +417,7 @@ class Server:
 
     def driver_may_lack(self, number, piece):
         """Returns the lines of an accepted piece of a driver, as their numbers from 0, at which memory may be lacking."""
-        ups = copy.deepcopy(self.upses[number])
+        ups = copy.deepcopy(self.numbered(number))
         found = set()
         for at, line in enumerate(cut(ups.rest, piece)[0]):
             before = ups.size()
@@ -407,17 +440,21 @@ class Server:
         del self.connections[number]
 
     def driver_up(self, number):
-        if number >= len(self.upses):
+        ups = self.numbered(number)
+        if ups is None:
             return "NotConnected"
-        ups = self.upses[number]
         ups.abandon()
         ups.forget()
         ups.is_connected = True
         ups.last_heard = self.now
         ups.ask(b"DUMPALL\n")
 
+    def numbered(self, number):
+        return next((it for it in self.upses if it.number == number), None)
+
     def connected(self, number):
-        return self.upses[number] if number < len(self.upses) and self.upses[number].is_connected else None
+        ups = self.numbered(number)
+        return ups if ups is not None and ups.is_connected else None
 
     def driver_bytes(self, number, piece, lost=None):
         ups = self.connected(number)
@@ -450,11 +487,20 @@ class Server:
 
     # The server's state, as it reports it.
 
+    def ended_by(self, config):
+        """Returns the numbers of the drivers that a reload of this configuration disconnects, and those of the connections
+        that it closes."""
+        names = config.names()
+        drivers = [it.number for it in self.upses if it.is_connected and (it.name not in names or it.driver != config.driver(it.name))]
+        clients = [number for number, it in self.connections.items() if it.login is not None and it.login.name not in names]
+        return sorted(drivers), sorted(clients)
+
     def waits(self, number):
         return self.connections[number].waits if number in self.connections else b""
 
     def waits_for_driver(self, number):
-        return self.upses[number].asks if number < len(self.upses) else b""
+        ups = self.numbered(number)
+        return b"" if ups is None else ups.asks
 
     def may_read(self, number):
         connection = self.connections.get(number)

@@ -11,9 +11,10 @@ def escaped(data):
 
 
 def line_of(step):
-    """Returns a step as the program reads it."""
-    parts = (escaped(it) if isinstance(it, bytes) else str(it).encode() for it in step[1:])
-    return b" ".join([step[0].encode(), *parts]) + b"\n"
+    """Returns a step as the program reads it. The configuration of a reload is that of the texts before it."""
+    verb, *words = step
+    parts = (escaped(it) if isinstance(it, bytes) else str(it).encode() for it in words if not isinstance(it, model.Config))
+    return b" ".join([verb.encode(), *parts]) + b"\n"
 
 
 class Player:
@@ -33,10 +34,12 @@ class Player:
             return self.model.may_lack(*step[1:])
         if step[0] == "driver":
             return self.model.driver_may_lack(*step[1:])
+        if step[0] == "reload" and len(step[1].upses) > self.model.places:
+            return {0}
         return set()
 
     def ups(self, text):
-        """Answers a step that sets a configuration. The model was made with the one that these steps set."""
+        """Answers a step that sets a text. The configurations that the texts make are handed to the model as such."""
         return "ok"
 
     def server(self):
@@ -53,9 +56,20 @@ class Player:
         connected = str(self.model.connected(u) is not None).lower()
         return f"{answer or 'ok'} waits={len(self.model.waits_for_driver(u))} connected={connected}"
 
+    def of_number(self, u):
+        ups = self.model.numbered(u)
+        return self.of_driver("-" if ups is None else ups.name.decode(), u)
+
+    def reload(self, config, lost=None):
+        """With `lost`, an allocation for new UPSes is refused."""
+        drivers, connections = self.model.ended_by(config)
+        answer = self.model.reload(config) if lost is None else "Memory(NewUpses)"
+        upses = (self.of_number(u) for u in range(self.model.places))
+        return "; ".join([answer or "ok", *upses, f"drivers {drivers} connections {connections}"])
+
     def moment(self, at):
         answer = self.model.moment(at)
-        return " ".join([answer or "ok", *(str(len(it.asks)) for it in self.model.upses)])
+        return " ".join([answer or "ok", *(str(len(self.model.waits_for_driver(u))) for u in range(self.model.places))])
 
     def open(self, address):
         answer = self.model.open(address)
@@ -103,15 +117,17 @@ class Player:
         return f"connection {min(found)}" if found else "none"
 
     def next_driver(self, least):
-        found = [u for u, ups in enumerate(self.model.upses) if u >= least and ups.asks]
+        found = [ups.number for ups in self.model.upses if ups.number >= least and ups.asks]
         return f"driver {min(found)}" if found else "none"
 
 
-def conf_steps(config):
-    """Returns the steps that make a server with this configuration."""
+def text_steps(config):
+    """Returns the steps that set the texts of this configuration."""
     ups, users = [], []
     for name, description in config.upses:
         ups.append(b"[%s]\ndesc = %s\n" % (name, model.quoted(description)))
+        if name in config.drivers:
+            ups.append(b"driver = %s\n" % config.drivers[name])
     for name, user in config.users.items():
         users.append(b"[%s]\n" % name)
         if user.password is not None:
@@ -121,4 +137,14 @@ def conf_steps(config):
         if user.upsmon is not None:
             users.append(b"upsmon %s\n" % user.upsmon.encode())
     upsd = b"MAXAGE %d\nMAXCONN %d\n" % (config.max_age, config.max_conn)
-    return [("ups", b"".join(ups)), ("users", b"".join(users)), ("upsd", upsd), ("server",)]
+    return [("ups", b"".join(ups)), ("users", b"".join(users)), ("upsd", upsd)]
+
+
+def conf_steps(config):
+    """Returns the steps that make a server with this configuration."""
+    return [*text_steps(config), ("server",)]
+
+
+def reload_steps(config):
+    """Returns the steps that put this configuration in force."""
+    return [*text_steps(config), ("reload", config)]

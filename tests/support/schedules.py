@@ -4,8 +4,8 @@ import random
 import re
 
 from tests.support import model
-from tests.support.model import User
-from tests.support.player import Player
+from tests.support.model import Config, User
+from tests.support.player import Player, reload_steps
 
 UPSES = [(b"su700", b"Server room"), (b"b", b'a "b" \\ # = c'), (b"rack.1_x-Y", b""), (b"all", b"d" * 128)]
 USERS = {
@@ -17,6 +17,16 @@ USERS = {
     b"idle": User(b"x"),
 }
 VARIABLES = [*model.VARIABLES_DESCRIBED, b"load.off", b"a", b"A", b"ups.mfr", b"ups.STATUS", b"v" * 64, b"input.L1-N_x"]
+# names and drivers of UPSes, and users, that other configurations have
+NAMES = [*(name for name, _ in UPSES), b"SU700", b"neu", b"old", b"u" * 32]
+DRIVERS = [b"dummy-ups", b"usbhid-ups", b"snmp-ups"]
+OTHER_USERS = {
+    b"admin": User(b"pw", ("FSD",), (b"load.off",), "primary"),
+    b"mon": User(b"m2", (), (), "primary"),
+    b"sec": User(b'm "2" #', ("SET",), (b"all",)),
+    b"op": User(None, ("FSD", "SET"), (b"all",)),
+    b"nobody": User(b"pw", ("SET",), (b"all",), "primary"),
+}
 COMMANDS = [*model.COMMANDS_DESCRIBED, b"ups.id", b"k", b"K", b"k" * 64]
 VALUES = [
     b"OL", b"OB LB", b"", b"x", b"low", b"medium", b"high", b"50", b"-0", b"007", b"-5", b"1000000000",
@@ -27,23 +37,106 @@ NUMBERS = [
     b"1.5", b"+1", b"00016", b"512", b"513",
 ]
 FLAGS = [b"RW", b"rw", b"STRING", b"String", b"NUMBER", b"OTHER", b""]
+UPSES_MAX = 32
+# the part of the arrivals that are reloads
+RELOADED = 0.008
+# the verbs of steps that ask or prepare
+NO_ARRIVALS = ("next", "next-driver", "ups", "users", "upsd")
 ADDRESSES = [b"10.0.0.1", b"::1", b"a" * 64, b"!~", b"192.0.2.7%eth0"]
 BAD_ADDRESSES = [b"", b"a" * 65, b"a b", b"a\x7f", b'a"', b"a\\b", b"a#", b"a=b", b"\xc3\xa9", b"a\n"]
 
 
-class ScheduleMaker:
-    """Makes a schedule. It looks at the model to know what makes sense, and sometimes makes a step that makes none."""
+class Reconfigured:
+    """A configuration that is changed at random, a piece at a time."""
 
-    def __init__(self, seed, config, forced=0.0005):
+    def __init__(self, chance, config):
+        self.random = chance
+        self.upses = list(config.upses)
+        self.drivers = dict(config.drivers)
+        self.users = dict(config.users)
+        self.max_age = config.max_age
+        self.max_conn = config.max_conn
+
+    def config(self):
+        drivers = {name: driver for name, driver in self.drivers.items() if name in dict(self.upses)}
+        return Config(self.upses, self.users, self.max_age, self.max_conn, drivers)
+
+    def change(self):
+        changes = [self.add, self.remove, self.rename, self.reorder, self.describe, self.change_driver, self.change_user, self.change_numbers]
+        self.random.choice(changes)()
+
+    def place(self):
+        return self.random.randrange(len(self.upses) or 1)
+
+    def add(self):
+        new = [it for it in NAMES if it not in dict(self.upses)]
+        if new and len(self.upses) < UPSES_MAX:
+            self.upses.insert(self.place(), (self.random.choice(new), b"new"))
+
+    def remove(self):
+        at = self.place()
+        del self.upses[at : at + 1]
+
+    def rename(self):
+        self.remove()
+        self.add()
+
+    def reorder(self):
+        self.random.shuffle(self.upses)
+
+    def describe(self):
+        if self.upses:
+            at = self.place()
+            self.upses[at] = self.upses[at][0], self.random.choice([b"", b"another", b'"#"', b"e" * 128])
+
+    def change_driver(self):
+        if self.upses:
+            self.drivers[self.upses[self.place()][0]] = self.random.choice(DRIVERS)
+
+    def change_user(self):
+        name = self.random.choice(list(OTHER_USERS))
+        if name in self.users and self.random.random() < 0.3:
+            del self.users[name]
+        else:
+            self.users[name] = OTHER_USERS[name]
+
+    def change_numbers(self):
+        self.max_age = self.random.choice([self.max_age, self.max_age, 1, 5, 30, 86_400])
+        self.max_conn = self.random.choice([self.max_conn, self.max_conn, 1, 5, 100, 256])
+
+
+def variants(seed, config):
+    """Returns configurations for reloads: some that differ from this one in a few things, itself, one without UPSes, and one
+    with as many as there can be."""
+    chance = random.Random(seed)
+    found = [config, Config([], config.users), Config([(b"u%d" % it, b"") for it in range(28)] + UPSES, config.users)]
+    for _ in range(33):
+        changed = Reconfigured(chance, config)
+        for _ in range(chance.randrange(1, 5)):
+            changed.change()
+        found.append(changed.config())
+    return found
+
+
+class ScheduleMaker:
+    """Makes a schedule. It looks at the model to know what makes sense, and sometimes makes a step that makes none. The
+    configurations of its reloads are drawn from those in `others`, most often the first."""
+
+    def __init__(self, seed, config, forced=0.0005, others=()):
         self.random = random.Random(seed)
-        self.config = config
         self.player = Player(config)
         self.server = self.player.model
         self.forced = forced
+        self.others = others
         # what connections and drivers have still to send
         self.said = {}
         self.told = {}
         self.may_set = False
+
+    @property
+    def config(self):
+        """The configuration in force."""
+        return self.server.config
 
     def chance(self, part):
         return self.random.random() < part
@@ -100,7 +193,7 @@ class ScheduleMaker:
 
     def ups(self):
         if self.chance(0.06):
-            return self.pick([b"SU700", b"none", b"", b"su700 ", b"VAR"])
+            return self.pick([b"none", b"", b"su700 ", b"VAR", *NAMES])
         return self.pick(self.config.upses)[0] if self.config.upses else b"none"
 
     def request(self):
@@ -133,16 +226,15 @@ class ScheduleMaker:
         elif self.chance(0.01):
             words = (b"LOGOUT",)
         elif self.may_set and self.config.upses and self.chance(0.6):
-            words = self.order()
+            words = self.order(self.pick(self.server.upses))
         else:
             words = self.pick(forms)()
         keywords = 2 if words[0] in (b"GET", b"LIST", b"SET") else 1
         return self.joined([self.cased(it) if at < keywords else self.spelled(it) for at, it in enumerate(words)])
 
-    def order(self):
-        """Returns a SET or an INSTCMD that a driver would be asked if the queue has room."""
-        u, _ = self.pick(self.config.upses)
-        ups = next(it for it in self.server.upses if it.name == u)
+    def order(self, ups):
+        """Returns a SET or an INSTCMD that the driver of this UPS would be asked if its queue has room."""
+        u = ups.name
         named = [v for v, it in ups.variables.items() if "RW" in it.flags]
         if not named or self.chance(0.2):
             parameter = [self.pick(VALUES[:-3])] if self.chance(0.3) else []
@@ -211,12 +303,14 @@ class ScheduleMaker:
     # Steps
 
     def piece(self, waiting, line):
-        """Returns the next bytes of a stream: cut anywhere, sometimes with many lines, sometimes all that is there."""
+        """Returns the next bytes of a stream: cut anywhere, sometimes with many lines, sometimes all that is there. What is
+        long mostly comes in large pieces."""
         while len(waiting) < 20:
             waiting += line() + b"\n"
-        most = self.pick([3, 40, 40, 200, 512])
+        is_long = len(waiting) > 512 and self.chance(0.8)
+        most = 512 if is_long else self.pick([3, 40, 40, 200, 512])
         end = self.random.randrange(most + 1)
-        if self.chance(0.6):
+        if not is_long and self.chance(0.6):
             end = waiting.find(b"\n", 0, 512) + 1 or end
         piece = bytes(waiting[:end])
         del waiting[:end]
@@ -229,9 +323,28 @@ class ScheduleMaker:
         return self.pick(list(self.server.connections))
 
     def driver(self):
-        if not self.config.upses or self.chance(0.005):
-            return self.pick([len(self.config.upses), 2**64 - 1])
-        return self.random.randrange(len(self.config.upses))
+        """Returns the number of a UPS, or sometimes any number."""
+        if not self.server.upses or self.chance(0.005):
+            return self.pick([self.random.randrange(self.server.places + 1), 2**64 - 1])
+        return self.pick(self.server.upses).number
+
+    def is_setter(self, c):
+        """Whether this connection's client may set variables."""
+        asker = self.server.connections[c]
+        user = self.config.users.get(asker.user)
+        return user is not None and "SET" in user.actions and asker.password is not None and user.password == asker.password
+
+    def flood_steps(self):
+        """A client asks a driver for more than its queue holds."""
+        setters = [c for c in self.server.connections if self.is_setter(c)]
+        if not setters or not self.server.upses:
+            return
+        c, ups = self.pick(setters), self.pick(self.server.upses)
+        yield ("take", c)
+        for _ in range(24):
+            lines = (b" ".join(map(self.spelled, self.order(ups))) for _ in range(12))
+            yield ("bytes", c, b"".join(b"\n" + it for it in lines if len(it) < 40))
+            yield ("take", c)
 
     def client_steps(self):
         c = self.connection()
@@ -255,9 +368,7 @@ class ScheduleMaker:
         if self.chance(0.003):
             yield ("bytes", c, b"x" * self.random.randrange(510, 600))
             return
-        asker = server.connections.get(c)
-        user = self.config.users.get(asker.user) if asker else None
-        self.may_set = user is not None and "SET" in user.actions and user.password == asker.password
+        self.may_set = c in server.connections and self.is_setter(c)
         yield ("bytes", c, self.piece(self.said.setdefault(c, bytearray()), self.request))
         if self.chance(0.7):
             yield ("take", c)
@@ -304,13 +415,22 @@ class ScheduleMaker:
         elif found < 0.6:
             yield ("next", self.random.randrange(self.server.opened + 3))
         elif found < 0.7:
-            yield ("next-driver", self.random.randrange(len(self.config.upses) + 2))
+            yield ("next-driver", self.random.randrange(self.server.places + 2))
         else:
             c = self.connection()
             # while many connections are open, they are closed slowly
-            if self.chance(0.5) or len(self.server.connections) == self.config.max_conn:
+            if self.chance(0.5) or len(self.server.connections) >= self.config.max_conn:
                 yield (self.pick(["close", "close", "fail"]), c)
                 self.said.pop(c, None)
+
+    def reload_steps(self):
+        """Puts another configuration in force, and looks at what it closed."""
+        before = list(self.server.connections)
+        yield from reload_steps(self.others[0] if self.chance(0.4) else self.pick(self.others))
+        for c in before:
+            if c not in self.server.connections:
+                self.said.pop(c, None)
+                yield ("took", c, 0)
 
     def steps(self, count):
         """Makes this many arrivals and takings. Each step is played on the model before the next is made."""
@@ -320,13 +440,18 @@ class ScheduleMaker:
 
     def steps_unplayed(self, count):
         made = 0
+        # many connections are opened at the beginning
+        beginning = 4 * self.config.max_conn
         while made < count:
             opened = len(self.server.connections)
             found = self.random.random()
-            if opened < self.config.max_conn and made < 4 * self.config.max_conn:
-                # many connections are opened at the beginning
+            if opened < self.config.max_conn and made < beginning:
                 found *= 2
-            if found < 0.62:
+            if self.others and made >= beginning and self.chance(RELOADED):
+                made_now = self.reload_steps()
+            elif self.chance(0.0005):
+                made_now = self.flood_steps()
+            elif found < 0.62:
                 made_now = self.client_steps()
             elif found < 0.85:
                 made_now = self.driver_steps()
@@ -335,7 +460,7 @@ class ScheduleMaker:
             else:
                 made_now = self.open_steps()
             for step in made_now:
-                made += step[0] not in ("next", "next-driver")
+                made += step[0] not in NO_ARRIVALS
                 yield step
 
 

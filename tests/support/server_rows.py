@@ -13,13 +13,13 @@ def pieces_of(data):
     return [data[at : at + PIECE_MAX] for at in range(0, len(data), PIECE_MAX)]
 
 
-def told(*lines):
-    return [("driver", 0, piece) for line in lines for piece in pieces_of(line + b"\n")]
+def told(*lines, u=0):
+    return [("driver", u, piece) for line in lines for piece in pieces_of(line + b"\n")]
 
 
-def live(*lines):
-    """Returns the steps in which the driver connects and tells its state and these lines."""
-    return [("up", 0), ("driver", 0, LIVE), *told(*lines)]
+def live(*lines, u=0):
+    """Returns the steps in which a driver connects and tells its state and these lines."""
+    return [("up", u), ("driver", u, LIVE), *told(*lines, u=u)]
 
 
 def ask(c, *lines_and_replies):
@@ -377,15 +377,17 @@ ROWS = [
     ),
     Row(
         "the numbers of two UPSes",
-        [("up", 0), ("driver", 0, LIVE), ("up", 1), ("driver", 1, LIVE)]
-        + [step for u in (0, 1) for it in ID for step in [("driver", u, it + b"\n")]]
+        live(*ID)
+        + live(*ID, u=1)
         + OPEN
         + ADMIN
         + TRACK
         + ask(1, SET_ID, b"OK TRACKING 1", b'SET VAR b ups.id "abc"', b"OK TRACKING 2")
-        + [("driver", 1, b"TRACKING 1 0\n"), ("driver", 0, b"TRACKING 2 1\n")]
+        + told(b"TRACKING 1 0", u=1)
+        + told(b"TRACKING 2 1")
         + ask(1, b"GET TRACKING 1", b"TRACKING 1 PENDING", b"GET TRACKING 2", b"TRACKING 2 PENDING")
-        + [("driver", 1, b"TRACKING 2 0\n"), ("up", 0)]
+        + told(b"TRACKING 2 0", u=1)
+        + [("up", 0)]
         + ask(1, b"GET TRACKING 1", b"TRACKING 1 FAILED", b"GET TRACKING 2", b"TRACKING 2 SUCCESS"),
         config=Config([*UPS, (b"b", b"")], USERS),
     ),

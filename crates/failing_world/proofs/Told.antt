@@ -1,12 +1,12 @@
 -- What the world notes, and what its rows give.
-use Rattle.std.proofs.Common.{◌≡◌, ℕ, true, List, [], ◌∷◌, ◌++◌, map, reverse, get_or, Some, unwrap_or, refl, sym, ◌∙◌, ap, subst}
+use Rattle.std.proofs.Common.{◌≡◌, ℕ, true, List, [], ◌∷◌, ◌++◌, map, reverse, get_or, Option, Some, None, unwrap_or, refl, sym, ◌∙◌, ap, subst}
 use Rattle.std.proofs.lemmas.List.{reverse-append, map-append}
 use Rattle.std.proofs.lemmas.List.Quantifiers.{position-Some}
 use Rattle.nut_server_spec.specs.Event.{Event}
 use Rattle.nut_server_spec.specs.Event as event
 use Rattle.nut_server_spec.specs.Content.{Content}
 use Rattle.nut_server_loop.specs.Memory.{may_come}
-use Rattle.nut_server_loop.specs.Record.{Entry, MayCome, arrival_of, tells_write, tells_request}
+use Rattle.nut_server_loop.specs.Record.{Entry, MayCome, arrival_of, tells_arrival, tells_next, tells_write, tells_request}
 use Rattle.nut_server_loop.specs.declared.types.Next.{Next}
 use Rattle.nut_server_loop.specs.declared.types.Next.TheVariants as next
 use Rattle.nut_io.specs.declared.types.Written.{Written}
@@ -39,6 +39,7 @@ may_come_next s (next.Close c) items e may is = tt
 may_come_next s (next.DriverUp u) items e may is = tt
 may_come_next s (next.DriverBytes u) items e may is = tt
 may_come_next s (next.DriverDown u) items e may is = tt
+may_come_next s (next.Reload config) items e may is = tt
 may_come_next s next.Again items e may is = tt
 may_come_next s next.End items e may is = tt
 
@@ -47,3 +48,21 @@ pub came : (s : Content) (rows : List Row) (i : ℕ) (row : Row) (n : Next) (ite
 came s rows i row n items place here shown =
     let first = position-Some (λ r. may_come s (event_of r)) rows i row place in
     may_come_next s n items (event_of row) (subst (λ r. may_come s (event_of r) ≡ true) (sym here) first.1) shown
+
+-- A world without a record has none afterwards.
+nothing_came : (arrival : Option Event) → tells_arrival arrival None ≡ None
+nothing_came None = refl
+nothing_came (Some e) = refl
+
+pub nothing_next : (n : Next) (items : List ℕ) → tells_next n items None ≡ None
+nothing_next n items = nothing_came (arrival_of n items)
+
+pub nothing_written : (w : Written) (c : ℕ) (bytes : List ℕ) → tells_write w c bytes None ≡ None
+nothing_written (Took n) c bytes = refl
+nothing_written Later c bytes = refl
+nothing_written Failed c bytes = refl
+
+pub nothing_requested : (w : Written) (u : ℕ) (bytes : List ℕ) → tells_request w u bytes None ≡ None
+nothing_requested (Took n) u bytes = refl
+nothing_requested Later u bytes = refl
+nothing_requested Failed u bytes = refl

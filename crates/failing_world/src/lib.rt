@@ -5,12 +5,14 @@
 #![tactic(auto)]
 
 mod deeds;
+mod reloading;
 mod rows;
 mod serving;
 mod trouble;
 mod world;
 
 pub use deeds::Deed;
+pub use reloading::{ReloadingWorld, serve_reloading};
 pub use rows::Row;
 pub use serving::serve_failing;
 pub use trouble::Trouble;

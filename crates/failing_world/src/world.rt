@@ -12,6 +12,7 @@ use nut_io::{Fault, Piece, Written};
 use nut_server::Server;
 use nut_server_loop::{Next, World};
 use std::alloc::Global;
+use std::mem::swap;
 
 /// A world that gives rows and notes what it does. Connection 1, the driver of UPS 0 and one of its calls may be in
 /// trouble.
@@ -66,6 +67,13 @@ impl FailingWorld {
         ensures { result.now ≡ self.now.deeds.items }
     {
         &self.deeds
+    }
+
+    /// Takes these rows in the place of those that were left to give.
+    pub fn give_further(&mut self, rows: &mut Vec<Row>)
+        ensures { self.new ≡ record self.old { left = rows.old } }
+    {
+        swap(&mut self.left, rows);
     }
 
     /// Returns how many rows are left to give.

@@ -7,6 +7,7 @@ pub trait Herald: Drop {
     /// Receives a notice of this monitor.
     fn announce(&mut self, monitor: &Monitor, notice: Notice);
 
-    /// Is told that a second has passed. What was started for a notice may have ended.
-    fn second(&mut self);
+    /// Is told that a second has passed. What was started for a notice may have ended. Returns whether the watch is to
+    /// end: then this monitor is told nothing more.
+    fn second(&mut self, monitor: &Monitor) -> bool;
 }

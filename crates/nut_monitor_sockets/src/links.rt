@@ -16,7 +16,7 @@ use nut_io::{Piece, Written};
 use nut_monitor::{Monitor, Phase, Query};
 use nut_monitor_loop::Next;
 use nut_poll::{Heard, Ready, Report, Reports, Rounds, SOCKETS_MAX, text_of};
-use std::alloc::Global;
+use std::alloc::{AllocError, Global};
 use std::io;
 use std::io::Write;
 use std::net::Net;
@@ -76,10 +76,7 @@ impl<'r, 'e, R: Net + Clock + Processes, E: Write> Links<'r, 'e, R, E> {
         config: &UpsmonConf,
         reports: Reports<'e, E>,
     ) -> io::Result<Links<'r, 'e, R, E>> {
-        let mut upstreams = Vec::new(alloc);
-        for line in config.monitors.lines.iter() {
-            upstreams.push(Upstream::new(alloc, line)?)?;
-        }
+        let upstreams = upstreams_of(alloc, config)?;
         let mut links = Links {
             rt,
             alloc,
@@ -93,6 +90,23 @@ impl<'r, 'e, R: Net + Clock + Processes, E: Write> Links<'r, 'e, R, E> {
         };
         links.look_up();
         Ok(links)
+    }
+
+    /// Begins anew with the links of a monitor with this configuration, and closes all others. Look-ups that are under
+    /// way go on.
+    ///
+    /// # Errors
+    ///
+    /// Those of [`Links::new`]. Nothing has changed then.
+    pub fn restart(&mut self, config: &UpsmonConf) -> io::Result<()> {
+        let upstreams = upstreams_of(self.alloc, config)?;
+        self.rounds = Rounds::new(self.rt, self.alloc, upstreams.len())?;
+        self.upstreams = upstreams;
+        self.limits = CALM;
+        self.is_ending = false;
+        self.handed = None;
+        self.look_up();
+        Ok(())
     }
 
     /// Returns what comes next, after at most one wait.
@@ -398,6 +412,15 @@ impl<'r, 'e, R: Net + Clock + Processes, E: Write> Links<'r, 'e, R, E> {
             }
         }
     }
+}
+
+/// Returns a link for each MONITOR line. Their servers are about to be called.
+fn upstreams_of(alloc: Global, config: &UpsmonConf) -> Result<Vec<Upstream>, AllocError> {
+    let mut upstreams = Vec::new(alloc);
+    for line in config.monitors.lines.iter() {
+        upstreams.push(Upstream::new(alloc, line)?)?;
+    }
+    Ok(upstreams)
 }
 
 /// Returns the link whose host is to be looked up next, if any is due: the one whose last pause between look-ups is the

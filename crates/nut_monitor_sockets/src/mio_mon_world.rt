@@ -37,14 +37,16 @@ use std::time::Clock;
 /// each only when no server is about to answer: so no server is judged by what it couldn't say. A shutdown that begins
 /// then counts its own seconds.
 ///
-/// Notices go to a herald, which is also told of each second. The world never ends. Only `next` returns a fault, that
-/// of the wait for the sockets or of the clock: a failure of one link concerns no other. The world keeps no record.
+/// Notices go to a herald, which is also told of each second. The world ends when the herald says so, and may then begin
+/// anew for another monitor. Only `next` returns a fault, that of the wait for the sockets or of the clock: a failure of
+/// one link concerns no other. The world keeps no record.
 #[derive(Drop)]
 pub struct MioMonWorld<'r, 'e, R: Processes, H, E> {
     links: Links<'r, 'e, R, E>,
     herald: H,
     late: ArrayVec<u64, MONITORS_MAX>,
     faults: u64,
+    has_ended: bool,
 }
 
 impl<'r, 'e, R: Net + Clock + Processes, H: Herald, E: Write> MioMonWorld<'r, 'e, R, H, E> {
@@ -68,11 +70,33 @@ impl<'r, 'e, R: Net + Clock + Processes, H: Herald, E: Write> MioMonWorld<'r, 'e
             herald,
             late: ArrayVec::new(),
             faults: 0,
+            has_ended: false,
         })
+    }
+
+    /// Begins anew for a monitor with this configuration: the server of each of its MONITOR lines is called, and all
+    /// earlier links are closed. Look-ups that are under way go on.
+    ///
+    /// # Errors
+    ///
+    /// If there is no poll, no clock or no memory. Nothing has changed then.
+    pub fn restart(&mut self, config: &UpsmonConf) -> io::Result<()>
+        ensures { OnOk result (self.new.faults ≡ 0) }
+    {
+        self.links.restart(config)?;
+        self.late.clear();
+        self.faults = 0;
+        self.has_ended = false;
+        Ok(())
+    }
+
+    /// Returns the herald.
+    pub fn herald(&mut self) -> &mut H {
+        &mut self.herald
     }
 }
 
-ghost use Rattle.std.specs.Prelude.{◌≢◌, ◌<◌, ◌≤◌, IfOk, IfSome, Some, Ok};
+ghost use Rattle.std.specs.Prelude.{◌≢◌, ◌<◌, ◌≤◌, IfOk, IfSome, Some, Ok, true};
 
 impl<'r, 'e, R: Net + Clock + Processes, H: Herald, E: Write> MonWorld
     for MioMonWorld<'r, 'e, R, H, E> {
@@ -82,7 +106,7 @@ impl<'r, 'e, R: Net + Clock + Processes, H: Herald, E: Write> MonWorld
 
     ghost fault_count = { λ w. w.faults };
 
-    ghost has_ended = { λ w. ⊥ };
+    ghost has_ended = { λ w. w.has_ended ≡ true };
 
     ghost reached = { λ a b. Unit {0} };
 
@@ -97,12 +121,15 @@ impl<'r, 'e, R: Net + Clock + Processes, H: Herald, E: Write> MonWorld
     fn next(&mut self, monitor: &Monitor, piece: &mut Piece) -> Result<Next, Fault> {
         self.late.clear();
         match self.links.next(monitor, piece) {
-            Ok(next) => {
-                if let Next::Moment(_) = next {
-                    self.herald.second();
-                }
-                Ok(next)
+            Ok(Next::Moment(moment)) => {
+                self.has_ended = self.herald.second(monitor);
+                Ok(if self.has_ended {
+                    Next::End
+                } else {
+                    Next::Moment(moment)
+                })
             }
+            Ok(next) => Ok(next),
             Err(_) => {
                 self.faults += 1;
                 Err(Fault)

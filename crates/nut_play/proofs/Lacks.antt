@@ -20,14 +20,15 @@ use Rattle.nut_fleet.specs.Schedule.{Step}
 use Rattle.nut_fleet.specs.World.{Inform, Skip}
 use Rattle.nut_fleet.specs.Log.{News, Skipped, Noticed, Moved, turned}
 use Rattle.nut_fleet.specs.machine.Going.{heard_news}
-use Rattle.nut_play.specs.Lack.{is_piece, is_link_piece, is_told, brings_bytes, may_lack}
+use Rattle.nut_play.specs.Lack.{may_allocate, is_link_piece, is_told, brings_bytes, may_lack}
 use Rattle.nut_play.specs.machine.Kept.{inform_by, told_news}
 use Rattle.nut_play.specs.Play.{told_if}
 
--- An arrival is no reload, so only a piece may lack memory.
-pub server_lacks : (s : server.Content) (place : Place) (arrival : Arrival) → server_outcome.Lacks s place (event_of arrival) → is_piece (event_of arrival) ≡ true
+-- Only a piece and a reload may lack memory.
+pub server_lacks : (s : server.Content) (place : Place) (arrival : Arrival) → server_outcome.Lacks s place (event_of arrival) → may_allocate (event_of arrival) ≡ true
 server_lacks s place (arrivals.Bytes c piece) may = refl
 server_lacks s place (arrivals.DriverBytes u piece) may = refl
+server_lacks s place (arrivals.Reload configuration) may = refl
 server_lacks s (Line d k) (arrivals.Moment t) may = absurd may
 server_lacks s (Line d k) (arrivals.Open address) may = absurd may
 server_lacks s (Line d k) (arrivals.Took c n) may = absurd may

@@ -5,12 +5,14 @@ use Rattle.nut_monitor_spec.specs.Event as events
 use Rattle.nut_fleet.specs.Schedule.{Step, Driver, Out, Reach, Back, Land}
 use Rattle.nut_fleet.specs.Log.{News}
 
--- Of what a server and a monitor are told, only pieces of bytes may allocate.
-abbrev pub is_piece : arrivals.Event → Bool
-is_piece (arrivals.Bytes c piece) = true
-is_piece (arrivals.DriverBytes u piece) = true
-is_piece event = false
+-- Of what a server is told, only pieces of bytes and reloads may allocate.
+abbrev pub may_allocate : arrivals.Event → Bool
+may_allocate (arrivals.Bytes c piece) = true
+may_allocate (arrivals.DriverBytes u piece) = true
+may_allocate (arrivals.Reload configuration) = true
+may_allocate event = false
 
+-- Of what a monitor is told, only pieces of bytes may.
 abbrev pub is_link_piece : events.Event → Bool
 is_link_piece (events.LinkBytes i piece) = true
 is_link_piece event = false

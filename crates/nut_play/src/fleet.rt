@@ -7,7 +7,7 @@ ghost use Rattle.nut_server.specs.Arrival.{event_of};
 ghost use Rattle.nut_monitor.specs.Events.{event_of as told_as};
 ghost use Rattle.nut_fleet.specs.Log.{logged};
 ghost use Rattle.nut_fleet.specs.Seen.{deed_by};
-ghost use Rattle.nut_play.specs.Lack.{is_piece, is_link_piece, is_told, may_lack};
+ghost use Rattle.nut_play.specs.Lack.{may_allocate, is_link_piece, is_told, may_lack};
 ghost use Rattle.nut_play.specs.machine.Kept.{fleet_of, is_played, tell_by, inform_by, reach_by, back_by, out_by, land_by, link_by, told_by, told_news, told_to, with_seat, hear_seat, reach_seat, back_seat, out_seat, land_seat, join_seat, known_of, link_of, fits, fits_link, next, said, reach_next, back_next, join_next, links_in, fresh_seat, fresh_fleet};
 ghost use Rattle.nut_play.specs.Steps.{step_of, steps_of, logged_of};
 ghost use Rattle.nut_play.specs.Play.{told_at, IsLog, IsFault};
@@ -90,7 +90,7 @@ impl Fleet {
     fn serve(&mut self, arrival: Arrival<'_>) -> Result<bool, Lack>
         ensures played { IfOk result (λ played. played ≡ is_played (tell_by self.old.server (event_of arrival.entry))) }
         ensures fleet { OnOk result (self.new ≡ told_to self.old (event_of arrival.entry)) }
-        ensures lack { OnErr result (IsTrue (is_piece (event_of arrival.entry))) }
+        ensures lack { OnErr result (IsTrue (may_allocate (event_of arrival.entry))) }
     {
         tell(&mut self.server, arrival)
     }

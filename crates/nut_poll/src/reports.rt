@@ -21,6 +21,10 @@ pub enum Report<'a> {
     ShutOut(io::Error),
     /// A client from this address was silent for this many seconds, and its connection is closed.
     Shed(IpAddr, u64),
+    /// The files were read again: what that changed.
+    Reloaded(&'a str),
+    /// The file with this path, which asks for a reload, can't be removed.
+    Stuck(&'a str, io::Error),
     /// A UPS is watched: its target as in upsmon.conf, whether as primary, and its power value.
     Watching(&'a str, bool, u32),
     /// The server of a watched UPS is connected.
@@ -49,6 +53,8 @@ impl<'a> fmt::Display for Report<'a> {
             Report::Shed(address, seconds) => {
                 write!(f, "client {address} closed: silent for {seconds} s")
             }
+            Report::Reloaded(changes) => write!(f, "reloaded: {changes}"),
+            Report::Stuck(path, error) => write!(f, "cannot remove {path}: {error}"),
             Report::Watching(target, is_primary, power) => {
                 let role = if *is_primary { "primary" } else { "secondary" };
                 write!(f, "UPS {target}: watched as {role}, power value {power}")
@@ -95,5 +101,10 @@ impl<'a, E: Write> Reports<'a, E> {
         if self.are_wanted {
             let _ = writeln!(self.err, "{}: {report}", self.program);
         }
+    }
+
+    /// Returns where reports are written, for what is told whether or not they are wanted.
+    pub fn err(&mut self) -> &mut E {
+        self.err
     }
 }

@@ -74,10 +74,22 @@ pub trait OwnFault: Display {
 /// to read about that.
 fn tell_own<F: OwnFault, E: Write>(program: &str, fault: &F, err: &mut E) -> io::Result<()> {
     writeln!(err, "{program}: {fault}")?;
-    match fault.unknown_word() {
+    tell_unknown(program, fault.unknown_word(), err)
+}
+
+/// Writes where to read about a word that no line of a file may have, if there is one.
+fn tell_unknown<E: Write>(program: &str, word: Option<&str>, err: &mut E) -> io::Result<()> {
+    match word {
         Some(word) => writeln!(err, "{program}: {word} isn't taken here: see from-nut(7)"),
         None => Ok(()),
     }
+}
+
+/// Writes why a program goes on with the configuration that it has, as `PROGRAM: not reloaded: WHY`. What can't be
+/// written is dropped.
+pub fn tell_not_reloaded<E: Write>(program: &str, fault: &FileFault<'_>, err: &mut E) {
+    let _ = writeln!(err, "{program}: not reloaded: {fault}");
+    let _ = tell_unknown(program, fault.unknown_word(), err);
 }
 
 impl<F: OwnFault> Failure<F> {

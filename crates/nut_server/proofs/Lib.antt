@@ -7,6 +7,8 @@ pub mod Results
 pub mod Swept
 pub mod Told
 pub mod Feeds
+pub mod Reloaded
+pub mod Renumbered
 pub mod Reports
 pub mod Pieces
 pub mod Places
@@ -16,6 +18,7 @@ mod Remembered
 pub mod Entries
 pub mod Acting
 pub mod Quiet
+pub mod Closing
 pub mod Deciding
 pub mod Saying
 pub mod ShortNames
@@ -24,4 +27,5 @@ pub mod Heard
 pub mod Settled
 pub mod Limited
 mod WholeLine
+pub mod FatesMet
 pub mod Numbered

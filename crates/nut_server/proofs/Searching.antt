@@ -17,7 +17,7 @@ use Rattle.nut_server.specs.inside.Entries.{AreEntries, AreNamed, key_numbers, s
 use Rattle.nut_server.specs.declared.connections.Key.{Key}
 use Rattle.nut_server.specs.declared.connections.Connections.TheInside.{Inside}
 use Rattle.nut_server.proofs.Places.{place_within, place_session}
-use Rattle.nut_server.proofs.Entries.{named_at, session_at, sessions_rise}
+use Rattle.nut_server.proofs.Entries.{IsRead, named_at, session_at, sessions_rise}
 
 below_at : (n : ℕ) (order : List Key) (i : ℕ) (d : Key) → IsBelow n (key_numbers order) → i < length order → n < (get_or order i d).number
 below_at n [] i d below lt = absurd (omega arith)
@@ -68,6 +68,10 @@ pub stands_by_key : (e : Inside) (ks : List Session) (c at : ℕ) (order : List 
 stands_by_key e ks c at order key are view is within read number =
     let there : slice_get order at ≡ Some key = slice_get-get_or order at key (ltb-true at (length order) (sym within)) ∙ ap Some (sym read) in
     subst (λ ks. Stands c ks at) view (keyed_at e.slots e.order.items c at key are.named are.rising (ap (λ order. slice_get order at) (sym is) ∙ there) number)
+
+-- The connection of the key that was read at a place has that place.
+pub stands_by_read : (e : Inside) (ks : List Session) (at : ℕ) (key : Key) → AreEntries e → sessions_of e.slots e.order.items ≡ ks → IsRead e at key → Stands key.number ks at
+stands_by_read e ks at key are view read = subst (λ ks. Stands key.number ks at) view (keyed_at e.slots e.order.items key.number at key are.named are.rising read.there refl)
 
 -- The result of a search for the number c.
 pub record IsFound (c : ℕ) (ks : List Session) (o : Option ℕ) : Type 0 where

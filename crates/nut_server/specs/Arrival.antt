@@ -15,3 +15,4 @@ event_of (arrival.DriverUp u) = E.DriverUp u
 event_of (arrival.DriverBytes u piece) = E.DriverBytes u piece.now
 event_of (arrival.DriverTook u n) = E.DriverTook u n
 event_of (arrival.DriverDown u) = E.DriverDown u
+event_of (arrival.Reload configuration) = E.Reload configuration.value

@@ -3,6 +3,7 @@ pub mod Answers
 pub mod Decisions
 pub mod Effects
 pub mod Entries
+pub mod Fates
 pub mod Inside
 pub mod Lines
 pub mod Login

@@ -1,8 +1,11 @@
 //! The arrivals: what a server is told.
 
+use crate::config::Config;
+
 /// One thing that a server is told. Connections are numbered from 1 in the order in which they are opened. The number
-/// of a UPS, and of its driver, is its place in ups.conf, counted from 0.
-#[derive(Clone, Copy, Drop)]
+/// of a UPS, and of its driver, is its place in the first ups.conf, counted from 0. A reload keeps it, and gives a new
+/// UPS the least number that no UPS has.
+#[derive(Drop)]
 pub enum Arrival<'a> {
     /// This many seconds have passed since the start.
     Moment(u64),
@@ -25,4 +28,6 @@ pub enum Arrival<'a> {
     DriverTook(usize, usize),
     /// A driver was disconnected.
     DriverDown(usize),
+    /// This configuration replaces the one in force.
+    Reload(Box<Config>),
 }

@@ -5,7 +5,8 @@ ghost use Rattle.std.specs.Option.{option_map};
 ghost use Rattle.nut_conf.specs.Descriptions.{rows_of};
 ghost use Rattle.nut_proto.specs.Descriptions.{beside, command_description, told, variable_description};
 ghost use Rattle.nut_server_spec.specs.Configuration.{number_of_ups, ups_named, user_named, has_password, may_act, may_command};
-ghost use Rattle.nut_server.specs.Configured.{configuration_of, upses_of, users_of};
+ghost use Rattle.nut_server_spec.specs.laws.Limits.{IsWithin};
+ghost use Rattle.nut_server.specs.Configured.{command_texts_of, configuration_of, upses_of, users_of, variable_texts_of};
 
 use nut_conf::{
     Action, CONNECTIONS_MAX, Descriptions, Role, UPSES_MAX, USERS_MAX, UpsConf, UpsdConf, UsersConf,
@@ -131,6 +132,13 @@ impl Config {
         config
     }
 
+    /// Does nothing when called. Brings into the proof that a configuration is within the limits of its files.
+    pub fn is_within_limits(&self)
+        ensures { IsWithin self.now }
+    {
+        let _ups = &self.ups;
+    }
+
     /// Returns what ups.conf sets.
     pub fn ups(&self) -> &UpsConf
         ensures { upses_of result.now ≡ self.now.upses }
@@ -144,6 +152,14 @@ impl Config {
         ensures few { length self.now.users ≤ USERS_MAX }
     {
         &self.users
+    }
+
+    /// Returns what cmdvartab says, if there is that file.
+    pub fn descriptions(&self) -> Option<&Descriptions>
+        ensures variables { variable_texts_of (option_map (λ d. d.now) result) ≡ self.now.variable_texts }
+        ensures commands { command_texts_of (option_map (λ d. d.now) result) ≡ self.now.command_texts }
+    {
+        self.descriptions.as_ref()
     }
 
     /// How many UPSes there are, at most [`UPSES_MAX`].

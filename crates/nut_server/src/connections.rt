@@ -5,15 +5,17 @@
 //! unsettled, so unsettled connections are found without a look into the slots. If their count is 0, there is no need
 //! to look at the keys either.
 
-ghost use Rattle.std.specs.Prelude.{◌≡◌, ◌<◌, ◌≤◌, ℕ, [], ◌∷◌, ◌++◌, Some, None, IfOk, IfNone, IfSome, OnOk, OnErr, cond, count_by, drop, find, length, map, nat_le, ◌&&◌, option_map, slice_get, slice_set, vec_capacity};
+ghost use Rattle.std.specs.Prelude.{◌≡◌, ◌<◌, ◌≤◌, ℕ, [], ◌∷◌, ◌++◌, Some, None, IfOk, IfNone, IfSome, OnOk, OnErr, cond, count_by, drop, filter, find, length, map, nat_le, not, ◌&&◌, option_map, remove, slice_get, slice_set, vec_capacity};
 ghost use Rattle.nut_words.specs.Lines.{Text};
 ghost use Rattle.nut_server_spec.specs.Content.{Session};
 ghost use Rattle.nut_server_spec.specs.Acceptance.{session_of};
 ghost use Rattle.nut_server_spec.specs.Answer.{guests_of};
+ghost use Rattle.nut_server_spec.specs.Numbering.{is_to_cleared};
 ghost use Rattle.nut_server_spec.specs.laws.Laws.{IsRising, IsUpTo};
 ghost use Rattle.nut_server_spec.specs.machine.Machine.{guest_of, update, with_rest, without};
 ghost use Rattle.nut_server.specs.declared.connections.Key.{Key};
 ghost use Rattle.nut_server.specs.inside.Effects.{affected, said};
+ghost use Rattle.nut_server.specs.inside.Fates.{fate_in};
 ghost use Rattle.nut_words.specs.Hearing.{IsRest};
 ghost use Rattle.nut_server.specs.inside.Inside.{numbers_of};
 ghost use Rattle.nut_server.specs.inside.Place.{Stands};
@@ -21,11 +23,16 @@ ghost use Rattle.nut_server.specs.Settling.{IsNextUnsettled, settles};
 
 use crate::connection::Connection;
 use crate::effect::Effect;
+use crate::reloading::Reloading;
+use arrayvec::ArrayVec;
 use nut_conf::CONNECTIONS_MAX;
 use nut_words::LineCutter;
 use slab::Slab;
 use std::alloc::{AllocError, Global};
 use std::marker::Model;
+
+/// The greatest number of connections that a reload can close: all.
+pub const CLOSED_MAX: usize = CONNECTIONS_MAX as usize;
 
 /// The number of an open connection, and the slot that holds it.
 #[derive(Clone, Copy)]
@@ -217,14 +224,50 @@ impl Connections {
         self.order.push_reserved(key);
     }
 
+    /// Removes the connection at this place. Keeps the memory.
+    fn remove_at(&mut self, place: usize)
+        requires { place < length self.old }
+        ensures items { self.new ≡ remove self.old place }
+        ensures rising { IsRising (numbers_of self.old) }
+    {
+        let key = self.order.remove(place);
+        self.unsettled -= key.count();
+        self.slots.remove(key.slot);
+    }
+
     /// Removes the connection with this number, if it is open. Keeps the memory.
     pub fn remove(&mut self, c: u64)
         ensures { self.new ≡ without c self.old }
     {
         if let Some(place) = self.place_of(c) {
-            let key = self.order.remove(place);
-            self.unsettled -= key.count();
-            self.slots.remove(key.slot);
+            self.remove_at(place);
+        }
+    }
+
+    /// Returns the numbers of the connections that a reload closes: those whose client is logged in to a UPS that it
+    /// clears.
+    pub fn cleared(&self, reloading: &Reloading<'_>) -> ArrayVec<u64, CLOSED_MAX>
+        ensures { result.items ≡ numbers_of (filter (λ k. is_to_cleared (fate_in reloading.now) k.login) self.now) }
+    {
+        let mut numbers = ArrayVec::new();
+        for place in 0..self.len() {
+            let connection = self.at(place);
+            if reloading.clears(connection.login()) {
+                numbers.push(connection.number());
+            }
+        }
+        numbers
+    }
+
+    /// Removes the connections that a reload closes: those whose client is logged in to a UPS that it clears. Keeps the
+    /// memory.
+    pub fn close_cleared(&mut self, reloading: &Reloading<'_>)
+        ensures { self.new ≡ filter (λ k. not (is_to_cleared (fate_in reloading.now) k.login)) self.old }
+    {
+        for place in (0..self.len()).rev() {
+            if reloading.clears(self.at(place).login()) {
+                self.remove_at(place);
+            }
         }
     }
 

@@ -1,17 +1,20 @@
 //! A UPS and its driver.
 
-ghost use Rattle.std.specs.Prelude.{◌≡◌, ◌≤◌, ◌<◌, ℕ, Option, ⊤, [], ◌++◌, Some, None, IfOk, IfErr, IsTrue, OnOk, find, length, option_map, true, ◌==◌};
+ghost use Rattle.std.specs.Prelude.{◌≡◌, ◌≤◌, ◌<◌, ℕ, Option, ⊤, [], ◌++◌, Some, None, IfOk, IfErr, IsTrue, OnOk, find, length, option_map, true, not, ◌==◌, ◌&&◌};
 ghost use Rattle.std.specs.Option.{option_map_or};
 ghost use Rattle.nut_queue.specs.Front.{IsFrontPart};
 ghost use Rattle.nut_words.specs.Lines.{Text};
 ghost use Rattle.nut_server_spec.specs.Acceptance.{front, line_feeds};
 ghost use Rattle.nut_server_spec.specs.Device.{absent, fits, is_past, needs_ping, trouble};
-ghost use Rattle.nut_server_spec.specs.machine.Machine.{up, down, drained, ticked, bytes_reported};
+ghost use Rattle.nut_server_spec.specs.Reloading.{is_kept};
+ghost use Rattle.nut_server_spec.specs.machine.Machine.{up, down, drained, fated, ticked, unheard, bytes_reported};
 ghost use Rattle.nut_server_spec.specs.Outcome.{report_takes};
 ghost use Rattle.nut_server_spec.specs.Tracking.{with_tracked};
 ghost use Rattle.nut_server_spec.specs.MachineOutcome.{RunsOutOf};
+ghost use Rattle.nut_server.specs.inside.Fates.{fate_is};
 ghost use Rattle.nut_server.specs.inside.Lines.{line_told};
 
+use crate::reloading::Fate;
 use crate::tracked::TrackedRequests;
 use nut_proto::{Refusal, TrackingStatus};
 use nut_queue::{ASKS_MAX, AskRing};
@@ -205,6 +208,36 @@ impl Device {
         self.asks.clear();
         self.tracked.abandon();
         self.cutter = LineCutter::new();
+    }
+
+    /// Forgets all that is known of the UPS, and disconnects its driver.
+    pub fn clear(&mut self)
+        ensures { self.new ≡ unheard }
+    {
+        self.down();
+        self.table.clear();
+        self.heard_at = 0;
+        self.pinged_at = None;
+        self.forced = false;
+        self.tracked = TrackedRequests::new();
+    }
+
+    /// Whether its driver is connected, and is disconnected by this fate at a reload.
+    pub fn ends(&self, fate: Fate) -> bool
+        ensures { result ≡ (self.now.device.connected && not (is_kept (fate_is fate))) }
+    {
+        self.connected && !fate.is_kept()
+    }
+
+    /// Changes the UPS as its fate at a reload says.
+    pub fn meet(&mut self, fate: Fate)
+        ensures { self.new ≡ fated (fate_is fate) self.old }
+    {
+        match fate {
+            Fate::Kept => {}
+            Fate::Disconnected => self.down(),
+            Fate::Cleared => self.clear(),
+        }
     }
 
     /// Removes the first `n` of the bytes that wait: the driver took them.

@@ -33,6 +33,9 @@ use thiserror::Error;
 
 mod arriving;
 mod hearing;
+mod reloading;
+
+pub use reloading::Ended;
 
 /// Why a server can't be made.
 #[derive(Clone, Copy, Debug, PartialEq, Eq, Error)]
@@ -148,15 +151,21 @@ impl Server {
             Arrival::DriverBytes(u, piece) => self.driver_bytes(u, piece),
             Arrival::DriverTook(u, n) => self.driver_took(u, n),
             Arrival::DriverDown(u) => self.driver_down(u),
+            Arrival::Reload(config) => self.reload(Box::into_inner(config)),
         }
     }
 
     /// Handles one arrival. After `Ok` the history includes the arrival. After a refusal it is as it was, except for
-    /// `Memory`.
+    /// `Memory` at a line.
     ///
-    /// Only `Bytes` and `DriverBytes` can allocate memory. A client's line does so only if it isn't blank or holds a
-    /// backslash, and never after the client has logged out. A driver's line does so only if it adds a variable, an
-    /// enum value, a range or a command, or holds a backslash.
+    /// `Reload` closes the connections whose clients are logged in to a UPS that goes, and disconnects the drivers of
+    /// those that go or get another driver: [`ended_by`](Self::ended_by) tells which. All else of the UPSes and clients
+    /// stays as it is.
+    ///
+    /// Only `Bytes`, `DriverBytes` and `Reload` can allocate memory. A client's line does so only if it isn't blank or
+    /// holds a backslash, and never after the client has logged out. A driver's line does so only if it adds a variable,
+    /// an enum value, a range or a command, or holds a backslash. A reload does so only if there are more UPSes than there
+    /// have been at once so far.
     ///
     /// # Errors
     ///
@@ -165,10 +174,11 @@ impl Server {
     /// Of `Open`: `BadAddress`, `Full`. Of `Bytes`, `Took`, `Close` and `WriteFailed`: `NoSuchConnection`; then of
     /// `Bytes` `PieceTooLong` and `Busy`, and of `Took` `TooMuchTaken`. Of the arrivals of drivers: `NotConnected`,
     /// which `DriverUp` gives only if there is no such UPS; then of `DriverBytes` `PieceTooLong`, and of `DriverTook`
-    /// `TooMuchTaken`.
+    /// `TooMuchTaken`. No test refuses a `Reload`.
     ///
     /// `Memory` if memory cannot be allocated for a line of a piece. The lines before it stay done, and the connection
-    /// is closed, or the driver counts as disconnected.
+    /// is closed, or the driver counts as disconnected. Also if memory cannot be allocated for the UPSes of a reload:
+    /// then nothing changes.
     pub fn arrive(&mut self, arrival: Arrival<'_>) -> Result<(), Refused>
         // The result is that of the first test that fails. Only if none fails may it be `Memory`.
         ensures answered { (first : Configuration) (h : List Event) → Tells first h self.old
@@ -219,6 +229,15 @@ impl Server {
         ensures few { result ≤ UPSES_MAX }
     {
         self.config.number_of_upses()
+    }
+
+    /// How many places for UPSes there are, at most [`UPSES_MAX`]: as many as the greatest configuration so far had UPSes.
+    /// The number of each UPS is less.
+    pub fn number_of_places(&self) -> usize
+        ensures len { result ≡ length self.now.supplies }
+        ensures few { result ≤ UPSES_MAX }
+    {
+        self.devices.len()
     }
 
     /// Returns how many bytes wait for a connection: at most 148,005,376, and 0 if it isn't open.

@@ -1,7 +1,7 @@
 -- What an arrival and the server's answer to it do to `Served`.
-use Rattle.std.proofs.Common.{◌≡◌, ℕ, eqb, List, [], ◌∷◌, Option, Some, None, Result, Ok, Err, if◌then◌else◌, refl, sym, ◌∙◌, ap, subst, inl, inr, append-nil, Bool, true, false}
-use Rattle.std.specs.Prelude.{option_map}
-use Rattle.std.proofs.lemmas.Bool.{cases_Bool, eqb-true}
+use Rattle.std.proofs.Common.{◌≡◌, ℕ, eqb, List, [], ◌∷◌, Option, Some, None, unwrap_or, Result, Ok, Err, if◌then◌else◌, refl, sym, ◌∙◌, ap, subst, inl, inr, Bool, true, false}
+use Rattle.std.specs.Prelude.{option_map, is_err}
+use Rattle.std.proofs.lemmas.Bool.{cases_Bool, eqb-true, true≢false}
 use Rattle.nut_server_spec.specs.declared.Place.{Place}
 use Rattle.nut_server_spec.specs.declared.Place.TheVariants.{Line, Report, NewUpses}
 use Rattle.nut_server_spec.specs.declared.Refused.{Refused}
@@ -9,28 +9,29 @@ use Rattle.nut_server_spec.specs.declared.Refused.TheVariants.{NoSuchConnection,
 use Rattle.nut_server_spec.specs.Configuration.{Configuration}
 use Rattle.nut_server_spec.specs.Event.{Event}
 use Rattle.nut_server_spec.specs.Event as event
-use Rattle.nut_server_spec.specs.Trace.{driver_sent}
+use Rattle.nut_server_spec.specs.Trace.{driver_sent, numbering}
 use Rattle.nut_server_spec.specs.Content.{Content, content, past}
 use Rattle.nut_server_spec.specs.Acceptance.{up_refusal, IsAccepted, Tells}
 use Rattle.nut_server_spec.specs.Outcome.{IsRefusal, after_refusal}
+use Rattle.nut_server_spec.specs.Reloading.{drivers_ended, connections_ended}
 use Rattle.nut_server_spec.proofs.Sent.{taken_by, sent-refused}
-use Rattle.nut_server_spec.proofs.DriverSent.{driver_sent-step, driver_sent-refused}
+use Rattle.nut_server_spec.proofs.DriverSent.{driver_sent-refused}
 use Rattle.nut_server.specs.declared.arrival.Arrival.{Arrival}
 use Rattle.nut_server.specs.Arrival.{event_of}
-use Rattle.nut_server_loop.specs.Record.{Entry, Gave, tells, tells_next, tells_arrival, arrival_of, since_up}
+use Rattle.nut_server_loop.specs.Record.{Entry, Gave, tells, tells_next, tells_arrival, arrival_of, is_reload, since_up}
 use Rattle.nut_server_loop.specs.declared.types.Next.{Next}
 use Rattle.nut_server_loop.specs.declared.types.Next.TheVariants as next
-use Rattle.nut_server_loop.specs.Served.{Served, ServedBefore, ended_in, ended_by, ended_by_refusal}
+use Rattle.nut_server_loop.specs.Served.{Served, ServedBefore, ended_in, to_close, ended_by, ended_by_event, ended_by_lack, ended_by_refusal, cleared_since_up}
 use Rattle.nut_server_loop.proofs.Steps.{Answered, Leads, goes_on, same_sent, same_asked}
 use Rattle.nut_server_loop.proofs.Unconnected.{none_sent}
-use Rattle.nut_server_spec.specs.Numbering.{is_taken}
+use Rattle.nut_server_spec.specs.Numbering.{is_taken, fate_of, is_cleared}
+use Rattle.nut_server_loop.proofs.Cleared.{WasSent, cleared-refused, cleared_by_fate}
 
 -- an event that `next` can give: no bytes were taken, and no write failed
 abbrev pub IsGiven : Event → Type 0
 IsGiven (event.Took c n) = ⊥
 IsGiven (event.WriteFailed c) = ⊥
 IsGiven (event.DriverTook u n) = ⊥
-IsGiven (event.Reload k) = ⊥
 IsGiven e = Unit {0}
 
 given_next : (n : Next) (items : List ℕ) (e : Event) → arrival_of n items ≡ Some e → IsGiven e
@@ -41,6 +42,7 @@ given_next n items (event.Close c) is = tt
 given_next n items (event.DriverUp u) is = tt
 given_next n items (event.DriverBytes u piece) is = tt
 given_next n items (event.DriverDown u) is = tt
+given_next n items (event.Reload k) is = tt
 given_next (next.Moment t) items (event.Took c k) is = cc
 given_next (next.Open address) items (event.Took c k) is = cc
 given_next (next.Bytes b) items (event.Took c k) is = cc
@@ -48,6 +50,7 @@ given_next (next.Close b) items (event.Took c k) is = cc
 given_next (next.DriverUp u) items (event.Took c k) is = cc
 given_next (next.DriverBytes u) items (event.Took c k) is = cc
 given_next (next.DriverDown u) items (event.Took c k) is = cc
+given_next (next.Reload config) items (event.Took c k) is = cc
 given_next next.Again items (event.Took c k) is = cc
 given_next next.End items (event.Took c k) is = cc
 given_next (next.Moment t) items (event.WriteFailed c) is = cc
@@ -57,6 +60,7 @@ given_next (next.Close b) items (event.WriteFailed c) is = cc
 given_next (next.DriverUp u) items (event.WriteFailed c) is = cc
 given_next (next.DriverBytes u) items (event.WriteFailed c) is = cc
 given_next (next.DriverDown u) items (event.WriteFailed c) is = cc
+given_next (next.Reload config) items (event.WriteFailed c) is = cc
 given_next next.Again items (event.WriteFailed c) is = cc
 given_next next.End items (event.WriteFailed c) is = cc
 given_next (next.Moment t) items (event.DriverTook v k) is = cc
@@ -66,17 +70,9 @@ given_next (next.Close b) items (event.DriverTook v k) is = cc
 given_next (next.DriverUp u) items (event.DriverTook v k) is = cc
 given_next (next.DriverBytes u) items (event.DriverTook v k) is = cc
 given_next (next.DriverDown u) items (event.DriverTook v k) is = cc
+given_next (next.Reload config) items (event.DriverTook v k) is = cc
 given_next next.Again items (event.DriverTook v k) is = cc
 given_next next.End items (event.DriverTook v k) is = cc
-given_next (next.Moment t) items (event.Reload k) is = cc
-given_next (next.Open address) items (event.Reload k) is = cc
-given_next (next.Bytes b) items (event.Reload k) is = cc
-given_next (next.Close b) items (event.Reload k) is = cc
-given_next (next.DriverUp u) items (event.Reload k) is = cc
-given_next (next.DriverBytes u) items (event.Reload k) is = cc
-given_next (next.DriverDown u) items (event.Reload k) is = cc
-given_next next.Again items (event.Reload k) is = cc
-given_next next.End items (event.Reload k) is = cc
 
 -- ---- an accepted arrival
 
@@ -91,10 +87,10 @@ takes_none (event.DriverUp u) c given = refl
 takes_none (event.DriverBytes u piece) c given = refl
 takes_none (event.DriverTook u n) c given = absurd given
 takes_none (event.DriverDown u) c given = refl
-takes_none (event.Reload k) c given = absurd given
+takes_none (event.Reload k) c given = refl
 
-accepted_asked : (first : Configuration) (h : List Event) (e : Event) (u : ℕ) (before : List ℕ) → IsGiven e → IsAccepted first (e ∷ h) → before ≡ driver_sent u (past first h)
-    → since_up u e before ≡ driver_sent u (past first (e ∷ h))
+accepted_asked : (first : Configuration) (h : List Event) (e : Event) (u : ℕ) (before : List ℕ) → IsGiven e → IsAccepted first (e ∷ h) → WasSent first h u before
+    → WasSent first (e ∷ h) u (since_up u e before)
 accepted_asked first h (event.Moment t) u before given accepted same = same_asked first h (event.Moment t) u before accepted refl refl same
 accepted_asked first h (event.Open address) u before given accepted same = same_asked first h (event.Open address) u before accepted refl refl same
 accepted_asked first h (event.Bytes c piece) u before given accepted same = same_asked first h (event.Bytes c piece) u before accepted refl refl same
@@ -102,10 +98,18 @@ accepted_asked first h (event.Took c n) u before given accepted same = absurd gi
 accepted_asked first h (event.Close c) u before given accepted same = same_asked first h (event.Close c) u before accepted refl refl same
 accepted_asked first h (event.WriteFailed c) u before given accepted same = absurd given
 accepted_asked first h (event.DriverUp v) u before given accepted same =
-    ap (λ x. if eqb v u then [] else x) (same ∙ sym (append-nil (driver_sent u (past first h)))) ∙ sym (driver_sent-step first h u (event.DriverUp v) accepted)
+    elim (cases_Bool (eqb v u)) [
+      | inl e ↦ λ known. rw e refl
+      | inr e ↦ rw e same
+    ]
 accepted_asked first h (event.DriverBytes v piece) u before given accepted same = same_asked first h (event.DriverBytes v piece) u before accepted refl refl same
 accepted_asked first h (event.DriverTook v n) u before given accepted same = absurd given
-accepted_asked first h (event.Reload k) u before given accepted same = absurd given
+accepted_asked first h (event.Reload k) u before given accepted same =
+    let fate = fate_of k.upses (numbering first (past first h)) u in
+    elim (cases_Bool (is_cleared fate)) [
+      | inl e ↦ λ known. absurd (true≢false (sym (cleared_by_fate fate (cleared_since_up u (past first h)) e) ∙ known))
+      | inr e ↦ same_asked first h (event.Reload k) u before accepted refl e same
+    ]
 accepted_asked first h (event.DriverDown v) u before given accepted same = same_asked first h (event.DriverDown v) u before accepted refl refl same
 
 -- ---- a refused arrival
@@ -151,12 +155,12 @@ refused_asked first h s (event.DriverUp v) r u before told is same =
 -- ---- an arrival came and was answered
 
 gave_event : {U : Type 0} (first : Configuration) (o o' : Option (List Entry)) (s s' : Content) (e : Event) (r : Result U Refused)
-    → Served first o s [] → o' ≡ tells (Gave e) o → IsGiven e → Answered s e r → Leads s e r s' → Served first o' s' (ended_by r)
+    → Served first o s [] → o' ≡ tells (Gave e) o → IsGiven e → Answered s e r → Leads s e r s' → Served first o' s' (ended_by s e r)
 gave_event first o o' s s' e (Ok u) served more given answer leads =
     let h = served.history in
     let holds = leads first h served.holds in
-    goes_on first o o' s s' [] [] (Gave e) served (e ∷ h) more
-    (Ok tt, refl, answer first h served.holds, refl, refl)
+    goes_on first o o' s s' [] (ended_by_event s e) (Gave e) served (e ∷ h) more
+    (Ok tt, refl, answer first h served.holds, refl, ap (λ x. ended_by_event x e) served.holds.1)
     holds
     (λ c. same_sent first h e c _ served.holds.0 (takes_none e c given) (served.sent_is c))
     (λ v. accepted_asked first h e v _ given holds.0 (served.asked_is v))
@@ -167,23 +171,46 @@ gave_event first o o' s s' e (Err r) served more given answer leads =
     (Err r, refl, answer first h served.holds, refl, refl)
     holds
     (λ c. served.sent_is c ∙ sym (sent-refused first h c r e served.holds.0))
-    (λ v. refused_asked first h s e r v _ served.holds (answer first h served.holds) (served.asked_is v))
+    (λ v known. refused_asked first h s e r v _ served.holds (answer first h served.holds) (served.asked_is v (sym (cleared-refused first h v r e) ∙ known)))
 
 -- What `next` gave was told to the server as the arrival that it stands for.
 gave : {U : Type 0} (first : Configuration) (o o' : Option (List Entry)) (s s' : Content) (n : Next) (items : List ℕ) (found : Option Arrival) (arrival : Arrival) (r : Result U Refused)
     → Served first o s [] → o' ≡ tells_next n items o → option_map event_of found ≡ arrival_of n items → found ≡ Some arrival
-    → Answered s (event_of arrival) r → Leads s (event_of arrival) r s' → Served first o' s' (ended_by r)
+    → Answered s (event_of arrival) r → Leads s (event_of arrival) r s' → Served first o' s' (ended_by s (event_of arrival) r)
 gave first o o' s s' n items found arrival r served more stands is answer leads =
     let e : Event = event_of arrival in
     let same : arrival_of n items ≡ Some e = sym stands ∙ ap (λ a. option_map event_of a) is in
     gave_event first o o' s s' e r served (more ∙ ap (λ a. tells_arrival a o) same) (given_next n items e same) answer leads
 
+-- The event ends nothing if it is accepted, whatever the server's content.
+abbrev EndsNothing : Event → Type 0
+EndsNothing e = (s : Content) → ended_by_event s e ≡ []
+
+-- Only a reload ends anything if it is accepted.
+ends_nothing : (n : Next) (items : List ℕ) (e : Event) → is_reload n ≡ false → arrival_of n items ≡ Some e → EndsNothing e
+ends_nothing (next.Moment t) items e plain is = subst (λ a. EndsNothing (unwrap_or a (event.Close 0))) is (λ s. refl)
+ends_nothing (next.Open address) items e plain is = subst (λ a. EndsNothing (unwrap_or a (event.Close 0))) is (λ s. refl)
+ends_nothing (next.Bytes c) items e plain is = subst (λ a. EndsNothing (unwrap_or a (event.Close 0))) is (λ s. refl)
+ends_nothing (next.Close c) items e plain is = subst (λ a. EndsNothing (unwrap_or a (event.Close 0))) is (λ s. refl)
+ends_nothing (next.DriverUp u) items e plain is = subst (λ a. EndsNothing (unwrap_or a (event.Close 0))) is (λ s. refl)
+ends_nothing (next.DriverBytes u) items e plain is = subst (λ a. EndsNothing (unwrap_or a (event.Close 0))) is (λ s. refl)
+ends_nothing (next.DriverDown u) items e plain is = subst (λ a. EndsNothing (unwrap_or a (event.Close 0))) is (λ s. refl)
+ends_nothing (next.Reload config) items e plain is = absurd (true≢false plain)
+ends_nothing next.Again items e plain is = cc
+ends_nothing next.End items e plain is = cc
+
+ended_without : {U : Type 0} (s : Content) (e : Event) (r : Result U Refused) → EndsNothing e → ended_by s e r ≡ ended_by_lack r
+ended_without s e (Ok u) plain = plain s
+ended_without s e (Err r) plain = refl
+
 -- What `next` gave was told to the server, and the answer is known to have ended this.
 pub gave_ending : {U : Type 0} (first : Configuration) (o' : Option (List Entry)) (s s' : Content) (n : Next) (items : List ℕ) (found : Option Arrival) (arrival : Arrival) (r : Result U Refused) (lack known : Option Place)
-    → ServedBefore first o' s n items → option_map event_of found ≡ arrival_of n items → found ≡ Some arrival
-    → Answered s (event_of arrival) r → Leads s (event_of arrival) r s' → ended_by r ≡ ended_in lack → lack ≡ known → Served first o' s' (ended_in known)
-gave_ending first o' s s' n items found arrival r lack known before stands is answer leads ended same =
-    subst (λ w. Served first o' s' w) (ended ∙ ap ended_in same) (gave first before.0 o' s s' n items found arrival r before.1 before.2 stands is answer leads)
+    → ServedBefore first o' s n items → option_map event_of found ≡ arrival_of n items → found ≡ Some arrival → is_reload n ≡ false
+    → Answered s (event_of arrival) r → Leads s (event_of arrival) r s' → ended_by_lack r ≡ ended_in lack → lack ≡ known → Served first o' s' (ended_in known)
+gave_ending first o' s s' n items found arrival r lack known before stands is plain answer leads ended same =
+    let e : Event = event_of arrival in
+    let nothing = ends_nothing n items e plain (sym stands ∙ ap (λ a. option_map event_of a) is) in
+    subst (λ w. Served first o' s' w) (ended_without s e r nothing ∙ ended ∙ ap ended_in same) (gave first before.0 o' s s' n items found arrival r before.1 before.2 stands is answer leads)
 
 -- nothing came
 pub gave_nothing : (first : Configuration) (o' : Option (List Entry)) (s : Content) (n : Next) (items : List ℕ) (found : Option Arrival)
@@ -191,6 +218,46 @@ pub gave_nothing : (first : Configuration) (o' : Option (List Entry)) (s : Conte
 gave_nothing first o' s n items found before stands is =
     let same : arrival_of n items ≡ None = sym stands ∙ ap (λ a. option_map event_of a) is in
     subst (λ q. Served first q s []) (sym (before.2 ∙ ap (λ a. tells_arrival a before.0) same)) before.1
+
+-- ---- a reload
+
+-- A reload is refused only for lack of memory, which ends nothing.
+refused_reload : (first : Configuration) (h : List Event) (k : Configuration) (r : Refused) → IsRefusal first h (event.Reload k) r → ended_by_refusal r ≡ []
+refused_reload first h k (Memory (Line c n)) is = absurd is.1
+refused_reload first h k (Memory (Report u n)) is = absurd is.1
+refused_reload first h k (Memory NewUpses) is = refl
+refused_reload first h k NoSuchConnection is = cc
+refused_reload first h k NotConnected is = cc
+refused_reload first h k PieceTooLong is = cc
+refused_reload first h k Busy is = cc
+refused_reload first h k TooMuchTaken is = cc
+refused_reload first h k BadAddress is = cc
+refused_reload first h k Full is = cc
+
+reloaded : {U : Type 0} (first : Configuration) (o' : Option (List Entry)) (s s' : Content) (n : Next) (items : List ℕ) (k : Configuration) (r : Result U Refused)
+    → ServedBefore first o' s n items → arrival_of n items ≡ Some (event.Reload k) → Answered s (event.Reload k) r → Leads s (event.Reload k) r s' → Served first o' s' (ended_by s (event.Reload k) r)
+reloaded first o' s s' n items k r before is answer leads =
+    gave_event first before.0 o' s s' (event.Reload k) r before.1 (before.2 ∙ ap (λ a. tells_arrival a before.0) is) tt answer leads
+
+-- The server took a new configuration, and this is left to close.
+pub reload_taken : (first : Configuration) (o' : Option (List Entry)) (s s' : Content) (n : Next) (items : List ℕ) (k : Configuration) (r : Result (Unit {0}) Refused) (drivers connections : List ℕ)
+    → ServedBefore first o' s n items → arrival_of n items ≡ Some (event.Reload k) → Answered s (event.Reload k) r → Leads s (event.Reload k) r s'
+    → is_err r ≡ false → drivers ≡ drivers_ended k s → connections ≡ connections_ended k s → Served first o' s' (to_close drivers connections)
+reload_taken first o' s s' n items k (Ok u) drivers connections before is answer leads fine same_drivers same_connections =
+    subst (λ ds. Served first o' s' (to_close ds connections)) (sym same_drivers)
+    (subst (λ cs. Served first o' s' (to_close (drivers_ended k s) cs)) (sym same_connections)
+    (reloaded first o' s s' n items k (Ok u) before is answer leads))
+reload_taken first o' s s' n items k (Err r) drivers connections before is answer leads fine same_drivers same_connections =
+    absurd (true≢false fine)
+
+-- The server had no memory for it: nothing is left to close.
+pub reload_refused : (first : Configuration) (o' : Option (List Entry)) (s s' : Content) (n : Next) (items : List ℕ) (k : Configuration) (r : Result (Unit {0}) Refused)
+    → ServedBefore first o' s n items → arrival_of n items ≡ Some (event.Reload k) → Answered s (event.Reload k) r → Leads s (event.Reload k) r s'
+    → is_err r ≡ true → Served first o' s' []
+reload_refused first o' s s' n items k (Ok u) before is answer leads failed = absurd (true≢false (sym failed))
+reload_refused first o' s s' n items k (Err r) before is answer leads failed =
+    subst (λ w. Served first o' s' w) (refused_reload first before.1.history k r (answer first before.1.history before.1.holds))
+    (reloaded {U = Unit {0}} first o' s s' n items k (Err r) before is answer leads)
 
 -- What the world gave, before the server is told.
 pub given : (first : Configuration) (o o' : Option (List Entry)) (s : Content) (n : Next) (items : List ℕ) → Served first o s [] → o' ≡ tells_next n items o → ServedBefore first o' s n items

@@ -1,3 +1,4 @@
+pub mod Cleared
 pub mod Steps
 pub mod Writes
 pub mod Requests

@@ -33,6 +33,7 @@ may_come_next s (next.Close c) items e may is = tt
 may_come_next s (next.DriverUp u) items e may is = tt
 may_come_next s (next.DriverBytes u) items e may is = tt
 may_come_next s (next.DriverDown u) items e may is = tt
+may_come_next s (next.Reload config) items e may is = tt
 may_come_next s next.Again items e may is = tt
 may_come_next s next.End items e may is = tt
 

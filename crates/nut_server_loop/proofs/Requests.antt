@@ -1,7 +1,7 @@
 -- What a write to a driver, and closing its link, do to `Served`.
-use Rattle.std.proofs.Common.{◌≡◌, ℕ, ◌<◌, ◌≤◌, Bool, true, false, eqb, List, [], ◌∷◌, ◌++◌, length, take, drop, Option, Some, None, Result, Ok, Err, OnOk, if◌then◌else◌, refl, sym, ◌∙◌, ap, subst, inl, inr, arith}
+use Rattle.std.proofs.Common.{◌≡◌, ℕ, ◌+◌, ◌<◌, ◌≤◌, Bool, true, false, eqb, List, [], ◌∷◌, ◌++◌, length, map, get_or, take, drop, Option, Some, None, Result, Ok, Err, OnOk, if◌then◌else◌, refl, sym, ◌∙◌, ap, subst, inl, inr, arith}
 use Rattle.std.proofs.lemmas.Bool.{cases_Bool, eqb-true, le-ltb}
-use Rattle.std.proofs.lemmas.List.{length-take-le}
+use Rattle.std.proofs.lemmas.List.{length-take-le, at_drop_more}
 use Rattle.nut_queue.specs.Front.{IsFrontPart}
 use Rattle.nut_server_spec.specs.declared.Refused.{Refused}
 use Rattle.nut_server_spec.specs.Configuration.{Configuration}
@@ -79,7 +79,7 @@ took_requests first o o' s s' u bytes served more front free holds =
     (subst (λ t. refusal t (event.DriverTook u (length bytes)) ≡ None) served.holds.1 free, refl, refl)
     holds
     (λ d. same_sent first h (event.DriverTook u (length bytes)) d _ served.holds.0 refl (served.sent_is d))
-    (λ v. more_drained first h s u v bytes (driver_taken v served.entries) served.holds free holds.0 front (served.asked_is v))
+    (λ v known. more_drained first h s u v bytes (driver_taken v served.entries) served.holds free holds.0 front (served.asked_is v known))
 
 -- Some of what was offered was taken.
 pub request_took : {U : Type 0} (first : Configuration) (o o' : Option (List Entry)) (s s' : Content) (u : ℕ) (part : List ℕ) (w : Written) (n : ℕ) (r : Result U Refused)
@@ -125,3 +125,10 @@ closed_driver first o o' s u owed served more =
 pub closes_driver : {T E : Type 0} (r : Result T E) (first : Configuration) (o o' : Option (List Entry)) (s : Content) (u : ℕ) → Served first o s (Driver u ∷ []) → OnOk r (o' ≡ tells (DriverWasClosed u) o) → OnOk r (Served first o' s [])
 closes_driver (Ok _) first o o' s u served more = closed_driver first o o' s u [] served more
 closes_driver (Err _) first o o' s u served more = tt
+
+-- The next link of those to be closed is closed.
+pub closed_next_driver : (first : Configuration) (o o' : Option (List Entry)) (s : Content) (drivers : List ℕ) (i : ℕ) (rest : List Ended) → i < length drivers
+    → Served first o s (map Driver (drop i drivers) ++ rest) → o' ≡ tells (DriverWasClosed (get_or drivers i 0)) o → Served first o' s (map Driver (drop (i + 1) drivers) ++ rest)
+closed_next_driver first o o' s drivers i rest within served more =
+    closed_driver first o o' s (get_or drivers i 0) (map Driver (drop (i + 1) drivers) ++ rest)
+    (subst (λ owed. Served first o s owed) (at_drop_more (λ us. map Driver us ++ rest) drivers i 0 within) served) more

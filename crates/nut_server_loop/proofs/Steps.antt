@@ -1,5 +1,5 @@
 -- Each step of the loop keeps `Served`.
-use Rattle.std.proofs.Common.{◌≡◌, ℕ, ◌<◌, ◌≤◌, false, List, [], ◌∷◌, length, take, drop, Option, Some, None, Result, Ok, Err, IfSome, OnErr, refl, sym, ◌∙◌, ap, subst, arith, length-append}
+use Rattle.std.proofs.Common.{◌≡◌, ℕ, ◌<◌, ◌≤◌, false, List, [], ◌∷◌, length, take, drop, Option, Some, None, Result, Ok, Err, IfSome, OnOk, OnErr, refl, sym, ◌∙◌, ap, subst, arith, length-append}
 use Rattle.std.proofs.lemmas.List.{take-append-le}
 use Rattle.nut_queue.specs.Front.{IsFrontPart}
 use Rattle.nut_server_spec.specs.declared.Place.{Place}
@@ -9,8 +9,7 @@ use Rattle.nut_server_spec.specs.declared.Refused.TheVariants.{NoSuchConnection,
 use Rattle.nut_server_spec.specs.Configuration.{Configuration}
 use Rattle.nut_server_spec.specs.Event.{Event}
 use Rattle.nut_server_spec.specs.Event as event
-use Rattle.nut_server_spec.specs.Trace.{driver_sent}
-use Rattle.nut_server_spec.specs.Content.{Content, content, past, sent}
+use Rattle.nut_server_spec.specs.Content.{Content, content, sent}
 use Rattle.nut_server_spec.specs.Acceptance.{refusal, IsAccepted, Tells}
 use Rattle.nut_server_spec.specs.machine.Machine.{advance}
 use Rattle.nut_server_spec.specs.Outcome.{IsAnswer, IsRefusal, MayLack, after}
@@ -19,6 +18,7 @@ use Rattle.nut_server_spec.proofs.DriverSent.{drained_by, begins_anew, driver_se
 use Rattle.nut_server_spec.proofs.Tells.{tells-step}
 use Rattle.nut_server_loop.specs.Record.{Entry, tells, taken, driver_taken}
 use Rattle.nut_server_loop.specs.Served.{Served, Stands, Ended}
+use Rattle.nut_server_loop.proofs.Cleared.{WasSent, cleared-other}
 
 -- What `arrive` promises about the content after it.
 abbrev pub Leads : {U : Type 0} → Content → Event → Result U Refused → Content → Type 0
@@ -32,7 +32,7 @@ tells_more (Some r) entries entry same = ap (λ q. entry ∷ q) same
 -- one entry more, and what it means for the history
 pub goes_on : (first : Configuration) (o o' : Option (List Entry)) (s s' : Content) (owed owed' : List Ended) (entry : Entry) (served : Served first o s owed) (h' : List Event)
     → o' ≡ tells entry o → Stands first served.history owed entry h' owed' → Tells first h' s' → ((c : ℕ) → taken c (entry ∷ served.entries) ≡ sent first c h')
-    → ((u : ℕ) → driver_taken u (entry ∷ served.entries) ≡ driver_sent u (past first h')) → Served first o' s' owed'
+    → ((u : ℕ) → WasSent first h' u (driver_taken u (entry ∷ served.entries))) → Served first o' s' owed'
 goes_on first o o' s s' owed owed' entry served h' more stands holds same asked =
     record {
       entries = entry ∷ served.entries;
@@ -47,7 +47,7 @@ goes_on first o o' s s' owed owed' entry served h' more stands holds same asked 
 -- A server that was told nothing is served.
 pub begun : (first : Configuration) (o : Option (List Entry)) (s : Content) → s ≡ content first [] → IfSome o (λ r. r ≡ []) → Served first o s []
 begun first o s fresh blank =
-    record { entries = []; history = []; tells = blank; told = (refl, refl); holds = (tt, fresh); sent_is = λ c. refl; asked_is = λ u. refl }
+    record { entries = []; history = []; tells = blank; told = (refl, refl); holds = (tt, fresh); sent_is = λ c. refl; asked_is = λ u stays. refl }
 
 -- What is served with something left to close is so after an error.
 pub at_err : {T E : Type 0} (r : Result T E) (first : Configuration) (o : Option (List Entry)) (s : Content) (owed : List Ended) → Served first o s owed → OnErr r ((x : List Ended) × Served first o s x)
@@ -62,6 +62,24 @@ stays first o o' s owed same served = subst (λ q. Served first q s owed) (sym s
 pub faulted : {T E : Type 0} (r : Result T E) (first : Configuration) (o o' : Option (List Entry)) (s : Content) (owed : List Ended) → Served first o s owed → OnErr r (o' ≡ o) → OnErr r ((x : List Ended) × Served first o' s x)
 faulted (Ok _) first o o' s owed served same = tt
 faulted (Err _) first o o' s owed served same = (owed, stays first o o' s owed same served)
+
+-- A fault while the ends are closed leaves the rest of them.
+pub closed_some : {T E : Type 0} (r : Result T E) (o o1 o' : Option (List Entry)) (before rest : List Ended)
+    → ((first : Configuration) (s : Content) → Served first o s before → Served first o1 s rest) → o' ≡ o1
+    → OnErr r ((first : Configuration) (s : Content) → Served first o s before → (x : List Ended) × Served first o' s x)
+closed_some (Ok _) o o1 o' before rest so_far same = tt
+closed_some (Err _) o o1 o' before rest so_far same = λ first s served. (rest, stays first o1 o' s rest same (so_far first s served))
+
+-- What a call says of each server says it of this one.
+pub after_err : {T E : Type 0} (r : Result T E) (first : Configuration) (o o' : Option (List Entry)) (s : Content) (before : List Ended) → Served first o s before
+    → OnErr r ((first : Configuration) (s : Content) → Served first o s before → (x : List Ended) × Served first o' s x) → OnErr r ((x : List Ended) × Served first o' s x)
+after_err (Ok _) first o o' s before served says = tt
+after_err (Err _) first o o' s before served says = says first s served
+
+pub after_ok : {T E : Type 0} (r : Result T E) (first : Configuration) (o o' : Option (List Entry)) (s : Content) (before rest : List Ended) → Served first o s before
+    → OnOk r ((first : Configuration) (s : Content) → Served first o s before → Served first o' s rest) → OnOk r (Served first o' s rest)
+after_ok (Ok _) first o o' s before rest served says = says first s served
+after_ok (Err _) first o o' s before rest served says = tt
 
 -- ---- events that allocate no memory
 
@@ -133,10 +151,11 @@ moved first o s s' e r owed served free small answer leads =
 pub same_sent : (first : Configuration) (h : List Event) (e : Event) (c : ℕ) (before : List ℕ) → IsAccepted first h → taken_by c e ≡ 0 → before ≡ sent first c h → before ≡ sent first c (e ∷ h)
 same_sent first h e c before accepted nothing same = same ∙ sym (sent-other first h c e accepted nothing)
 
--- what the driver of u was sent after an event in which it takes nothing and which doesn't connect it
+-- what the driver of u was sent after an event in which it takes nothing and which neither connects it nor clears u
 pub same_asked : (first : Configuration) (h : List Event) (e : Event) (u : ℕ) (before : List ℕ) → IsAccepted first (e ∷ h) → drained_by u e ≡ 0 → begins_anew first h u e ≡ false
-    → before ≡ driver_sent u (past first h) → before ≡ driver_sent u (past first (e ∷ h))
-same_asked first h e u before accepted nothing stays same = same ∙ sym (driver_sent-other first h u e accepted nothing stays)
+    → WasSent first h u before → WasSent first (e ∷ h) u before
+same_asked first h e u before accepted nothing stays same = λ known.
+    same (sym (cleared-other first h u e stays) ∙ known) ∙ sym (driver_sent-other first h u e accepted nothing stays)
 
 -- ---- what is offered
 

@@ -1,53 +1,26 @@
 -- Nothing was ever taken for the driver of a number that no UPS has: only drivers of UPSes are connected, and a reload that
 -- frees a number clears what it was of.
-use Rattle.std.proofs.Common.{◌≡◌, ℕ, true, false, eqb, List, [], ◌∷◌, length, Option, Some, None, refl, sym, ◌∙◌, ap, subst, arith, inl, inr}
-use Rattle.std.specs.Prelude.{if◌then◌else◌, position}
-use Rattle.std.specs.List.{position_or_len}
-use Rattle.std.proofs.lemmas.Bool.{cases_Bool, eqb-true, le-ltb, true≢false}
+use Rattle.std.proofs.Common.{◌≡◌, ℕ, true, false, eqb, List, [], ◌∷◌, Option, Some, None, refl, sym, ◌∙◌, ap, subst, inl, inr}
+use Rattle.std.specs.Prelude.{if◌then◌else◌}
+use Rattle.std.proofs.lemmas.Bool.{cases_Bool, eqb-true, true≢false}
 use Rattle.nut_server_spec.specs.Configuration.{Configuration, Ups}
-use Rattle.nut_server_spec.specs.Event.{Event, Moment, Open, Bytes, Took, Close, WriteFailed, DriverUp, DriverBytes, DriverTook, DriverDown, Reload, Step, Said, Reported, steps, brought, input, driver_input, with_lines, with_reports}
-use Rattle.nut_server_spec.specs.Numbering.{Cleared, by_fate, fate_between, fate_of, is_cleared, is_taken, renumbered, ups_with}
-use Rattle.nut_server_spec.specs.Trace.{connected, driver_sent, numbering, numbers, trace}
+use Rattle.nut_server_spec.specs.Event.{Event, Moment, Open, Bytes, Took, Close, WriteFailed, DriverUp, DriverBytes, DriverTook, DriverDown, Reload, steps, brought, input, driver_input}
+use Rattle.nut_server_spec.specs.Numbering.{Cleared, by_fate, fate_between, fate_of, is_cleared, is_taken, renumbered, ups_with, with_numbers}
+use Rattle.nut_server_spec.specs.Trace.{connected, driver_sent, numbering, numbers}
 use Rattle.nut_server_spec.specs.Content.{Content, content, past}
 use Rattle.nut_server_spec.specs.Acceptance.{IsAccepted, Tells, supply_of, up_refusal}
 use Rattle.nut_server_spec.specs.laws.Laws.{driver_received}
 use Rattle.nut_server_spec.proofs.DriverSent.{connected_took, driver_sent-received}
 use Rattle.nut_server_spec.proofs.Kept.{supply_is}
+use Rattle.nut_server_spec.proofs.Numbering.{free_has_none}
+use Rattle.nut_server_spec.proofs.Others.{connected_lines, numbers_lines, numbers_reports}
 use Rattle.nut_server_spec.proofs.Pieces.{connected_reports}
-
--- ---- what lines leave as it is
-
-numbers_lines : (first : Configuration) (c : ℕ) (ls : List _) (s : List Step) → numbers first (trace first (with_lines c ls s)) ≡ numbers first (trace first s)
-numbers_lines first c [] s = refl
-numbers_lines first c (l ∷ ls) s = numbers_lines first c ls (Said c l ∷ s)
-
-numbers_reports : (first : Configuration) (u : ℕ) (ls : List _) (s : List Step) → numbers first (trace first (with_reports u ls s)) ≡ numbers first (trace first s)
-numbers_reports first u [] s = refl
-numbers_reports first u (l ∷ ls) s = numbers_reports first u ls (Reported u l ∷ s)
-
-connected_lines : (first : Configuration) (c u : ℕ) (ls : List _) (s : List Step) → connected u (trace first (with_lines c ls s)) ≡ connected u (trace first s)
-connected_lines first c u [] s = refl
-connected_lines first c u (l ∷ ls) s = connected_lines first c u ls (Said c l ∷ s)
 
 -- ---- a number that no UPS has
 
 -- No UPS has the number u after this history.
 abbrev IsFree : Configuration → List Event → ℕ → Type 0
 IsFree first h u = is_taken u (numbers first (past first h)) ≡ false
-
-past_all : (u : ℕ) (ns : List ℕ) → is_taken u ns ≡ false → position_or_len (λ n. eqb n u) ns ≡ length ns
-past_all u [] free = refl
-past_all u (n ∷ ns) free =
-    elim (cases_Bool (eqb n u)) [
-      | inl e ↦ absurd (true≢false (rw e at free))
-      | inr e ↦ let rest : is_taken u ns ≡ false = rw e at free in rw e (omega (arith, past_all u ns rest))
-    ]
-
-no_ups : (u : ℕ) (upses : List Ups) (ns : List ℕ) → is_taken u ns ≡ false → ups_with u (record { upses = upses; numbers = ns }) ≡ None
-no_ups u upses ns free =
-    let nowhere : position (λ n. eqb n u) ns ≡ None =
-    ap (λ b. if b then Some (position_or_len (λ n. eqb n u) ns) else None) (le-ltb (position_or_len (λ n. eqb n u) ns) (length ns) (omega (arith, past_all u ns free))) in
-    rw nowhere refl
 
 gone_between : (old : Option Ups) → fate_between old None ≡ Cleared
 gone_between None = refl
@@ -57,7 +30,7 @@ gone_between (Some old) = refl
 freed : (first : Configuration) (h : List Event) (k : Configuration) (u : ℕ) → IsFree first (Reload k ∷ h) u → fate_of k.upses (numbering first (past first h)) u ≡ Cleared
 freed first h k u free =
     let now = numbering first (past first h) in
-    ap (fate_between (ups_with u now)) (no_ups u k.upses (renumbered k.upses now) free) ∙ gone_between (ups_with u now)
+    ap (fate_between (ups_with u now)) (free_has_none u (with_numbers k.upses (renumbered k.upses now)) free) ∙ gone_between (ups_with u now)
 
 -- The driver of a free number isn't connected.
 idle : (first : Configuration) (h : List Event) (u : ℕ) → IsAccepted first h → IsFree first h u → connected u (past first h) ≡ false

@@ -1,7 +1,7 @@
 -- What a write to a connection, and closing it, do to `Served`.
-use Rattle.std.proofs.Common.{◌≡◌, ℕ, ◌<◌, ◌≤◌, true, eqb, List, [], ◌∷◌, ◌++◌, length, take, Option, Some, None, Result, Ok, Err, OnOk, if◌then◌else◌, refl, sym, ◌∙◌, ap, subst, inl, inr, arith}
+use Rattle.std.proofs.Common.{◌≡◌, ℕ, ◌+◌, ◌<◌, ◌≤◌, true, eqb, List, [], ◌∷◌, ◌++◌, length, map, get_or, take, drop, Option, Some, None, Result, Ok, Err, OnOk, if◌then◌else◌, refl, sym, ◌∙◌, ap, subst, inl, inr, arith}
 use Rattle.std.proofs.lemmas.Bool.{cases_Bool, eqb-true, le-ltb}
-use Rattle.std.proofs.lemmas.List.{length-take-le}
+use Rattle.std.proofs.lemmas.List.{length-take-le, at_drop_more}
 use Rattle.nut_queue.specs.Front.{IsFrontPart}
 use Rattle.nut_server_spec.specs.declared.Refused.{Refused}
 use Rattle.nut_server_spec.specs.Configuration.{Configuration}
@@ -121,3 +121,10 @@ closed_left first o o' s s' c r served more left answer leads =
     holds
     (λ d. same_sent first h (event.Close c) d _ served.holds.0 refl (served.sent_is d))
     (λ u. same_asked first h (event.Close c) u _ holds.0 refl refl (served.asked_is u))
+
+-- The next connection of those to be closed is closed.
+pub closed_next : (first : Configuration) (o o' : Option (List Entry)) (s : Content) (connections : List ℕ) (i : ℕ) → i < length connections
+    → Served first o s (map Connection (drop i connections)) → o' ≡ tells (WasClosed (get_or connections i 0)) o → Served first o' s (map Connection (drop (i + 1) connections))
+closed_next first o o' s connections i within served more =
+    closed_ended first o o' s (get_or connections i 0) (map Connection (drop (i + 1) connections))
+    (subst (λ owed. Served first o s owed) (at_drop_more (map Connection) connections i 0 within) served) more

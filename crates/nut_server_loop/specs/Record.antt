@@ -5,7 +5,7 @@ use Rattle.nut_server_spec.specs.Event as event
 use Rattle.nut_server_spec.specs.Content.{Content}
 use Rattle.nut_server_spec.specs.Acceptance.{session_of, waiting_of, asks_of, may_read, leaves}
 use Rattle.nut_server_loop.specs.declared.types.Next.{Next}
-use Rattle.nut_server_loop.specs.declared.types.Next.TheVariants.{Moment, Open, Bytes, Close, DriverUp, DriverBytes, DriverDown, Again, End}
+use Rattle.nut_server_loop.specs.declared.types.Next.TheVariants.{Moment, Open, Bytes, Close, DriverUp, DriverBytes, DriverDown, Reload, Again, End}
 use Rattle.nut_io.specs.declared.types.Written.{Written}
 use Rattle.nut_io.specs.declared.types.Written.TheVariants.{Took, Later, Failed}
 
@@ -42,8 +42,14 @@ arrival_of (Close c) piece = Some (event.Close c)
 arrival_of (DriverUp u) piece = Some (event.DriverUp u)
 arrival_of (DriverBytes u) piece = Some (event.DriverBytes u piece)
 arrival_of (DriverDown u) piece = Some (event.DriverDown u)
+arrival_of (Reload configuration) piece = Some (event.Reload configuration.value)
 arrival_of Again piece = None
 arrival_of End piece = None
+
+-- whether `next` gave a new configuration
+abbrev pub is_reload : Next → Bool
+is_reload (Reload configuration) = true
+is_reload n = false
 
 -- the record after an arrival was given, if one was
 abbrev pub tells_arrival : Option Event → Option (List Entry) → Option (List Entry)

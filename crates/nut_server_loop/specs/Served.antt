@@ -1,20 +1,23 @@
 -- How the history that a server was told follows from the record of the world.
-use Rattle.std.specs.Prelude.{◌≡◌, ◌≢◌, ◌⊎◌, ℕ, Bool, true, List, [], ◌∷◌, length, Option, Some, None, Result, Ok, Err, IfSome}
+use Rattle.std.specs.Prelude.{◌≡◌, ◌≢◌, ◌⊎◌, ℕ, Bool, true, false, List, [], ◌∷◌, ◌++◌, length, map, Option, Some, None, Result, Ok, Err, IfSome}
 use Rattle.nut_server_spec.specs.declared.Refused.{Refused}
 use Rattle.nut_server_spec.specs.declared.Refused.TheVariants.{Memory}
 use Rattle.nut_server_spec.specs.declared.Place.{Place}
 use Rattle.nut_server_spec.specs.declared.Place.TheVariants.{Line, Report, NewUpses}
 use Rattle.nut_server_spec.specs.Configuration.{Configuration}
-use Rattle.nut_server_spec.specs.Event.{Event, Took, Close, WriteFailed, DriverTook, DriverDown}
-use Rattle.nut_server_spec.specs.Trace.{driver_sent}
+use Rattle.nut_server_spec.specs.Event.{Event, Took, Close, WriteFailed, DriverTook, DriverDown, Reload}
+use Rattle.nut_server_spec.specs.Numbering.{by_fate}
+use Rattle.nut_server_spec.specs.Trace.{driver_sent, since_up}
+use Rattle.nut_server_spec.specs.Trace as trace
 use Rattle.nut_server_spec.specs.Content.{Content, content, past, sent}
 use Rattle.nut_server_spec.specs.Acceptance.{refusal, session_of, supply_of, leaves, Tells}
 use Rattle.nut_server_spec.specs.Outcome.{IsAnswer, after}
+use Rattle.nut_server_spec.specs.Reloading.{drivers_ended, connections_ended}
 use Rattle.nut_server_loop.specs.Record.{Entry, Gave, TookBytes, WasLate, WriteBroke, WasClosed, TookRequests, DriverWasLate, DriverBroke, DriverWasClosed, tells_next, taken, driver_taken}
 use Rattle.nut_server_loop.specs.declared.types.Next.{Next}
 
--- What has ended for the server, and has still to be closed by the world: a connection, or the link to the driver of a
--- UPS.
+-- What has ended for the server, and has still to be closed by the world: a connection, or the link to the driver of the
+-- UPS that had this number.
 pub data Ended : Type 0 where
   Connection : (c : ℕ) → Ended
   Driver : (u : ℕ) → Ended
@@ -35,19 +38,34 @@ abbrev pub ended_by_refusal : Refused → List Ended
 ended_by_refusal (Memory place) = ended_at place
 ended_by_refusal r = []
 
--- what an answer of the server ended
-abbrev pub ended_by : {U : Type 0} → Result U Refused → List Ended
-ended_by (Ok _) = []
-ended_by (Err r) = ended_by_refusal r
+-- what a lack of memory ended, if the answer tells of one
+abbrev pub ended_by_lack : {U : Type 0} → Result U Refused → List Ended
+ended_by_lack (Ok _) = []
+ended_by_lack (Err r) = ended_by_refusal r
+
+-- the links to these drivers and then these connections, in the order in which they are to be closed
+abbrev pub to_close : List ℕ → List ℕ → List Ended
+to_close drivers connections = map Driver drivers ++ map Connection connections
+
+-- what an accepted event ended that the world doesn't know of: a reload ends drivers and connections
+abbrev pub ended_by_event : Content → Event → List Ended
+ended_by_event s (Reload configuration) = to_close (drivers_ended configuration s) (connections_ended configuration s)
+ended_by_event s e = []
+
+-- what an event ended of a server with this content, by the server's answer to it
+abbrev pub ended_by : {U : Type 0} → Content → Event → Result U Refused → List Ended
+ended_by s e (Ok _) = ended_by_event s e
+ended_by s e (Err r) = ended_by_refusal r
 
 -- The server was made with `first`. Before the entry it was told the events h, and the world still has to close what
 -- `owed` lists; after the entry these are h' and owed'.
 abbrev pub Stands : Configuration → List Event → List Ended → Entry → List Event → List Ended → Type 0
 -- An arrival comes only when nothing is left to close. The history goes on by the server's answer: with the arrival;
--- without it if it is refused; or, if memory ran out, with the lines that were done and the end of the connection or
--- the driver, which has then to be closed.
+-- without it if it is refused; or, if memory ran out in a piece, with the lines that were done and the end of the
+-- connection or the driver. This has then to be closed, and so has what a reload ended.
 Stands first h owed (Gave e) h' owed' =
-    (answer : Result (Unit {0}) Refused) × (owed ≡ []) × IsAnswer first h e answer × (h' ≡ after answer e h) × (owed' ≡ ended_by answer)
+    (answer : Result (Unit {0}) Refused) × (owed ≡ []) × IsAnswer first h e answer × (h' ≡ after answer e h) ×
+    (owed' ≡ ended_by (content first h) e answer)
 -- Bytes that were taken are an event. A write that is to come later is none. A failed write is one, and its connection
 -- has then to be closed.
 Stands first h owed (TookBytes c bytes) h' owed' =
@@ -55,11 +73,11 @@ Stands first h owed (TookBytes c bytes) h' owed' =
 Stands first h owed (WasLate c) h' owed' = (h' ≡ h) × (owed' ≡ owed)
 Stands first h owed (WriteBroke c) h' owed' =
     (refusal (content first h) (WriteFailed c) ≡ None) × (h' ≡ WriteFailed c ∷ h) × (owed' ≡ Connection c ∷ owed)
--- The world closes the connection that ended last, or one that has logged out and for which nothing waits, and no
--- other.
+-- The world closes the connection that is the next to be closed, or one that has logged out and for which nothing waits,
+-- and no other.
 Stands first h owed (WasClosed c) h' owed' =
     ((owed ≡ Connection c ∷ owed') × (h' ≡ h)) ⊎ ((leaves (session_of c (content first h).sessions) ≡ true) × (h' ≡ Close c ∷ h) × (owed' ≡ owed))
--- Writes to drivers follow the same rules. The world closes only the link to the driver that ended last.
+-- Writes to drivers follow the same rules. The world closes only the link that is the next to be closed.
 Stands first h owed (TookRequests u bytes) h' owed' =
     (refusal (content first h) (DriverTook u (length bytes)) ≡ None) × (h' ≡ DriverTook u (length bytes) ∷ h) × (owed' ≡ owed)
 Stands first h owed (DriverWasLate u) h' owed' = (h' ≡ h) × (owed' ≡ owed)
@@ -73,9 +91,15 @@ Told first [] h owed = (h ≡ []) × (owed ≡ [])
 Told first (entry ∷ entries) h owed =
     (h0 : List Event) × (owed0 : List Ended) × Told first entries h0 owed0 × Stands first h0 owed0 entry h owed
 
+-- whether a reload has cleared the UPS u since its driver was last connected
+abbrev pub cleared_since_up : ℕ → List trace.Entry → Bool
+cleared_since_up u [] = false
+cleared_since_up u (e ∷ past) =
+    by_fate (e.fate u) true (λ before. before) (since_up false u e.step (cleared_since_up u past))
+
 -- There are entries, which are the world's record if it keeps one, and a history that they lead to. The server has the
 -- content of this history. The bytes that the world took for each connection, and for each driver since it was last
--- connected, are those that were sent.
+-- connected, are those that were sent. Of a UPS that a reload has cleared since then nothing is known any more.
 pub record Served (first : Configuration) (log : Option (List Entry)) (s : Content) (owed : List Ended) : Type 0 where
   pub entries : List Entry
   pub history : List Event
@@ -83,7 +107,7 @@ pub record Served (first : Configuration) (log : Option (List Entry)) (s : Conte
   pub told : Told first entries history owed
   pub holds : Tells first history s
   pub sent_is : (c : ℕ) → taken c entries ≡ sent first c history
-  pub asked_is : (u : ℕ) → driver_taken u entries ≡ driver_sent u (past first history)
+  pub asked_is : (u : ℕ) → cleared_since_up u (past first history) ≡ false → driver_taken u entries ≡ driver_sent u (past first history)
 
 -- `Served` held, with nothing to close, before the world gave this, with these bytes in the piece.
 abbrev pub ServedBefore : Configuration → Option (List Entry) → Content → Next → List ℕ → Type 0

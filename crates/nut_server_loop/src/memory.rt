@@ -13,7 +13,7 @@ use nut_server::Server;
 use std::alloc::Global;
 use std::marker::Model;
 
-/// A world that gives a list of arrivals, takes all bytes at once, and notes what happened.
+/// A world that gives a list of arrivals, takes all bytes at once, and notes what happened. It gives no reload.
 #[derive(Drop)]
 pub struct MemoryWorld {
     alloc: Global,

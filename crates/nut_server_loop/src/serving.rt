@@ -2,16 +2,16 @@
 
 ghost use Rattle.std.specs.Prelude.{◌≡◌, ◌≢◌, ◌+◌, ◌-◌, ◌^◌, ◌<◌, ◌≤◌, ℕ, true, false, List, [], ◌∷◌, length, Option, Ok, IfSome, IfOk, OnOk, OnErr, is_ok, option_map, if◌then◌else◌};
 ghost use Rattle.nut_server_spec.specs.Configuration.{Configuration};
-ghost use Rattle.nut_server_spec.specs.Content.{content};
+ghost use Rattle.nut_server_spec.specs.Content.{Content, content};
 ghost use Rattle.nut_server_spec.specs.Acceptance.{session_of, waiting_of, asks_of, leaves};
 ghost use Rattle.nut_server.specs.Arrival.{event_of};
-ghost use Rattle.nut_server_loop.specs.Record.{IsSettled, IsDriverSettled, NothingIsWithheld, NoRequestIsWithheld, NobodyLeaves};
+ghost use Rattle.nut_server_loop.specs.Record.{is_reload, IsSettled, IsDriverSettled, NothingIsWithheld, NoRequestIsWithheld, NobodyLeaves};
 ghost use Rattle.nut_server_loop.specs.Record as entry;
-ghost use Rattle.nut_server_loop.specs.Served.{Ended, ended_by, ended_in, Served, ServedBefore, OnlyAt, OnlyAtDriver, StaysLate, KeepsLate};
+ghost use Rattle.nut_server_loop.specs.Served.{Ended, ended_by_lack, ended_in, to_close, Served, ServedBefore, OnlyAt, OnlyAtDriver, StaysLate, KeepsLate};
 
 use crate::{Next, World};
 use nut_io::{Fault, Piece, ServeFault, Written};
-use nut_server::{Arrival, Place, Refused, Server};
+use nut_server::{Arrival, Config, Place, Refused, Server};
 use std::sync::Wait;
 
 /// Serves until the world ends.
@@ -19,7 +19,7 @@ use std::sync::Wait;
 /// The server is told each arrival of the world and the outcome of each write. Before the loop asks for the next
 /// arrival, it offers each connection and each driver all that waits for it, until nothing waits or the world takes no
 /// more. It closes each connection that has logged out and taken everything, and each connection and link to a driver
-/// that was ended by a failed write or a lack of memory. It closes no others.
+/// that was ended by a failed write, a lack of memory or a reload. It closes no others.
 ///
 /// When it returns, the server holds the content of a history of accepted events that the world's record leads to. The
 /// bytes that the world took for each connection, and for each driver since it was last connected, are those that were
@@ -80,15 +80,52 @@ fn turn<W: World>(server: &mut Server, world: &mut W, piece: &mut Piece) -> Resu
     ensures counted { W.fault_count world.new ≡ (if is_ok result then W.fault_count world.old else W.fault_count world.old + 1) }
     ensures reached { W.reached world.old world.new }
 {
-    let next = world.next(server, piece)?;
-    if let Next::End = next {
-        return Ok(false);
+    match world.next(server, piece)? {
+        Next::End => return Ok(false),
+        Next::Reload(config) => reload(server, world, config)?,
+        next => hand_on(server, world, &next, piece)?,
     }
-    hand_on(server, world, &next, piece)?;
     Ok(true)
 }
 
-/// Tells the server what the world gave, if it is an arrival, and closes what that ended.
+/// Tells the server a new configuration, and closes what the reload ended. If there is no memory for it, the server keeps
+/// the configuration that it has, and nothing is closed.
+fn reload<W: World>(server: &mut Server, world: &mut W, config: Box<Config>) -> Result<(), Fault>
+    ghost first: { Configuration }
+    requires few { W.fault_count world.old < 2 ^ 64 - 1 }
+    requires served { ServedBefore first (W.log world.old) server.old (Next.Reload config) [] }
+    ensures err { OnErr result ((owed : List Ended) × Served first (W.log world.new) server.new owed) }
+    ensures ok { OnOk result (Served first (W.log world.new) server.new []) }
+    ensures counted { W.fault_count world.new ≡ (if is_ok result then W.fault_count world.old else W.fault_count world.old + 1) }
+    ensures reached { W.reached world.old world.new }
+{
+    let ended = server.ended_by(&config);
+    if server.arrive(Arrival::Reload(config)).is_err() {
+        return Ok(());
+    }
+    close_ended(world, &ended)
+}
+
+/// Closes the links to drivers and then the connections that a reload ended.
+fn close_ended<W: World>(world: &mut W, ended: &nut_server::Ended) -> Result<(), Fault>
+    requires few { W.fault_count world.old < 2 ^ 64 - 1 }
+    ensures err { OnErr result ((first : Configuration) (s : Content) → Served first (W.log world.old) s (to_close ended.now.drivers.items ended.now.connections.items)
+        → (owed : List Ended) × Served first (W.log world.new) s owed) }
+    ensures ok { OnOk result ((first : Configuration) (s : Content) → Served first (W.log world.old) s (to_close ended.now.drivers.items ended.now.connections.items)
+        → Served first (W.log world.new) s []) }
+    ensures counted { W.fault_count world.new ≡ (if is_ok result then W.fault_count world.old else W.fault_count world.old + 1) }
+    ensures reached { W.reached world.old world.new }
+{
+    for u in ended.drivers.as_slice() {
+        world.close_driver(*u)?;
+    }
+    for c in ended.connections.as_slice() {
+        world.close(*c)?;
+    }
+    Ok(())
+}
+
+/// Tells the server what the world gave, if it is an arrival other than a reload, and closes what that ended.
 fn hand_on<W: World>(
     server: &mut Server,
     world: &mut W,
@@ -97,6 +134,7 @@ fn hand_on<W: World>(
 ) -> Result<(), Fault>
     ghost first: { Configuration }
     requires few { W.fault_count world.old < 2 ^ 64 - 1 }
+    requires plain { is_reload next.now ≡ false }
     requires served { ServedBefore first (W.log world.old) server.old next.now piece.now.items }
     ensures err { OnErr result ((owed : List Ended) × Served first (W.log world.new) server.new owed) }
     ensures ok { OnOk result (Served first (W.log world.new) server.new []) }
@@ -132,6 +170,7 @@ fn settle_heard<W: World>(server: &mut Server, world: &mut W, next: &Next) -> Re
         | Next::DriverUp(_)
         | Next::DriverBytes(_)
         | Next::DriverDown(_)
+        | Next::Reload(_)
         | Next::Again
         | Next::End => Ok(()),
     }
@@ -139,7 +178,7 @@ fn settle_heard<W: World>(server: &mut Server, world: &mut W, next: &Next) -> Re
 
 /// Returns the place at which memory ran out, if it did. It names what was ended.
 fn place_of_lack(answer: Result<(), Refused>) -> Option<Place>
-    ensures { ended_by answer ≡ ended_in result }
+    ensures { ended_by_lack answer ≡ ended_in result }
 {
     match answer {
         Err(Refused::Memory(place)) => Some(place),
@@ -156,8 +195,9 @@ fn place_of_lack(answer: Result<(), Refused>) -> Option<Place>
     }
 }
 
-/// Returns the arrival that the world gave, if it gave one.
+/// Returns the arrival that the world gave, if it gave one. It isn't a reload.
 fn arrival_of<'a>(next: &'a Next, piece: &'a Piece) -> Option<Arrival<'a>>
+    requires { is_reload next.now ≡ false }
     ensures { option_map event_of result ≡ entry.arrival_of next.now piece.now.items }
 {
     match next {
@@ -168,6 +208,7 @@ fn arrival_of<'a>(next: &'a Next, piece: &'a Piece) -> Option<Arrival<'a>>
         Next::DriverUp(u) => Some(Arrival::DriverUp(*u)),
         Next::DriverBytes(u) => Some(Arrival::DriverBytes(*u, piece.as_slice())),
         Next::DriverDown(u) => Some(Arrival::DriverDown(*u)),
+        Next::Reload(_) => unreachable!(),
         Next::Again | Next::End => None,
     }
 }

@@ -2,13 +2,14 @@
 
 use arrayvec::ArrayVec;
 use nut_io::Piece;
+use nut_server::Config;
 use nut_server_spec::ADDRESS_MAX;
 
 /// The address of a client, as the world names it: at most [`ADDRESS_MAX`] bytes.
 pub type Address = ArrayVec<u8, ADDRESS_MAX>;
 
-/// What comes next. Connections have the numbers that the server gave them, and UPSes the numbers of their places in
-/// ups.conf, counted from 0.
+/// What comes next. Connections and UPSes have the numbers that the server gave them. The number of a UPS is its place in
+/// ups.conf, counted from 0, until a reload.
 #[derive(Drop)]
 pub enum Next {
     /// This many seconds have passed since the start.
@@ -25,13 +26,16 @@ pub enum Next {
     DriverBytes(usize),
     /// The driver of the UPS with this number disconnected.
     DriverDown(usize),
+    /// This configuration is to take the place of the one in force.
+    Reload(Box<Config>),
     /// Nothing came. Writes that were to come later may be tried again.
     Again,
     /// Nothing more will come.
     End,
 }
 
-/// An arrival as the world over memory keeps it.
+/// An arrival as the world over memory keeps it. That world gives no reload: it would have to give the configuration away
+/// and to note it as well, and a configuration can't be copied.
 #[derive(Drop)]
 pub enum Given {
     /// This many seconds have passed since the start.

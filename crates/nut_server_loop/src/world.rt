@@ -10,7 +10,12 @@ use nut_io::{Fault, Piece, Written};
 use nut_server::Server;
 
 /// Gives arrivals, takes bytes, and closes connections and links to drivers. Connections have the numbers that the
-/// server gave them. Drivers have the numbers of their UPSes: their places in ups.conf, counted from 0.
+/// server gave them. Drivers have the numbers of their UPSes: the places in ups.conf, counted from 0, until a reload.
+///
+/// After a reload the numbers are those that the server has given anew: each UPS that stays keeps its number, and each new
+/// one takes the least number that is free. Before the world is asked for the next arrival, it is told to close each link
+/// and each connection that the reload ended. If the server has no memory for the new configuration, nothing is closed and
+/// nothing changes: the server that `next` is given tells which configuration is in force.
 ///
 /// Any call may return a fault instead, if a device fails. It has then done nothing except count the fault.
 pub trait World {
@@ -88,7 +93,8 @@ pub trait World {
         ensures counted { fault_count self.new ≡ (if is_ok result then fault_count self.old else fault_count self.old + 1) }
         ensures reached { reached self.old self.new };
 
-    /// Closes the link to the driver of UPS `u`. Nothing more is offered to it until it is connected anew.
+    /// Closes the link to the driver that was connected with the number `u`. Nothing more is offered with this number until
+    /// a driver is connected with it anew.
     fn close_driver(&mut self, u: usize) -> Result<(), Fault>
         requires few { fault_count self.old < 2 ^ 64 - 1 }
         ensures ok { OnOk result (log self.new ≡ tells (DriverWasClosed u) (log self.old)) }

@@ -1,130 +1,118 @@
-//! The links to the drivers.
+//! The drivers of a server's UPSes.
 
-ghost use Rattle.std.specs.Prelude.{length};
-ghost use Rattle.nut_io.specs.Writes.{IsWithin};
-
-use mio::event::Event;
-use mio::net::UnixStream;
-use mio::{Interest, Registry, Token};
-use nut_io::{Piece, Written};
-use nut_poll::{Heard, Link, text_of};
+use crate::driver::Driver;
+use nut_conf::UPSES_MAX;
+use nut_server::{Server, Ups};
 use std::alloc::{AllocError, Global};
-use std::io;
-use std::net::Net;
 
-/// The driver of a UPS, which listens on a Unix socket.
+/// The drivers of a server's UPSes, by the numbers of the UPSes, which are less than [`UPSES_MAX`]. A number that no UPS
+/// has stands for no driver.
 #[derive(Drop)]
-pub struct Driver {
-    name: String,
-    path: String,
-    link: Option<Link<UnixStream>>,
-    /// Whether a dial has failed since the driver was last connected.
-    is_missed: bool,
-    /// Whether clients wait until the driver says something.
-    is_awaited: bool,
+pub struct Drivers {
+    alloc: Global,
+    /// The folder of their sockets.
+    folder: String,
+    by_number: Vec<Option<Driver>>,
+    /// Whether a UPS has no driver because memory was lacking.
+    is_behind: bool,
 }
 
-impl Driver {
-    /// Returns the driver of a UPS, not yet connected. Its socket is `DRIVER-NAME` in the folder.
+impl Drivers {
+    /// Returns the drivers of a server's UPSes, not yet connected. Their sockets are in this folder.
     ///
     /// # Errors
     ///
     /// [`AllocError`] if memory cannot be allocated.
-    pub fn new(
-        alloc: Global,
-        folder: &str,
-        driver: &[u8],
-        name: &[u8],
-    ) -> Result<Driver, AllocError> {
-        let driver = text_of(driver);
-        let name = text_of(name);
-        Ok(Driver {
-            name: String::from_str(alloc, name)?,
-            path: format!(in alloc; "{folder}/{driver}-{name}")?,
-            link: None,
-            is_missed: false,
-            is_awaited: false,
-        })
+    pub fn new(alloc: Global, folder: &str, server: &Server) -> Result<Drivers, AllocError> {
+        let mut by_number = Vec::with_capacity(alloc, UPSES_MAX)?;
+        for _ in 0..UPSES_MAX {
+            by_number.push(None)?;
+        }
+        let mut drivers = Drivers {
+            alloc,
+            folder: String::from_str(alloc, folder)?,
+            by_number,
+            is_behind: false,
+        };
+        drivers.follow(server);
+        if drivers.is_behind {
+            return Err(AllocError);
+        }
+        Ok(drivers)
     }
 
-    /// Returns the name of the UPS.
-    pub fn name(&self) -> &str {
-        self.name.as_str()
+    /// Makes them the drivers of the UPSes that the server has now. A driver whose UPS and program are the same stays
+    /// connected, and the links of those that go are closed. If memory is lacking for a new one, its UPS has none until
+    /// [`catch_up`](Drivers::catch_up) finds some.
+    pub fn follow(&mut self, server: &Server) {
+        self.is_behind = false;
+        for u in 0..self.by_number.len() {
+            if self.renew(u, ups_with(server, u)).is_err() {
+                self.is_behind = true;
+            }
+        }
     }
 
-    /// Returns the path of the driver's socket.
-    pub fn path(&self) -> &str {
-        self.path.as_str()
+    /// Tries again to make the drivers for which memory was lacking.
+    pub fn catch_up(&mut self, server: &Server) {
+        if self.is_behind {
+            self.follow(server);
+        }
     }
 
-    /// Whether it is connected.
-    pub fn is_connected(&self) -> bool {
-        self.link.is_some()
-    }
-
-    /// Connects to the driver, and registers the socket with the poll.
-    ///
-    /// # Errors
-    ///
-    /// The error of the connect or of the registration.
-    pub fn dial(&mut self, net: &impl Net, registry: &Registry, token: Token) -> io::Result<()> {
-        let mut stream = UnixStream::connect(net, self.path.as_str())?;
-        let both = Interest::READABLE | Interest::WRITABLE;
-        registry.register(&mut stream, token, both)?;
-        self.link = Some(Link::new(stream));
-        self.is_missed = false;
+    /// Makes the driver of this number that of a UPS, unless it is already.
+    fn renew(&mut self, u: usize, ups: Option<Ups<'_>>) -> Result<(), AllocError> {
+        let Some(place) = self.by_number.get_mut(u) else {
+            return Ok(());
+        };
+        let Some(ups) = ups else {
+            *place = None;
+            return Ok(());
+        };
+        if matches!(place, Some(driver) if driver.is(ups.driver, ups.name)) {
+            return Ok(());
+        }
+        *place = None;
+        let driver = Driver::new(self.alloc, self.folder.as_str(), ups.driver, ups.name)?;
+        *place = Some(driver);
         Ok(())
     }
 
-    /// Notes that a dial failed. Returns whether it is the first one since the driver was last connected.
-    pub fn misses(&mut self) -> bool {
-        let is_first = !self.is_missed;
-        self.is_missed = true;
-        is_first
+    /// How many numbers there may be, from 0 on.
+    pub fn len(&self) -> usize {
+        self.by_number.len()
     }
 
-    /// Makes clients wait until the driver says something, if it is connected.
-    pub fn await_word(&mut self) {
-        self.is_awaited = self.is_connected();
+    /// Returns the drivers by their numbers.
+    pub fn as_slice(&self) -> &[Option<Driver>] {
+        self.by_number.as_slice()
     }
 
-    /// Whether clients wait until the driver says something.
-    pub fn is_awaited(&self) -> bool {
-        self.is_awaited
-    }
-
-    /// Reads from the driver.
-    pub fn hear(&mut self, piece: &mut Piece) -> Heard {
-        let Some(link) = &mut self.link else {
-            return Heard::Nothing;
-        };
-        let heard = link.hear(piece);
-        if heard != Heard::Nothing {
-            self.is_awaited = false;
-        }
-        heard
-    }
-
-    /// Offers bytes to the driver.
-    pub fn offer(&mut self, bytes: &[u8]) -> Written
-        ensures { IsWithin result (length bytes.now) }
-    {
-        match &mut self.link {
-            Some(link) => link.offer(bytes),
-            None => Written::Failed,
+    /// Returns the driver of the UPS with this number, if there is one.
+    pub fn get_mut(&mut self, u: usize) -> Option<&mut Driver> {
+        match self.by_number.get_mut(u) {
+            Some(Some(driver)) => Some(driver),
+            _ => None,
         }
     }
 
-    /// Notes an event of the socket.
-    pub fn note(&mut self, event: &Event) {
-        if let Some(link) = &mut self.link {
-            link.note(event);
+    /// Makes clients wait until each driver that is connected says something.
+    pub fn await_words(&mut self) {
+        for place in self.by_number.iter_mut() {
+            if let Some(driver) = place {
+                driver.await_word();
+            }
         }
     }
 
-    /// Closes the link.
-    pub fn close(&mut self) {
-        self.link = None;
-        self.is_awaited = false;
+    /// Whether clients wait until a driver says something.
+    pub fn are_awaited(&self) -> bool {
+        self.by_number.iter().any(|place| matches!(place, Some(driver) if driver.is_awaited()))
     }
+}
+
+/// Returns the UPS with this number, if there is one.
+fn ups_with(server: &Server, u: usize) -> Option<Ups<'_>> {
+    let name = server.ups_name(u)?;
+    server.config().ups_named(name)
 }

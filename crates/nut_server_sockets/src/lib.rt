@@ -5,12 +5,16 @@ mod batches;
 mod client;
 mod clients;
 mod door;
+mod driver;
 mod drivers;
 mod keepalive;
 mod mio_world;
+mod reloader;
 mod sockets;
 mod source;
 mod stall;
 
-pub use drivers::Driver;
+pub use driver::Driver;
+pub use drivers::Drivers;
 pub use mio_world::MioWorld;
+pub use reloader::Reloader;

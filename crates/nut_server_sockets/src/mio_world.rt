@@ -7,7 +7,8 @@ ghost use Rattle.nut_server_loop.specs.Record as entry;
 ghost use Rattle.nut_poll.specs.Late.{is_noted};
 ghost use Rattle.nut_server_sockets.specs.Untold.{untold};
 
-use crate::drivers::Driver;
+use crate::drivers::Drivers;
+use crate::reloader::Reloader;
 use crate::sockets::Sockets;
 use arrayvec::ArrayVec;
 use mio::net::TcpListener;
@@ -27,24 +28,24 @@ const LATE_MAX: usize = CONNECTIONS_MAX as usize;
 
 /// The world of a server whose clients connect over TCP, and whose drivers listen on Unix sockets.
 ///
-/// One thread watches all sockets. A `Moment` comes each second, counted from the start. After it the drivers are
-/// looked at, and one that isn't connected is dialled. A client that the server has no room for is accepted and closed
-/// at once. A client that is silent for too long is closed: after 60 seconds in which it neither sent a line nor took
-/// some of an answer, or 600 if it is logged in.
+/// One thread watches all sockets. A `Moment` comes each second, counted from the start. After it comes a new
+/// configuration, if the reloader has one. Then the drivers are looked at, and one that isn't connected is dialled. A
+/// client that the server has no room for is accepted and closed at once. A client that is silent for too long is
+/// closed: after 60 seconds in which it neither sent a line nor took some of an answer, or 600 if it is logged in.
 ///
 /// The world never ends. Only `next` returns a fault, that of the wait for the sockets or of the clock: a failure of
 /// one socket concerns no other. The world keeps no record.
 #[derive(Drop)]
-pub struct MioWorld<'r, 'e, R, E> {
-    sockets: Sockets<'r, 'e, R, E>,
+pub struct MioWorld<'r, 'e, R, E, L> {
+    sockets: Sockets<'r, 'e, R, E, L>,
     late: ArrayVec<u64, LATE_MAX>,
     late_drivers: ArrayVec<u64, UPSES_MAX>,
     faults: u64,
 }
 
-impl<'r, 'e, R: Net + Clock, E: Write> MioWorld<'r, 'e, R, E> {
-    /// Returns the world of these listeners and these drivers, in the order of the numbers of their UPSes. Reports say
-    /// when drivers come and go.
+impl<'r, 'e, R: Net + Clock, E: Write, L: Reloader + Drop> MioWorld<'r, 'e, R, E, L> {
+    /// Returns the world of these listeners and these drivers, which asks this reloader for new configurations. Reports
+    /// say when drivers come and go.
     ///
     /// # Errors
     ///
@@ -53,13 +54,14 @@ impl<'r, 'e, R: Net + Clock, E: Write> MioWorld<'r, 'e, R, E> {
         rt: &'r R,
         alloc: Global,
         listeners: Vec<TcpListener>,
-        drivers: Vec<Driver>,
+        drivers: Drivers,
         reports: Reports<'e, E>,
-    ) -> io::Result<MioWorld<'r, 'e, R, E>>
+        reloader: L,
+    ) -> io::Result<MioWorld<'r, 'e, R, E, L>>
         ensures { IfOk result (λ w. w.faults ≡ 0) }
     {
         Ok(MioWorld {
-            sockets: Sockets::new(rt, alloc, listeners, drivers, reports)?,
+            sockets: Sockets::new(rt, alloc, listeners, drivers, reports, reloader)?,
             late: ArrayVec::new(),
             late_drivers: ArrayVec::new(),
             faults: 0,
@@ -69,7 +71,7 @@ impl<'r, 'e, R: Net + Clock, E: Write> MioWorld<'r, 'e, R, E> {
 
 ghost use Rattle.std.specs.Prelude.{◌≢◌, ◌<◌, ◌≤◌, IfOk, IfSome, Some, Ok};
 
-impl<'r, 'e, R: Net + Clock, E: Write> World for MioWorld<'r, 'e, R, E> {
+impl<'r, 'e, R: Net + Clock, E: Write, L: Reloader + Drop> World for MioWorld<'r, 'e, R, E, L> {
     ghost log = { λ w. untold };
 
     ghost late = { λ w c. is_noted w.late.items c };

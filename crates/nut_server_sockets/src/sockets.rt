@@ -8,7 +8,8 @@ ghost use Rattle.nut_server_spec.specs.Content.{Content};
 
 use crate::clients::Clients;
 use crate::door::{Door, concerns_one};
-use crate::drivers::Driver;
+use crate::drivers::Drivers;
+use crate::reloader::Reloader;
 use crate::source::Source;
 use crate::stall::Stall;
 use mio::Events;
@@ -16,7 +17,7 @@ use mio::net::TcpListener;
 use nut_conf::LISTENERS_MAX;
 use nut_io::{Piece, Written};
 use nut_poll::{Heard, Ready, Report, Reports, Rounds, SOCKETS_MAX, may_be_read};
-use nut_server::Server;
+use nut_server::{Config, Server};
 use nut_server_loop::{Address, Next};
 use std::alloc::Global;
 use std::io;
@@ -29,13 +30,18 @@ const PIECES: usize = 1024;
 
 /// The listeners, the clients and the drivers of a server, and its clock.
 #[derive(Drop)]
-pub struct Sockets<'r, 'e, R, E> {
+pub struct Sockets<'r, 'e, R, E, L> {
     rt: &'r R,
     rounds: Rounds,
     door: Door,
     clients: Clients,
-    drivers: Vec<Driver>,
+    drivers: Drivers,
     reports: Reports<'e, E>,
+    reloader: L,
+    /// Whether the reloader has still to be asked in this second.
+    asks: bool,
+    /// Whether a new configuration was given at the last call of `next`.
+    has_given: bool,
     /// The moment that was last given.
     moment: u64,
     /// Whether silent clients have still to be looked for in this second.
@@ -46,8 +52,8 @@ pub struct Sockets<'r, 'e, R, E> {
     stall: Stall,
 }
 
-impl<'r, 'e, R: Net + Clock, E: Write> Sockets<'r, 'e, R, E> {
-    /// Watches these listeners, and will dial these drivers.
+impl<'r, 'e, R: Net + Clock, E: Write, L: Reloader + Drop> Sockets<'r, 'e, R, E, L> {
+    /// Watches these listeners, and will dial these drivers and ask this reloader.
     ///
     /// # Errors
     ///
@@ -56,9 +62,10 @@ impl<'r, 'e, R: Net + Clock, E: Write> Sockets<'r, 'e, R, E> {
         rt: &'r R,
         alloc: Global,
         listeners: Vec<TcpListener>,
-        drivers: Vec<Driver>,
+        drivers: Drivers,
         reports: Reports<'e, E>,
-    ) -> io::Result<Sockets<'r, 'e, R, E>> {
+        reloader: L,
+    ) -> io::Result<Sockets<'r, 'e, R, E, L>> {
         let stall = Stall::new(alloc)?;
         let rounds = Rounds::new(rt, alloc, LISTENERS_MAX)?;
         let door = Door::new(rounds.registry(), listeners)?;
@@ -69,6 +76,9 @@ impl<'r, 'e, R: Net + Clock, E: Write> Sockets<'r, 'e, R, E> {
             clients: Clients::new(alloc),
             drivers,
             reports,
+            reloader,
+            asks: false,
+            has_given: false,
             moment: 0,
             sheds: false,
             roll: 0,
@@ -77,8 +87,8 @@ impl<'r, 'e, R: Net + Clock, E: Write> Sockets<'r, 'e, R, E> {
         })
     }
 
-    /// Returns what comes next, after at most one wait. After each second silent clients come first, and then the
-    /// drivers.
+    /// Returns what comes next, after at most one wait. After each second silent clients come first, then a new
+    /// configuration, and then the drivers.
     ///
     /// # Errors
     ///
@@ -87,11 +97,15 @@ impl<'r, 'e, R: Net + Clock, E: Write> Sockets<'r, 'e, R, E> {
         ensures may { IfOk result (λ n. MayCome n server.now) }
         ensures goes_on { IfOk result (λ n. n ≢ next.End) }
     {
+        self.end_reload(server);
         if let Some(number) = self.seat(server) {
             return Ok(Next::Close(number));
         }
         if let Some(number) = self.shed(server) {
             return Ok(Next::Close(number));
+        }
+        if let Some(config) = self.reload(server) {
+            return Ok(Next::Reload(config));
         }
         if let Some(next) = self.look(server, piece) {
             return Ok(next);
@@ -160,6 +174,27 @@ impl<'r, 'e, R: Net + Clock, E: Write> Sockets<'r, 'e, R, E> {
         self.reports
             .tell(Report::Shed(silent.address, silent.seconds));
         Some(silent.number)
+    }
+
+    /// Returns a new configuration, if one is asked for in this second.
+    fn reload(&mut self, server: &Server) -> Option<Box<Config>> {
+        if !self.asks {
+            return None;
+        }
+        self.asks = false;
+        let config = self.reloader.look(server, &mut self.reports)?;
+        self.has_given = true;
+        Some(config)
+    }
+
+    /// Once the server has been told a new configuration, has that reported, and takes the drivers of the UPSes that the
+    /// server has now.
+    fn end_reload(&mut self, server: &Server) {
+        if self.has_given {
+            self.has_given = false;
+            self.reloader.tell(server, &mut self.reports);
+            self.drivers.follow(server);
+        }
     }
 
     /// Looks at the drivers, if they haven't been looked at in this second, and then at the sockets of this round,
@@ -312,19 +347,20 @@ impl<'r, 'e, R: Net + Clock, E: Write> Sockets<'r, 'e, R, E> {
         self.rounds.turn(self.rt)
     }
 
-    /// Begins a second: silent clients and all drivers are to be looked at. If more than one second and more than a
-    /// third of MAXAGE passed at once, the drivers are sent PING now, and clients wait until they have answered.
+    /// Begins a second: silent clients, the reloader and all drivers are to be looked at. If more than one second and
+    /// more than a third of MAXAGE passed at once, the drivers are sent PING now, and clients wait until they have
+    /// answered.
     fn begin_second(&mut self, server: &Server, moment: u64) {
         let passed = moment.saturating_sub(self.moment);
         self.moment = moment;
         self.clients.second();
+        self.drivers.catch_up(server);
         self.sheds = true;
+        self.asks = true;
         self.roll = 0;
         self.pieces = PIECES;
         if passed > 1 && passed > u64::from(server.config().max_age() / 3) {
-            for driver in self.drivers.iter_mut() {
-                driver.await_word();
-            }
+            self.drivers.await_words();
             self.stall.begin();
         } else {
             self.stall.second(&mut self.rounds.ready);
@@ -333,14 +369,14 @@ impl<'r, 'e, R: Net + Clock, E: Write> Sockets<'r, 'e, R, E> {
 
     /// Lets clients be read again, once each driver has said something.
     fn end_stall(&mut self) {
-        if self.stall.is_on() && !self.drivers.iter().any(|driver| driver.is_awaited()) {
+        if self.stall.is_on() && !self.drivers.are_awaited() {
             self.stall.end(&mut self.rounds.ready);
         }
     }
 }
 
 /// Notes the events of the sockets.
-fn note(events: &Events, ready: &mut Ready, clients: &mut Clients, drivers: &mut [Driver]) {
+fn note(events: &Events, ready: &mut Ready, clients: &mut Clients, drivers: &mut Drivers) {
     for event in events.iter() {
         match Source::of(event.token()) {
             Source::Listener(_) => {}

@@ -1,8 +1,8 @@
 -- The numbers of UPSes: none is greater than there are places, and a number that no UPS has is free.
-use Rattle.std.proofs.Common.{◌≡◌, ℕ, zero, suc, ◌+◌, ◌<◌, ◌≤◌, eqb, List, [], ◌∷◌, ◌++◌, length, refl, ap, arith, inl, inr, Option, Some, None}
+use Rattle.std.proofs.Common.{◌≡◌, ℕ, zero, suc, ◌+◌, ◌<◌, ◌≤◌, false, eqb, List, [], ◌∷◌, ◌++◌, length, refl, ap, arith, inl, inr, Option, Some, None}
 use Rattle.std.specs.Prelude.{max, if◌then◌else◌, position, slice_get}
 use Rattle.std.specs.List.{AllByRecursion, position_or_len}
-use Rattle.std.proofs.lemmas.Bool.{cases_Bool, ne_eqb, le-ltb}
+use Rattle.std.proofs.lemmas.Bool.{cases_Bool, ne_eqb, le-ltb, true≢false}
 use Rattle.std.proofs.lemmas.Option.{option_and_then_some}
 use Rattle.nut_server_spec.specs.Configuration.{Configuration, Ups, number_of_ups}
 use Rattle.nut_server_spec.specs.Event.{Step, Clock, Opened, Said, Gone, Up, Reported, Drained, Down, Reloaded}
@@ -13,7 +13,7 @@ use Rattle.nut_server_spec.specs.Trace.{Entry, numbers, numbering, places, renum
 abbrev pub AreBelow : ℕ → List ℕ → Type 0
 AreBelow m ns = AllByRecursion (λ n. n < m) ns
 
-are_below_more : (m k : ℕ) (ns : List ℕ) → m ≤ k → AreBelow m ns → AreBelow k ns
+pub are_below_more : (m k : ℕ) (ns : List ℕ) → m ≤ k → AreBelow m ns → AreBelow k ns
 are_below_more m k [] le all = tt
 are_below_more m k (n ∷ ns) le all = (omega (arith, le, all.0), are_below_more m k ns le all.1)
 
@@ -92,12 +92,24 @@ numbers_below first (e ∷ t) = step_below e.step (places first t) (numbering fi
 
 -- ---- numbers that no UPS has
 
-past_all : (u : ℕ) (ns : List ℕ) → AreBelow u ns → position_or_len (λ n. eqb n u) ns ≡ length ns
-past_all u [] all = refl
-past_all u (n ∷ ns) all = rw (ne_eqb n u (λ e. omega (arith, e, all.0))) (omega (arith, past_all u ns all.1))
+past_all : (u : ℕ) (ns : List ℕ) → is_taken u ns ≡ false → position_or_len (λ n. eqb n u) ns ≡ length ns
+past_all u [] free = refl
+past_all u (n ∷ ns) free =
+    elim (cases_Bool (eqb n u)) [
+      | inl e ↦ absurd (true≢false (rw e at free))
+      | inr e ↦ let rest : is_taken u ns ≡ false = rw e at free in rw e (omega (arith, past_all u ns rest))
+    ]
 
-position_none : (u : ℕ) (ns : List ℕ) → AreBelow u ns → position (λ n. eqb n u) ns ≡ None
-position_none u ns all = ap (λ b. if b then Some (position_or_len (λ n. eqb n u) ns) else None) (le-ltb (position_or_len (λ n. eqb n u) ns) (length ns) (omega (arith, past_all u ns all)))
+position_none : (u : ℕ) (ns : List ℕ) → is_taken u ns ≡ false → position (λ n. eqb n u) ns ≡ None
+position_none u ns free = ap (λ b. if b then Some (position_or_len (λ n. eqb n u) ns) else None) (le-ltb (position_or_len (λ n. eqb n u) ns) (length ns) (omega (arith, past_all u ns free)))
+
+-- No UPS has a number that isn't taken.
+pub free_has_none : (u : ℕ) (now : Numbering) → is_taken u now.numbers ≡ false → ups_with u now ≡ None
+free_has_none u now free = rw (position_none u now.numbers free) refl
+
+above_is_free : (u : ℕ) (ns : List ℕ) → AreBelow u ns → is_taken u ns ≡ false
+above_is_free u [] all = refl
+above_is_free u (n ∷ ns) all = rw (ne_eqb n u (λ e. omega (arith, e, all.0))) (above_is_free u ns all.1)
 
 pub no_ups_with : (m u : ℕ) (now : Numbering) → AreBelow m now.numbers → m ≤ u → ups_with u now ≡ None
-no_ups_with m u now all le = rw (position_none u now.numbers (are_below_more m u now.numbers le all)) refl
+no_ups_with m u now all le = free_has_none u now (above_is_free u now.numbers (are_below_more m u now.numbers le all))

@@ -35,11 +35,11 @@ IsBelow-filter : (n : ℕ) (p : ℕ → Bool) (ns : List ℕ) → IsBelow n ns �
 IsBelow-filter n p [] h = tt
 IsBelow-filter n p (m ∷ ns) h = elim (cases_Bool (p m)) [ inl e ↦ rw e (h.0, IsBelow-filter n p ns h.1) | inr e ↦ rw e (IsBelow-filter n p ns h.1) ]
 
-IsRising-filter : (p : ℕ → Bool) (ns : List ℕ) → IsRising ns → IsRising (filter p ns)
+pub IsRising-filter : (p : ℕ → Bool) (ns : List ℕ) → IsRising ns → IsRising (filter p ns)
 IsRising-filter p [] h = tt
 IsRising-filter p (m ∷ ns) h = elim (cases_Bool (p m)) [ inl e ↦ rw e (IsBelow-filter m p ns h.0, IsRising-filter p ns h.1) | inr e ↦ rw e (IsRising-filter p ns h.1) ]
 
-IsBelow-push : (n k : ℕ) (ns : List ℕ) → IsBelow n ns → n < k → IsBelow n (ns ++ k ∷ [])
+pub IsBelow-push : (n k : ℕ) (ns : List ℕ) → IsBelow n ns → n < k → IsBelow n (ns ++ k ∷ [])
 IsBelow-push n k [] h less = (less, tt)
 IsBelow-push n k (m ∷ ns) h less = (h.0, IsBelow-push n k ns h.1 less)
 

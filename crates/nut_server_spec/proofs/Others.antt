@@ -6,7 +6,7 @@ use Rattle.std.proofs.lemmas.Bool.{cases_Bool, eqb-true, ne_eqb}
 use Rattle.nut_words.specs.Lines.{LineText}
 use Rattle.nut_server_spec.specs.Configuration.{Configuration}
 use Rattle.nut_server_spec.specs.Event.{Event, Moment, Open, Bytes, Took, Close, WriteFailed, DriverUp, DriverBytes, DriverTook, DriverDown, Reload, Step, Said, Reported, with_lines, with_reports}
-use Rattle.nut_server_spec.specs.Trace.{configuration, opened, open_numbers, trace}
+use Rattle.nut_server_spec.specs.Trace.{configuration, connected, numbers, opened, open_numbers, trace}
 use Rattle.nut_server_spec.specs.Content.{Session, Content, past, content, session}
 use Rattle.nut_server_spec.specs.Acceptance.{refusal, Tells, session_of, supply_of, bytes_refusal, took_refusal, close_refusal, waiting_of, asks_of}
 use Rattle.nut_server_spec.specs.machine.Machine.{advance, numbering_of, bytes_reported, up, down, drained, fresh}
@@ -171,3 +171,15 @@ configuration_lines first d (l ∷ ls) s = configuration_lines first d ls (Said 
 pub configuration_reports : (first : Configuration) (u : ℕ) (ls : List LineText) (s : List Step) → configuration first (trace first (with_reports u ls s)) ≡ configuration first (trace first s)
 configuration_reports first u [] s = refl
 configuration_reports first u (l ∷ ls) s = configuration_reports first u ls (Reported u l ∷ s)
+
+pub numbers_lines : (first : Configuration) (d : ℕ) (ls : List LineText) (s : List Step) → numbers first (trace first (with_lines d ls s)) ≡ numbers first (trace first s)
+numbers_lines first d [] s = refl
+numbers_lines first d (l ∷ ls) s = numbers_lines first d ls (Said d l ∷ s)
+
+pub numbers_reports : (first : Configuration) (u : ℕ) (ls : List LineText) (s : List Step) → numbers first (trace first (with_reports u ls s)) ≡ numbers first (trace first s)
+numbers_reports first u [] s = refl
+numbers_reports first u (l ∷ ls) s = numbers_reports first u ls (Reported u l ∷ s)
+
+pub connected_lines : (first : Configuration) (d u : ℕ) (ls : List LineText) (s : List Step) → connected u (trace first (with_lines d ls s)) ≡ connected u (trace first s)
+connected_lines first d u [] s = refl
+connected_lines first d u (l ∷ ls) s = connected_lines first d u ls (Said d l ∷ s)

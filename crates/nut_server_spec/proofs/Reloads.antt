@@ -8,7 +8,7 @@ use Rattle.nut_state.specs.Step.{table_of}
 use Rattle.nut_server_spec.specs.Configuration.{Configuration}
 use Rattle.nut_server_spec.specs.Content.{Session, Supply, content, past, session, supply}
 use Rattle.nut_server_spec.specs.Event.{Event, Reload, driver_input}
-use Rattle.nut_server_spec.specs.Numbering.{Fate, Kept, Disconnected, Cleared, Numbering, below, by_fate, fate_between, fate_of, is_to_cleared, ups_with, renumbered}
+use Rattle.nut_server_spec.specs.Numbering.{Fate, Kept, Disconnected, Cleared, Numbering, below, by_fate, fate_between, fate_of, is_to_cleared, ups_with, with_numbers, renumbered}
 use Rattle.nut_server_spec.specs.Trace.{connected, driver_due, driver_taken, forced, heard_at, login, numbering, open_numbers, pinged_at, places, reports, tracked}
 use Rattle.nut_server_spec.specs.Tracking.{all_abandoned}
 use Rattle.nut_server_spec.specs.machine.Machine.{advance, changed_from, fated, unheard}
@@ -17,7 +17,7 @@ use Rattle.nut_server_spec.proofs.Places.{IsCount, below-length, below_counts}
 
 -- ---- connections
 
-map-filter : (f : ℕ → Session) (p : ℕ → Bool) (q : Session → Bool) (ns : List ℕ) → ((n : ℕ) → q (f n) ≡ p n) → map f (filter p ns) ≡ filter q (map f ns)
+pub map-filter : (f : ℕ → Session) (p : ℕ → Bool) (q : Session → Bool) (ns : List ℕ) → ((n : ℕ) → q (f n) ≡ p n) → map f (filter p ns) ≡ filter q (map f ns)
 map-filter f p q [] same = refl
 map-filter f p q (n ∷ ns) same =
     elim (cases_Bool (p n)) [
@@ -46,7 +46,7 @@ fated_is first h u Kept = refl
 fated_is first h u Disconnected = refl
 fated_is first h u Cleared = refl
 
-supply-reload : (first : Configuration) (h : List Event) (k : Configuration) (u : ℕ)
+pub supply-reload : (first : Configuration) (h : List Event) (k : Configuration) (u : ℕ)
     → supply first (Reload k ∷ h) u ≡ fated (fate_of k.upses (numbering first (past first h)) u) (supply first h u)
 supply-reload first h k u = fated_is first h u (fate_of k.upses (numbering first (past first h)) u)
 
@@ -54,7 +54,7 @@ supply-reload first h k u = fated_is first h u (fate_of k.upses (numbering first
 supply-new : (first : Configuration) (h : List Event) (k : Configuration) (u : ℕ) → places first (past first h) ≤ u → supply first (Reload k ∷ h) u ≡ unheard
 supply-new first h k u le =
     let now = numbering first (past first h) in
-    let after : Numbering = record { upses = k.upses; numbers = renumbered k.upses now } in
+    let after : Numbering = with_numbers k.upses (renumbered k.upses now) in
     supply-reload first h k u
     ∙ ap (λ o. fated (fate_between o (ups_with u after)) (supply first h u)) (no_ups_with (places first (past first h)) u now (numbers_below first (past first h)) le)
 

@@ -33,7 +33,7 @@ use Rattle.nut_proto.specs.Requests.{begin_line, end_line}
 use Rattle.nut_server_spec.specs.Configuration.{Ups, User, Configuration, ups_named, user_named, has_password, may_act, may_command}
 use Rattle.nut_server_spec.specs.Command.{Command, Blank, Malformed, Asks}
 use Rattle.nut_server_spec.specs.Device.{Device, absent, trouble, fits}
-use Rattle.nut_server_spec.specs.Numbering.{Numbering, number_of}
+use Rattle.nut_server_spec.specs.Numbering.{Numbering, with_numbers, number_of}
 
 -- An answer before it is written as bytes: nothing, one line, or the rows of a list between its first and its last
 -- line.
@@ -77,7 +77,7 @@ refused refusal = Line (replies.Refused refusal)
 
 -- the UPSes and their numbers
 abbrev pub numbering_in : Scene → Numbering
-numbering_in s = record { upses = s.configuration.upses; numbers = s.numbers }
+numbering_in s = with_numbers s.configuration.upses s.numbers
 
 -- the number of the UPS with this name, if there is one
 abbrev pub ups_number : Scene → List ℕ → Option ℕ

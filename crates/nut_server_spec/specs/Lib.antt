@@ -12,5 +12,6 @@ pub mod Acceptance
 pub mod Outcome
 pub mod MachineOutcome
 pub mod machine
+pub mod Reloading
 pub mod laws
 pub mod examples

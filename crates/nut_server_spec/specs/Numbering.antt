@@ -11,6 +11,10 @@ pub record Numbering : Type 0 where
   pub upses : List Ups
   pub numbers : List ℕ
 
+-- these UPSes with these numbers
+abbrev pub with_numbers : List Ups → List ℕ → Numbering
+with_numbers upses numbers = record { upses = upses; numbers = numbers }
+
 -- the number of the UPS with this name, if there is one
 abbrev pub number_of : List ℕ → Numbering → Option ℕ
 number_of name now = option_and_then (slice_get now.numbers) (number_of_ups name now.upses)
@@ -85,7 +89,7 @@ fate_between (Some old) (Some new) =
 
 -- what a reload of these UPSes makes of the UPS with the number u
 abbrev pub fate_of : List Ups → Numbering → ℕ → Fate
-fate_of upses before u = fate_between (ups_with u before) (ups_with u (record { upses = upses; numbers = renumbered upses before }))
+fate_of upses before u = fate_between (ups_with u before) (ups_with u (with_numbers upses (renumbered upses before)))
 
 -- A value of a UPS after its fate: the same if it was kept, `left` of it if its driver was disconnected, and `start` if the
 -- UPS was cleared.

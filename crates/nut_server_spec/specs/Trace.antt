@@ -9,7 +9,7 @@ use Rattle.nut_proto.specs.DriverAsks.{ask_line}
 use Rattle.nut_server_spec.specs.Configuration.{Configuration}
 use Rattle.nut_server_spec.specs.Command.{Command, command_of}
 use Rattle.nut_server_spec.specs.Event.{Step, Clock, Opened, Said, Gone, Up, Reported, Drained, Down, Reloaded}
-use Rattle.nut_server_spec.specs.Numbering.{Numbering, Fate, Kept, below, first_numbers, renumbered, fate_of, by_fate, is_to_cleared}
+use Rattle.nut_server_spec.specs.Numbering.{Numbering, with_numbers, Fate, Kept, below, first_numbers, renumbered, fate_of, by_fate, is_to_cleared}
 use Rattle.std.specs.Option.{option_map_or}
 use Rattle.nut_server_spec.specs.Tracking.{Tracked, told_in, with_tracked, all_ended_by, all_abandoned}
 use Rattle.nut_server_spec.specs.Device.{Device, needs_ping}
@@ -47,11 +47,11 @@ renumbered_by step before = before.numbers
 abbrev pub numbers : Configuration → List Entry → List ℕ
 numbers first [] = first_numbers first.upses
 numbers first (e ∷ past) =
-    renumbered_by e.step (record { upses = (configuration first past).upses; numbers = numbers first past })
+    renumbered_by e.step (with_numbers (configuration first past).upses (numbers first past))
 
 -- the UPSes after this past, and their numbers
 abbrev pub numbering : Configuration → List Entry → Numbering
-numbering first past = record { upses = (configuration first past).upses; numbers = numbers first past }
+numbering first past = with_numbers (configuration first past).upses (numbers first past)
 
 -- how many numbers there are for UPSes after a step, if there were n before it
 abbrev pub places_after : Step → ℕ → ℕ

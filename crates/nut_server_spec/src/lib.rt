@@ -5,8 +5,10 @@
 ghost use Rattle.nut_server_spec.specs.machine.Machine.{KeepsContent};
 ghost use Rattle.nut_server_spec.specs.examples.Examples.{ConnectionExamples};
 ghost use Rattle.nut_server_spec.specs.examples.DriverExamples.{DriverExamples, EdgeExamples, TrackingExamples, UserExamples};
+ghost use Rattle.nut_server_spec.specs.examples.ReloadExamples.{ReloadEdgeExamples, ReloadExamples};
 ghost use Rattle.nut_server_spec.specs.laws.Laws.{AnswersKeepContent, BoundsHold, ClosedStaysClosed, ConnectionsAreFew, CutsAndWritesDoNotMatter, CutsDoNotMatter, DriverCutsAndWritesDoNotMatter, DriverCutsDoNotMatter, DriverSentAndWaitingIsDue, DriverSentIsReceived, LogoutIsFinal, NumbersRise, OpenedIsFresh, OtherDriversStay, OthersStay, SameStepsSameAnswers, SentAndWaitingIsDue, SentIsFrontOfDue, SentIsReceived, WaitsForOnePiece};
 ghost use Rattle.nut_server_spec.specs.laws.Limits.{AnswersAreBounded, WaitsAreBounded};
+ghost use Rattle.nut_server_spec.specs.laws.Reloads.{KeepsItsNumber, NumbersAreDistinct, ReloadIsDownsThenClosesThenItself, UpsesStay};
 ghost use Rattle.nut_server_spec.specs.laws.Tracked.{TrackingLooksBack};
 
 mod limits;
@@ -143,7 +145,8 @@ pub fn driver_sent_and_waiting_is_due()
     ensures { DriverSentAndWaitingIsDue }
 {}
 
-/// States a law and does nothing when called: an accepted event changes no connection except its own.
+/// States a law and does nothing when called: an accepted event changes no connection except its own and those that it
+/// closes.
 pub fn others_stay()
     ensures { OthersStay }
 {}
@@ -202,10 +205,35 @@ pub fn worked_examples()
     ensures edges { EdgeExamples }
     ensures users { UserExamples }
     ensures tracking { TrackingExamples }
+    ensures reloads { ReloadExamples }
+    ensures reload_edges { ReloadEdgeExamples }
 {}
 
 /// States a law and does nothing when called: what is remembered of a tracked request is what looking back over the
 /// history for its number says.
 pub fn tracking_looks_back()
     ensures { TrackingLooksBack }
+{}
+
+/// States a law and does nothing when called: a reload comes to the same as if the drivers that it disconnects and the
+/// connections that it closes had been disconnected and closed before it, one by one.
+pub fn reload_is_downs_then_closes_then_itself()
+    ensures { ReloadIsDownsThenClosesThenItself }
+{}
+
+/// States a law and does nothing when called: a UPS keeps its number as long as its name is in the configuration.
+pub fn keeps_its_number()
+    ensures { KeepsItsNumber }
+{}
+
+/// States a law and does nothing when called: each UPS has one number, and if no configuration has two UPSes of the same
+/// name, no two UPSes have the same number.
+pub fn numbers_are_distinct()
+    ensures { NumbersAreDistinct }
+{}
+
+/// States a law and does nothing when called: what a reload leaves of a UPS and of the connections that are logged in to
+/// it, if no configuration has two UPSes of the same name.
+pub fn upses_stay()
+    ensures { UpsesStay }
 {}

@@ -4,9 +4,10 @@ use crate::read_ups_options;
 use crate::upsd_fault::{UpsdFault, ups_failure};
 use clap::ArgMatches;
 use nut_conf::{Descriptions, UpsConf, UpsdConf, UsersConf};
-use nut_program::{Failure, FileFault, read_conf, read_conf_if_there};
+use nut_program::{Failure, FileFault, read_conf, read_conf_if_there, readable_file, warn};
 use nut_server::Config;
 use std::alloc::Global;
+use std::io::Write;
 use std::rt::Files;
 
 /// What ups.conf, upsd.users and upsd.conf set, and cmdvartab, if it is there.
@@ -57,7 +58,7 @@ pub fn read_options(
 }
 
 /// Reads the files of a folder.
-pub fn read_settings(
+fn read_settings(
     files: &impl Files,
     alloc: Global,
     folder: &str,
@@ -68,4 +69,23 @@ pub fn read_settings(
         upsd: read_conf(files, alloc, folder)?,
         descriptions: read_conf_if_there(files, alloc, folder)?,
     })
+}
+
+/// Reads the files of a folder, and warns if everybody can read the passwords of upsd.users.
+///
+/// # Errors
+///
+/// The first fault of a file; [`FileFault::Memory`] if memory cannot be allocated.
+pub fn read_folder<E: Write>(
+    files: &impl Files,
+    alloc: Global,
+    folder: &str,
+    err: &mut E,
+) -> Result<Settings, FileFault<'static>> {
+    let settings = read_settings(files, alloc, folder)?;
+    match readable_file::<UsersConf>(files, alloc, folder) {
+        Ok(readable) => warn("upsd", readable, err),
+        Err(_) => return Err(FileFault::Memory),
+    }
+    Ok(settings)
 }

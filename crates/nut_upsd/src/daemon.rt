@@ -4,20 +4,20 @@ ghost use Rattle.std.specs.Prelude.{◌≡◌, ◌<◌, ◌-◌, ◌^◌, [], If
 ghost use Rattle.nut_server_spec.specs.Content.{content};
 
 use crate::command_line::upsd_command;
-use crate::configuration::{Settings, read_options, read_settings};
+use crate::configuration::{read_folder, read_options};
 use crate::listeners::listen;
+use crate::reloading::Reloading;
 use crate::stdio::serve_client;
 use crate::upsd_fault::UpsdFault;
 use clap::ArgMatches;
 use mio::net::TcpListener;
-use nut_conf::UsersConf;
 use nut_io::ServeFault;
 use nut_poll::{Report, Reports};
-use nut_program::{Failure, conf_folder, hold_closed_streams, readable_file, warn};
-use nut_server::{Config, Server};
+use nut_program::{Failure, conf_folder, hold_closed_streams};
+use nut_server::Server;
 use nut_server_loop::{World, serve};
-use nut_server_sockets::{Driver, MioWorld};
-use std::alloc::{Alloc, AllocError, Global};
+use nut_server_sockets::{Drivers, MioWorld};
+use std::alloc::{Alloc, Global};
 use std::convert::AsStr;
 use std::env::Env;
 use std::io::{Read, Write};
@@ -34,13 +34,18 @@ use std::time::Clock;
 /// trying again each second until that succeeds. It ends if waiting for the sockets or reading the clock fails; then
 /// `upsd: I/O failed` is written, and the status is 1.
 ///
+/// Once a second it looks for the file `reload` in the folder of `--conf`. If that is there, it is removed, and the files
+/// are read again. What then differs is written as `upsd: reloaded: ..`; listeners stay as they are. If a file has a
+/// fault, it is written as `upsd: not reloaded: ups.conf:2: Repeated`, and nothing changes.
+///
 /// `upsd --check` serves nothing: it reads the files of `--conf`, or else those in the folder of the variable
 /// NUT_CONFPATH or in `/etc/nut`, as a start does, and writes of them what a start writes. The status is 0 if they have
 /// no fault.
 ///
-/// The addresses listened on, the UPSes served, and drivers that connect and disconnect are written to `err`, a line
-/// each, but not with `-q`. That everybody can read the passwords of upsd.users is written even then. If it is
-/// impossible to listen at an address, `upsd: cannot listen on ADDRESS:PORT` is written, and the status is 1.
+/// The addresses listened on, the UPSes served, drivers that connect and disconnect, and what a reload changes are
+/// written to `err`, a line each, but not with `-q`. Why nothing was reloaded, and that everybody can read the passwords
+/// of upsd.users, is written even then. If it is impossible to listen at an address,
+/// `upsd: cannot listen on ADDRESS:PORT` is written, and the status is 1.
 ///
 /// [`run_stdio`]: crate::run_stdio
 pub fn run_upsd<S: AsStr, I: Read, O: Write, E: Write>(
@@ -69,39 +74,13 @@ fn run<S: AsStr, I: Read, O: Write, E: Write>(
     if matches.get_flag("check") {
         return check_files(rt, alloc, &matches, err);
     }
-    let settings = read_options(rt, alloc, &matches)?;
     match matches.get_str("sockets") {
-        Some(folder) => serve_folder(rt, alloc, &matches, settings, folder, err),
-        None => serve_client(rt, alloc, settings.into_config(), input, out),
+        Some(sockets) => serve_sockets(rt, alloc, &Options::new(&matches, sockets), err),
+        None => {
+            let settings = read_options(rt, alloc, &matches)?;
+            serve_client(rt, alloc, settings.into_config(), input, out)
+        }
     }
-}
-
-/// Warns of passwords that everybody can read, and serves clients over sockets.
-fn serve_folder<R: Wait + Files + Net + Clock, E: Write>(
-    rt: &R,
-    alloc: Global,
-    matches: &ArgMatches<'_>,
-    settings: Settings,
-    folder: &str,
-    err: &mut E,
-) -> Result<(), Failure<UpsdFault>> {
-    warn_of_readers(rt, alloc, matches.get_str("conf").unwrap_or(""), err)?;
-    serve_sockets(rt, alloc, settings, folder, matches.get_flag("quiet"), err)
-}
-
-/// Warns if everybody can read the passwords of upsd.users in this folder.
-fn warn_of_readers<E: Write>(
-    files: &impl Files,
-    alloc: Global,
-    folder: &str,
-    err: &mut E,
-) -> Result<(), AllocError> {
-    warn(
-        "upsd",
-        readable_file::<UsersConf>(files, alloc, folder)?,
-        err,
-    );
-    Ok(())
 }
 
 /// Reads the files of the folder that the command line or the environment names, and writes of them what a start
@@ -113,10 +92,28 @@ fn check_files<R: Files + Env + Alloc, E: Write>(
     err: &mut E,
 ) -> Result<(), Failure<UpsdFault>> {
     let folder = conf_folder(rt, alloc, matches)?;
-    let folder = folder.as_str();
-    read_settings(rt, alloc, folder)?;
-    warn_of_readers(rt, alloc, folder, err)?;
+    read_folder(rt, alloc, folder.as_str(), err)?;
     Ok(())
+}
+
+/// What the command line says of a server over sockets.
+#[derive(Drop)]
+struct Options<'m> {
+    /// The folder of the files.
+    conf: &'m str,
+    /// The folder of the drivers' sockets.
+    sockets: &'m str,
+    is_quiet: bool,
+}
+
+impl<'m> Options<'m> {
+    fn new(matches: &ArgMatches<'m>, sockets: &'m str) -> Options<'m> {
+        Options {
+            conf: matches.get_str("conf").unwrap_or(""),
+            sockets,
+            is_quiet: matches.get_flag("quiet"),
+        }
+    }
 }
 
 /// Serves clients over sockets, and reports to the operator on `err` unless that is to be quiet. Returns only if the
@@ -124,47 +121,35 @@ fn check_files<R: Files + Env + Alloc, E: Write>(
 fn serve_sockets<R: Wait + Files + Net + Clock, E: Write>(
     rt: &R,
     alloc: Global,
-    settings: Settings,
-    folder: &str,
-    is_quiet: bool,
+    options: &Options<'_>,
     err: &mut E,
 ) -> Result<(), Failure<UpsdFault>> {
+    let mut reloading = Reloading::new(rt, alloc, options.conf)?;
+    let settings = reloading.read(err)?;
     let _held = hold_closed_streams(rt, alloc)?;
-    serve_settings(rt, alloc, settings, folder, is_quiet, err)
-}
-
-/// Listens, and serves all clients that connect.
-fn serve_settings<R: Wait + Net + Clock, E: Write>(
-    rt: &R,
-    alloc: Global,
-    settings: Settings,
-    folder: &str,
-    is_quiet: bool,
-    err: &mut E,
-) -> Result<(), Failure<UpsdFault>> {
     let listeners = listen(rt, alloc, &settings.upsd)?;
-    let Ok(mut server) = Server::new(alloc, settings.into_config()) else {
+    let Ok(mut server) = Server::new(alloc, reloading.start(settings)) else {
         return Err(Failure::Memory);
     };
-    serve_listeners(rt, alloc, &mut server, listeners, folder, is_quiet, err)
+    serve_listeners(rt, alloc, &mut server, listeners, reloading, options, err)
 }
 
 /// Serves all clients that connect to the listeners.
-fn serve_listeners<R: Wait + Net + Clock, E: Write>(
+fn serve_listeners<R: Wait + Files + Net + Clock, E: Write>(
     rt: &R,
     alloc: Global,
     server: &mut Server,
     listeners: Vec<TcpListener>,
-    folder: &str,
-    is_quiet: bool,
+    reloading: Reloading<'_, R>,
+    options: &Options<'_>,
     err: &mut E,
 ) -> Result<(), Failure<UpsdFault>>
     requires { server.old ≡ content server.old.configuration [] }
 {
-    let drivers = drivers_of(alloc, server.config(), folder)?;
-    tell_start(&listeners, &drivers, is_quiet, err);
-    let reports = Reports::new("upsd", err, !is_quiet);
-    let world = MioWorld::new(rt, alloc, listeners, drivers, reports)?;
+    let drivers = Drivers::new(alloc, options.sockets, server)?;
+    let mut reports = Reports::new("upsd", err, !options.is_quiet);
+    tell_start(&listeners, &drivers, &mut reports);
+    let world = MioWorld::new(rt, alloc, listeners, drivers, reports, reloading)?;
     serve_world(rt, server, world)?;
     Ok(())
 }
@@ -182,32 +167,20 @@ fn serve_world<W: World + Drop>(
     serve(rt, server, &mut world)
 }
 
-/// Returns the drivers of the UPSes, by their numbers.
-fn drivers_of(alloc: Global, config: &Config, folder: &str) -> Result<Vec<Driver>, AllocError> {
-    let mut drivers = Vec::new(alloc);
-    for u in 0..config.number_of_upses() {
-        let Some(ups) = config.ups_at(u) else {
-            break;
-        };
-        drivers.push(Driver::new(alloc, folder, ups.driver, ups.name)?)?;
-    }
-    Ok(drivers)
-}
-
 /// Reports the addresses listened on and the UPSes served.
 fn tell_start<E: Write>(
     listeners: &[TcpListener],
-    drivers: &[Driver],
-    is_quiet: bool,
-    err: &mut E,
+    drivers: &Drivers,
+    reports: &mut Reports<'_, E>,
 ) {
-    let mut reports = Reports::new("upsd", err, !is_quiet);
     for listener in listeners {
         if let Ok(address) = listener.local_addr() {
             reports.tell(Report::Listening(address));
         }
     }
-    for driver in drivers {
-        reports.tell(Report::Serving(driver.name(), driver.path()));
+    for driver in drivers.as_slice() {
+        if let Some(driver) = driver {
+            reports.tell(Report::Serving(driver.name(), driver.path()));
+        }
     }
 }

@@ -1,10 +1,12 @@
 //! What upsd runs: a server over sockets, or over standard streams.
 #![tactic(auto)]
 
+mod changes;
 mod command_line;
 mod configuration;
 mod daemon;
 mod listeners;
+mod reloading;
 mod stdio;
 mod ups_option;
 mod upsd_fault;

@@ -1,13 +1,12 @@
 //! Prints a monitor's notices, and runs NOTIFYCMD with them.
 
 use crate::low_runtime::LowRuntimes;
-use crate::notify_command::{Call, NotifyCommand};
+use crate::notify_command::{Call, NotifyCommand, script_in};
 use nut_conf::{MESSAGE_MAX, TARGET_MAX, UpsmonConf};
 use nut_monitor::{Monitor, Notice};
-use nut_monitor_sockets::Herald;
 use std::alloc::{AllocError, Global};
 use std::io::Write;
-use std::process::Processes;
+use std::process::{Child, Processes};
 
 /// The greatest length of a text in bytes: that of a message, with a target in the place of its `%s`.
 const TEXT_MAX: usize = MESSAGE_MAX + TARGET_MAX - 2;
@@ -15,33 +14,49 @@ const TEXT_MAX: usize = MESSAGE_MAX + TARGET_MAX - 2;
 /// Prints each notice whose flags have SYSLOG or WALL as one line, and runs NOTIFYCMD with each whose flags have EXEC.
 /// A notice with IGNORE is neither printed nor handed to NOTIFYCMD, whatever else its flags have.
 ///
-/// A run of the command that can't be started is let go, which is told on `err`, as is a UPS that says LB later than this
-/// machine needs to stop. From the notice of the shutdown on no UPS is asked for that any more.
+/// A run of the command that can't be started is let go, which is told, as is a UPS that says LB later than this machine
+/// needs to stop. From the notice of the shutdown on no UPS is asked for that any more.
 #[derive(Drop)]
-pub struct Crier<'a, R: Processes, O, E> {
+pub struct Crier<'a, R: Processes, O> {
+    alloc: Global,
     out: O,
-    err: E,
     text: Vec<u8>,
     command: NotifyCommand<'a, R>,
     runtimes: LowRuntimes<'a, R>,
 }
 
-impl<'a, R: Processes, O: Write + Drop, E: Write + Drop> Crier<'a, R, O, E> {
+impl<'a, R: Processes, O: Write + Drop> Crier<'a, R, O> {
     /// Makes a crier that prints on `out`. It allocates room for the longest text.
     pub fn new(
         processes: &'a R,
         alloc: Global,
         config: &UpsmonConf,
         out: O,
-        err: E,
-    ) -> Result<Crier<'a, R, O, E>, AllocError> {
+    ) -> Result<Crier<'a, R, O>, AllocError> {
         Ok(Crier {
+            alloc,
             out,
-            err,
             text: Vec::with_capacity(alloc, TEXT_MAX)?,
             command: NotifyCommand::new(processes, alloc, config)?,
             runtimes: LowRuntimes::watched(processes, alloc, config)?,
         })
+    }
+
+    /// Goes on for another configuration. Runs of the command that haven't ended go on.
+    ///
+    /// # Errors
+    ///
+    /// [`AllocError`] if memory cannot be allocated. Nothing has changed then.
+    pub fn restart(&mut self, config: &UpsmonConf) -> Result<(), AllocError> {
+        let script = script_in(self.alloc, config)?;
+        self.runtimes.restart(config)?;
+        self.command.set_script(script);
+        Ok(())
+    }
+
+    /// Takes a process that ends by itself, and waits for its end as for that of a run of the command.
+    pub fn adopt(&mut self, child: Child<R::Started>) {
+        self.command.adopt(child);
     }
 
     /// Prints the text as a line.
@@ -51,20 +66,19 @@ impl<'a, R: Processes, O: Write + Drop, E: Write + Drop> Crier<'a, R, O, E> {
     }
 
     /// Runs NOTIFYCMD with the text.
-    fn call(&mut self, config: &UpsmonConf, notice: Notice) {
+    fn call<E: Write>(&mut self, config: &UpsmonConf, notice: Notice, err: &mut E) {
         let called = self.command.call(Call {
             kind: notice.kind.word(),
             ups: ups_of(config, notice),
             text: &self.text,
         });
         if let Err(fault) = called {
-            let _ = writeln!(&mut self.err, "upsmon: NOTIFYCMD {fault}");
+            let _ = writeln!(err, "upsmon: NOTIFYCMD {fault}");
         }
     }
-}
 
-impl<'a, R: Processes, O: Write + Drop, E: Write + Drop> Herald for Crier<'a, R, O, E> {
-    fn announce(&mut self, monitor: &Monitor, notice: Notice) {
+    /// Receives a notice of this monitor. A run that can't be started is told on `err`.
+    pub fn announce<E: Write>(&mut self, monitor: &Monitor, notice: Notice, err: &mut E) {
         if notice.line.is_none() {
             // that of the shutdown
             self.runtimes.end();
@@ -82,13 +96,14 @@ impl<'a, R: Processes, O: Write + Drop, E: Write + Drop> Herald for Crier<'a, R,
             self.print();
         }
         if flags.exec {
-            self.call(config, notice);
+            self.call(config, notice, err);
         }
     }
 
-    fn second(&mut self) {
+    /// Forgets the processes that have ended, and goes on asking the UPSes. A UPS that says LB too late is told on `err`.
+    pub fn second<E: Write>(&mut self, err: &mut E) {
         self.command.reap();
-        let _ = self.runtimes.step(&mut self.err);
+        let _ = self.runtimes.step(err);
     }
 }
 

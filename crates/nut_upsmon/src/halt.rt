@@ -12,8 +12,9 @@ use std::rt::Files;
 use std::time::{Clock, Duration};
 use std::{fmt, io, thread};
 
-/// The number of bytes that are reserved for starting the shell of SHUTDOWNCMD: for its words, and for a copy of an
-/// environment of up to 300 KiB, which takes up to three times that while it grows.
+/// The number of bytes that are reserved for starting the shell of SHUTDOWNCMD: for its words, of which there are two
+/// sets while upsmon.conf is taken up anew, and for a copy of an environment of up to 300 KiB, which takes up to three
+/// times that while it grows.
 const HEAP: usize = 1 << 20;
 
 /// How often a start of SHUTDOWNCMD that failed is tried again.
@@ -55,7 +56,7 @@ pub fn halt_heap(alloc: Global) -> Result<LocalHeap, AllocError> {
     LocalHeap::new(alloc, HEAP)
 }
 
-/// The steps that halt the machine, prepared at the start: carrying them out allocates nothing. If SHUTDOWNCMD's shell
+/// The steps that halt the machine, prepared before they are needed: carrying them out allocates nothing. If SHUTDOWNCMD's shell
 /// has been ended meanwhile, starting another one takes the heap's memory, and some small blocks that the C library
 /// needs to start a process.
 #[derive(Drop)]
@@ -80,17 +81,21 @@ impl<'r, 'h, R: Files + Processes + Clock> Halt<'r, 'h, R> {
         })
     }
 
-    /// Starts the shell that will run SHUTDOWNCMD. If it cannot be started, that is written to `err`, and it is tried
-    /// again at the halt.
-    pub fn make_ready<E: Write>(&mut self, err: &mut E) {
-        if let Some(command) = &mut self.command {
-            if let Err(error) = command.make_ready() {
-                let _ = writeln!(
-                    err,
-                    "upsmon: warning: the shell that is to run SHUTDOWNCMD cannot be started yet: {error}"
-                );
-            }
+    /// Starts the shell that will run SHUTDOWNCMD. If it cannot be started, it is tried again at the halt.
+    ///
+    /// # Errors
+    ///
+    /// That of the system if it cannot be started.
+    pub fn make_ready(&mut self) -> io::Result<()> {
+        match &mut self.command {
+            Some(command) => command.make_ready(),
+            None => Ok(()),
         }
+    }
+
+    /// Gives the halt up. Returns the shell that was to run SHUTDOWNCMD, if there is one: it ends and runs nothing.
+    pub fn give_up(self) -> Option<Child<R::Started>> {
+        self.command?.give_up()
     }
 
     /// Removes POWERDOWNFLAG if an earlier shutdown left it set: otherwise the scripts of the next ordinary shutdown

@@ -1,6 +1,8 @@
 //! What upsmon runs: a monitor over sockets, the people and commands that it tells, and the halt of its machine.
 #![tactic(auto)]
 
+mod caretaker;
+mod changes;
 mod command_line;
 mod crier;
 mod halt;
@@ -8,11 +10,14 @@ mod low_runtime;
 mod monitor;
 mod notify_command;
 mod power_down_flag;
+mod reloader;
 mod shell;
 mod shutdown_command;
+mod starting;
 mod stopping;
 mod upsmon_fault;
 mod warning;
+mod watching;
 
 pub use monitor::run_upsmon;
 pub use stopping::{Stopping, stops_within};

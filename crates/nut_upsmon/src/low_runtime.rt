@@ -53,6 +53,8 @@ struct Ups {
     name: String,
     /// How often its server was asked and didn't answer.
     tries: u8,
+    /// Of which configuration it is.
+    turn: u32,
 }
 
 /// Asks for `battery.runtime.low` of each UPS that feeds this machine, and warns where a UPS says LB later than this machine
@@ -66,6 +68,8 @@ pub struct LowRuntimes<'r, R: Processes> {
     patience: Patience,
     /// How many steps pass before the next question.
     pause: u8,
+    /// The number of the configuration, from 0 on. An answer about a UPS of an earlier one is let go.
+    turn: u32,
     left: Vec<Ups>,
     questions: Questions<'r, R, Ups>,
 }
@@ -87,24 +91,39 @@ impl<'r, R: Processes> LowRuntimes<'r, R> {
         config: &UpsmonConf,
         patience: Patience,
     ) -> Result<LowRuntimes<'r, R>, AllocError> {
-        let (needed, left) = match Stopping::of(config) {
-            Stopping::Within(needed) => (needed, upses_of(alloc, &config.monitors.lines)?),
-            Stopping::Never => (0, Vec::new(alloc)),
-        };
+        let (needed, left) = asked(alloc, config, 0)?;
         Ok(LowRuntimes {
             alloc,
             needed,
             patience,
             pause: patience.pause,
+            turn: 0,
             left,
             questions: Questions::none(processes, alloc, patience.question),
         })
     }
 
+    /// Asks for those of another configuration instead.
+    ///
+    /// # Errors
+    ///
+    /// [`AllocError`] if memory for their names cannot be allocated. Nothing has changed then.
+    pub fn restart(&mut self, config: &UpsmonConf) -> Result<(), AllocError> {
+        let turn = self.turn.wrapping_add(1);
+        let (needed, left) = asked(self.alloc, config, turn)?;
+        self.needed = needed;
+        self.left = left;
+        self.turn = turn;
+        self.pause = self.patience.pause;
+        Ok(())
+    }
+
     /// Takes a step: tells an answer that came, ends questions that take too long, and asks the next. Gives whether another
     /// step is needed.
     pub fn step<E: Write>(&mut self, err: &mut E) -> bool {
-        if let Some(question) = self.questions.take() {
+        if let Some(question) = self.questions.take()
+            && question.about.turn == self.turn
+        {
             self.hear(question, err);
         }
         self.questions.step();
@@ -209,13 +228,24 @@ fn tell_unknown<E: Write>(ups: &Ups, err: &mut E) {
     );
 }
 
+/// How many seconds this machine needs by a configuration, and the UPSes that are asked for.
+fn asked(alloc: Global, config: &UpsmonConf, turn: u32) -> Result<(u64, Vec<Ups>), AllocError> {
+    match Stopping::of(config) {
+        Stopping::Within(needed) => Ok((needed, upses_of(alloc, &config.monitors.lines, turn)?)),
+        Stopping::Never => Ok((0, Vec::new(alloc))),
+    }
+}
+
 /// The UPSes of the lines that feed this machine.
-fn upses_of(alloc: Global, lines: &[Monitored]) -> Result<Vec<Ups>, AllocError> {
+fn upses_of(alloc: Global, lines: &[Monitored], turn: u32) -> Result<Vec<Ups>, AllocError> {
     let mut upses = Vec::with_capacity(alloc, lines.len())?;
     for line in lines {
         if line.power.value > 0 {
-            let name = String::from_str(alloc, text_of(&line.written))?;
-            upses.push(Ups { name, tries: 0 })?;
+            upses.push(Ups {
+                name: String::from_str(alloc, text_of(&line.written))?,
+                tries: 0,
+                turn,
+            })?;
         }
     }
     Ok(upses)

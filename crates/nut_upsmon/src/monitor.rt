@@ -1,37 +1,35 @@
 //! upsmon: a monitor that decides when to halt its machine.
 
-ghost use Rattle.std.specs.Prelude.{◌≡◌, ◌<◌, ◌-◌, ◌^◌, [], IfSome};
-ghost use Rattle.nut_monitor_spec.specs.Content.{content};
-
+use crate::caretaker::Caretaker;
 use crate::command_line::upsmon_command;
 use crate::crier::Crier;
 use crate::halt::{Halt, halt_heap};
 use crate::low_runtime::check_low_runtimes;
 use crate::power_down_flag::{FlagState, PowerDownFlag};
+use crate::reloader::Reloader;
 use crate::stopping::Stopping;
 use crate::upsmon_fault::UpsmonFault;
-use crate::warning::Warning;
+use crate::warning::tell_warnings;
+use crate::watching::watch_in_turn;
 use clap::ArgMatches;
 use linked_list_allocator::LocalHeap;
-use nut_conf::{Role, UpsmonConf};
-use nut_monitor::{Monitor, Phase};
-use nut_monitor_loop::{MonWorld, watch};
-use nut_monitor_sockets::{Herald, MioMonWorld};
-use nut_poll::{LossyLines, Report, Reports, text_of};
-use nut_program::{
-    Failure, conf_folder, hold_closed_streams, read_conf, readable_file, refuse_start, warn,
-};
+use nut_conf::UpsmonConf;
+use nut_poll::LossyLines;
+use nut_program::{Failure, ReloadFile, conf_folder, hold_closed_streams, read_conf, refuse_start};
 use std::alloc::{Alloc, AllocError, Global};
 use std::convert::AsStr;
 use std::env::Env;
 use std::io;
-use std::io::{ErrorKind, Write};
+use std::io::Write;
 use std::net::Net;
 use std::os::fd::AsRawFd;
 use std::process::Processes;
 use std::rt::Files;
 use std::sync::Wait;
 use std::time::Clock;
+
+/// The file of the configuration folder that upsd reads. If it is there, upsd may have that folder too.
+const FILE_OF_SERVER: &str = "upsd.conf";
 
 /// The streams that upsmon writes to: standard output and standard error, line by line. A line that isn't taken at once
 /// is dropped.
@@ -54,6 +52,11 @@ struct Streams<O, E> {
 /// With `-K` nothing is watched: the status is 0 where POWERDOWNFLAG is set, else 1. With `--check` nothing is watched either:
 /// upsmon.conf is read as a start does, what a start says of it is said, and how soon this machine stops goes to `out`. The
 /// servers are asked whether their UPSes say LB early enough for that. The status is 0 where the file has no fault.
+///
+/// When the file `reload` is made in the folder, upsmon.conf is read again. If it has a fault, or the halt that it sets
+/// can't be prepared, that is written to `err`, and the UPSes are watched as before. So they are while a shutdown is under
+/// way; and a UPS that is on battery or has a forced shutdown, and goes on being watched, is waited for. What has changed
+/// is then written to `err`, and all links are made anew.
 ///
 /// What upsmon.conf should set otherwise is written to `err`, and so are how soon this machine stops and the UPSes that
 /// are watched, a line each; with `-q` only what should be set otherwise is. A line that `out` or `err` doesn't take at
@@ -134,14 +137,14 @@ where
     E: Write + AsRawFd + Copy,
 {
     let folder = conf_folder(rt, alloc, matches)?;
-    let config = read_checked(rt, alloc, folder.as_str(), told)?;
+    let config = read_folder(rt, alloc, folder.as_str(), told)?;
     Stopping::of(&config).tell(&mut out)?;
     check_low_runtimes(rt, alloc, &config, told)?;
     Ok(0)
 }
 
 /// Reads upsmon.conf in this folder, and writes what it should set otherwise.
-fn read_checked<R: Files, E: Write + AsRawFd + Copy>(
+fn read_folder<R: Files, E: Write + AsRawFd + Copy>(
     rt: &R,
     alloc: Global,
     folder: &str,
@@ -179,10 +182,28 @@ where
     E: Write + AsRawFd + Copy,
 {
     let folder = conf_folder(rt, alloc, matches)?;
-    let config = read_checked(rt, alloc, folder.as_str(), told)?;
-    let is_quiet = matches.get_flag("quiet");
-    guard_with(rt, alloc, config, is_quiet, streams, told)?;
+    guard_folder(rt, alloc, folder, matches.get_flag("quiet"), streams, told)?;
     Ok(0)
+}
+
+/// Watches the UPSes of upsmon.conf in this folder until the machine has to be halted, and halts it.
+fn guard_folder<R, O, E>(
+    rt: &R,
+    alloc: Global,
+    folder: String,
+    is_quiet: bool,
+    streams: Streams<O, E>,
+    told: &mut LossyLines<E>,
+) -> Result<(), Failure<UpsmonFault>>
+where
+    R: Wait + Files + Net + Clock + Processes,
+    O: Write + AsRawFd + Copy,
+    E: Write + AsRawFd + Copy,
+{
+    let file = ReloadFile::new(rt, alloc, folder.as_str(), FILE_OF_SERVER)?;
+    let config = read_folder(rt, alloc, folder.as_str(), told)?;
+    let reloader = Reloader::new(alloc, folder, file, is_quiet);
+    guard_with(rt, alloc, config, reloader, streams, told)
 }
 
 /// Watches the UPSes of a configuration until the machine has to be halted, and halts it.
@@ -190,7 +211,7 @@ fn guard_with<R, O, E>(
     rt: &R,
     alloc: Global,
     config: UpsmonConf,
-    is_quiet: bool,
+    reloader: Reloader,
     streams: Streams<O, E>,
     told: &mut LossyLines<E>,
 ) -> Result<(), Failure<UpsmonFault>>
@@ -201,17 +222,17 @@ where
 {
     let _held = hold_closed_streams(rt, alloc)?;
     let heap = halt_heap(alloc)?;
-    watch_and_halt(rt, alloc, &heap, config, is_quiet, streams, told)
+    watch_and_halt(rt, alloc, &heap, config, reloader, streams, told)
 }
 
-/// Watches the UPSes of a configuration until the machine has to be halted, and halts it. The memory that the halt
-/// takes comes from `heap`, and is reserved before.
+/// Prepares the halt, watches the UPSes of a configuration until the machine has to be halted, and halts it. The memory
+/// that the halt takes comes from `heap`, and is reserved before.
 fn watch_and_halt<R, O, E>(
     rt: &R,
     alloc: Global,
     heap: &LocalHeap,
     config: UpsmonConf,
-    is_quiet: bool,
+    reloader: Reloader,
     streams: Streams<O, E>,
     told: &mut LossyLines<E>,
 ) -> Result<(), Failure<UpsmonFault>>
@@ -220,149 +241,50 @@ where
     O: Write + AsRawFd + Copy,
     E: Write + AsRawFd + Copy,
 {
-    let mut halt = Halt::prepare(rt, alloc, heap, &config)?;
-    watch_until_halt(rt, alloc, config, &mut halt, is_quiet, streams, told)
-}
-
-/// Prepares the halt, watches the UPSes of a configuration until the machine has to be halted, and halts it.
-fn watch_until_halt<R, O, E>(
-    rt: &R,
-    alloc: Global,
-    config: UpsmonConf,
-    halt: &mut Halt<'_, '_, R>,
-    is_quiet: bool,
-    streams: Streams<O, E>,
-    told: &mut LossyLines<E>,
-) -> Result<(), Failure<UpsmonFault>>
-where
-    R: Wait + Files + Net + Clock + Processes,
-    O: Write + AsRawFd + Copy,
-    E: Write + AsRawFd + Copy,
-{
-    halt.clear_flag(told);
-    halt.make_ready(told);
-    let phase = keep_watch(rt, alloc, config, is_quiet, streams, told)?;
-    if let Phase::Halted { flag } = phase {
-        halt.carry_out(flag, told)?;
-    }
+    let halt = ready_halt(rt, alloc, heap, &config, told)?;
+    let is_quiet = reloader.is_quiet();
+    let crier = crier_of(rt, alloc, &config, streams.out)?;
+    let err = LossyLines::new(rt, alloc, "upsmon", streams.err)?;
+    let caretaker = Caretaker::new(rt, alloc, heap, err, crier, halt, reloader);
+    watch_in_turn(rt, alloc, config, caretaker, is_quiet, told)?;
     Ok(())
 }
 
-/// Writes what upsmon.conf in this folder should set otherwise, and whether everybody can read it.
-fn tell_warnings<E: Write>(
-    files: &impl Files,
+/// Makes the halt that a configuration sets, removes a flag that was left, and starts the shell for SHUTDOWNCMD. If that
+/// can't be started, it is told.
+fn ready_halt<'r, 'h, R, E>(
+    rt: &'r R,
     alloc: Global,
-    folder: &str,
+    heap: &'h LocalHeap,
     config: &UpsmonConf,
-    err: &mut E,
-) -> Result<(), AllocError> {
-    warn(
-        "upsmon",
-        readable_file::<UpsmonConf>(files, alloc, folder)?,
-        err,
-    );
-    warn("upsmon", Warning::of_shutdown_command(config), err);
-    warn("upsmon", Warning::of_dead_time(config), err);
-    warn("upsmon", Warning::of_host_sync(config), err);
-    Ok(())
-}
-
-/// Watches the UPSes of a configuration over sockets until the machine has to be halted.
-fn keep_watch<R, O, E>(
-    rt: &R,
-    alloc: Global,
-    config: UpsmonConf,
-    is_quiet: bool,
-    streams: Streams<O, E>,
-    told: &mut LossyLines<E>,
-) -> Result<Phase, Failure<UpsmonFault>>
+    told: &mut E,
+) -> Result<Halt<'r, 'h, R>, AllocError>
 where
-    R: Wait + Net + Clock + Processes,
-    O: Write + AsRawFd + Copy,
-    E: Write + AsRawFd + Copy,
+    R: Files + Clock + Processes,
+    E: Write,
 {
-    let Ok(mut monitor) = Monitor::new(alloc, config) else {
-        return Err(Failure::Memory);
-    };
-    let crier = crier_of(rt, alloc, monitor.config(), streams)?;
-    match watch_servers(rt, alloc, &mut monitor, crier, told, is_quiet) {
-        Ok(phase) => Ok(phase),
-        Err(kind) => Err(Failure::from(io::Error::from(kind))),
+    let mut halt = Halt::prepare(rt, alloc, heap, config)?;
+    halt.clear_flag(told);
+    if let Err(error) = halt.make_ready() {
+        let _ = writeln!(
+            told,
+            "upsmon: warning: the shell that is to run SHUTDOWNCMD cannot be started yet: {error}"
+        );
     }
+    Ok(halt)
 }
 
 /// Makes the crier that prints notices on standard output and runs NOTIFYCMD.
-fn crier_of<'a, R, O, E>(
+fn crier_of<'a, R, O>(
     rt: &'a R,
     alloc: Global,
     config: &UpsmonConf,
-    streams: Streams<O, E>,
-) -> io::Result<Crier<'a, R, LossyLines<O>, LossyLines<E>>>
+    out: O,
+) -> io::Result<Crier<'a, R, LossyLines<O>>>
 where
     R: Net + Processes,
     O: Write + AsRawFd + Copy,
-    E: Write + AsRawFd + Copy,
 {
-    let out = LossyLines::new(rt, alloc, "upsmon", streams.out)?;
-    let err = LossyLines::new(rt, alloc, "upsmon", streams.err)?;
-    Ok(Crier::new(rt, alloc, config, out, err)?)
-}
-
-/// Watches servers over sockets until the machine has to be halted, and hands each notice to a herald. Reports to the
-/// operator on `err` unless that is to be quiet.
-///
-/// # Errors
-///
-/// If no sockets are available, or waiting for them or reading the clock fails.
-fn watch_servers<R: Wait + Net + Clock + Processes, H: Herald, E: Write>(
-    rt: &R,
-    alloc: Global,
-    monitor: &mut Monitor,
-    herald: H,
-    err: &mut E,
-    is_quiet: bool,
-) -> Result<Phase, ErrorKind>
-    requires { monitor.old.content ≡ content monitor.old.content.configuration [] }
-{
-    if !is_quiet {
-        tell_start(monitor.config(), err);
-    }
-    let reports = Reports::new("upsmon", err, !is_quiet);
-    match MioMonWorld::new(rt, alloc, monitor.config(), herald, reports) {
-        Ok(world) => watch_world(rt, monitor, world),
-        Err(error) => Err(error.kind()),
-    }
-}
-
-/// Watches a world until the machine has to be halted.
-fn watch_world<W: MonWorld + Drop>(
-    rt: &impl Wait,
-    monitor: &mut Monitor,
-    mut world: W,
-) -> Result<Phase, ErrorKind>
-    requires fresh { monitor.old.content ≡ content monitor.old.content.configuration [] }
-    requires blank { IfSome (W.log world) (λ r. r ≡ []) }
-    requires few { W.fault_count world < 2 ^ 64 - 1 }
-{
-    match watch(rt, monitor, &mut world) {
-        Ok(phase) => Ok(phase),
-        Err(_) => Err(ErrorKind::Other),
-    }
-}
-
-/// Reports which UPSes are watched, and how soon this machine stops.
-fn tell_start<E: Write>(config: &UpsmonConf, err: &mut E) {
-    tell_watched(config, &mut Reports::new("upsmon", err, true));
-    let _ = Stopping::of(config).tell(err);
-}
-
-/// Reports which UPSes are watched.
-fn tell_watched<E: Write>(config: &UpsmonConf, reports: &mut Reports<'_, E>) {
-    for monitored in &config.monitors.lines {
-        reports.tell(Report::Watching(
-            text_of(&monitored.written),
-            monitored.role == Role::Primary,
-            monitored.power.value,
-        ));
-    }
+    let out = LossyLines::new(rt, alloc, "upsmon", out)?;
+    Ok(Crier::new(rt, alloc, config, out)?)
 }

@@ -39,7 +39,7 @@ impl fmt::Display for CallFault {
     }
 }
 
-/// NOTIFYCMD, and its runs that may not have ended.
+/// NOTIFYCMD, and the processes that may not have ended: its runs, and others that are waited for with them.
 #[derive(Drop)]
 pub struct NotifyCommand<'r, R: Processes> {
     processes: &'r R,
@@ -56,16 +56,22 @@ impl<'r, R: Processes> NotifyCommand<'r, R> {
         alloc: Global,
         config: &UpsmonConf,
     ) -> Result<NotifyCommand<'r, R>, AllocError> {
-        let script = match &config.notify_cmd {
-            Some(command) => Some(script_of(alloc, command.as_bytes())?),
-            None => None,
-        };
         Ok(NotifyCommand {
             processes,
             alloc,
-            script,
+            script: script_in(alloc, config)?,
             running: Vec::with_capacity(alloc, RUNNING_MAX)?,
         })
+    }
+
+    /// Takes another script, of [`script_in`]. Runs that haven't ended go on.
+    pub fn set_script(&mut self, script: Option<String>) {
+        self.script = script;
+    }
+
+    /// Takes a process that ends by itself, and waits for its end as for that of a run.
+    pub fn adopt(&mut self, child: Child<R::Started>) {
+        let _ = self.running.push(child);
     }
 
     /// Starts the command, if there is one, and doesn't wait for it.
@@ -92,6 +98,14 @@ impl<'r, R: Processes> NotifyCommand<'r, R> {
     /// Forgets the runs that have ended.
     pub fn reap(&mut self) {
         self.running.retain_mut(|child| is_running(child));
+    }
+}
+
+/// Returns the script of the command that upsmon.conf sets, if it sets one.
+pub fn script_in(alloc: Global, config: &UpsmonConf) -> Result<Option<String>, AllocError> {
+    match &config.notify_cmd {
+        Some(command) => Ok(Some(script_of(alloc, command.as_bytes())?)),
+        None => Ok(None),
     }
 }
 

@@ -53,6 +53,14 @@ impl<'r, 'h, R: Processes> ShutdownCommand<'r, 'h, R> {
         Ok(())
     }
 
+    /// Gives the command up. Returns the shell that waits, if there is one: it ends and runs nothing, since its input
+    /// ends.
+    pub fn give_up(self) -> Option<Child<R::Started>> {
+        let mut shell = self.shell?;
+        drop(shell.stdin.take());
+        Some(shell)
+    }
+
     /// Makes the waiting shell run the command. Starts another shell for it if there is none, or it was ended
     /// meanwhile.
     ///

@@ -1,6 +1,7 @@
 //! The faults that only upsmon has.
 
 use crate::halt::HaltFault;
+use crate::watching::WatchFault;
 use nut_program::{Failure, FileFault, OwnFault};
 use std::fmt;
 
@@ -37,8 +38,11 @@ impl From<FileFault<'static>> for UpsmonFault {
     }
 }
 
-impl From<HaltFault> for Failure<UpsmonFault> {
-    fn from(fault: HaltFault) -> Self {
-        Failure::Own(UpsmonFault::Halt(fault))
+impl From<WatchFault> for Failure<UpsmonFault> {
+    fn from(fault: WatchFault) -> Self {
+        match fault {
+            WatchFault::Io(error) => Failure::from(error),
+            WatchFault::Halt(fault) => Failure::Own(UpsmonFault::Halt(fault)),
+        }
     }
 }

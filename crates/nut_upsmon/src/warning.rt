@@ -4,7 +4,11 @@ ghost use Rattle.std.specs.Prelude.{◌↔◌, ◌≡◌, ◌<◌, IsSome, None}
 ghost use Rattle.nut_conf.specs.Upsmon.{poll_freq_of, dead_time_of, host_sync_of};
 
 use nut_conf::UpsmonConf;
+use nut_program::{readable_file, warn};
+use std::alloc::{AllocError, Global};
 use std::fmt;
+use std::io::Write;
+use std::rt::Files;
 
 /// What an operator should set otherwise. Times are in seconds.
 #[derive(Clone, Copy, Debug, PartialEq, Eq)]
@@ -81,4 +85,27 @@ impl Warning {
             host_sync,
         })
     }
+}
+
+/// Writes what upsmon.conf in this folder should set otherwise, and whether everybody can read it.
+///
+/// # Errors
+///
+/// [`AllocError`] if memory for the file's path cannot be allocated.
+pub fn tell_warnings<E: Write>(
+    files: &impl Files,
+    alloc: Global,
+    folder: &str,
+    config: &UpsmonConf,
+    err: &mut E,
+) -> Result<(), AllocError> {
+    warn(
+        "upsmon",
+        readable_file::<UpsmonConf>(files, alloc, folder)?,
+        err,
+    );
+    warn("upsmon", Warning::of_shutdown_command(config), err);
+    warn("upsmon", Warning::of_dead_time(config), err);
+    warn("upsmon", Warning::of_host_sync(config), err);
+    Ok(())
 }

@@ -5,10 +5,11 @@
 //! of any length takes the same memory.
 //!
 //! ```text
-//! ups TEXT             the text of ups.conf for the next server
-//! users TEXT           the text of upsd.users for the next server
-//! upsd TEXT            the text of upsd.conf for the next server
+//! ups TEXT             the text of ups.conf for the next server or reload
+//! users TEXT           the text of upsd.users for the next server or reload
+//! upsd TEXT            the text of upsd.conf for the next server or reload
 //! server               replaces the server by a new one with these texts
+//! reload               the server reads these texts, and serves on with what they set
 //! carry N              server and driver of the first UPS take what waits for them, N bytes at a time, until none waits
 //! ```
 //!

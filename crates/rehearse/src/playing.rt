@@ -4,7 +4,7 @@ ghost use Rattle.std.specs.Prelude.{◌≤◌, IfOk};
 
 use crate::server::{Peer, Step};
 use crate::text::put;
-use nut_server::{Arrival, Server};
+use nut_server::{Arrival, Config, Server};
 use std::io;
 use std::io::Write;
 
@@ -25,27 +25,71 @@ pub fn play<W: Write>(step: Step<'_>, server: &mut Server, out: &mut W) -> io::R
     Ok(())
 }
 
+/// Puts a configuration in force, and writes the answer, the server's state of each UPS, and what the reload ends.
+pub fn reload<W: Write>(config: Box<Config>, server: &mut Server, out: &mut W) -> io::Result<()> {
+    let ended = server.ended_by(&config);
+    tell(Arrival::Reload(config), server, out)?;
+    let (drivers, connections) = (ended.drivers.as_slice(), ended.connections.as_slice());
+    write!(out, "; drivers {drivers:?} connections {connections:?}")
+}
+
+/// The place that an arrival comes from.
+#[derive(Clone, Copy)]
+enum Origin {
+    Clock,
+    Door,
+    Connection(u64),
+    Driver(usize),
+    Files,
+}
+
+/// Returns the place that an arrival comes from.
+fn origin_of(arrival: &Arrival<'_>) -> Origin {
+    match arrival {
+        Arrival::Moment(_) => Origin::Clock,
+        Arrival::Open(_) => Origin::Door,
+        Arrival::Bytes(c, _) | Arrival::Took(c, _) | Arrival::Close(c) | Arrival::WriteFailed(c) =>
+            Origin::Connection(*c),
+        Arrival::DriverUp(u)
+        | Arrival::DriverBytes(u, _)
+        | Arrival::DriverTook(u, _)
+        | Arrival::DriverDown(u) => Origin::Driver(*u),
+        Arrival::Reload(_) => Origin::Files,
+    }
+}
+
 /// Tells the server an arrival, and writes its answer and then what waits at the place that the arrival came from.
 fn tell<W: Write>(arrival: Arrival<'_>, server: &mut Server, out: &mut W) -> io::Result<()> {
+    let origin = origin_of(&arrival);
     match server.arrive(arrival) {
         Ok(()) => write!(out, "ok")?,
         Err(refused) => write!(out, "{refused:?}")?,
     }
-    match arrival {
-        Arrival::Moment(_) => {
-            for u in 0..server.number_of_upses() {
-                write!(out, " {}", server.waits_for_driver(u))?;
-            }
-            Ok(())
-        }
-        Arrival::Open(_) => write!(out, " opened={}", server.opened()),
-        Arrival::Bytes(c, _) | Arrival::Took(c, _) | Arrival::Close(c) | Arrival::WriteFailed(c) =>
-            show_connection(c, server, out),
-        Arrival::DriverUp(u)
-        | Arrival::DriverBytes(u, _)
-        | Arrival::DriverTook(u, _)
-        | Arrival::DriverDown(u) => show_driver(u, server, out),
+    match origin {
+        Origin::Clock => show_waits(server, out),
+        Origin::Door => write!(out, " opened={}", server.opened()),
+        Origin::Connection(c) => show_connection(c, server, out),
+        Origin::Driver(u) => show_driver(u, server, out),
+        Origin::Files => show_upses(server, out),
     }
+}
+
+/// Writes how many bytes wait for the driver of each UPS.
+fn show_waits<W: Write>(server: &Server, out: &mut W) -> io::Result<()> {
+    for u in 0..server.number_of_places() {
+        write!(out, " {}", server.waits_for_driver(u))?;
+    }
+    Ok(())
+}
+
+/// Writes the name of each UPS, and the server's state of its driver.
+fn show_upses<W: Write>(server: &Server, out: &mut W) -> io::Result<()> {
+    for u in 0..server.number_of_places() {
+        write!(out, "; ")?;
+        put(server.ups_name(u).unwrap_or(b"-"), out)?;
+        show_driver(u, server, out)?;
+    }
+    Ok(())
 }
 
 /// Writes the server's state of a connection.

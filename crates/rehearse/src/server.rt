@@ -17,7 +17,9 @@
 //! next-driver U        prints the first UPS, from U on, for whose driver bytes wait
 //! ```
 //!
-//! An arrival is answered by `ok` or the name of its refusal, and then by what waits at the place that it came from.
+//! An arrival is answered by `ok` or the name of its refusal, and then by what waits at the place that it came from. A
+//! reload is answered by that for each number that a UPS has had, with the UPS's name or `-`, and then by the drivers that
+//! it disconnects and the connections that it closes.
 
 use crate::failure::Failure;
 use crate::played::Played;
@@ -39,7 +41,7 @@ pub enum Peer {
 }
 
 /// A step of a schedule.
-#[derive(Clone, Copy, Drop)]
+#[derive(Drop)]
 pub enum Step<'a> {
     /// Tells the server this.
     Tell(Arrival<'a>),
@@ -95,6 +97,32 @@ fn with_upsd(
 fn let_go(_ups: UpsConf) {}
 
 fn let_users_go(_users: UsersConf) {}
+
+/// Puts the texts of the configuration files in force, and writes the answer.
+///
+/// # Errors
+///
+/// The first fault of a file; `Memory` if memory for what the files set cannot be allocated.
+pub fn reload<W: Write>(
+    alloc: Global,
+    texts: &Texts,
+    server: &mut Server,
+    out: &mut W,
+) -> Result<Played, Failure> {
+    let config = boxed_config(alloc, texts)?;
+    playing::reload(config, server, out)?;
+    Ok(Played::Step)
+}
+
+/// Reads the texts into memory of their own.
+fn boxed_config(alloc: Global, texts: &Texts) -> Result<Box<Config>, Failure> {
+    let config = read_config(alloc, texts)?;
+    Ok(boxed(alloc, config)?)
+}
+
+fn boxed(alloc: Global, config: Config) -> Result<Box<Config>, AllocError> {
+    Ok(Box::new(alloc, config)?)
+}
 
 /// Plays a step on a server, and writes the answer.
 pub fn play<W: Write>(

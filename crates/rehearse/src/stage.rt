@@ -146,6 +146,7 @@ impl Stage {
                 let server = self.fresh_server()?;
                 self.put_server(server);
             }
+            "reload" => return self.reload(out),
             "carry" => return self.carry(rest, out),
             _ => return server::play(&mut self.server, line, &mut self.piece, out),
         }
@@ -160,6 +161,14 @@ impl Stage {
 
     fn put_server(&mut self, server: Server) {
         self.server = Some(server);
+    }
+
+    /// Puts the texts of the configuration files in force.
+    fn reload<W: Write>(&mut self, out: &mut W) -> Result<Played, Failure> {
+        match &mut self.server {
+            Some(server) => server::reload(self.alloc, &self.texts, server, out),
+            None => Ok(Played::Nothing),
+        }
     }
 
     /// Drops all engines.

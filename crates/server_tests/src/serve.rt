@@ -1,6 +1,7 @@
-//! What no clause says: rows from outside, and worlds that are slow, late or broken.
+//! What no clause says: rows from outside, worlds that are slow, late or broken, and reloads.
 
 mod broken;
+mod reloads;
 mod room;
 mod worlds;
 

@@ -17,7 +17,7 @@ use Rattle.nut_server_spec.specs.Effect.{user_then, password_then, login_then, l
 use Rattle.nut_server_spec.specs.Trace.{given_then, is_heard, with_request}
 use Rattle.nut_server_spec.specs.Content.{Session, Supply, Content, content}
 use Rattle.nut_server_spec.specs.Acceptance.{IsAccepted, session_of}
-use Rattle.nut_server_spec.specs.Numbering.{Numbering, Fate, below, renumbered, fate_of, by_fate, is_to_cleared}
+use Rattle.nut_server_spec.specs.Numbering.{Numbering, with_numbers, Fate, below, renumbered, fate_of, by_fate, is_to_cleared}
 
 -- the sessions, with the one with the number c changed
 abbrev pub update : ℕ → (Session → Session) → List Session → List Session
@@ -50,7 +50,7 @@ caller_of k = record { user = k.user; password = k.password; login = k.login; tr
 
 -- the UPSes of a content and their numbers
 abbrev pub numbering_of : Content → Numbering
-numbering_of s = record { upses = s.configuration.upses; numbers = s.numbers }
+numbering_of s = with_numbers s.configuration.upses s.numbers
 
 -- what the server knows when it answers a line
 abbrev pub scene_of : Content → Scene

@@ -1,4 +1,4 @@
-//! The server of the tests: one UPS, a user who may set, a user who monitors, and two connections.
+//! The servers of the tests: UPSes, a user who may set, a user who monitors, and two connections.
 
 ghost use Rattle.std.specs.Prelude.{◌≡◌, [], IfOk};
 ghost use Rattle.nut_server_spec.specs.Content.{content};
@@ -13,19 +13,27 @@ const UPSES: &[u8] = b"[su700]\ndesc = \"Server room\"\n";
 const USERS: &[u8] =
     b"[admin]\npassword = pw\nactions = SET\ninstcmds = all\n[mon]\npassword = m1\nupsmon primary\n";
 
-/// Makes a server that was told nothing.
+/// Makes a server of one UPS that was told nothing.
 pub fn fresh_server(alloc: Global) -> Result<Server, Fail>
     ensures { IfOk result (λ s. s ≡ content s.configuration []) }
 {
-    let config = fresh_config(alloc)?;
+    server_of(alloc, UPSES)
+}
+
+/// Makes a server of these UPSes that was told nothing.
+pub fn server_of(alloc: Global, upses: &[u8]) -> Result<Server, Fail>
+    ensures { IfOk result (λ s. s ≡ content s.configuration []) }
+{
+    let config = config_of(alloc, upses)?;
     let server = Server::new(alloc, config)?;
     Ok(server)
 }
 
-fn fresh_config(alloc: Global) -> Result<Config, Fail> {
+/// Makes the configuration of these UPSes.
+pub fn config_of(alloc: Global, upses: &[u8]) -> Result<Config, Fail> {
     let upsd = read_upsd(alloc, b"MAXCONN 2")?;
     let users = read_users(alloc, USERS)?;
-    match read_ups(alloc, UPSES) {
+    match read_ups(alloc, upses) {
         Ok(ups) => Ok(Config::new(ups, users, upsd)),
         Err(fault) => {
             let_users_go(users);

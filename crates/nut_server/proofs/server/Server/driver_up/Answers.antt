@@ -20,6 +20,7 @@ invariant_of-self c = record {
   within = c.self.invariant.within;
   limits = c.self.invariant.limits;
   placed = subst (λ m. AllByRecursion (λ n. n < m) c.self.inside.numbers.items) (sym (length-set c.self.inside.devices.items c.args.u c.up.new.self)) c.self.invariant.placed;
+  places = omega (arith, length-set c.self.inside.devices.items c.args.u c.up.new.self, c.self.invariant.places);
 }
 
 pub returns-clause-content : goal.returns-clause-content

@@ -5,20 +5,21 @@ use Rattle.nut_server_spec.specs.laws.Limits.{IsWithin}
 use Rattle.nut_server_spec.specs.Numbering.{below}
 use Rattle.nut_server.specs.inside.Inside.{numbers_of}
 use Rattle.nut_server_spec.specs.machine.Machine.{unheard}
-use Rattle.nut_server.proofs.Arrives.{length-below}
+use Rattle.nut_server_spec.proofs.Places.{below-length}
 use Rattle.nut_server.proofs.Limited.{config_within}
 use Rattle.nut_server.proofs.server.Server.new.Goals as goal
 use Rattle.std.specs.List.{AllByRecursion}
 use Rattle.nut_server_spec.proofs.Numbering.{below_are}
 
 pub invariant_of-result : goal.invariant_of-result
-invariant_of-result c = record {
-  up_to = subst (λ ks. IsUpTo 0 (numbers_of ks)) (sym c.in_ok-connections.ensures) tt;
-  few = omega arith;
-  within = omega (arith, ap (λ ks. length (numbers_of ks)) c.in_ok-connections.ensures);
-  limits = subst IsWithin c.config.view_is (config_within c.config.inside.ups c.config.inside.users c.config.inside.upsd c.config.inside.descriptions);
-  placed =
-      let long : length c.in_ok-devices.devices.items ≡ c.number_of_upses-count.result =
-      ap length c.in_ok-devices.ensures ∙ length-map (below c.number_of_upses-count.result) (λ u. unheard) ∙ length-below c.number_of_upses-count.result in
-      subst (λ m. AllByRecursion (λ n. n < m) c.first_numbers-numbers.result.items) (sym long) (subst (λ ns. AllByRecursion (λ n. n < c.number_of_upses-count.result) ns) (sym c.first_numbers-numbers.ensures) (below_are c.number_of_upses-count.result));
-}
+invariant_of-result c =
+    let long : length c.in_ok-devices.devices.items ≡ c.number_of_upses-count.result =
+    ap length c.in_ok-devices.ensures ∙ length-map (below c.number_of_upses-count.result) (λ u. unheard) ∙ below-length c.number_of_upses-count.result in
+    record {
+      up_to = subst (λ ks. IsUpTo 0 (numbers_of ks)) (sym c.in_ok-connections.ensures) tt;
+      few = omega arith;
+      within = omega (arith, ap (λ ks. length (numbers_of ks)) c.in_ok-connections.ensures);
+      limits = subst IsWithin c.config.view_is (config_within c.config.inside.ups c.config.inside.users c.config.inside.upsd c.config.inside.descriptions);
+      placed = subst (λ m. AllByRecursion (λ n. n < m) c.first_numbers-numbers.result.items) (sym long) (subst (λ ns. AllByRecursion (λ n. n < c.number_of_upses-count.result) ns) (sym c.first_numbers-numbers.ensures) (below_are c.number_of_upses-count.result));
+      places = omega (arith, long, c.number_of_upses-count.ensures.few);
+    }

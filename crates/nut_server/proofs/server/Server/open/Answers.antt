@@ -17,4 +17,5 @@ invariant_of-self c =
       within = omega (arith, numbers-length c.add.new.self, ap length c.add.ensures, length-append c.self.inside.connections (c.new.result ∷ []), c.if-len-most_connections.false, c.len.ensures.length, c.most_connections.ensures.value, c.most_connections.ensures.most);
       limits = c.self.invariant.limits;
       placed = c.self.invariant.placed;
+      places = c.self.invariant.places;
     }

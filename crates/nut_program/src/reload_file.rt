@@ -1,0 +1,142 @@
+//! The file by which an operator has a program read its files again.
+
+ghost use Rattle.std.specs.Prelude.{◌≡◌, ◌≢◌, ◌↔◌, IsTrue, IsSome};
+
+use std::alloc::{AllocError, Global};
+use std::os::unix::fs::MetadataExt;
+use std::path::{Path, PathBuf};
+use std::rt::Files;
+use std::{fs, io};
+
+/// The name of the file in the folder of the configuration files.
+const NAME: &str = "reload";
+
+/// For how many looks the file is left to other programs. Each looks once a second, but not at the same time.
+const LOOKS: u8 = 2;
+
+/// What tells one request from the next: the file, and when it was last changed.
+#[derive(Clone, Copy, PartialEq, Eq)]
+struct Stamp {
+    node: u64,
+    seconds: i64,
+    nanoseconds: i64,
+}
+
+/// What a look at the file finds.
+#[derive(Drop)]
+pub enum Look {
+    /// There is no new request.
+    Nothing,
+    /// The program is to read its files.
+    Asked,
+    /// The program is to read its files, and the file can't be removed. That is told at the first such request only.
+    Stuck(io::Error),
+}
+
+/// The file `reload` in the folder of a program's configuration files. An operator who makes it, or touches it, asks for
+/// a reload.
+///
+/// The program removes the file and then reads the others, so that no change after a request is missed. There are two
+/// exceptions. If the program can't remove the file, for example because only root can write to the folder, each change
+/// of the file's time is one request. And if another program reads the same folder, the file is left to it for two
+/// looks, so that one file is a request to both.
+#[derive(Drop)]
+pub struct ReloadFile {
+    path: PathBuf,
+    /// A file that the folder has if another program reads it.
+    beside: PathBuf,
+    /// The file as it was when it was last looked at.
+    seen: Option<Stamp>,
+    /// For how many more looks it is left.
+    looks: u8,
+    is_told: bool,
+}
+
+impl ReloadFile {
+    /// Returns the file in this folder. `beside` is the name of a file that the folder has if another program reads it.
+    /// Call it before the configuration is read: a file that is there already is no request, and goes after two looks.
+    ///
+    /// # Errors
+    ///
+    /// [`AllocError`] if memory for a path cannot be allocated.
+    pub fn new(
+        files: &impl Files,
+        alloc: Global,
+        folder: &str,
+        beside: &str,
+    ) -> Result<ReloadFile, AllocError> {
+        let path = Path::new(folder).join(alloc, NAME)?;
+        let beside = Path::new(folder).join(alloc, beside)?;
+        let seen = stamp_of(files, path.as_path());
+        Ok(ReloadFile {
+            path,
+            beside,
+            seen,
+            looks: LOOKS,
+            is_told: false,
+        })
+    }
+
+    /// The path of the file.
+    pub fn path(&self) -> &str {
+        self.path.as_path().as_str()
+    }
+
+    /// Looks whether there is a request that was not there at the last look, and removes the file.
+    pub fn look(&mut self, files: &impl Files) -> Look {
+        let found = stamp_of(files, self.path.as_path());
+        if self.is_request(found) {
+            return self.take(files);
+        }
+        if found.is_some() && self.is_last_look() {
+            let _ = fs::remove_file(files, self.path.as_path());
+        }
+        Look::Nothing
+    }
+
+    /// Whether what was found is a request: a file that is not the one that was there at the last look, or has been
+    /// changed since.
+    fn is_request(&mut self, found: Option<Stamp>) -> bool
+        ensures new { IsTrue result ↔ IsSome found × (found ≢ self.old.seen) }
+        ensures seen { self.new.seen ≡ found }
+    {
+        let is_new = found.is_some() && found != self.seen;
+        self.seen = found;
+        is_new
+    }
+
+    /// Whether the file has been left for long enough.
+    fn is_last_look(&mut self) -> bool {
+        let is_last = self.looks == 1;
+        self.looks = self.looks.saturating_sub(1);
+        is_last
+    }
+
+    /// Removes the file of a new request, or leaves it for now.
+    fn take(&mut self, files: &impl Files) -> Look {
+        if fs::metadata(files, self.beside.as_path()).is_ok() {
+            self.looks = LOOKS;
+            return Look::Asked;
+        }
+        self.looks = 0;
+        match fs::remove_file(files, self.path.as_path()) {
+            Err(error) if !self.is_told => {
+                self.is_told = true;
+                Look::Stuck(error)
+            }
+            _ => Look::Asked,
+        }
+    }
+}
+
+/// Returns the stamp of a file, if it is there.
+fn stamp_of(files: &impl Files, path: Path<'_>) -> Option<Stamp> {
+    let Ok(found) = fs::metadata(files, path) else {
+        return None;
+    };
+    Some(Stamp {
+        node: found.ino(),
+        seconds: found.ctime(),
+        nanoseconds: found.ctime_nsec(),
+    })
+}

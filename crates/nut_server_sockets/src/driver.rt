@@ -1,0 +1,139 @@
+//! The link to a driver.
+
+ghost use Rattle.std.specs.Prelude.{length};
+ghost use Rattle.nut_io.specs.Writes.{IsWithin};
+
+use mio::event::Event;
+use mio::net::UnixStream;
+use mio::{Interest, Registry, Token};
+use nut_io::{Piece, Written};
+use nut_poll::{Heard, Link, text_of};
+use std::alloc::{AllocError, Global};
+use std::io;
+use std::net::Net;
+
+/// The driver of a UPS, which listens on a Unix socket.
+#[derive(Drop)]
+pub struct Driver {
+    /// The name of the UPS.
+    name: String,
+    /// The name of the driver's program.
+    program: String,
+    path: String,
+    link: Option<Link<UnixStream>>,
+    /// Whether a dial has failed since the driver was last connected.
+    is_missed: bool,
+    /// Whether clients wait until the driver says something.
+    is_awaited: bool,
+}
+
+impl Driver {
+    /// Returns the driver of a UPS, not yet connected. Its socket is `DRIVER-NAME` in the folder.
+    ///
+    /// # Errors
+    ///
+    /// [`AllocError`] if memory cannot be allocated.
+    pub fn new(
+        alloc: Global,
+        folder: &str,
+        program: &[u8],
+        name: &[u8],
+    ) -> Result<Driver, AllocError> {
+        let program = text_of(program);
+        let name = text_of(name);
+        Ok(Driver {
+            name: String::from_str(alloc, name)?,
+            program: String::from_str(alloc, program)?,
+            path: format!(in alloc; "{folder}/{program}-{name}")?,
+            link: None,
+            is_missed: false,
+            is_awaited: false,
+        })
+    }
+
+    /// Returns the name of the UPS.
+    pub fn name(&self) -> &str {
+        self.name.as_str()
+    }
+
+    /// Whether it is this program, for the UPS with this name.
+    pub fn is(&self, program: &[u8], name: &[u8]) -> bool {
+        self.program.as_bytes() == program && self.name.as_bytes() == name
+    }
+
+    /// Returns the path of the driver's socket.
+    pub fn path(&self) -> &str {
+        self.path.as_str()
+    }
+
+    /// Whether it is connected.
+    pub fn is_connected(&self) -> bool {
+        self.link.is_some()
+    }
+
+    /// Connects to the driver, and registers the socket with the poll.
+    ///
+    /// # Errors
+    ///
+    /// The error of the connect or of the registration.
+    pub fn dial(&mut self, net: &impl Net, registry: &Registry, token: Token) -> io::Result<()> {
+        let mut stream = UnixStream::connect(net, self.path.as_str())?;
+        let both = Interest::READABLE | Interest::WRITABLE;
+        registry.register(&mut stream, token, both)?;
+        self.link = Some(Link::new(stream));
+        self.is_missed = false;
+        Ok(())
+    }
+
+    /// Notes that a dial failed. Returns whether it is the first one since the driver was last connected.
+    pub fn misses(&mut self) -> bool {
+        let is_first = !self.is_missed;
+        self.is_missed = true;
+        is_first
+    }
+
+    /// Makes clients wait until the driver says something, if it is connected.
+    pub fn await_word(&mut self) {
+        self.is_awaited = self.is_connected();
+    }
+
+    /// Whether clients wait until the driver says something.
+    pub fn is_awaited(&self) -> bool {
+        self.is_awaited
+    }
+
+    /// Reads from the driver.
+    pub fn hear(&mut self, piece: &mut Piece) -> Heard {
+        let Some(link) = &mut self.link else {
+            return Heard::Nothing;
+        };
+        let heard = link.hear(piece);
+        if heard != Heard::Nothing {
+            self.is_awaited = false;
+        }
+        heard
+    }
+
+    /// Offers bytes to the driver.
+    pub fn offer(&mut self, bytes: &[u8]) -> Written
+        ensures { IsWithin result (length bytes.now) }
+    {
+        match &mut self.link {
+            Some(link) => link.offer(bytes),
+            None => Written::Failed,
+        }
+    }
+
+    /// Notes an event of the socket.
+    pub fn note(&mut self, event: &Event) {
+        if let Some(link) = &mut self.link {
+            link.note(event);
+        }
+    }
+
+    /// Closes the link.
+    pub fn close(&mut self) {
+        self.link = None;
+        self.is_awaited = false;
+    }
+}

@@ -1,0 +1,129 @@
+//! Reads the files again when the operator asks for that.
+
+use crate::changes::changes;
+use crate::configuration::{Settings, read_folder};
+use nut_conf::Endpoint;
+use nut_poll::{Report, Reports};
+use nut_program::{FileFault, Look, ReloadFile, tell_not_reloaded};
+use nut_server::{Config, Server};
+use nut_server_sockets::Reloader;
+use std::alloc::{AllocError, Global};
+use std::io::Write;
+use std::mem;
+use std::rt::Files;
+
+/// A file that the folder has if upsmon reads it, too.
+const BESIDE: &str = "upsmon.conf";
+
+/// The folder of the files of upsd, which reads them at its start and when the file `reload` in that folder asks for it.
+#[derive(Drop)]
+pub struct Reloading<'r, F> {
+    files: &'r F,
+    alloc: Global,
+    folder: &'r str,
+    file: ReloadFile,
+    /// The LISTEN lines of the start.
+    endpoints: Vec<Endpoint>,
+    /// The configuration that was given last, until it is told what became of it.
+    given: Option<Given>,
+}
+
+/// What is known of a configuration that was given to the server.
+#[derive(Drop)]
+struct Given {
+    /// How many UPSes it has.
+    upses: usize,
+    /// What it changes.
+    changes: String,
+}
+
+impl<'r, F: Files> Reloading<'r, F> {
+    /// Returns the folder with this path. A request for a reload counts from now on.
+    ///
+    /// # Errors
+    ///
+    /// [`AllocError`] if memory cannot be allocated.
+    pub fn new(files: &'r F, alloc: Global, folder: &'r str) -> Result<Self, AllocError> {
+        Ok(Reloading {
+            files,
+            alloc,
+            folder,
+            file: ReloadFile::new(files, alloc, folder, BESIDE)?,
+            endpoints: Vec::new(alloc),
+            given: None,
+        })
+    }
+
+    /// Reads the files.
+    ///
+    /// # Errors
+    ///
+    /// Those of [`read_folder`].
+    pub fn read<E: Write>(&self, err: &mut E) -> Result<Settings, FileFault<'static>> {
+        read_folder(self.files, self.alloc, self.folder, err)
+    }
+
+    /// Makes the configuration of the start, whose LISTEN lines stay in force.
+    pub fn start(&mut self, mut settings: Settings) -> Config {
+        self.endpoints = mem::replace(&mut settings.upsd.listen, Vec::new(self.alloc));
+        settings.into_config()
+    }
+
+    /// Reads the files, and notes what differs from the configuration of a server.
+    fn read_again<E: Write>(
+        &mut self,
+        server: &Server,
+        err: &mut E,
+    ) -> Result<Box<Config>, FileFault<'static>> {
+        let settings = self.read(err)?;
+        match self.give(server, settings) {
+            Ok(config) => Ok(config),
+            Err(_) => Err(FileFault::Memory),
+        }
+    }
+
+    /// Makes a new configuration, and notes what differs from that of a server.
+    fn give(&mut self, server: &Server, settings: Settings) -> Result<Box<Config>, AllocError> {
+        let listens_elsewhere = settings.upsd.listen != self.endpoints;
+        let config = settings.into_config();
+        let changes = changes(self.alloc, server.config(), &config, listens_elsewhere)?;
+        let upses = config.number_of_upses();
+        let config = Box::new(self.alloc, config)?;
+        self.given = Some(Given { upses, changes });
+        Ok(config)
+    }
+}
+
+impl<'r, F: Files> Reloader for Reloading<'r, F> {
+    fn look<E: Write>(
+        &mut self,
+        server: &Server,
+        reports: &mut Reports<'_, E>,
+    ) -> Option<Box<Config>> {
+        match self.file.look(self.files) {
+            Look::Nothing => return None,
+            Look::Asked => {}
+            Look::Stuck(error) => reports.tell(Report::Stuck(self.file.path(), error)),
+        }
+        match self.read_again(server, reports.err()) {
+            Ok(config) => Some(config),
+            Err(fault) => {
+                tell_not_reloaded("upsd", &fault, reports.err());
+                None
+            }
+        }
+    }
+
+    /// A server refuses a configuration only if it has more UPSes than there have been at a time and memory for them is
+    /// lacking. So it has accepted one if it has as many UPSes.
+    fn tell<E: Write>(&mut self, server: &Server, reports: &mut Reports<'_, E>) {
+        let Some(given) = self.given.take() else {
+            return;
+        };
+        if server.config().number_of_upses() == given.upses {
+            reports.tell(Report::Reloaded(given.changes.as_str()));
+        } else {
+            tell_not_reloaded("upsd", &FileFault::Memory, reports.err());
+        }
+    }
+}

@@ -1,0 +1,206 @@
+//! When a changed upsmon.conf is taken up.
+
+ghost use Rattle.std.specs.Prelude.{◌≡◌, ℕ, None, false};
+ghost use Rattle.nut_monitor_spec.specs.Configuration.{Configuration, Line};
+ghost use Rattle.nut_monitor_spec.specs.Decision.{is_critical};
+
+use crate::changes::{Changes, line_of};
+use crate::warning::tell_warnings;
+use nut_conf::{Monitored, UpsmonConf};
+use nut_monitor::{Known, Monitor, Phase};
+use nut_poll::{Report, Reports, text_of};
+use nut_program::{FileFault, Look, ReloadFile, read_conf, tell_not_reloaded};
+use std::alloc::{AllocError, Global};
+use std::io::Write;
+use std::rt::Files;
+
+/// A configuration of the folder, and what it changes.
+#[derive(Drop)]
+pub struct Reload {
+    pub config: UpsmonConf,
+    pub changes: Changes,
+}
+
+/// Looks each second whether upsmon.conf is to be read again.
+///
+/// A new monitor knows of a UPS only what its server says from then on. So a configuration waits while the last status of
+/// a UPS that it goes on watching has OB or FSD: if that server then said nothing more, this machine would have to be
+/// halted, and a new monitor wouldn't know.
+#[derive(Drop)]
+pub struct Reloader {
+    alloc: Global,
+    folder: String,
+    file: ReloadFile,
+    is_quiet: bool,
+    /// The configuration that waits to be taken up.
+    waiting: Option<Reload>,
+    /// Whether it was told that it waits.
+    is_wait_told: bool,
+}
+
+impl Reloader {
+    /// Returns the reloader of the folder of a file. It reports nothing but failures if it is to be quiet.
+    pub fn new(alloc: Global, folder: String, file: ReloadFile, is_quiet: bool) -> Reloader {
+        Reloader {
+            alloc,
+            folder,
+            file,
+            is_quiet,
+            waiting: None,
+            is_wait_told: false,
+        }
+    }
+
+    /// Whether nothing but failures is reported.
+    pub fn is_quiet(&self) -> bool {
+        self.is_quiet
+    }
+
+    /// Returns the reports of upsmon, which are written to `err` unless they are to be quiet.
+    pub fn reports<'e, E: Write>(&self, err: &'e mut E) -> Reports<'e, E> {
+        Reports::new("upsmon", err, !self.is_quiet)
+    }
+
+    /// Reads upsmon.conf if that was asked for since the last second. Returns the configuration that this monitor is to
+    /// be replaced for now, if there is one. Why there is none though it was asked for is written to `err`.
+    pub fn second<E: Write>(
+        &mut self,
+        files: &impl Files,
+        monitor: &Monitor,
+        err: &mut E,
+    ) -> Option<Reload> {
+        let is_asked = self.is_asked(files, err);
+        if monitor.phase() != Phase::Watching {
+            self.refuse(is_asked, err);
+            return None;
+        }
+        if is_asked {
+            self.read(files, monitor.config(), err);
+        }
+        self.take_waiting(monitor, err)
+    }
+
+    /// Whether a reload was asked for since the last look.
+    fn is_asked<E: Write>(&mut self, files: &impl Files, err: &mut E) -> bool {
+        match self.file.look(files) {
+            Look::Nothing => false,
+            Look::Asked => true,
+            Look::Stuck(error) => {
+                self.reports(err)
+                    .tell(Report::Stuck(self.file.path(), error));
+                true
+            }
+        }
+    }
+
+    /// Refuses what was asked for, or waits: a shutdown has begun.
+    fn refuse<E: Write>(&mut self, is_asked: bool, err: &mut E) {
+        if self.waiting.take().is_some() || is_asked {
+            let _ = writeln!(err, "upsmon: not reloaded: a shutdown has begun");
+        }
+    }
+
+    /// Reads upsmon.conf. If it can't be read, or nothing in it has changed, that is told.
+    fn read<E: Write>(&mut self, files: &impl Files, former: &UpsmonConf, err: &mut E) {
+        self.is_wait_told = false;
+        self.waiting = match self.read_reload(files, former, err) {
+            Ok(reload) => self.unless_same(reload, err),
+            Err(fault) => {
+                tell_not_reloaded("upsmon", &fault, err);
+                None
+            }
+        };
+    }
+
+    /// Reads upsmon.conf, and compares it.
+    fn read_reload<E: Write>(
+        &self,
+        files: &impl Files,
+        former: &UpsmonConf,
+        err: &mut E,
+    ) -> Result<Reload, FileFault<'static>> {
+        let config = read_conf(files, self.alloc, self.folder.as_str())?;
+        match self.compare(files, former, config, err) {
+            Ok(reload) => Ok(reload),
+            Err(_) => Err(FileFault::Memory),
+        }
+    }
+
+    /// Writes what a configuration should set otherwise, and finds what it changes.
+    fn compare<E: Write>(
+        &self,
+        files: &impl Files,
+        former: &UpsmonConf,
+        config: UpsmonConf,
+        err: &mut E,
+    ) -> Result<Reload, AllocError> {
+        tell_warnings(files, self.alloc, self.folder.as_str(), &config, err)?;
+        let changes = Changes::between(self.alloc, former, &config)?;
+        Ok(Reload { config, changes })
+    }
+
+    /// Returns a configuration in which something has changed. If nothing has, that is told: the links stay.
+    fn unless_same<E: Write>(&self, reload: Reload, err: &mut E) -> Option<Reload> {
+        if reload.changes.are_none() {
+            self.reports(err).tell(Report::Reloaded("nothing changed"));
+            return None;
+        }
+        Some(reload)
+    }
+
+    /// Returns the configuration that waits, unless it has to go on waiting, which is told once.
+    fn take_waiting<E: Write>(&mut self, monitor: &Monitor, err: &mut E) -> Option<Reload> {
+        let reload = self.waiting.take()?;
+        let Some(obstacle) = first_obstacle(monitor, &reload.config) else {
+            return Some(reload);
+        };
+        if !self.is_wait_told {
+            self.is_wait_told = true;
+            tell_wait(obstacle, err);
+        }
+        self.waiting = Some(reload);
+        None
+    }
+}
+
+/// A UPS that holds up a reload.
+#[derive(Clone, Copy)]
+struct Obstacle<'a> {
+    line: &'a Monitored,
+    why: &'static str,
+}
+
+/// Writes that a reload waits for a UPS.
+fn tell_wait<E: Write>(obstacle: Obstacle<'_>, err: &mut E) {
+    let name = text_of(&obstacle.line.written);
+    let why = obstacle.why;
+    let _ = writeln!(err, "upsmon: not reloaded yet: UPS {name} {why}");
+}
+
+/// Returns the first UPS that holds up a reload to this configuration, of those that it goes on watching.
+fn first_obstacle<'a>(monitor: &'a Monitor, config: &UpsmonConf) -> Option<Obstacle<'a>> {
+    let lines = &monitor.config().monitors.lines;
+    for (i, line) in lines.iter().enumerate() {
+        if let Some(why) = monitor.known(i).and_then(unrest)
+            && line_of(&config.monitors.lines, line).is_some()
+        {
+            return Some(Obstacle { line, why });
+        }
+    }
+    None
+}
+
+/// Returns why what is known of a UPS may not be forgotten, if a shutdown may come of it. If none can, however much time
+/// passes, nothing is lost with it.
+fn unrest(known: Known) -> Option<&'static str>
+    ensures { result ≡ None → (configuration : Configuration) (line : Line) (clock : ℕ) → is_critical configuration line clock known.calm known.polled known.flags ≡ false }
+{
+    let flags = known.flags?;
+    if flags.forced_shutdown {
+        Some("has a forced shutdown")
+    } else if flags.on_battery {
+        Some("is on battery")
+    } else {
+        None
+    }
+}

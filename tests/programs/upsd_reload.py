@@ -1,0 +1,623 @@
+#!/usr/bin/env python3
+"""Changes the files of a running upsd, has it read them again, and looks at what its clients and drivers notice.
+
+    python3 -m tests.programs.upsd_reload UPSD DUMMY_UPS
+
+The last line is 'N passed, M failed'."""
+
+import os
+import re
+import socket
+import subprocess
+import sys
+import tempfile
+import threading
+import time
+from concurrent import futures
+
+from tests.support.harness import build_shim, ensure, expect, Failed, Missing, needed, processor_time, refusing, run_tests
+from tests.support.room import DEVICE, NOT_CONNECTED, ONLINE, Room, SOON, STATUS, USERS, VERSION, until
+
+ONE = b'[su700]\ndesc = "Server room"\n'
+TWO = ONE + b"[old]\n"
+MONITOR = b"[mon]\npassword = m1\nupsmon primary\n"
+NOTHING = "upsd: reloaded: nothing changed"
+# a moment in which upsd looks for the file at least twice, in seconds
+LOOKS = 2.5
+# how many allocations in turn no reload has met before the rest are taken to come after it
+UNMET = 20
+
+
+class Lines:
+    """The lines that a program writes to standard error."""
+
+    def __init__(self, process):
+        self.lines = []
+        self.place = 0
+        self.thread = threading.Thread(target=self.read, args=(process.stderr,), daemon=True)
+        self.thread.start()
+
+    def read(self, stream):
+        try:
+            for line in stream:
+                self.lines.append(line.decode().rstrip("\n"))
+        except ValueError:
+            # the stream was closed with its program
+            pass
+
+    def next(self, *beginnings):
+        """Returns the next line that begins with one of these."""
+
+        def find():
+            for at in range(self.place, len(self.lines)):
+                if self.lines[at].startswith(beginnings):
+                    self.place = at + 1
+                    return self.lines[at]
+            return None
+
+        return until(find, f"a line {beginnings}, after {self.lines}")
+
+    def count(self, beginning):
+        return sum(line.startswith(beginning) for line in self.lines)
+
+
+class Poller:
+    """A client that sends the same requests all the time, and notes each answer that isn't the one that it expects."""
+
+    def __init__(self, room, requests, pause):
+        self.client = room.client()
+        self.requests = requests
+        self.pause = pause
+        self.asked = 0
+        self.wrong = []
+        self.goes_on = True
+        self.thread = threading.Thread(target=self.run, daemon=True)
+        self.thread.start()
+
+    def run(self):
+        while self.goes_on:
+            for request, wanted in self.requests:
+                try:
+                    found = self.client.ask(request)
+                except OSError as error:
+                    found = repr(error).encode()
+                self.asked += 1
+                if found != wanted:
+                    self.wrong.append((request, found))
+                    return
+            time.sleep(self.pause)
+
+    def stop(self):
+        """Ends it. Returns how often it asked."""
+        self.goes_on = False
+        self.thread.join(SOON)
+        self.client.close()
+        expect(self.wrong, [], f"answers that are wrong, of {self.asked}")
+        return self.asked
+
+
+class Reloaded(Room):
+    """A room whose upsd is told to read its files again."""
+
+    def serve(self, *words, **options):
+        """Starts upsd. Returns the lines that it writes."""
+        self.lines = Lines(self.upsd(*words, **options))
+        return self.lines
+
+    def serve_online(self):
+        """Starts the dummy of su700 and upsd, and waits until upsd shows that the UPS is on line."""
+        self.dummy()
+        self.serve()
+        self.until(STATUS, ONLINE)
+
+    def write(self, name, text):
+        with open(self.path(name), "wb") as file:
+            file.write(text)
+
+    def touch(self):
+        """Asks for a reload: makes the file, or changes its time."""
+        with open(self.path("reload"), "a"):
+            os.utime(self.path("reload"))
+
+    def is_asked(self):
+        return os.path.exists(self.path("reload"))
+
+    def reload(self, ups=None, said=None):
+        """Has upsd read its files again, ups.conf with this text. Returns the line that it writes, which has to be this."""
+        if ups is not None:
+            self.write("ups.conf", ups)
+        self.touch()
+        found = self.lines.next("upsd: reloaded", "upsd: not reloaded")
+        if said is not None:
+            expect(found, said, "what changed")
+        until(lambda: not self.is_asked(), "the file is removed")
+        return found
+
+    def upses(self):
+        """Returns the names of the UPSes that are served."""
+        with self.client() as client:
+            return [row.split()[1].decode() for row in client.list(b"LIST UPS\n")[1:-1]]
+
+    def serves_all(self, upses):
+        """Whether the drivers of these UPSes are connected, as a new client sees it."""
+        try:
+            with self.client() as client:
+                return all(client.ask(status_of(ups)) == online(ups) for ups in upses)
+        except ConnectionError:
+            return False
+
+    def listener(self, name):
+        """Returns a listener at the socket of a driver."""
+        listener = socket.socket(socket.AF_UNIX, socket.SOCK_STREAM)
+        listener.settimeout(SOON)
+        listener.bind(self.path(name))
+        listener.listen()
+        return listener
+
+
+def play_driver(listener, status=b"OL"):
+    """Accepts upsd at the socket of a driver, and reports a status. Returns the link."""
+    link, _ = listener.accept()
+    link.settimeout(SOON)
+    expect(link.recv(100), b"DUMPALL\n", "a driver is asked")
+    link.sendall(b'SETINFO ups.status "%s"\nDATAOK\nDUMPDONE\n' % status)
+    return link
+
+
+def status_of(ups):
+    return b"GET VAR %s ups.status\n" % ups
+
+
+def online(ups):
+    return b'VAR %s ups.status "OL"\n' % ups
+
+
+class Tests:
+    def __init__(self, upsd, dummy, folder):
+        self.programs = (upsd, dummy)
+        self.folder = folder
+        self.shim = build_shim(folder)
+
+    def room(self, **texts):
+        return Reloaded(self.programs, self.folder, **texts)
+
+    # From here on, each method whose name begins with 'test_' is a test.
+
+    def test_upses_that_come_and_go(self):
+        with self.room(ups=TWO) as room:
+            room.dummy()
+            room.dummy(ups="old")
+            room.serve()
+            room.until(STATUS, ONLINE)
+            room.until(status_of(b"old"), online(b"old"))
+            with room.client() as first, room.client() as second:
+                first.log_in(b"mon", b"m1")
+                expect(first.ask(b"LOGIN old\n"), b"OK\n", "LOGIN old")
+                expect(first.ask(b"FSD old\n"), b"OK FSD-SET\n", "FSD old")
+                second.log_in(b"mon", b"m1")
+                expect(second.ask(b"LOGIN su700\n"), b"OK\n", "LOGIN su700")
+                changed = b'[neu]\ndesc = "N"\n[su700]\ndesc = "New room"\n'
+                room.reload(changed, "upsd: reloaded: UPS neu added, UPS old removed, UPS su700: description")
+                expect(first.is_closed(), True, "a client that is logged in to a UPS that is gone")
+                rows = [b"BEGIN LIST UPS\n", b'UPS neu "N"\n', b'UPS su700 "New room"\n', b"END LIST UPS\n"]
+                expect(second.list(b"LIST UPS\n"), rows, "LIST UPS")
+                expect(second.ask(b"GET NUMLOGINS su700\n"), b"NUMLOGINS su700 1\n", "the login stays")
+                expect(second.ask(STATUS), ONLINE, "the values stay")
+                expect(second.ask(status_of(b"old")), b"ERR UNKNOWN-UPS\n", "a UPS that is gone")
+                expect(second.ask(status_of(b"neu")), NOT_CONNECTED, "a new UPS")
+                room.dummy(ups="neu")
+                room.until(status_of(b"neu"), online(b"neu"))
+                room.reload(TWO, "upsd: reloaded: UPS old added, UPS neu removed, UPS su700: description")
+                # its driver, which went on, is dialled at once, and the flag of FSD is gone
+                room.until(status_of(b"old"), online(b"old"))
+                expect(room.upses(), ["su700", "old"], "in the order of the file")
+                expect(second.ask(b"GET NUMLOGINS su700\n"), b"NUMLOGINS su700 1\n", "the login still stays")
+
+    def test_forced_shutdown_stays(self):
+        with self.room(ups=TWO) as room:
+            room.serve_online()
+            with room.client() as client:
+                client.log_in(b"mon", b"m1")
+                expect(client.ask(b"FSD su700\n"), b"OK FSD-SET\n", "FSD")
+                forced = client.ask(STATUS)
+                ensure(b"FSD" in forced, f"the status after FSD is {forced!r}")
+                room.reload(b"[old]\n" + ONE, NOTHING)
+                expect(client.ask(STATUS), forced, "the status after a reload")
+
+    def test_same_link_to_a_driver_that_stays(self):
+        with self.room(ups=TWO) as room, room.driver() as listener:
+            room.serve()
+            with play_driver(listener) as link:
+                room.until(STATUS, ONLINE)
+                room.reload(b"[new]\n[su700]\ndesc = x\n", "upsd: reloaded: UPS new added, UPS old removed, UPS su700: description")
+                link.sendall(b'SETINFO ups.status "OB"\n')
+                room.until(STATUS, b'VAR su700 ups.status "OB"\n')
+                listener.settimeout(LOOKS)
+                try:
+                    listener.accept()
+                except TimeoutError:
+                    return
+                raise Failed("a driver that stays is dialled again")
+
+    def test_other_driver(self):
+        with self.room(ups=ONE) as room, room.driver() as listener, room.listener("other-su700") as other:
+            room.serve()
+            with play_driver(listener) as link, room.client() as client:
+                room.until(STATUS, ONLINE)
+                client.log_in(b"mon", b"m1")
+                expect(client.ask(b"LOGIN su700\n"), b"OK\n", "LOGIN")
+                room.reload(ONE + b"driver = other\n", "upsd: reloaded: UPS su700: driver")
+                expect(link.recv(100), b"", "the old driver is disconnected")
+                with play_driver(other, b"OB"):
+                    room.until(STATUS, b'VAR su700 ups.status "OB"\n')
+                    expect(client.ask(b"GET NUMLOGINS su700\n"), b"NUMLOGINS su700 1\n", "the login stays")
+                    room.reload(b"[su700]\n", "upsd: reloaded: UPS su700: driver and description")
+                    with play_driver(listener):
+                        room.until(STATUS, ONLINE)
+
+    def test_many_upses(self):
+        """All numbers are given away, freed and given away again, and no descriptor is left open."""
+
+        def upses(prefix, count):
+            return b"".join(b"[%s%d]\n" % (prefix, i) for i in range(count))
+
+        with self.room(ups=ONE) as room:
+            for i in range(31):
+                room.dummy(ups=f"a{i}")
+            for i in range(32):
+                room.dummy(ups=f"b{i}")
+            room.dummy()
+            upsd = room.upsd()
+            room.lines = Lines(upsd)
+            room.until(STATUS, ONLINE)
+
+            def open_files():
+                return len(os.listdir(f"/proc/{upsd.pid}/fd"))
+
+            # the client of until() may not have been noticed to have gone
+            time.sleep(0.5)
+            at_first = open_files()
+            for _ in range(3):
+                room.reload(upses(b"a", 31) + ONE)
+                for i in range(31):
+                    room.until(status_of(b"a%d" % i), online(b"a%d" % i))
+                expect(room.ask(STATUS), ONLINE, "the UPS that stays")
+                room.reload(upses(b"b", 32))
+                for i in range(32):
+                    room.until(status_of(b"b%d" % i), online(b"b%d" % i))
+                room.reload(ONE)
+                room.until(STATUS, ONLINE)
+                until(lambda: open_files() == at_first, f"as many open files as {at_first}")
+
+    def test_fault_keeps_the_old(self):
+        with self.room(ups=TWO) as room:
+            room.serve_online()
+            with room.client() as client:
+                client.log_in(b"mon", b"m1")
+                expect(client.ask(b"LOGIN su700\n"), b"OK\n", "LOGIN")
+                room.reload(b"[neu]\n\n[a/b]\n", "upsd: not reloaded: ups.conf:3: BadName")
+                expect(room.upses(), ["su700", "old"], "the old UPSes")
+                room.reload(b"[neu]\nvendorid = 1\n", "upsd: not reloaded: ups.conf:2: UnknownDirective")
+                room.lines.next("upsd: vendorid isn't taken here: see from-nut(7)")
+                room.write("ups.conf", ONE)
+                os.remove(room.path("upsd.users"))
+                room.reload(None, "upsd: not reloaded: upsd.users: cannot read")
+                room.write("upsd.users", USERS)
+                room.write("upsd.conf", b"MAXAGE 0\n")
+                room.reload(None, "upsd: not reloaded: upsd.conf:1: BadNumber")
+                room.write("upsd.conf", b"LISTEN 127.0.0.1 %d\n" % room.port)
+                room.write("cmdvartab", b"VARDESC x\n")
+                room.reload(None, "upsd: not reloaded: cmdvartab:1: BadForm")
+                os.remove(room.path("cmdvartab"))
+                expect(room.upses(), ["su700", "old"], "the old UPSes after each fault")
+                expect(client.ask(STATUS), ONLINE, "an old client")
+                room.reload(None, "upsd: reloaded: UPS old removed")
+                expect(room.upses(), ["su700"], "the new UPSes")
+                expect(client.ask(b"GET NUMLOGINS su700\n"), b"NUMLOGINS su700 1\n", "an old client after the reload")
+
+    def test_others_notice_nothing(self):
+        with self.room(ups=TWO) as room:
+            room.dummy()
+            room.dummy(ups="old")
+            room.serve()
+            room.until(STATUS, ONLINE)
+            room.until(status_of(b"old"), online(b"old"))
+            poller = Poller(room, [(STATUS, ONLINE), (b"VER\n", VERSION)], 0)
+            with room.client() as slow, room.client() as logged_in, room.client() as gone, room.client() as busy:
+                for client, ups in ((logged_in, b"su700"), (gone, b"old")):
+                    client.log_in(b"mon", b"m1")
+                    expect(client.ask(b"LOGIN %s\n" % ups), b"OK\n", "LOGIN")
+                slow.send(STATUS[:10])
+                gone.send(STATUS[:10])
+                # one that has asked for a lot, and takes it later
+                busy.send(STATUS * 20_000)
+                room.reload(ONE, "upsd: reloaded: UPS old removed")
+                expect(gone.is_closed(), True, "a client that is logged in to a UPS that is gone, in mid-line")
+                slow.send(STATUS[10:])
+                expect(slow.line(), ONLINE, "a client in mid-line")
+                expect(logged_in.ask(b"GET NUMLOGINS su700\n"), b"NUMLOGINS su700 1\n", "a client that is logged in")
+                for i in range(20_000):
+                    expect(busy.line(), ONLINE, f"answer {i} of many")
+            ensure(poller.stop() > 100, "a client that asks all the time was hardly served")
+
+    def test_reloads_under_load(self):
+        with self.room(ups=TWO) as room:
+            room.dummy()
+            room.dummy(ups="old")
+            room.serve()
+            room.until(STATUS, ONLINE)
+            rows = [(STATUS, ONLINE), (b"VER\n", VERSION), (b"GET UPSDESC su700\n", b'UPSDESC su700 "Server room"\n')]
+            pollers = [Poller(room, rows, 0.05) for _ in range(20)]
+            for turn in range(10):
+                room.reload(TWO if turn % 2 else ONE, f"upsd: reloaded: UPS old {'added' if turn % 2 else 'removed'}")
+            for poller in pollers:
+                ensure(poller.stop() > 100, "a client was hardly served")
+
+    def test_tools_of_nut_under_load(self):
+        upsc = needed("upsc", "nut-client")
+        with self.room(ups=TWO) as room:
+            room.serve_online()
+            found, goes_on = [], True
+
+            def poll():
+                while goes_on:
+                    words = [upsc, f"su700@{room.host}:{room.port}", "ups.status"]
+                    done = subprocess.run(words, stdin=subprocess.DEVNULL, stdout=subprocess.PIPE, stderr=subprocess.DEVNULL, timeout=SOON)
+                    found.append((done.returncode, done.stdout))
+                    time.sleep(0.05)
+
+            thread = threading.Thread(target=poll)
+            thread.start()
+            try:
+                for turn in range(10):
+                    room.reload(TWO if turn % 2 else ONE)
+            finally:
+                goes_on = False
+                thread.join(SOON)
+            expect(set(found), {(0, b"OL\n")}, f"what upsc found, {len(found)} times")
+
+    def test_users(self):
+        with self.room(ups=ONE) as room:
+            room.serve_online()
+            with room.client() as client:
+                client.log_in()
+                expect(client.ask(b'SET VAR su700 ups.id "a"\n'), b"OK\n", "SET before")
+                room.write("upsd.users", MONITOR + b"[admin]\npassword = other\n")
+                room.reload(None, "upsd: reloaded: users")
+                expect(client.ask(b'SET VAR su700 ups.id "b"\n'), b"ERR ACCESS-DENIED\n", "SET after")
+                room.reload(None, NOTHING)
+                room.write("upsd.users", MONITOR + b"[admin]\npassword = pw\nactions = SET\n")
+                room.reload(None, "upsd: reloaded: users")
+                expect(client.ask(b'SET VAR su700 ups.id "c"\n'), b"OK\n", "SET again")
+
+    def test_limits(self):
+        listen = b"LISTEN 127.0.0.1 %d\n"
+        with self.room() as room:
+            room.serve()
+            clients = [room.client() for _ in range(4)]
+            try:
+                for client in clients:
+                    expect(client.ask(b"VER\n"), VERSION, "a client")
+                room.write("upsd.conf", listen % room.port + b"MAXAGE 30\nMAXCONN 2\n")
+                room.reload(None, "upsd: reloaded: MAXAGE 30, MAXCONN 2")
+                for client in clients:
+                    expect(client.ask(b"VER\n"), VERSION, "a client that is past MAXCONN")
+                with room.client() as more:
+                    expect(more.is_closed(), True, "a client more")
+                for client in clients[1:]:
+                    client.close()
+                until(room.serves, "a new client, once others have gone")
+                room.write("upsd.conf", listen % room.port)
+                room.reload(None, "upsd: reloaded: MAXAGE 15, MAXCONN 256")
+                with room.client() as second, room.client() as third:
+                    for client in (clients[0], second, third):
+                        expect(client.ask(b"VER\n"), VERSION, "a client of three")
+            finally:
+                for client in clients:
+                    client.close()
+
+    def test_listeners_stay(self):
+        with self.room() as room:
+            room.serve()
+            listen = b"LISTEN 127.0.0.1 %d\n" % room.port
+            room.write("upsd.conf", b"LISTEN 127.0.0.2 %d\n" % room.port)
+            room.reload(b"[new]\n", "upsd: reloaded: UPS new added, UPS su700 removed, LISTEN takes effect at the next start")
+            expect(room.upses(), ["new"], "at the old address")
+            # it is said as long as it is so
+            room.reload(None, "upsd: reloaded: LISTEN takes effect at the next start")
+            room.write("upsd.conf", listen)
+            room.reload(None, NOTHING)
+
+    def test_descriptions(self):
+        asked = b"GET DESC su700 ups.model\n"
+        with self.room() as room:
+            room.dummy(DEVICE + b"ups.model: S\n")
+            room.serve()
+            room.until(asked, b'DESC su700 ups.model "Description unavailable"\n')
+            room.write("cmdvartab", b'VARDESC ups.model "the model"\n')
+            room.reload(None, "upsd: reloaded: cmdvartab")
+            expect(room.ask(asked), b'DESC su700 ups.model "the model"\n', "a text that is new")
+            room.reload(None, NOTHING)
+            os.remove(room.path("cmdvartab"))
+            room.reload(None, "upsd: reloaded: cmdvartab")
+            expect(room.ask(asked), b'DESC su700 ups.model "Description unavailable"\n', "a text that is gone")
+
+    def test_readable_passwords(self):
+        with self.room() as room:
+            lines = room.serve()
+            os.chmod(room.path("upsd.users"), 0o644)
+            room.reload(None, NOTHING)
+            expect(lines.count("upsd: warning: upsd.users holds passwords"), 1, "warnings")
+
+    def test_quiet(self):
+        with self.room() as room:
+            room.serve("-q")
+            room.write("ups.conf", b"[new]\n")
+            room.touch()
+            until(lambda: room.upses() == ["new"], "the new UPS")
+            expect(room.lines.lines, [], "nothing is told of a reload")
+            room.reload(b"[new]\n[new]\n", "upsd: not reloaded: ups.conf:2: Repeated")
+            expect(room.upses(), ["new"], "the old UPS")
+
+    def test_file_of_before_the_start(self):
+        with self.room() as room:
+            room.touch()
+            lines = room.serve()
+            until(lambda: not room.is_asked(), "the file is removed")
+            time.sleep(LOOKS)
+            expect(lines.count("upsd: reloaded"), 0, "reloads")
+            room.reload(None, NOTHING)
+
+    def test_file_that_cannot_be_removed(self):
+        with self.room() as room:
+            upsd = room.upsd()
+            lines = room.lines = Lines(upsd)
+            os.mkdir(room.path("reload"))
+            lines.next("upsd: cannot remove " + room.path("reload") + ": ")
+            lines.next(NOTHING)
+            used = processor_time(upsd.pid)
+            time.sleep(LOOKS)
+            ensure(processor_time(upsd.pid) - used < 0.1, "processor time is used for a file that can't be removed")
+            expect(lines.count("upsd: reloaded"), 1, "reloads by one file")
+            room.write("ups.conf", b"[new]\n")
+            os.utime(room.path("reload"))
+            lines.next("upsd: reloaded: UPS new added, UPS su700 removed")
+            time.sleep(LOOKS)
+            expect(lines.count("upsd: reloaded"), 2, "reloads by a file that was touched once more")
+            expect(lines.count("upsd: cannot remove"), 1, "what can't be done is told once")
+            os.rmdir(room.path("reload"))
+            room.reload(None, NOTHING)
+
+    def test_folder_of_another_user(self):
+        """As in the unit: the folder is root's, and upsd runs as another user, who can read the files."""
+        if os.geteuid() != 0:
+            raise Missing("only root can run upsd as another user")
+        nobody = 65534
+        with self.room() as room, tempfile.TemporaryDirectory() as parent:
+            for name in ("ups.conf", "upsd.users", "upsd.conf"):
+                os.chown(room.path(name), 0, nobody)
+                os.chmod(room.path(name), 0o640)
+            os.chown(room.folder, 0, nobody)
+            os.chmod(room.folder, 0o750)
+            for at in (parent, self.folder):
+                os.chmod(at, 0o755)
+            program = os.path.join(parent, "upsd")
+            with open(self.programs[0], "rb") as old, open(program, "wb") as new:
+                new.write(old.read())
+            os.chmod(program, 0o755)
+            room.upsd_program = program
+            lines = room.serve(user=nobody, group=nobody, extra_groups=[])
+            for turn in range(3):
+                room.write("ups.conf", b"[new]\n" if turn % 2 == 0 else ONE)
+                os.chown(room.path("ups.conf"), 0, nobody)
+                os.chmod(room.path("ups.conf"), 0o640)
+                room.touch()
+                found = lines.next("upsd: reloaded: UPS")
+                ensure(("UPS new added" in found) == (turn % 2 == 0), f"turn {turn}: {found}")
+                ensure(room.is_asked(), "the file stays")
+            expect(lines.count("upsd: reloaded"), 3, "reloads")
+            expect(lines.count("upsd: cannot remove"), 1, "what can't be done is told once")
+
+    def test_folder_with_two_programs(self):
+        """The file stays for a while, so that upsmon sees it too."""
+        with self.room() as room:
+            room.write("upsmon.conf", b"MINSUPPLIES 0\n")
+            lines = room.serve()
+            for _ in range(2):
+                room.touch()
+                lines.next(NOTHING)
+                ensure(room.is_asked(), "the file isn't left to another program")
+                begun = time.monotonic()
+                until(lambda: not room.is_asked(), "the file is removed")
+                ensure(time.monotonic() - begun > 1.5, "the file is removed too soon for another program")
+            time.sleep(LOOKS)
+            expect(lines.count("upsd: reloaded"), 2, "reloads")
+            expect(lines.count("upsd: cannot remove"), 0, "faults")
+
+    def test_no_look_without_sockets(self):
+        with self.room() as room:
+            room.touch()
+            done = subprocess.run([self.programs[0], "--stdio", "--conf", room.folder], input=VERSION, capture_output=True, timeout=60)
+            expect(done.returncode, 0, "--stdio")
+            done = subprocess.run([self.programs[0], "--check", "--conf", room.folder], capture_output=True, timeout=60)
+            expect(done.returncode, 0, "--check")
+            ensure(room.is_asked(), "the file is removed by one who doesn't serve on")
+
+    def test_lack_of_memory(self):
+        once = os.path.join(self.folder, "dry")
+        env = {"LD_PRELOAD": self.shim, "REFUSE": "memory", "REFUSE_ONCE": once}
+        with self.room() as room:
+            room.dummy()
+            room.serve(env=env)
+            room.until(STATUS, ONLINE)
+            with room.client() as client:
+                expect(client.ask(STATUS), ONLINE, "before")
+                open(once, "w").close()
+                room.reload(TWO, "upsd: not reloaded: out of memory")
+                expect(client.ask(STATUS), ONLINE, "without memory")
+                expect(client.ask(status_of(b"old")), b"ERR UNKNOWN-UPS\n", "what couldn't be read")
+                os.remove(once)
+                room.reload(None, "upsd: reloaded: UPS old added")
+                expect(client.ask(status_of(b"old")), NOT_CONNECTED, "what was read")
+
+    def test_each_allocation_refused_in_turn(self):
+        """A reload that is refused memory changes nothing, or a driver is dialled a second later. The next one succeeds."""
+        many = ONE + b"".join(b"[u%d]\n" % i for i in range(8))
+        refused, unmet, at = 0, 0, self.allocations_of_a_start()
+        with futures.ThreadPoolExecutor(8) as pool:
+            while unmet < UNMET:
+                for met in pool.map(lambda at: self.reload_without(at, many), range(at, at + 8)):
+                    refused += met is True
+                    unmet = unmet + 1 if met is False else 0
+                at += 8
+        print(f"   {refused} reloads were refused memory, before allocation {at}")
+        ensure(refused > 5, "hardly a reload was refused memory")
+
+    def allocations_of_a_start(self):
+        """Returns how many allocations a start takes, at least."""
+        few, many = 0, 1 << 16
+        with self.room() as room:
+            while many - few > 1:
+                at = (few + many) // 2
+                env, _ = refusing(self.shim, "allocation", at)
+                upsd = room.start([self.programs[0], "--conf", room.folder, "-s", room.folder], env=env)
+                if upsd.stderr.readline().startswith(b"upsd: listening on "):
+                    many = at
+                else:
+                    few = at
+                upsd.kill()
+                upsd.wait()
+        return many
+
+    def reload_without(self, at, ups):
+        """Has upsd reload with one allocation refused. Returns whether the reload met the refusal, None if the start did."""
+        env, _ = refusing(self.shim, "allocation", at)
+        del env["REFUSE_COUNT"]
+        with self.room() as room:
+            room.dummy()
+            room.dummy(ups="u7")
+            upsd = room.start([self.programs[0], "--conf", room.folder, "-s", room.folder], env=env)
+            room.lines = Lines(upsd)
+            until(lambda: upsd.poll() is not None or room.lines.count("upsd: UPS su700: driver connected"), f"allocation {at}: a start")
+            if upsd.poll() is not None:
+                expect(upsd.returncode, 1, f"allocation {at}: the status")
+                return None
+            found = room.reload(ups)
+            met = not re.match("upsd: reloaded: UPS u0 added", found)
+            if met:
+                expect(found, "upsd: not reloaded: out of memory", f"allocation {at}")
+                ensure(room.reload().startswith("upsd: reloaded: UPS u0 added"), f"allocation {at}: the second reload")
+            until(lambda: room.serves_all([b"su700", b"u7"]), f"allocation {at}: drivers are dialled")
+            expect(len(room.upses()), 9, f"allocation {at}: UPSes")
+            return met
+
+
+def main():
+    upsd, dummy, *names = sys.argv[1:]
+    with tempfile.TemporaryDirectory() as folder:
+        tests = Tests(os.path.abspath(upsd), os.path.abspath(dummy), folder)
+        return run_tests(tests, names, "root, a C compiler and Debian's package nut-client run them")
+
+
+if __name__ == "__main__":
+    sys.exit(main())

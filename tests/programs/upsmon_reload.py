@@ -1,0 +1,293 @@
+#!/usr/bin/env python3
+"""Has a running upsmon take up a changed upsmon.conf: lines that come and go, faults, a reload while a UPS is on battery or a
+shutdown is under way, and what is run at the halt after it.
+
+    python3 -m tests.programs.upsmon_reload UPSD DUMMY_UPS UPSC UPSMON
+
+The last line is 'N passed, M failed'."""
+
+import os
+import sys
+import time
+
+from tests.support.harness import build_shim, expect
+from tests.support.monitored import FLAG, ON_BATTERY, QUICK, SHUTDOWN, Upstream, Watch, children_of, play
+from tests.support.room import SOON, STATUS, until
+
+OLD = 'SHUTDOWNCMD "touch FOLDER/old"\n'
+NEW = 'SHUTDOWNCMD "touch FOLDER/new"\n'
+USERNAME = b"USERNAME mon\n"
+REFUSED = "upsmon: not reloaded: "
+
+
+def line_of(server, power=1):
+    """Returns the MONITOR line of a server."""
+    return f"MONITOR {server.target} {power} mon m1 primary\n"
+
+
+class Reloaded(Watch):
+    """A running upsmon whose file changes."""
+
+    def ask(self):
+        """Asks for a reload."""
+        with open(self.path("reload"), "w"):
+            pass
+
+    def reload(self, conf):
+        """Replaces upsmon.conf, and asks for a reload."""
+        with open(self.path("upsmon.conf"), "w") as file:
+            file.write(conf.replace("FOLDER", self.folder))
+        self.ask()
+
+    def until_told(self, line, within=SOON):
+        until(lambda: line in self.lines("err") or self.process.poll() is not None, f"upsmon reports {line!r}", within)
+        expect(line in self.lines("err"), True, f"upsmon reports {line!r} before it ends: {self.lines('err')}")
+
+    def until_reloaded(self, changes):
+        self.until_told(f"upsmon: reloaded: {changes}")
+
+
+def until_asked(server, more=1):
+    """Waits until a server was asked for the status, so many times more."""
+    seen = server.asked.count(STATUS)
+    until(lambda: server.asked.count(STATUS) >= seen + more, "the status is asked for")
+
+
+class Tests:
+    def __init__(self, programs, folder):
+        self.upsmon = programs[3]
+        self.folder = folder
+        self.shim = build_shim(folder)
+
+    def watch(self, conf, *words, **options):
+        return Reloaded(self.upsmon, self.folder, conf, *words, **options)
+
+    # From here on, each method whose name begins with 'test_' is a test.
+
+    def test_lines_come_and_go(self):
+        with Upstream() as first, Upstream() as second, self.watch(line_of(first) + QUICK + OLD) as watch:
+            until_asked(first)
+            watch.reload(line_of(first) + line_of(second) + QUICK + OLD)
+            watch.until_reloaded(f"MONITOR {second.target} added")
+            until_asked(first, 2)
+            until_asked(second, 2)
+            watch.reload("MINSUPPLIES 1\n" + line_of(second, 2) + QUICK + OLD)
+            watch.until_reloaded(f"MONITOR {second.target} changed, MONITOR {first.target} removed")
+            until_asked(second, 2)
+            seen = len(first.asked)
+            until_asked(second, 2)
+            expect(len(first.asked), seen, "what the server of a line is asked that is gone")
+            expect(watch.lines(), [], "notices")
+            expect(watch.read("reload"), None, "the file that asked")
+
+    def test_what_is_reported(self):
+        with Upstream() as server, self.watch(line_of(server) + QUICK + OLD) as watch:
+            until_asked(server)
+            watch.reload(line_of(server) + "POLLFREQ 2\nHOSTSYNC 1\nFINALDELAY 0\nNOTIFYFLAG ONLINE IGNORE\n" + NEW)
+            watch.until_reloaded("SHUTDOWNCMD changed, POLLFREQ changed, NOTIFYFLAG changed")
+            watch.until_told("upsmon: warning: POLLFREQ 2 is above HOSTSYNC 1: primary and secondaries will not wait for each other")
+            watch.until_told("upsmon: stops within 6 s of OB LB if each answer comes within 2 s")
+            told = f"upsmon: UPS {server.target}: watched as primary, power value 1"
+            until(lambda: watch.lines("err").count(told) == 2, "that the UPS is watched")
+
+    def test_quiet(self):
+        with Upstream() as server, self.watch(line_of(server) + QUICK + OLD, "-q") as watch:
+            until_asked(server)
+            watch.reload("POLLFREQ x\n")
+            watch.until_told(REFUSED + "upsmon.conf:1: BadNumber")
+            watch.reload(line_of(server) + QUICK + NEW)
+            until(lambda: server.asked.count(USERNAME) == 2, "the links begin anew")
+            expect(watch.lines("err"), [REFUSED + "upsmon.conf:1: BadNumber"], "what is told")
+
+    def test_nothing_changed(self):
+        with Upstream() as server, self.watch(line_of(server) + QUICK + OLD) as watch:
+            until_asked(server)
+            watch.reload("# the same\n" + QUICK + "DEADTIME 15\n" + line_of(server) + OLD)
+            watch.until_reloaded("nothing changed")
+            until_asked(server, 2)
+            expect(server.asked.count(USERNAME), 1, "how often upsmon logs in")
+
+    def test_fault(self):
+        """A file with a fault leaves everything as it was: the links, and what is run at the halt."""
+        with Upstream() as server, self.watch(line_of(server) + QUICK + OLD) as watch:
+            until_asked(server)
+            watch.reload(line_of(server) + "FINALDELAY x\n" + NEW)
+            watch.until_told(REFUSED + "upsmon.conf:2: BadNumber")
+            watch.reload("CERTPATH x\n" + line_of(server) + NEW)
+            watch.until_told(REFUSED + "upsmon.conf:1: UnknownDirective")
+            watch.until_told("upsmon: CERTPATH isn't taken here: see from-nut(7)")
+            os.remove(watch.path("upsmon.conf"))
+            watch.ask()
+            watch.until_told(REFUSED + "upsmon.conf: cannot read")
+            until_asked(server, 2)
+            expect(server.asked.count(USERNAME), 1, "how often upsmon logs in")
+            server.statuses[b"su700"] = b"OB LB"
+            expect(watch.status(), 0, "status")
+            expect((watch.read("old"), watch.read("new")), (b"", None), "the halt")
+
+    def test_command_of_the_new_file(self):
+        with Upstream() as server, self.watch(line_of(server) + QUICK + OLD) as watch:
+            until_asked(server)
+            for changes, conf in (("SHUTDOWNCMD changed", NEW), ("NOTIFYCMD changed", NEW + "NOTIFYCMD true\n")):
+                before = children_of(watch.process.pid)
+                watch.reload(line_of(server) + QUICK + conf)
+                watch.until_reloaded(changes)
+                until(lambda: len(children_of(watch.process.pid)) == 1, "the earlier shell is waited for")
+                expect(children_of(watch.process.pid) != before, True, "another shell waits")
+            server.statuses[b"su700"] = b"OB LB"
+            expect(watch.status(), 0, "status")
+            expect((watch.read("old"), watch.read("new")), (None, b""), "the halt")
+
+    def test_no_command_any_more(self):
+        with Upstream() as server, self.watch(line_of(server) + QUICK + OLD) as watch:
+            until_asked(server)
+            watch.reload(line_of(server) + QUICK)
+            watch.until_reloaded("SHUTDOWNCMD changed")
+            watch.until_told("upsmon: warning: no SHUTDOWNCMD is set: nothing will stop this machine")
+            until(lambda: children_of(watch.process.pid) == [], "the shell is waited for")
+            server.statuses[b"su700"] = b"OB LB"
+            expect((watch.status(), watch.read("old")), (0, None), "status, and the halt")
+
+    def test_flag(self):
+        """The flag of another name is removed, as at a start; one whose name stays is left alone."""
+        with Upstream() as server, self.watch(line_of(server) + QUICK + OLD + "POWERDOWNFLAG FOLDER/a\n") as watch:
+            until_asked(server)
+            for name in "ab":
+                with open(watch.path(name), "wb") as file:
+                    file.write(FLAG)
+            watch.reload(line_of(server) + QUICK + NEW + "POWERDOWNFLAG FOLDER/a\n")
+            watch.until_reloaded("SHUTDOWNCMD changed")
+            expect(watch.read("a"), FLAG, "a flag of the same name")
+            watch.reload(line_of(server) + QUICK + NEW + "POWERDOWNFLAG FOLDER/b\n")
+            watch.until_reloaded("POWERDOWNFLAG changed")
+            watch.until_told(f"upsmon: POWERDOWNFLAG {watch.path('b')} of an earlier shutdown is removed")
+            expect(watch.read("b"), None, "a flag of another name")
+            server.statuses[b"su700"] = b"OB LB"
+            expect((watch.status(), watch.read("b")), (0, FLAG), "status, and the flag")
+
+    def test_on_battery(self):
+        """A reload waits until the UPS is back on line, and says so once."""
+        with Upstream(status=b"OB") as server, self.watch(line_of(server) + QUICK + OLD) as watch:
+            watch.until_printed(ON_BATTERY % server.target)
+            watch.reload(line_of(server) + QUICK + NEW)
+            told = f"upsmon: not reloaded yet: UPS {server.target} is on battery"
+            watch.until_told(told)
+            until_asked(server, 3)
+            expect((watch.lines("err").count(told), server.asked.count(USERNAME)), (1, 1), "how often it is told, and logs in")
+            server.statuses[b"su700"] = b"OL"
+            watch.until_reloaded("SHUTDOWNCMD changed")
+
+    def test_lost_on_battery(self):
+        """A UPS that was last heard of on battery isn't forgotten for a reload: its machine is halted."""
+        server = Upstream(status=b"OB")
+        with self.watch(line_of(server) + QUICK + "DEADTIME 3\n" + OLD) as watch:
+            watch.until_printed(ON_BATTERY % server.target)
+            server.close()
+            watch.reload(line_of(server) + QUICK + "DEADTIME 3\n" + NEW)
+            watch.until_told(f"upsmon: not reloaded yet: UPS {server.target} is on battery")
+            expect(watch.status(20), 0, "status")
+            expect((watch.read("old"), watch.read("new")), (b"", None), "the halt")
+            watch.until_told(REFUSED + "a shutdown has begun")
+
+    def test_line_on_battery_is_removed(self):
+        """A UPS that is no longer to be watched holds up nothing."""
+        with Upstream() as first, Upstream(status=b"OB") as second, self.watch(line_of(first) + line_of(second) + QUICK + OLD) as watch:
+            watch.until_printed(ON_BATTERY % second.target)
+            watch.reload(line_of(first) + QUICK + OLD)
+            watch.until_reloaded(f"MONITOR {second.target} removed")
+
+    def test_forced_shutdown_of_one_of_two(self):
+        """A UPS with a forced shutdown is waited for, too, where the other supplies enough."""
+        with Upstream() as first, Upstream(status=b"FSD OL") as second, self.watch(line_of(first) + line_of(second) + QUICK + OLD) as watch:
+            watch.until_printed(f"UPS {second.target}: forced shutdown in progress")
+            watch.reload(line_of(first) + line_of(second) + QUICK + NEW)
+            watch.until_told(f"upsmon: not reloaded yet: UPS {second.target} has a forced shutdown")
+            # a fault takes its place, and nothing waits any more
+            watch.reload("POLLFREQ x\n")
+            watch.until_told(REFUSED + "upsmon.conf:1: BadNumber")
+            second.statuses[b"su700"] = b"OL"
+            until_asked(second, 3)
+            expect(second.asked.count(USERNAME), 1, "how often upsmon logs in")
+
+    def test_lost_on_line(self):
+        """A server that is gone holds up no reload if its UPS was on line."""
+        server = Upstream()
+        with Upstream() as other, self.watch(line_of(server) + line_of(other) + QUICK + OLD) as watch:
+            until_asked(server)
+            server.close()
+            watch.until_printed(f"Communications with UPS {server.target} lost")
+            watch.reload(line_of(other) + QUICK + OLD)
+            watch.until_reloaded(f"MONITOR {server.target} removed")
+
+    def test_shutdown(self):
+        with Upstream(status=b"FSD") as server:
+            with self.watch(line_of(server) + "POLLFREQ 1\nHOSTSYNC 1\nFINALDELAY 4\n" + OLD) as watch:
+                watch.until_printed(SHUTDOWN)
+                watch.reload(line_of(server) + NEW)
+                watch.until_told(REFUSED + "a shutdown has begun")
+                expect(watch.status(), 0, "status")
+                expect((watch.read("old"), watch.read("new")), (b"", None), "the halt")
+
+    def test_without_a_shell(self):
+        """If the shell of the new SHUTDOWNCMD can't be started, the earlier one goes on waiting."""
+        shells = os.path.join(self.folder, "reload-shells")
+        os.mkdir(shells)
+        shell = os.path.join(shells, "sh")
+        os.symlink("/bin/sh", shell)
+        env = {"PATH": shells}
+        with Upstream() as server, self.watch(line_of(server) + QUICK + 'SHUTDOWNCMD ": > FOLDER/old"\n', "-q", env=env) as watch:
+            until_asked(server)
+            os.remove(shell)
+            watch.reload(line_of(server) + QUICK + 'SHUTDOWNCMD ": > FOLDER/new"\n')
+            front = REFUSED + "SHUTDOWNCMD cannot be started: "
+            until(lambda: any(it.startswith(front) for it in watch.lines("err")), "that it can't be started")
+            expect(len(children_of(watch.process.pid)), 1, "the earlier shell")
+            os.symlink("/bin/sh", shell)
+            server.statuses[b"su700"] = b"OB LB"
+            expect(watch.status(), 0, "status")
+            expect((watch.read("old"), watch.read("new")), (b"", None), "the halt")
+
+    def test_without_memory(self):
+        """Without memory upsmon says so and goes on as before. Once there is some, a reload that is asked for anew comes."""
+        gone = os.path.join(self.folder, "reload-gone")
+        env = {**os.environ, "LD_PRELOAD": self.shim, "REFUSE": "memory", "REFUSE_ONCE": gone}
+        with Upstream() as server, self.watch(line_of(server) + QUICK + OLD, env=env) as watch:
+            until_asked(server)
+            with open(gone, "w"):
+                pass
+            watch.reload(line_of(server) + QUICK + NEW)
+            watch.until_told(f"{REFUSED}out of memory")
+            expect(len(children_of(watch.process.pid)), 1, "the earlier shell")
+            os.remove(gone)
+            watch.ask()
+            watch.until_reloaded("SHUTDOWNCMD changed")
+
+    def test_folder_of_two_programs(self):
+        """Where upsd has the folder too, the file is left to it for a while."""
+        with Upstream() as server, self.watch(line_of(server) + QUICK + OLD) as watch:
+            until_asked(server)
+            with watch.open("upsd.conf"):
+                pass
+            watch.reload(line_of(server) + QUICK + NEW)
+            watch.until_reloaded("SHUTDOWNCMD changed")
+            expect(watch.read("reload"), b"", "the file, for upsd")
+            until(lambda: watch.read("reload") is None, "the file is removed")
+            time.sleep(1.5)
+            expect(watch.lines("err").count("upsmon: reloaded: nothing changed"), 0, "further reloads")
+
+    def test_many(self):
+        """Reloads leave neither descriptors nor processes behind."""
+        with Upstream() as server, self.watch(line_of(server) + QUICK + OLD) as watch:
+            until_asked(server)
+            counts = []
+            for power in (2, 3, 4):
+                watch.reload(line_of(server, power) + QUICK + OLD)
+                until(lambda: sum("reloaded" in it for it in watch.lines("err")) == power - 1, "a reload")
+                until_asked(server, 2)
+                until(lambda: len(children_of(watch.process.pid)) == 1, "the earlier shell is waited for")
+                counts.append(len(os.listdir(f"/proc/{watch.process.pid}/fd")))
+            expect(counts, counts[:1] * 3, "descriptors")
+
+
+if __name__ == "__main__":
+    sys.exit(play(Tests))
