@@ -15,7 +15,7 @@ import threading
 import time
 from concurrent import futures
 
-from tests.support.harness import build_shim, ensure, expect, Failed, Missing, needed, processor_time, refusing, run_tests
+from tests.support.harness import build_shim, ensure, expect, Failed, Missing, needed, processor_time, refusal, run_tests
 from tests.support.room import DEVICE, NOT_CONNECTED, ONLINE, Room, SOON, STATUS, USERS, VERSION, until
 
 ONE = b'[su700]\ndesc = "Server room"\n'
@@ -579,7 +579,7 @@ class Tests:
         with self.room() as room:
             while many - few > 1:
                 at = (few + many) // 2
-                env, _ = refusing(self.shim, "allocation", at)
+                env = refusal(self.shim, "allocation", at)
                 upsd = room.start([self.programs[0], "--conf", room.folder, "-s", room.folder], env=env)
                 if upsd.stderr.readline().startswith(b"upsd: listening on "):
                     many = at
@@ -591,8 +591,7 @@ class Tests:
 
     def reload_without(self, at, ups):
         """Has upsd reload with one allocation refused. Returns whether the reload met the refusal, None if the start did."""
-        env, _ = refusing(self.shim, "allocation", at)
-        del env["REFUSE_COUNT"]
+        env = refusal(self.shim, "allocation", at)
         with self.room() as room:
             room.dummy()
             room.dummy(ups="u7")

@@ -13,7 +13,7 @@ import sys
 import tempfile
 import time
 
-from tests.support.harness import build_shim, expect, Failed, Missing, refusals, refusing, ROOT, run_tests
+from tests.support.harness import build_shim, expect, Failed, Missing, refusal, refusals, ROOT, run_tests
 
 ROOM = ["--stdio", "--ups", "su700=Server room"]
 EXAMPLES = ["--stdio", "--conf", os.path.join(ROOT, "examples")]
@@ -158,9 +158,9 @@ class Tests:
     def test_requests_byte_by_byte(self):
         asked = b"".join(it for it, _ in MIXED)
         due = b"".join(it for _, it in MIXED)
-        env, _ = refusing(self.shim, "short-read", 1)
+        env = refusal(self.shim, "short-read", 1)
         expect(self.run(ROOM, asked, env), (0, due, b""), "read byte by byte")
-        env, _ = refusing(self.shim, "short-write", 1)
+        env = refusal(self.shim, "short-write", 1)
         expect(self.run(ROOM, asked, env), (0, due, b""), "written byte by byte")
 
     def test_unfinished_line(self):
@@ -374,7 +374,7 @@ class Tests:
         expect(found, (1, b"", b"upsd: upsd.users:0: PastLimit\n"), "a file of 1 TiB")
 
     def test_conf_byte_by_byte(self):
-        env, _ = refusing(self.shim, "short-file-read", 1)
+        env = refusal(self.shim, "short-file-read", 1)
         expect(self.run(EXAMPLES, b"LIST UPS\n", env), (0, LIST, b""), "files read byte by byte")
 
     def test_each_read_of_a_file_refused(self):

@@ -71,14 +71,18 @@ def was_reached(count, at):
         return int(file.read()) >= at
 
 
+def refusal(shim, kind, at):
+    """Returns the environment of a run in which a call fails, given by its kind and its number from 1 on."""
+    return {"LD_PRELOAD": shim, "REFUSE": kind, "REFUSE_AT": str(at)}
+
+
 def refusing(shim, kind, at):
-    """Returns the environment of a run in which a call fails, given by its kind and its number from 1 on, and a function
-    that says after that run whether the run reached it."""
+    """Returns the environment of a run in which a call fails, as `refusal` does, and a function that says after that run
+    whether the run reached it. One such run at a time: each writes its count of calls to the same file."""
     count = shim + ".count"
     if os.path.exists(count):
         os.remove(count)
-    env = {"LD_PRELOAD": shim, "REFUSE": kind, "REFUSE_AT": str(at), "REFUSE_COUNT": count}
-    return env, functools.partial(was_reached, count, at)
+    return refusal(shim, kind, at) | {"REFUSE_COUNT": count}, functools.partial(was_reached, count, at)
 
 
 def refusals(shim, kind="allocation"):
