@@ -7,6 +7,7 @@ pub mod SlotLemmas
 pub mod DraftLemmas
 pub mod Rows
 pub mod SectionLemmas
+pub mod DistinctMap
 pub mod DistinctNames
 pub mod KeptRules
 pub mod NameLookup

@@ -1,6 +1,8 @@
 //! The file ups.conf.
 ghost use Rattle.std.specs.Prelude.{◌≡◌, ◌==◌, ◌<◌, ◌≤◌, [], Err, IfSome, IsOk, IsTrue, None, MatchOption, IfErr, OnErr, length, slice_get};
+ghost use Rattle.std.specs.List.{IsDistinct};
 ghost use Rattle.std.specs.Option.{option_copied, option_map};
+ghost use Rattle.std.specs.Str.{bytes_eq};
 ghost use Rattle.nut_words.specs.Quoting.{IsPrintable};
 ghost use Rattle.nut_conf.specs.Faults.{Gives};
 ghost use Rattle.nut_conf.specs.Files.{Means, read_file};
@@ -132,6 +134,13 @@ impl UpsConf {
         ensures { result ≡ (length (names_of self.now) == 0) }
     {
         self.ups.by_name.len() == 0
+    }
+
+    /// Does nothing when called. Brings into the proof that no two UPSes have the same name.
+    pub fn names_are_distinct(&self)
+        ensures { IsDistinct bytes_eq (names_of self.now) }
+    {
+        let _len = self.ups.by_name.len();
     }
 
     /// Returns the number of the UPS with this name, counted from 0 in the order of the file.

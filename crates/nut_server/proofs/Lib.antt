@@ -26,6 +26,7 @@ pub mod Arrives
 pub mod Heard
 pub mod Settled
 pub mod Limited
+pub mod NamedApart
 mod WholeLine
 pub mod FatesMet
 pub mod Numbered

@@ -6,6 +6,7 @@ ghost use Rattle.nut_conf.specs.Descriptions.{rows_of};
 ghost use Rattle.nut_proto.specs.Descriptions.{beside, command_description, told, variable_description};
 ghost use Rattle.nut_server_spec.specs.Configuration.{number_of_ups, ups_named, user_named, has_password, may_act, may_command};
 ghost use Rattle.nut_server_spec.specs.laws.Limits.{IsWithin};
+ghost use Rattle.nut_server_spec.specs.laws.Reloads.{AreNamedApart};
 ghost use Rattle.nut_server.specs.Configured.{command_texts_of, configuration_of, upses_of, users_of, variable_texts_of};
 
 use nut_conf::{
@@ -137,6 +138,13 @@ impl Config {
         ensures { IsWithin self.now }
     {
         let _ups = &self.ups;
+    }
+
+    /// Does nothing when called. Brings into the proof that no two UPSes have the same name.
+    pub fn names_are_distinct(&self)
+        ensures { AreNamedApart self.now.upses }
+    {
+        self.ups.names_are_distinct();
     }
 
     /// Returns what ups.conf sets.
