@@ -1,7 +1,7 @@
 #!/usr/bin/env python3
 """Replaces NUT's packages by this project's on a Debian that runs NUT, and back again, with the given programs.
 
-    python3 -m tests.peers.packages [--root FOLDER] UPSD DUMMY-UPS UPSMON UPSC UPSRW UPSCMD
+    python3 -m tests.peers.packages [--root FOLDER] UPSD DUMMY-UPS UPSMON UPSC UPSRW UPSCMD NUTSIM
 
 The Debian is made by debootstrap, which needs root and a network, or is a copy of FOLDER, in which debootstrap made one with
 systemd; NUT's packages come from Debian. It runs under systemd-nspawn. The last line is 'N passed, M failed'."""
