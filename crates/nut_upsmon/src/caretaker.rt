@@ -13,10 +13,10 @@ use nut_poll::Report;
 use nut_program::{FileFault, tell_not_reloaded};
 use std::alloc::Global;
 use std::io::Write;
-use std::mem;
 use std::process::Processes;
 use std::rt::Files;
 use std::time::Clock;
+use std::{io, mem};
 
 /// What upsmon does besides watching: it tells notices, keeps the halt of its machine prepared, and takes up a changed
 /// upsmon.conf. For that it ends the watch, and has the configuration for the next one.
@@ -30,7 +30,7 @@ pub struct Caretaker<'r, R: Processes, O, E> {
     err: E,
     crier: Crier<'r, R, O>,
     halt: Halt<'r, 'r, R>,
-    reloader: Reloader,
+    reloader: &'r mut Reloader,
     /// The configuration of the next watch.
     next: Option<UpsmonConf>,
 }
@@ -50,7 +50,7 @@ where
         err: E,
         crier: Crier<'r, R, O>,
         halt: Halt<'r, 'r, R>,
-        reloader: Reloader,
+        reloader: &'r mut Reloader,
     ) -> Caretaker<'r, R, O, E> {
         Caretaker {
             rt,
@@ -67,9 +67,23 @@ where
     /// Takes up a configuration in place of an earlier one. Returns whether it did. If not, everything goes on as
     /// before, and why is told.
     fn take_up(&mut self, former: &UpsmonConf, reload: Reload) -> bool {
-        let Some(halt) = self.prepare(&reload.config) else {
-            return false;
-        };
+        let is_taken_up = self.change_over(former, &reload);
+        if is_taken_up {
+            self.next = Some(reload.config);
+        }
+        is_taken_up
+    }
+
+    /// Halts and tells by another configuration from now on, and reports that. Returns whether it does.
+    fn change_over(&mut self, former: &UpsmonConf, reload: &Reload) -> bool {
+        match self.prepare(&reload.config) {
+            Some(halt) => self.change_to(halt, former, reload),
+            None => false,
+        }
+    }
+
+    /// Goes on with the halt of another configuration, and tells by that. Returns whether it does.
+    fn change_to(&mut self, halt: Halt<'r, 'r, R>, former: &UpsmonConf, reload: &Reload) -> bool {
         if self.crier.restart(&reload.config).is_err() {
             tell_not_reloaded("upsmon", &FileFault::Memory, &mut self.err);
             self.give_up(halt);
@@ -80,25 +94,36 @@ where
         }
         let former = mem::replace(&mut self.halt, halt);
         self.give_up(former);
-        self.tell(&reload);
-        self.next = Some(reload.config);
+        self.tell(reload);
         true
     }
 
     /// Prepares the halt that a configuration sets. If that fails it is told.
     fn prepare(&mut self, config: &UpsmonConf) -> Option<Halt<'r, 'r, R>> {
-        let Ok(mut halt) = Halt::prepare(self.rt, self.alloc, self.heap, config) else {
-            tell_not_reloaded("upsmon", &FileFault::Memory, &mut self.err);
-            return None;
-        };
-        match halt.make_ready() {
-            Ok(()) => Some(halt),
-            Err(error) => {
-                let fault = HaltFault::NotStarted(error);
-                let _ = writeln!(&mut self.err, "upsmon: not reloaded: {fault}");
+        match Halt::prepare(self.rt, self.alloc, self.heap, config) {
+            Ok(halt) => self.make_ready(halt),
+            Err(_) => {
+                tell_not_reloaded("upsmon", &FileFault::Memory, &mut self.err);
                 None
             }
         }
+    }
+
+    /// Starts the shell of a halt. If that fails it is told, and there is no halt.
+    fn make_ready(&mut self, mut halt: Halt<'r, 'r, R>) -> Option<Halt<'r, 'r, R>> {
+        match halt.make_ready() {
+            Ok(()) => Some(halt),
+            Err(error) => {
+                self.tell_not_started(error);
+                None
+            }
+        }
+    }
+
+    /// Tells why a halt's shell can't be started.
+    fn tell_not_started(&mut self, error: io::Error) {
+        let fault = HaltFault::NotStarted(error);
+        let _ = writeln!(&mut self.err, "upsmon: not reloaded: {fault}");
     }
 
     /// Gives a halt up, and waits for the end of its shell.

@@ -6,11 +6,17 @@ use std::alloc::{AllocError, Global};
 
 /// Returns the command line of upsmon: to watch, to check its file, and to look for POWERDOWNFLAG.
 pub fn upsmon_command<'a>(alloc: Global) -> Result<Command<'a>, AllocError> {
-    Command::new(alloc, "upsmon")
+    let command = Command::new(alloc, "upsmon")
         .version("profile 1.3")
         .about("A monitor of UPSes that halts its machine when too few of them are left")
         .arg(conf_of_upsmon(alloc))?
-        .arg(quiet_option(alloc, "Tell nothing of UPSes and servers"))?
+        .arg(quiet_option(alloc, "Tell nothing of UPSes and servers"))?;
+    with_tasks(alloc, command)
+}
+
+/// Adds what upsmon can do in place of watching.
+fn with_tasks<'a>(alloc: Global, command: Command<'a>) -> Result<Command<'a>, AllocError> {
+    command
         .arg(check_option(
             alloc,
             "Watch nothing: say the first fault of upsmon.conf, or how soon this machine stops",

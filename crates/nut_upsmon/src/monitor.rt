@@ -67,25 +67,34 @@ struct Streams<O, E> {
 /// `upsmon: upsmon.conf: cannot read`; the file's first fault, as `upsmon: upsmon.conf:2: BadName`;
 /// `upsmon: out of memory`. If waiting for the sockets or reading the clock fails, upsmon ends with
 /// `upsmon: I/O failed` and status 1.
-pub fn run_upsmon<R, S: AsStr, O, E>(
+pub fn run_upsmon<R, S: AsStr, O, E>(rt: &R, alloc: Global, words: &[S], out: O, mut err: E) -> u8
+where
+    R: Wait + Files + Net + Clock + Processes + Env + Alloc,
+    O: Write + AsRawFd + Copy,
+    E: Write + AsRawFd + Copy,
+{
+    match LossyLines::new(rt, alloc, "upsmon", err) {
+        Ok(mut told) => run_and_tell(rt, alloc, words, Streams { out, err }, &mut told),
+        Err(error) => refuse_start("upsmon", &error, &mut err),
+    }
+}
+
+/// Does what the words of the command line ask for, and tells why it can't be done. Returns the exit status.
+fn run_and_tell<R, S: AsStr, O, E>(
     rt: &R,
     alloc: Global,
     words: &[S],
-    mut out: O,
-    mut err: E,
+    mut streams: Streams<O, E>,
+    told: &mut LossyLines<E>,
 ) -> u8
 where
     R: Wait + Files + Net + Clock + Processes + Env + Alloc,
     O: Write + AsRawFd + Copy,
     E: Write + AsRawFd + Copy,
 {
-    let mut told = match LossyLines::new(rt, alloc, "upsmon", err) {
-        Ok(lines) => lines,
-        Err(error) => return refuse_start("upsmon", &error, &mut err),
-    };
-    match run(rt, alloc, words, Streams { out, err }, &mut told) {
+    match run(rt, alloc, words, streams, told) {
         Ok(status) => status,
-        Err(failure) => failure.tell("upsmon", &mut out, &mut told),
+        Err(failure) => failure.tell("upsmon", &mut streams.out, told),
     }
 }
 
@@ -103,12 +112,28 @@ where
     E: Write + AsRawFd + Copy,
 {
     let matches = upsmon_command(alloc)?.try_get_matches_from(words)?;
+    run_matches(rt, alloc, &matches, streams, told)
+}
+
+/// Does what a command line asks for that clap has accepted. Returns the exit status.
+fn run_matches<R, O, E>(
+    rt: &R,
+    alloc: Global,
+    matches: &ArgMatches<'_>,
+    streams: Streams<O, E>,
+    told: &mut LossyLines<E>,
+) -> Result<u8, Failure<UpsmonFault>>
+where
+    R: Wait + Files + Net + Clock + Processes + Env + Alloc,
+    O: Write + AsRawFd + Copy,
+    E: Write + AsRawFd + Copy,
+{
     if matches.get_flag("killpower") {
-        look_for_flag(rt, alloc, &matches)
+        look_for_flag(rt, alloc, matches)
     } else if matches.get_flag("check") {
-        check_file(rt, alloc, &matches, streams.out, told)
+        check_file(rt, alloc, matches, streams.out, told)
     } else {
-        guard(rt, alloc, &matches, streams, told)
+        guard(rt, alloc, matches, streams, told)
     }
 }
 
@@ -119,16 +144,38 @@ fn look_for_flag<R: Files + Env + Alloc>(
     matches: &ArgMatches<'_>,
 ) -> Result<u8, Failure<UpsmonFault>> {
     let folder = conf_folder(rt, alloc, matches)?;
-    Ok(u8::from(!is_flag_set(rt, alloc, folder.as_str())?))
+    look_in_folder(rt, alloc, folder.as_str())
 }
 
-/// Reads upsmon.conf, says of it what a start does, writes how soon this machine stops, asks the servers whether their UPSes
-/// say LB early enough for that, and gives the exit status.
+/// Returns whether the flag that upsmon.conf in this folder names is set, as an exit status.
+fn look_in_folder(
+    files: &impl Files,
+    alloc: Global,
+    folder: &str,
+) -> Result<u8, Failure<UpsmonFault>> {
+    let config: UpsmonConf = read_conf(files, alloc, folder)?;
+    flag_status(files, alloc, &config)
+}
+
+/// Returns whether the flag that a configuration names is set, as an exit status.
+fn flag_status(
+    files: &impl Files,
+    alloc: Global,
+    config: &UpsmonConf,
+) -> Result<u8, Failure<UpsmonFault>> {
+    let is_set = match PowerDownFlag::of(alloc, config)? {
+        Some(flag) => matches!(flag.state(files), Ok(FlagState::Set)),
+        None => false,
+    };
+    Ok(u8::from(!is_set))
+}
+
+/// Checks upsmon.conf in the folder that a command line names. Returns the exit status.
 fn check_file<R, O, E>(
     rt: &R,
     alloc: Global,
     matches: &ArgMatches<'_>,
-    mut out: O,
+    out: O,
     told: &mut LossyLines<E>,
 ) -> Result<u8, Failure<UpsmonFault>>
 where
@@ -137,9 +184,42 @@ where
     E: Write + AsRawFd + Copy,
 {
     let folder = conf_folder(rt, alloc, matches)?;
-    let config = read_folder(rt, alloc, folder.as_str(), told)?;
-    Stopping::of(&config).tell(&mut out)?;
-    check_low_runtimes(rt, alloc, &config, told)?;
+    check_folder(rt, alloc, folder.as_str(), out, told)
+}
+
+/// Reads upsmon.conf in this folder, says of it what a start does, and checks it. Returns the exit status.
+fn check_folder<R, O, E>(
+    rt: &R,
+    alloc: Global,
+    folder: &str,
+    out: O,
+    told: &mut LossyLines<E>,
+) -> Result<u8, Failure<UpsmonFault>>
+where
+    R: Files + Clock + Processes,
+    O: Write + AsRawFd + Copy,
+    E: Write + AsRawFd + Copy,
+{
+    let config = read_folder(rt, alloc, folder, told)?;
+    check_config(rt, alloc, &config, out, told)
+}
+
+/// Writes how soon the machine of a configuration stops, and asks the servers whether their UPSes say LB early enough for
+/// that. Returns the exit status.
+fn check_config<R, O, E>(
+    rt: &R,
+    alloc: Global,
+    config: &UpsmonConf,
+    mut out: O,
+    told: &mut LossyLines<E>,
+) -> Result<u8, Failure<UpsmonFault>>
+where
+    R: Clock + Processes,
+    O: Write + AsRawFd + Copy,
+    E: Write + AsRawFd + Copy,
+{
+    Stopping::of(config).tell(&mut out)?;
+    check_low_runtimes(rt, alloc, config, told)?;
     Ok(0)
 }
 
@@ -153,19 +233,6 @@ fn read_folder<R: Files, E: Write + AsRawFd + Copy>(
     let config = read_conf(rt, alloc, folder)?;
     tell_warnings(rt, alloc, folder, &config, told)?;
     Ok(config)
-}
-
-/// Whether the flag that upsmon.conf in this folder names is set.
-fn is_flag_set(
-    files: &impl Files,
-    alloc: Global,
-    folder: &str,
-) -> Result<bool, Failure<UpsmonFault>> {
-    let config: UpsmonConf = read_conf(files, alloc, folder)?;
-    Ok(match PowerDownFlag::of(alloc, &config)? {
-        Some(flag) => matches!(flag.state(files), Ok(FlagState::Set)),
-        None => false,
-    })
 }
 
 /// Watches the UPSes of upsmon.conf until the machine has to be halted, halts it, and gives the exit status.
@@ -182,11 +249,11 @@ where
     E: Write + AsRawFd + Copy,
 {
     let folder = conf_folder(rt, alloc, matches)?;
-    guard_folder(rt, alloc, folder, matches.get_flag("quiet"), streams, told)?;
-    Ok(0)
+    guard_folder(rt, alloc, folder, matches.get_flag("quiet"), streams, told)
 }
 
-/// Watches the UPSes of upsmon.conf in this folder until the machine has to be halted, and halts it.
+/// Watches the UPSes of upsmon.conf in this folder until the machine has to be halted, halts it, and gives the exit
+/// status.
 fn guard_folder<R, O, E>(
     rt: &R,
     alloc: Global,
@@ -194,60 +261,114 @@ fn guard_folder<R, O, E>(
     is_quiet: bool,
     streams: Streams<O, E>,
     told: &mut LossyLines<E>,
-) -> Result<(), Failure<UpsmonFault>>
+) -> Result<u8, Failure<UpsmonFault>>
 where
     R: Wait + Files + Net + Clock + Processes,
     O: Write + AsRawFd + Copy,
     E: Write + AsRawFd + Copy,
 {
     let file = ReloadFile::new(rt, alloc, folder.as_str(), FILE_OF_SERVER)?;
-    let config = read_folder(rt, alloc, folder.as_str(), told)?;
-    let reloader = Reloader::new(alloc, folder, file, is_quiet);
+    let mut reloader = Reloader::new(alloc, folder, file, is_quiet);
+    guard_reloaded(rt, alloc, &mut reloader, streams, told)
+}
+
+/// Watches the UPSes of the upsmon.conf that is reloaded here until the machine has to be halted, halts it, and gives the
+/// exit status.
+fn guard_reloaded<R, O, E>(
+    rt: &R,
+    alloc: Global,
+    reloader: &mut Reloader,
+    streams: Streams<O, E>,
+    told: &mut LossyLines<E>,
+) -> Result<u8, Failure<UpsmonFault>>
+where
+    R: Wait + Files + Net + Clock + Processes,
+    O: Write + AsRawFd + Copy,
+    E: Write + AsRawFd + Copy,
+{
+    let config = read_folder(rt, alloc, reloader.folder(), told)?;
     guard_with(rt, alloc, config, reloader, streams, told)
 }
 
-/// Watches the UPSes of a configuration until the machine has to be halted, and halts it.
+/// Watches the UPSes of a configuration until the machine has to be halted, halts it, and gives the exit status. The
+/// standard streams that are closed are held meanwhile, so that no socket takes the place of one.
 fn guard_with<R, O, E>(
     rt: &R,
     alloc: Global,
     config: UpsmonConf,
-    reloader: Reloader,
+    reloader: &mut Reloader,
     streams: Streams<O, E>,
     told: &mut LossyLines<E>,
-) -> Result<(), Failure<UpsmonFault>>
+) -> Result<u8, Failure<UpsmonFault>>
 where
     R: Wait + Files + Net + Clock + Processes,
     O: Write + AsRawFd + Copy,
     E: Write + AsRawFd + Copy,
 {
     let _held = hold_closed_streams(rt, alloc)?;
-    let heap = halt_heap(alloc)?;
-    watch_and_halt(rt, alloc, &heap, config, reloader, streams, told)
+    guard_in_reserve(rt, alloc, config, reloader, streams, told)
 }
 
-/// Prepares the halt, watches the UPSes of a configuration until the machine has to be halted, and halts it. The memory
-/// that the halt takes comes from `heap`, and is reserved before.
-fn watch_and_halt<R, O, E>(
+/// Reserves the memory that the halt takes, watches the UPSes of a configuration until the machine has to be halted, halts
+/// it, and gives the exit status.
+fn guard_in_reserve<R, O, E>(
     rt: &R,
     alloc: Global,
-    heap: &LocalHeap,
     config: UpsmonConf,
-    reloader: Reloader,
+    reloader: &mut Reloader,
     streams: Streams<O, E>,
     told: &mut LossyLines<E>,
-) -> Result<(), Failure<UpsmonFault>>
+) -> Result<u8, Failure<UpsmonFault>>
 where
     R: Wait + Files + Net + Clock + Processes,
     O: Write + AsRawFd + Copy,
     E: Write + AsRawFd + Copy,
 {
-    let halt = ready_halt(rt, alloc, heap, &config, told)?;
+    let heap = halt_heap(alloc)?;
+    watch_and_halt(rt, alloc, &heap, config, reloader, streams, told)
+}
+
+/// Prepares the halt, watches the UPSes of a configuration until the machine has to be halted, halts it, and gives the
+/// exit status. The memory that the halt takes comes from `heap`.
+fn watch_and_halt<R, O, E>(
+    rt: &R,
+    alloc: Global,
+    heap: &LocalHeap,
+    config: UpsmonConf,
+    reloader: &mut Reloader,
+    streams: Streams<O, E>,
+    told: &mut LossyLines<E>,
+) -> Result<u8, Failure<UpsmonFault>>
+where
+    R: Wait + Files + Net + Clock + Processes,
+    O: Write + AsRawFd + Copy,
+    E: Write + AsRawFd + Copy,
+{
     let is_quiet = reloader.is_quiet();
-    let crier = crier_of(rt, alloc, &config, streams.out)?;
-    let err = LossyLines::new(rt, alloc, "upsmon", streams.err)?;
-    let caretaker = Caretaker::new(rt, alloc, heap, err, crier, halt, reloader);
+    let caretaker = caretaker_of(rt, alloc, heap, &config, reloader, streams, told)?;
     watch_in_turn(rt, alloc, config, caretaker, is_quiet, told)?;
-    Ok(())
+    Ok(0)
+}
+
+/// Prepares the halt that a configuration sets, and then what tells notices.
+fn caretaker_of<'r, R, O, E>(
+    rt: &'r R,
+    alloc: Global,
+    heap: &'r LocalHeap,
+    config: &UpsmonConf,
+    reloader: &'r mut Reloader,
+    streams: Streams<O, E>,
+    told: &mut LossyLines<E>,
+) -> io::Result<Caretaker<'r, R, LossyLines<O>, LossyLines<E>>>
+where
+    R: Files + Net + Clock + Processes,
+    O: Write + AsRawFd + Copy,
+    E: Write + AsRawFd + Copy,
+{
+    let halt = ready_halt(rt, alloc, heap, config, told)?;
+    let crier = crier_of(rt, alloc, config, streams.out)?;
+    let err = LossyLines::new(rt, alloc, "upsmon", streams.err)?;
+    Ok(Caretaker::new(rt, alloc, heap, err, crier, halt, reloader))
 }
 
 /// Makes the halt that a configuration sets, removes a flag that was left, and starts the shell for SHUTDOWNCMD. If that

@@ -51,6 +51,11 @@ impl Reloader {
         }
     }
 
+    /// Returns the folder of upsmon.conf.
+    pub fn folder(&self) -> &str {
+        self.folder.as_str()
+    }
+
     /// Whether nothing but failures is reported.
     pub fn is_quiet(&self) -> bool {
         self.is_quiet
@@ -119,7 +124,7 @@ impl Reloader {
         former: &UpsmonConf,
         err: &mut E,
     ) -> Result<Reload, FileFault<'static>> {
-        let config = read_conf(files, self.alloc, self.folder.as_str())?;
+        let config = read_conf(files, self.alloc, self.folder())?;
         match self.compare(files, former, config, err) {
             Ok(reload) => Ok(reload),
             Err(_) => Err(FileFault::Memory),
@@ -134,7 +139,7 @@ impl Reloader {
         config: UpsmonConf,
         err: &mut E,
     ) -> Result<Reload, AllocError> {
-        tell_warnings(files, self.alloc, self.folder.as_str(), &config, err)?;
+        tell_warnings(files, self.alloc, self.folder(), &config, err)?;
         let changes = Changes::between(self.alloc, former, &config)?;
         Ok(Reload { config, changes })
     }
