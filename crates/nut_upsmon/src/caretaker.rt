@@ -115,6 +115,7 @@ where
             Ok(()) => Some(halt),
             Err(error) => {
                 self.tell_not_started(error);
+                self.give_up(halt);
                 None
             }
         }

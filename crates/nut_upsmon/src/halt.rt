@@ -7,7 +7,7 @@ use nut_conf::UpsmonConf;
 use nut_poll::text_of;
 use std::alloc::{AllocError, Global};
 use std::io::Write;
-use std::process::{Child, ExitStatus, Processes};
+use std::process::{Child, ExitStatus, OpenProcess, Processes};
 use std::rt::Files;
 use std::time::{Clock, Duration};
 use std::{fmt, io, thread};
@@ -172,14 +172,16 @@ fn run<R: Processes, E: Write>(
     command: &mut ShutdownCommand<'_, '_, R>,
     err: &mut E,
 ) -> Result<(), HaltFault> {
-    let status = match start(clock, command, err)?.wait() {
-        Ok(status) => status,
-        Err(error) => return Err(HaltFault::NotWaited(error)),
-    };
-    if status.success() {
-        Ok(())
-    } else {
-        Err(HaltFault::Ended(status))
+    let mut shell = start(clock, command, err)?;
+    wait_for(&mut shell)
+}
+
+/// Waits for the end of a command.
+fn wait_for<P: OpenProcess>(shell: &mut Child<P>) -> Result<(), HaltFault> {
+    match shell.wait() {
+        Ok(status) if status.success() => Ok(()),
+        Ok(status) => Err(HaltFault::Ended(status)),
+        Err(error) => Err(HaltFault::NotWaited(error)),
     }
 }
 

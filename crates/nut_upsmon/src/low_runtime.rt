@@ -121,9 +121,7 @@ impl<'r, R: Processes> LowRuntimes<'r, R> {
     /// Takes a step: tells an answer that came, ends questions that take too long, and asks the next. Gives whether another
     /// step is needed.
     pub fn step<E: Write>(&mut self, err: &mut E) -> bool {
-        if let Some(question) = self.questions.take()
-            && question.about.turn == self.turn
-        {
+        if let Some(question) = self.questions.take() {
             self.hear(question, err);
         }
         self.questions.step();
@@ -138,11 +136,19 @@ impl<'r, R: Processes> LowRuntimes<'r, R> {
         self.questions.end();
     }
 
-    /// Tells what a question was answered that has ended.
+    /// Tells what a question was answered that has ended, if it is about a UPS of this configuration.
     fn hear<E: Write>(&mut self, mut question: Question<R::Started, Ups>, err: &mut E) {
-        match answer_of(&mut question) {
-            Some(seconds) => self.compare(&question.about, seconds, err),
-            None => self.ask_again(question.about, err),
+        if question.about.turn == self.turn {
+            let answer = answer_of(&mut question);
+            self.heed(question.about, answer, err);
+        }
+    }
+
+    /// Tells what is known of a UPS by the answer about it.
+    fn heed<E: Write>(&mut self, ups: Ups, answer: Option<u64>, err: &mut E) {
+        match answer {
+            Some(seconds) => self.compare(&ups, seconds, err),
+            None => self.ask_again(ups, err),
         }
     }
 
@@ -203,11 +209,21 @@ pub fn check_low_runtimes<R: Processes + Clock, E: Write>(
     err: &mut E,
 ) -> Result<(), AllocError> {
     let mut runtimes = LowRuntimes::new(rt, alloc, config, CHECK)?;
+    ask_all(rt, &mut runtimes, err);
+    Ok(())
+}
+
+/// Asks for each of these, waits for the answers, and tells them.
+fn ask_all<R: Processes, E: Write>(
+    clock: &impl Clock,
+    runtimes: &mut LowRuntimes<'_, R>,
+    err: &mut E,
+) {
     for _ in 0..CHECK_STEPS {
         if !runtimes.step(err) {
             break;
         }
-        thread::sleep(rt, Duration::from_millis(CHECK_STEP));
+        thread::sleep(clock, Duration::from_millis(CHECK_STEP));
     }
     for question in runtimes.questions.going() {
         tell_unknown(&question.about, err);
@@ -216,7 +232,6 @@ pub fn check_low_runtimes<R: Processes + Clock, E: Write>(
         tell_unknown(ups, err);
     }
     runtimes.end();
-    Ok(())
 }
 
 /// Tells that a UPS isn't known to say LB early enough.
@@ -254,8 +269,13 @@ fn upses_of(alloc: Global, lines: &[Monitored], turn: u32) -> Result<Vec<Ups>, A
 /// The command that asks a server for this UPS.
 fn upsc(alloc: Global, name: &str) -> Result<Command<Global>, AllocError> {
     let mut command = Command::new(alloc, "upsc")?;
-    command.arg(name)?.arg("battery.runtime.low")?;
+    put_question(&mut command, name)?;
     Ok(command)
+}
+
+fn put_question(command: &mut Command<Global>, name: &str) -> Result<(), AllocError> {
+    command.arg(name)?.arg("battery.runtime.low")?;
+    Ok(())
 }
 
 /// The seconds that a process printed which has ended well.

@@ -366,8 +366,44 @@ where
     E: Write + AsRawFd + Copy,
 {
     let halt = ready_halt(rt, alloc, heap, config, told)?;
+    caretaker_with(rt, alloc, heap, config, halt, reloader, streams)
+}
+
+/// Prepares what tells notices, besides this halt.
+fn caretaker_with<'r, R, O, E>(
+    rt: &'r R,
+    alloc: Global,
+    heap: &'r LocalHeap,
+    config: &UpsmonConf,
+    halt: Halt<'r, 'r, R>,
+    reloader: &'r mut Reloader,
+    streams: Streams<O, E>,
+) -> io::Result<Caretaker<'r, R, LossyLines<O>, LossyLines<E>>>
+where
+    R: Files + Net + Clock + Processes,
+    O: Write + AsRawFd + Copy,
+    E: Write + AsRawFd + Copy,
+{
     let crier = crier_of(rt, alloc, config, streams.out)?;
-    let err = LossyLines::new(rt, alloc, "upsmon", streams.err)?;
+    caretaker_that_tells(rt, alloc, heap, crier, halt, reloader, streams.err)
+}
+
+/// Makes the caretaker that tells the operator on this stream.
+fn caretaker_that_tells<'r, R, O, E>(
+    rt: &'r R,
+    alloc: Global,
+    heap: &'r LocalHeap,
+    crier: Crier<'r, R, LossyLines<O>>,
+    halt: Halt<'r, 'r, R>,
+    reloader: &'r mut Reloader,
+    err: E,
+) -> io::Result<Caretaker<'r, R, LossyLines<O>, LossyLines<E>>>
+where
+    R: Files + Net + Clock + Processes,
+    O: Write + AsRawFd + Copy,
+    E: Write + AsRawFd + Copy,
+{
+    let err = LossyLines::new(rt, alloc, "upsmon", err)?;
     Ok(Caretaker::new(rt, alloc, heap, err, crier, halt, reloader))
 }
 

@@ -1,6 +1,6 @@
 //! NOTIFYCMD: the command that is run with the text of a notice.
 
-use crate::shell::shell_command;
+use crate::shell::{SHELL, put_script};
 use nut_conf::UpsmonConf;
 use nut_poll::text_of;
 use std::alloc::{AllocError, Global};
@@ -116,15 +116,27 @@ fn script_of(alloc: Global, command: &[u8]) -> Result<String, AllocError> {
     format!(in alloc; "{command} \"$1\"")
 }
 
+/// Starts a shell that runs the script with this call.
 fn start<R: Processes>(
     processes: &R,
     alloc: Global,
     script: &str,
     call: Call<'_>,
 ) -> io::Result<Child<R::Started>> {
-    let mut command = shell_command(alloc, script)?;
-    put_call(&mut command, call)?;
-    command.spawn(processes)
+    let mut command = Command::new(alloc, SHELL)?;
+    start_shell(processes, &mut command, script, call)
+}
+
+/// Makes a shell run the script with this call.
+fn start_shell<R: Processes>(
+    processes: &R,
+    shell: &mut Command,
+    script: &str,
+    call: Call<'_>,
+) -> io::Result<Child<R::Started>> {
+    put_script(shell, script)?;
+    put_call(shell, call)?;
+    shell.spawn(processes)
 }
 
 /// Gives a command the text as its first argument, and the rest in its environment.

@@ -3,17 +3,11 @@
 use std::alloc::{AllocError, Allocator};
 use std::process::{Command, Stdio};
 
-/// Returns the command that makes the shell run a script, `sh -c SCRIPT`, without input.
-pub fn shell_command<A: Allocator + Clone>(
-    alloc: A,
-    script: &str,
-) -> Result<Command<A>, AllocError> {
-    let mut command = Command::new(alloc, "sh")?;
-    put_script(&mut command, script)?;
-    Ok(command)
-}
+/// The name of the shell.
+pub const SHELL: &str = "sh";
 
-fn put_script<A: Allocator + Clone>(
+/// Makes a command run a script by the shell, `sh -c SCRIPT`, without input. The command is that of [`SHELL`].
+pub fn put_script<A: Allocator + Clone>(
     command: &mut Command<A>,
     script: &str,
 ) -> Result<(), AllocError> {

@@ -3,12 +3,12 @@
 ghost use Rattle.std.specs.Prelude.{OnOk, IsSome};
 ghost use Rattle.std.specs.Io.KnownBytes.{Appends};
 
-use crate::shell::shell_command;
+use crate::shell::{SHELL, put_script};
 use linked_list_allocator::LocalHeap;
 use std::alloc::AllocError;
 use std::io;
 use std::io::{ErrorKind, Write};
-use std::process::{Child, Command, Processes, Stdio};
+use std::process::{Child, Command, OpenProcess, Processes, Stdio};
 
 /// The script of the shell: it waits for a line, and then becomes SHUTDOWNCMD, which is its first argument. If its
 /// input ends without a line, as when upsmon ends, it ends and runs nothing.
@@ -34,8 +34,8 @@ impl<'r, 'h, R: Processes> ShutdownCommand<'r, 'h, R> {
         heap: &'h LocalHeap,
         text: &str,
     ) -> Result<ShutdownCommand<'r, 'h, R>, AllocError> {
-        let mut command = shell_command(heap, SCRIPT)?;
-        put_text(&mut command, text)?;
+        let mut command = Command::new(heap, SHELL)?;
+        put_words(&mut command, text)?;
         Ok(ShutdownCommand {
             processes,
             command,
@@ -56,9 +56,7 @@ impl<'r, 'h, R: Processes> ShutdownCommand<'r, 'h, R> {
     /// Gives the command up. Returns the shell that waits, if there is one: it ends and runs nothing, since its input
     /// ends.
     pub fn give_up(self) -> Option<Child<R::Started>> {
-        let mut shell = self.shell?;
-        drop(shell.stdin.take());
-        Some(shell)
+        self.shell.map(end_input)
     }
 
     /// Makes the waiting shell run the command. Starts another shell for it if there is none, or it was ended
@@ -68,19 +66,38 @@ impl<'r, 'h, R: Processes> ShutdownCommand<'r, 'h, R> {
     ///
     /// That of the system if another shell cannot be started, or ends at once.
     pub fn start(&mut self) -> io::Result<Child<R::Started>> {
-        if let Some(mut shell) = self.shell.take() {
-            if release(&mut shell.stdin).is_ok() {
-                return Ok(shell);
-            }
+        match self.start_waiting() {
+            Some(shell) => Ok(shell),
+            None => self.start_other(),
         }
+    }
+
+    /// Makes the waiting shell run the command, if there is one that wasn't ended meanwhile.
+    fn start_waiting(&mut self) -> Option<Child<R::Started>> {
+        let mut shell = self.shell.take()?;
+        if release(&mut shell.stdin).is_err() {
+            return None;
+        }
+        Some(shell)
+    }
+
+    /// Makes a new shell run the command.
+    fn start_other(&mut self) -> io::Result<Child<R::Started>> {
         let mut shell = self.command.spawn(self.processes)?;
         release(&mut shell.stdin)?;
         Ok(shell)
     }
 }
 
-/// Gives a shell a pipe to wait on, and the command's text as its first argument.
-fn put_text(command: &mut Command<&LocalHeap>, text: &str) -> Result<(), AllocError> {
+/// Ends the input of a shell.
+fn end_input<P: OpenProcess>(mut shell: Child<P>) -> Child<P> {
+    shell.stdin = None;
+    shell
+}
+
+/// Gives a shell its script, a pipe to wait on, and the command's text as its first argument.
+fn put_words(command: &mut Command<&LocalHeap>, text: &str) -> Result<(), AllocError> {
+    put_script(command, SCRIPT)?;
     command.stdin(Stdio::piped());
     command.arg("sh")?.arg(text)?;
     Ok(())
