@@ -1,11 +1,6 @@
 -- The commands that clap reads, and its matches.
-use Rattle.std.proofs.Common.{◌≡◌, ℕ, true, false, List, [], ◌∷◌, Some, Result, Ok, Err, refl, sym, ap, ap₂, subst, ◌∙◌, inl}
-use Rattle.std.specs.Borrow.{Bor}
-use Rattle.clap.specs.Simple.{app_of_fields, on_top}
-use Rattle.clap.specs.Words.{AddsArg, App, IsAmong, Kinds, Row, Rule, app_of, fault_of, found_of, kind_of, is_simple_and_free, matches_of, new_app, rows_of, rule_of, with_rule}
-use Rattle.clap.specs.declared.builder.Command.{Command}
-use Rattle.clap.specs.declared.builder.Command.TheViews.{out-Command as fields_of}
-use Rattle.clap.specs.declared.builder.Arg.{Arg}
+use Rattle.std.proofs.Common.{◌≡◌, ℕ, true, List, [], ◌∷◌, Result, Ok, Err, refl, sym, ap, subst, ◌∙◌, inl}
+use Rattle.clap.specs.Words.{App, IsAmong, Kinds, Row, fault_of, found_of, kind_of, is_simple_and_free, matches_of, rows_of}
 use Rattle.clap.specs.declared.error.ErrorKind.{ErrorKind}
 use Rattle.clap.specs.declared.ArgMatches.{ArgMatches}
 use Rattle.nut_client.specs.CommandLine.{CommandLine, Options, line_by, read_by, upsc_tool, upsrw_tool, upscmd_tool}
@@ -14,16 +9,6 @@ use Rattle.nut_client.specs.declared.command_line.Options.{Options as Read}
 use Rattle.nut_client.specs.declared.command_line.Refusal.{Refusal}
 use Rattle.nut_client.specs.declared.command_line.Refusal.TheVariants.{Usage, Failed}
 use Rattle.nut_client.specs.declared.failure.Failure.{Failure}
-
--- a command with a name, a version and a text
-pub begun : (name : List ℕ) (fresh versioned about : Command) (t u : Bor (List ℕ)) → app_of fresh ≡ new_app name
-    → fields_of versioned ≡ record (fields_of fresh) { version = Some t } → fields_of about ≡ record (fields_of versioned) { about = Some u }
-    → app_of about ≡ on_top (λ s. record s { has_version = true }) (new_app name)
-begun name fresh versioned about t u is v a = ap app_of_fields a ∙ ap app_of_fields v ∙ ap (on_top (λ s. record s { has_version = true })) is
-
--- the command with one more argument
-pub added : (app : App) (rule : Rule) (old new : Command) (a : Arg) → AddsArg old a new → a.global ≡ false → app_of old ≡ app → rule_of a ≡ rule → app_of new ≡ with_rule app rule
-added app rule old new a adds local old_is rule_is = adds.shape local ∙ ap₂ with_rule old_is rule_is
 
 pub upsc_is_simple : is_simple_and_free upsc_tool ≡ true
 unfolding upsc_tool

@@ -1,8 +1,8 @@
 //! What the command lines of the three tools share.
-ghost use Rattle.std.specs.Prelude.{◌≡◌, ◌==◌, ◌<◌, IfOk, IfSome, Ok, Result, codes, false, length, map, option_map, position, true};
-ghost use Rattle.clap.specs.Words.{App, app_of, first_of, found_of, is_simple_and_free, rows_of, rule_of};
+ghost use Rattle.std.specs.Prelude.{◌≡◌, ◌==◌, ◌<◌, [], IfOk, IfSome, Ok, Result, codes, false, length, map, option_map, position, true};
+ghost use Rattle.clap.specs.Words.{App, Rule, app_of, first_of, found_of, is_simple_and_free, rows_of, rule_of, with_rule};
 ghost use Rattle.nut_conf.specs.Target.{parted as parted_at};
-ghost use Rattle.nut_client.specs.CommandLine.{CommandLine, Options as OptionsMeant, argument as argument_rule, dialed, flag as flag_rule, is_given as given, names_server as server_named, options_of as options_meant, target_of, until as until_meant, valued as valued_rule};
+ghost use Rattle.nut_client.specs.CommandLine.{CommandLine, Options as OptionsMeant, argument as argument_rule, dialed, flag as flag_rule, is_given as given, names_server as server_named, options_of as options_meant, target_of, tool, until as until_meant, valued as valued_rule};
 ghost use Rattle.nut_client.specs.inside.Reading.{AreOptions, IsRead, IsReadBy, IsRefusalOf};
 ghost use Rattle.nut_client.specs.declared.command_line.Refusal.TheVariants.{Failed};
 ghost use Rattle.nut_client.specs.declared.failure.Failure.{Failure as FailureValue};
@@ -194,6 +194,26 @@ pub(crate) fn deed_by<'a>(
         deed,
         until,
     )
+}
+
+/// Makes the command of the tool of this name, without arguments. `about` is what its help says of the tool.
+pub(crate) fn begun<'a>(alloc: Global, name: &'a str, about: &'a str) -> Command<'a>
+    ensures { app_of result ≡ tool name.entry.now [] }
+{
+    Command::new(alloc, name)
+        .version("profile 1.3")
+        .about(about)
+}
+
+/// Adds an argument to a command. `AllocError` if there was no memory for the command, or is none for the argument.
+pub(crate) fn with<'a>(
+    command: Result<Command<'a>, AllocError>,
+    arg: Arg<'a>,
+) -> Result<Command<'a>, AllocError>
+    ensures { (app : App) (rule : Rule) → IfOk command.entry (λ c. app_of c ≡ app) → rule_of arg.entry ≡ rule → arg.entry.global ≡ false
+        → IfOk result (λ c. app_of c ≡ with_rule app rule) }
+{
+    command?.arg(arg)
 }
 
 /// Makes a flag.

@@ -7,8 +7,8 @@ ghost use Rattle.nut_client.specs.inside.Reading.{AreOptions, IsRead};
 ghost use Rattle.nut_client.specs.Tool.{EndsBy, IsUnused, RunsAs};
 
 use crate::command_line::{
-    Options, Refusal, argument, destination_of, flag, is_given, name_argument, options_of,
-    read_words, refused, value,
+    Options, Refusal, argument, begun, destination_of, flag, is_given, name_argument, options_of,
+    read_words, refused, value, with,
 };
 use crate::destination::Destination;
 use crate::engine::{run, run_alone};
@@ -107,38 +107,52 @@ fn wanted_by<'a>(
 fn command<'a>(alloc: Global) -> Result<Command<'a>, AllocError>
     ensures { IfOk result (λ c. app_of c ≡ upsc_tool) }
 {
-    Command::new(alloc, "upsc")
-        .version("profile 1.3")
-        .about("Shows the variables of a UPS, or the UPSes of a server")
-        .arg(flag(
+    let about = "Shows the variables of a UPS, or the UPSes of a server";
+    let command = Ok(begun(alloc, "upsc", about));
+    let command = with(
+        command,
+        flag(
             alloc,
             "names",
             'l',
             "List the names of the server's UPSes; NAME is then HOST[:PORT], and may be left out",
-        ))?
-        .arg(flag(
+        ),
+    );
+    let command = with(
+        command,
+        flag(
             alloc,
             "descriptions",
             'L',
             "List the server's UPSes with their descriptions; NAME is then HOST[:PORT], and may be left out",
-        ))?
-        .arg(flag(
+        ),
+    );
+    let command = with(
+        command,
+        flag(
             alloc,
             "clients",
             'c',
             "List the addresses of the clients that are logged in to the UPS",
-        ))?
-        .arg(flag(
+        ),
+    );
+    let command = with(
+        command,
+        flag(
             alloc,
             "json",
             'j',
             "Print the variables as one JSON object of names and values",
-        ))?
-        .arg(name_argument(alloc))?
-        .arg(argument(
+        ),
+    );
+    let command = with(command, name_argument(alloc));
+    with(
+        command,
+        argument(
             alloc,
             "variable",
             "VAR",
             "The variable whose value is shown; without it all variables are",
-        ))
+        ),
+    )
 }

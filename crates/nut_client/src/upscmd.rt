@@ -7,8 +7,9 @@ ghost use Rattle.nut_client.specs.inside.Reading.{AreOptions, IsRead};
 ghost use Rattle.nut_client.specs.Tool.{EndsBy, IsUnused, RunsAs};
 
 use crate::command_line::{
-    Options, Refusal, argument, deed_by, destination_of, flag, is_given, name_argument, options_of,
-    password_argument, read_words, refused, until, user_argument, value, wait_flag,
+    Options, Refusal, argument, begun, deed_by, destination_of, flag, is_given, name_argument,
+    options_of, password_argument, read_words, refused, until, user_argument, value, wait_flag,
+    with,
 };
 use crate::destination::Destination;
 use crate::engine::{run, run_alone};
@@ -108,29 +109,37 @@ fn wanted_by<'a>(
 fn command<'a>(alloc: Global) -> Result<Command<'a>, AllocError>
     ensures { IfOk result (λ c. app_of c ≡ upscmd_tool) }
 {
-    Command::new(alloc, "upscmd")
-        .version("profile 1.3")
-        .about("Lists the commands of a UPS, or has it do one")
-        .arg(flag(
+    let about = "Lists the commands of a UPS, or has it do one";
+    let command = Ok(begun(alloc, "upscmd", about));
+    let command = with(
+        command,
+        flag(
             alloc,
             "list",
             'l',
             "List the commands of the UPS with their descriptions",
-        ))?
-        .arg(wait_flag(alloc))?
-        .arg(user_argument(alloc))?
-        .arg(password_argument(alloc))?
-        .arg(name_argument(alloc))?
-        .arg(argument(
+        ),
+    );
+    let command = with(command, wait_flag(alloc));
+    let command = with(command, user_argument(alloc));
+    let command = with(command, password_argument(alloc));
+    let command = with(command, name_argument(alloc));
+    let command = with(
+        command,
+        argument(
             alloc,
             "command",
             "CMD",
             "The command that the UPS is to do; needs -u and -p",
-        ))?
-        .arg(argument(
+        ),
+    );
+    with(
+        command,
+        argument(
             alloc,
             "parameter",
             "PARAM",
             "What the command is told, if it takes a parameter",
-        ))
+        ),
+    )
 }

@@ -7,9 +7,9 @@ ghost use Rattle.nut_client.specs.inside.Reading.{AreOptions, IsRead};
 ghost use Rattle.nut_client.specs.Tool.{EndsBy, IsUnused, RunsAs};
 
 use crate::command_line::{
-    Options, Refusal, deed_by, destination_of, is_given, name_argument, options_of,
+    Options, Refusal, begun, deed_by, destination_of, is_given, name_argument, options_of,
     parted_at_equals, password_argument, read_words, refused, until, user_argument, value, valued,
-    wait_flag,
+    wait_flag, with,
 };
 use crate::destination::Destination;
 use crate::engine::{run, run_alone};
@@ -101,18 +101,20 @@ fn wanted_by<'a>(
 fn command<'a>(alloc: Global) -> Result<Command<'a>, AllocError>
     ensures { IfOk result (λ c. app_of c ≡ upsrw_tool) }
 {
-    Command::new(alloc, "upsrw")
-        .version("profile 1.3")
-        .about("Shows the variables of a UPS that may be set, or sets one")
-        .arg(valued(
+    let about = "Shows the variables of a UPS that may be set, or sets one";
+    let command = Ok(begun(alloc, "upsrw", about));
+    let command = with(
+        command,
+        valued(
             alloc,
             "setting",
             's',
             "VAR=VALUE",
             "Set the variable VAR to VALUE, parted at the first '='; needs -u and -p",
-        ))?
-        .arg(wait_flag(alloc))?
-        .arg(user_argument(alloc))?
-        .arg(password_argument(alloc))?
-        .arg(name_argument(alloc))
+        ),
+    );
+    let command = with(command, wait_flag(alloc));
+    let command = with(command, user_argument(alloc));
+    let command = with(command, password_argument(alloc));
+    with(command, name_argument(alloc))
 }

@@ -1,15 +1,12 @@
-use Rattle.std.proofs.lemmas.Result.{IfOk-weaker}
-use Rattle.nut_client.proofs.Commands.{added, begun}
 use Rattle.nut_client.specs.CommandLine.{upsc_tool}
 use Rattle.nut_client.proofs.upsc.command.Goals as goal
 
 pub returns : goal.returns
 unfolding upsc_tool
 returns c =
-    let start = begun _ _ _ _ _ _ c.new.ensures.app c.version.ensures c.about.ensures in
-    let with_1 = added _ _ _ _ _ c.in_ok-arg.ensures c.flag.ensures.local start c.flag.ensures.rule in
-    let with_2 = added _ _ _ _ _ c.in_ok-arg-2.ensures c.flag-2.ensures.local with_1 c.flag-2.ensures.rule in
-    let with_3 = added _ _ _ _ _ c.in_ok-arg-3.ensures c.flag-3.ensures.local with_2 c.flag-3.ensures.rule in
-    let with_4 = added _ _ _ _ _ c.in_ok-arg-4.ensures c.flag-4.ensures.local with_3 c.flag-4.ensures.rule in
-    let with_5 = added _ _ _ _ _ c.in_ok-arg-5.ensures c.name_argument.ensures.local with_4 c.name_argument.ensures.rule in
-    IfOk-weaker c.arg-6.result _ _ (λ r adds. added _ _ _ _ _ adds c.argument.ensures.local with_5 c.argument.ensures.rule) c.arg-6.ensures
+    let with_1 = c.with-command.ensures _ _ c.begun.ensures c.flag.ensures.rule c.flag.ensures.local in
+    let with_2 = c.with-command-2.ensures _ _ with_1 c.flag-2.ensures.rule c.flag-2.ensures.local in
+    let with_3 = c.with-command-3.ensures _ _ with_2 c.flag-3.ensures.rule c.flag-3.ensures.local in
+    let with_4 = c.with-command-4.ensures _ _ with_3 c.flag-4.ensures.rule c.flag-4.ensures.local in
+    let with_5 = c.with-command-5.ensures _ _ with_4 c.name_argument.ensures.rule c.name_argument.ensures.local in
+    c.with.ensures _ _ with_5 c.argument.ensures.rule c.argument.ensures.local

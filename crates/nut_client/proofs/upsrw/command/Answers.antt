@@ -1,14 +1,11 @@
-use Rattle.std.proofs.lemmas.Result.{IfOk-weaker}
-use Rattle.nut_client.proofs.Commands.{added, begun}
 use Rattle.nut_client.specs.CommandLine.{upsrw_tool}
 use Rattle.nut_client.proofs.upsrw.command.Goals as goal
 
 pub returns : goal.returns
 unfolding upsrw_tool
 returns c =
-    let start = begun _ _ _ _ _ _ c.new.ensures.app c.version.ensures c.about.ensures in
-    let with_1 = added _ _ _ _ _ c.in_ok-arg.ensures c.valued.ensures.local start c.valued.ensures.rule in
-    let with_2 = added _ _ _ _ _ c.in_ok-arg-2.ensures c.wait_flag.ensures.local with_1 c.wait_flag.ensures.rule in
-    let with_3 = added _ _ _ _ _ c.in_ok-arg-3.ensures c.user_argument.ensures.local with_2 c.user_argument.ensures.rule in
-    let with_4 = added _ _ _ _ _ c.in_ok-arg-4.ensures c.password_argument.ensures.local with_3 c.password_argument.ensures.rule in
-    IfOk-weaker c.arg-5.result _ _ (λ r adds. added _ _ _ _ _ adds c.name_argument.ensures.local with_4 c.name_argument.ensures.rule) c.arg-5.ensures
+    let with_1 = c.with-command.ensures _ _ c.begun.ensures c.valued.ensures.rule c.valued.ensures.local in
+    let with_2 = c.with-command-2.ensures _ _ with_1 c.wait_flag.ensures.rule c.wait_flag.ensures.local in
+    let with_3 = c.with-command-3.ensures _ _ with_2 c.user_argument.ensures.rule c.user_argument.ensures.local in
+    let with_4 = c.with-command-4.ensures _ _ with_3 c.password_argument.ensures.rule c.password_argument.ensures.local in
+    c.with.ensures _ _ with_4 c.name_argument.ensures.rule c.name_argument.ensures.local
