@@ -1,12 +1,14 @@
 //! How a tool runs.
-ghost use Rattle.std.specs.Prelude.{◌≡◌, ◌≤◌, ◌⊎◌, Err, IfErr, ⊤, drop, length};
+ghost use Rattle.std.specs.Prelude.{◌≡◌, ◌≤◌, ◌⊎◌, [], Err, IfErr, ⊤, drop, length};
 ghost use Rattle.std.specs.IoError.{error_kind};
 ghost use Rattle.clap.specs.Words.{kind_of};
 ghost use Rattle.nut_client.specs.CommandLine.{CommandLine};
 ghost use Rattle.nut_client.specs.Output.{HasText, Puts, written};
 ghost use Rattle.nut_client.specs.inside.Reading.{IsRead, TellsRefusal, words_failure};
+ghost use Rattle.nut_client.specs.inside.Task.{left_of};
 ghost use Rattle.nut_client.specs.Script.{script};
 ghost use Rattle.nut_client.specs.Tool.{Ends, EndsOver, Explains, Reports, RunsAs, Tells, error_text, is_asked_for as asked_for};
+ghost use Rattle.nut_link.specs.Link.{fresh};
 ghost use Rattle.nut_client.specs.declared.failure.Failure.TheVariants.{ConnectionLost, Memory, NoConnection};
 
 use crate::command_line::{Options, Refusal};
@@ -47,7 +49,22 @@ pub fn ask_server<S: Stream>(
     ensures lost { IfErr result (λ failure. failure ≡ ConnectionLost → S.has_ended stream.new) }
 {
     let mut conversation = Conversation::new(alloc);
-    let mut task = Task::new(alloc, ups, wanted);
+    do_task(rt, &mut conversation, stream, Task::new(alloc, ups, wanted))
+}
+
+/// Does a task over a conversation in which nothing was said. Returns the text to print once the last answer came.
+fn do_task<S: Stream>(
+    rt: &(impl Wait + Clock),
+    conversation: &mut Conversation,
+    stream: &mut S,
+    mut task: Task<'_>,
+) -> Result<Text, Failure>
+    requires link { conversation.old.link ≡ fresh }
+    requires unread { conversation.old.unread ≡ [] }
+    ensures ends { Ends (left_of task.entry) result
+        (S.remaining stream.old) (S.remaining stream.new) (S.taken stream.old) (S.taken stream.new) }
+    ensures lost { IfErr result (λ failure. failure ≡ ConnectionLost → S.has_ended stream.new) }
+{
     for _ in rt.forever() {
         let asked = match task.next() {
             Next::Asks(request) => conversation.ask(rt, stream, &request),

@@ -1,30 +1,8 @@
-use Rattle.std.proofs.Common.{IsSome, subst}
-use Rattle.std.proofs.lemmas.Bool.{false≢true}
-use Rattle.nut_client.proofs.Turns.{at_start, ends_asking, ends_by, ends_well, goes_by}
-use Rattle.nut_client.specs.Script.{script}
-use Rattle.nut_client.specs.inside.Task.{left_of}
+use Rattle.std.proofs.Common.{subst}
+use Rattle.nut_client.specs.Tool.{Ends}
 use Rattle.nut_client.proofs.engine.ask_server.Goals as goal
-use Rattle.nut_client.proofs.engine.ask_server.Goals.{in-None, in-Some+in-Prints}
-
-pub loop-init : goal.loop-init
-loop-init g c =
-    at_start (script c.args.ups c.args.wanted) (left_of c.new-task.result) c.new-conversation.result.link c.new-conversation.result.unread (g.S.Stream.remaining c.args.stream.now) (g.S.Stream.taken c.args.stream.now) c.new-task.ensures
-    c.new-conversation.ensures.link c.new-conversation.ensures.unread
-
-pub returns-in-Err-clause-ends : goal.returns-in-Err-clause-ends
-returns-in-Err-clause-ends g c =
-    ends_asking (script c.args.ups c.args.wanted) (left_of c.loop.task) c.in-Asks.request c.in-Asks.ensures.0 c.in-Err.failure c.loop.conversation.link c.loop.conversation.unread c.ask-asked.new.self.unread _ _ _ _ _ _ c.loop.invariant c.in-Asks.ensures.1 c.in-Err.ensures.answered
-
-pub returns-in-Err-hear-clause-ends : goal.returns-in-Err-hear-clause-ends
-returns-in-Err-hear-clause-ends g c =
-    ends_by (script c.args.ups c.args.wanted) (left_of c.loop.task) c.in-Asks.request c.in-Asks.ensures.0 c.in-Ok.outcome c.in-Err-hear.failure c.loop.conversation.link c.ask-asked.new.self.link c.loop.conversation.unread c.ask-asked.new.self.unread _ _ _ _ _ _ c.loop.invariant c.in-Asks.ensures.1 c.in-Ok.ensures.answered c.in-Ok.ensures.rests c.in-Err-hear.ensures
-
-pub loop-preserved : goal.loop-preserved
-loop-preserved g c =
-    goes_by (script c.args.ups c.args.wanted) (left_of c.loop.task) (left_of c.in-Ok-hear.task) c.in-Asks.request c.in-Asks.ensures.0 c.in-Ok.outcome c.loop.conversation.link c.ask-asked.new.self.link c.loop.conversation.unread c.ask-asked.new.self.unread _ _ _ _ _ _ c.loop.invariant c.in-Asks.ensures.1 c.in-Ok.ensures.answered c.in-Ok.ensures.rests c.in-Ok-hear.ensures
 
 pub returns-clause-ends : goal.returns-clause-ends
-returns-clause-ends g c = elim c.match-next.branch [
-  | in-None w ↦ absurd (false≢true (subst (λ o. IsSome o) w.in-None.is c.next.ensures.steps))
-  | in-Some+in-Prints w ↦ ends_well (script c.args.ups c.args.wanted) (left_of c.loop.task) w.in-Prints.ensures.0 c.into_text.result c.loop.conversation.link c.loop.conversation.unread _ _ _ _ c.loop.invariant w.in-Prints.ensures.1 (c.into_text.ensures w.in-Prints.ensures.0 w.in-Prints.ensures.1)
-]
+returns-clause-ends g c =
+    subst (λ s. Ends s c.do_task.result (g.S.Stream.remaining c.args.stream.now) (g.S.Stream.remaining c.do_task.new.stream) (g.S.Stream.taken c.args.stream.now) (g.S.Stream.taken c.do_task.new.stream))
+    c.new.ensures c.do_task.ensures.ends
