@@ -15,11 +15,11 @@
 
 use crate::failure::Failure;
 use crate::played::Played;
-use crate::text::{decode, parted, put};
+use crate::text::{decode, parted, put, shown};
 use nut_dummy::{Dummy, DummyFault, Script, ScriptFaultKind, ScriptKind};
 use std::alloc::Global;
-use std::io;
 use std::io::Write;
+use std::{io, mem};
 
 /// Plays a step on a driver, and writes the answer.
 pub fn play<W: Write>(
@@ -79,8 +79,11 @@ fn put_driver<W: Write>(
 }
 
 fn put_in(made: Dummy, dummy: &mut Option<Dummy>) {
-    *dummy = Some(made);
+    close(mem::replace(dummy, Some(made)));
 }
+
+/// Drops a driver.
+pub fn close(_dummy: Option<Dummy>) {}
 
 /// Plays a step on a driver that was made.
 fn play_on<W: Write>(
@@ -91,16 +94,13 @@ fn play_on<W: Write>(
     out: &mut W,
 ) -> io::Result<Played> {
     match verb {
-        "take" => take(dummy, out)?,
-        "table" => show_table(dummy, out)?,
-        _ => {
-            return match call(dummy, verb, rest, piece) {
-                Some(answer) => show_answer(answer, dummy.waits(), out),
-                None => Ok(Played::Nothing),
-            };
-        }
+        "take" => take(dummy, out),
+        "table" => show_table(dummy, out),
+        _ => match call(dummy, verb, rest, piece) {
+            Some(answer) => show_answer(answer, dummy.waits(), out),
+            None => Ok(Played::Nothing),
+        },
     }
-    Ok(Played::Step)
 }
 
 /// Makes the call that a verb names; `None` if it names none.
@@ -135,7 +135,7 @@ fn show_answer<W: Write>(
 }
 
 /// Takes and writes all bytes that wait.
-fn take<W: Write>(dummy: &mut Dummy, out: &mut W) -> io::Result<()> {
+fn take<W: Write>(dummy: &mut Dummy, out: &mut W) -> io::Result<Played> {
     for _ in 0..dummy.waits() {
         let told = dummy.waiting();
         put(told, out)?;
@@ -144,20 +144,16 @@ fn take<W: Write>(dummy: &mut Dummy, out: &mut W) -> io::Result<()> {
             break;
         }
     }
-    Ok(())
+    Ok(Played::Step)
 }
 
 /// Writes the name and the value of each variable that has a value.
-fn show_table<W: Write>(dummy: &Dummy, out: &mut W) -> io::Result<()> {
+fn show_table<W: Write>(dummy: &Dummy, out: &mut W) -> io::Result<Played> {
     write!(out, "=")?;
     for variable in dummy.table() {
         if let Some(value) = variable.value() {
-            write!(out, " ")?;
-            put(variable.name(), out)?;
-            write!(out, " \"")?;
-            put(value, out)?;
-            write!(out, "\"")?;
+            write!(out, " {} \"{}\"", shown(variable.name()), shown(value))?;
         }
     }
-    Ok(())
+    Ok(Played::Step)
 }

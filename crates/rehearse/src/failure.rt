@@ -9,7 +9,7 @@ use std::io::ErrorKind;
 use thiserror::Error;
 
 /// Why a script isn't played to its end.
-#[derive(Clone, Copy, Debug, PartialEq, Eq, Error)]
+#[derive(Clone, Copy, Debug, Error)]
 pub enum Failure {
     /// This line of the script, counted from 1, isn't a step.
     #[error("line {0} isn't a step")]

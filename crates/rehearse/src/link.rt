@@ -13,13 +13,13 @@
 
 use crate::failure::Failure;
 use crate::played::Played;
-use crate::text::{decode, parted, put};
+use crate::text::{decode, parted, put, shown};
 use nut_link::{Fields, Link, LinkFault, Outcome, Rows};
 use nut_proto::read;
 use nut_words::split;
 use std::alloc::Global;
-use std::io;
 use std::io::Write;
+use std::{io, mem};
 
 /// Plays a step on a link, and writes the answer.
 pub fn play<W: Write>(
@@ -75,7 +75,7 @@ fn call(
 ) -> Option<Result<(), LinkFault>> {
     match verb {
         "new" => {
-            *link = Link::new(alloc);
+            close(mem::replace(link, Link::new(alloc)));
             Some(Ok(()))
         }
         "ask" => ask(alloc, link, piece),
@@ -84,6 +84,9 @@ fn call(
         _ => None,
     }
 }
+
+/// Drops a link.
+pub fn close(_link: Link) {}
 
 /// Asks the request that a line spells; `None` if it spells none.
 fn ask(alloc: Global, link: &mut Link, line: &[u8]) -> Option<Result<(), LinkFault>> {
@@ -109,10 +112,7 @@ fn show_outcome<W: Write>(outcome: &Option<Outcome>, out: &mut W) -> io::Result<
             show_fields(fields, out)
         }
         Some(Outcome::List(rows)) => show_rows(rows, out),
-        Some(Outcome::Refused(name)) => {
-            write!(out, "refused ")?;
-            put(name.as_bytes(), out)
-        }
+        Some(Outcome::Refused(name)) => write!(out, "refused {}", shown(name.as_bytes())),
     }
 }
 
@@ -128,8 +128,7 @@ fn show_rows<W: Write>(rows: &Rows, out: &mut W) -> io::Result<()> {
 /// Writes the words, each followed by `|`.
 fn show_fields<W: Write>(fields: &Fields, out: &mut W) -> io::Result<()> {
     for word in fields.as_slice() {
-        put(word.as_bytes(), out)?;
-        write!(out, "|")?;
+        write!(out, "{}|", shown(word.as_bytes()))?;
     }
     Ok(())
 }

@@ -17,12 +17,12 @@
 
 use crate::failure::Failure;
 use crate::played::Played;
-use crate::text::{decode, parted, put};
+use crate::text::{decode, parted, put, shown};
 use nut_conf::{FaultKind, read_upsmon};
 use nut_monitor::{Event, Monitor, MonitorFault, Notice};
 use std::alloc::Global;
-use std::io;
 use std::io::Write;
+use std::{io, mem};
 
 /// Plays a step on a monitor, and writes the answer.
 pub fn play<W: Write>(
@@ -99,8 +99,11 @@ fn is_lack(fault: MonitorFault) -> bool {
 }
 
 fn put_in(made: Monitor, monitor: &mut Option<Monitor>) {
-    *monitor = Some(made);
+    close(mem::replace(monitor, Some(made)));
 }
+
+/// Drops a monitor.
+pub fn close(_monitor: Option<Monitor>) {}
 
 /// Tells the monitor an event, and writes its answer and then its state.
 fn tell<W: Write>(
@@ -188,11 +191,10 @@ pub fn show_notice<W: Write>(
 ) -> Result<(), Failure> {
     text.clear();
     monitor.notice_text(notice, text)?;
-    let kind = notice.kind;
+    let (kind, text) = (notice.kind, shown(text.as_slice()));
     match notice.line {
-        Some(line) => write!(out, "{kind:?} {line} ")?,
-        None => write!(out, "{kind:?} - ")?,
+        Some(line) => write!(out, "{kind:?} {line} {text}")?,
+        None => write!(out, "{kind:?} - {text}")?,
     }
-    put(text.as_slice(), out)?;
     Ok(())
 }

@@ -1,7 +1,7 @@
 //! What happened at a line.
 
 /// What happened at a line of a script.
-#[derive(Clone, Copy, Debug, PartialEq, Eq)]
+#[derive(Clone, Copy, PartialEq, Eq)]
 pub enum Played {
     /// The line isn't a step.
     Nothing,

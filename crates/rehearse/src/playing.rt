@@ -3,7 +3,7 @@
 ghost use Rattle.std.specs.Prelude.{◌≤◌, IfOk};
 
 use crate::server::{Peer, Step};
-use crate::text::put;
+use crate::text::{put, shown};
 use nut_server::{Arrival, Config, Server};
 use std::io;
 use std::io::Write;
@@ -11,18 +11,17 @@ use std::io::Write;
 /// Plays a step, and writes the answer.
 pub fn play<W: Write>(step: Step<'_>, server: &mut Server, out: &mut W) -> io::Result<()> {
     match step {
-        Step::Tell(arrival) => tell(arrival, server, out)?,
-        Step::Take(peer, most) => take(peer, most, server, out)?,
+        Step::Tell(arrival) => tell(arrival, server, out),
+        Step::Take(peer, most) => take(peer, most, server, out),
         Step::Next(least) => match server.next_unsettled(least) {
-            Some(c) => write!(out, "connection {c}")?,
-            None => write!(out, "none")?,
+            Some(c) => write!(out, "connection {c}"),
+            None => write!(out, "none"),
         },
         Step::NextDriver(least) => match server.next_driver_waiting(least) {
-            Some(u) => write!(out, "driver {u}")?,
-            None => write!(out, "none")?,
+            Some(u) => write!(out, "driver {u}"),
+            None => write!(out, "none"),
         },
     }
-    Ok(())
 }
 
 /// Puts a configuration in force, and writes the answer, the server's state of each UPS, and what the reload ends.
@@ -85,8 +84,7 @@ fn show_waits<W: Write>(server: &Server, out: &mut W) -> io::Result<()> {
 /// Writes the name of each UPS, and the server's state of its driver.
 fn show_upses<W: Write>(server: &Server, out: &mut W) -> io::Result<()> {
     for u in 0..server.number_of_places() {
-        write!(out, "; ")?;
-        put(server.ups_name(u).unwrap_or(b"-"), out)?;
+        write!(out, "; {}", shown(server.ups_name(u).unwrap_or(b"-")))?;
         show_driver(u, server, out)?;
     }
     Ok(())

@@ -14,7 +14,7 @@ use crate::failure::Failure;
 use crate::played::Played;
 use crate::server::read_config;
 use crate::stage::Texts;
-use crate::text::{decode, parted, put};
+use crate::text::{decode, parted, shown};
 use nut_conf::{FaultKind, UpsmonConf, read_upsmon};
 use nut_play::{Fleet, FleetFault, FleetLog, Logged, News, Step, StepFault, read_step};
 use std::alloc::Global;
@@ -37,6 +37,18 @@ impl Rooms {
             monitors: Vec::new(alloc),
             schedule: Vec::new(alloc),
         }
+    }
+
+    /// Drops the room, and what was gathered for the next one.
+    pub fn close(self) {
+        let Rooms {
+            fleet,
+            monitors,
+            schedule,
+        } = self;
+        close(fleet);
+        let_go(monitors);
+        end(schedule);
     }
 
     /// Plays a step of a script, and writes the answer.
@@ -84,22 +96,27 @@ impl Rooms {
     ) -> Result<Played, Failure> {
         let monitors = mem::replace(&mut self.monitors, Vec::new(alloc));
         let made = fresh_fleet(alloc, texts, monitors)?;
-        Ok(self.put_fleet(made, out)?)
+        Ok(self.put_made(made, out)?)
     }
 
-    fn put_fleet<W: Write>(
+    /// Replaces the room by the new one, or writes why there is none.
+    fn put_made<W: Write>(
         &mut self,
         made: Result<Fleet, FleetFault>,
         out: &mut W,
     ) -> io::Result<Played> {
         match made {
             Ok(fleet) => {
-                self.fleet = Some(fleet);
+                self.put_fleet(fleet);
                 write!(out, "ok")?;
                 Ok(Played::Step)
             }
             Err(fault) => show_fault(fault, out),
         }
+    }
+
+    fn put_fleet(&mut self, fleet: Fleet) {
+        close(mem::replace(&mut self.fleet, Some(fleet)));
     }
 
     /// Adds a step to the next call.
@@ -127,6 +144,13 @@ impl Rooms {
         }
     }
 }
+
+/// Drops a room.
+fn close(_fleet: Option<Fleet>) {}
+
+fn let_go(_monitors: Vec<UpsmonConf>) {}
+
+fn end(_schedule: Vec<Step>) {}
 
 /// Makes a room with the texts of the server's files and the configurations of its monitors.
 fn fresh_fleet(
@@ -182,11 +206,10 @@ fn show_news<W: Write>(logged: &Logged, out: &mut W) -> io::Result<()> {
         News::Skipped => writeln!(out, "{step}: skipped"),
         News::Phase(monitor, phase) => writeln!(out, "{step}: monitor {monitor} phase {phase:?}"),
         News::Notice(monitor, notice) => {
-            write!(out, "{step}: monitor {monitor} notice ")?;
-            put(notice.kind.word(), out)?;
+            let kind = shown(notice.kind.word());
             match notice.line {
-                Some(line) => writeln!(out, " {line}"),
-                None => writeln!(out),
+                Some(line) => writeln!(out, "{step}: monitor {monitor} notice {kind} {line}"),
+                None => writeln!(out, "{step}: monitor {monitor} notice {kind}"),
             }
         }
     }

@@ -124,6 +124,9 @@ fn boxed(alloc: Global, config: Config) -> Result<Box<Config>, AllocError> {
     Ok(Box::new(alloc, config)?)
 }
 
+/// Drops a server.
+pub fn close(_server: Option<Server>) {}
+
 /// Plays a step on a server, and writes the answer.
 pub fn play<W: Write>(
     server: &mut Option<Server>,

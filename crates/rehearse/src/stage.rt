@@ -13,6 +13,7 @@ use nut_server::Server;
 use nut_words::LineCutter;
 use std::alloc::Global;
 use std::io::Write;
+use std::mem;
 use std::sync::Wait;
 
 /// The texts of the configuration files of a server.
@@ -160,7 +161,7 @@ impl Stage {
     }
 
     fn put_server(&mut self, server: Server) {
-        self.server = Some(server);
+        server::close(mem::replace(&mut self.server, Some(server)));
     }
 
     /// Puts the texts of the configuration files in force.
@@ -172,7 +173,23 @@ impl Stage {
     }
 
     /// Drops all engines.
-    pub fn close(self) {}
+    pub fn close(self) {
+        let Stage {
+            server,
+            dummy,
+            monitor,
+            link,
+            rooms,
+            events,
+            ..
+        } = self;
+        server::close(server);
+        dummy::close(dummy);
+        monitor::close(monitor);
+        link::close(link);
+        rooms.close();
+        watching::close(events);
+    }
 
     /// Lets driver and server take what waits for them, `size` bytes at a time.
     fn carry<W: Write>(&mut self, size: &str, out: &mut W) -> Result<Played, Failure> {

@@ -1,6 +1,8 @@
 //! The form of texts in scripts and in what is printed.
 
-use percent_encoding::{AsciiSet, CONTROLS, ascii_set, percent_decode, percent_encode};
+use percent_encoding::{
+    AsciiSet, CONTROLS, PercentEncode, ascii_set, percent_decode, percent_encode,
+};
 use std::alloc::AllocError;
 use std::io;
 use std::io::Write;
@@ -23,7 +25,12 @@ pub fn decode(text: &str, bytes: &mut Vec<u8>) -> Result<(), AllocError> {
     percent_decode(text.as_bytes()).append_to(bytes)
 }
 
+/// Returns bytes as a text that can be written.
+pub fn shown(bytes: &[u8]) -> PercentEncode<'_> {
+    percent_encode(bytes, ESCAPED)
+}
+
 /// Writes bytes as a text.
 pub fn put<W: Write>(bytes: &[u8], out: &mut W) -> io::Result<()> {
-    write!(out, "{}", percent_encode(bytes, ESCAPED))
+    write!(out, "{}", shown(bytes))
 }

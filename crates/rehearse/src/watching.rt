@@ -15,9 +15,9 @@ ghost use Rattle.std.specs.Prelude.{◌≡◌, IfOk, []};
 ghost use Rattle.nut_monitor_spec.specs.Content.{content};
 
 use crate::failure::Failure;
-use crate::monitor::show_notice;
+use crate::monitor::{self, show_notice};
 use crate::played::Played;
-use crate::text::{decode, parted, put};
+use crate::text::{decode, parted, shown};
 use nut_conf::read_upsmon;
 use nut_io::{Piece, ServeFault};
 use nut_monitor::{Monitor, Phase};
@@ -71,6 +71,9 @@ fn piece_of(bytes: &[u8]) -> Option<Piece> {
     }
 }
 
+/// Drops queued events.
+pub fn close(_events: Vec<Given>) {}
+
 /// Queues an event.
 fn push<W: Write>(events: &mut Vec<Given>, event: Given, out: &mut W) -> io::Result<Played> {
     let is_lack = events.push(event).is_err();
@@ -91,7 +94,10 @@ fn run<W: Write>(
 {
     match fresh_monitor(alloc, file) {
         Ok(monitor) => watch(rt, monitor, world, file, out),
-        Err(failure) => Err(failure),
+        Err(failure) => {
+            end(world);
+            Err(failure)
+        }
     }
 }
 
@@ -120,11 +126,13 @@ fn watch<W: Write>(
     let mut world = world;
     let led = watch_memory(rt, &mut monitor, &mut world);
     let shown = show_run(&monitor, world.notes(), led, text, out);
-    let_go(monitor, world);
+    monitor::close(Some(monitor));
+    end(world);
     shown
 }
 
-fn let_go(_monitor: Monitor, _world: MemoryMonWorld) {}
+/// Drops a world.
+fn end(_world: MemoryMonWorld) {}
 
 /// Writes what happened, and then the phase or the fault.
 fn show_run<W: Write>(
@@ -157,10 +165,7 @@ fn show_note<W: Write>(
 ) -> Result<(), Failure> {
     match note {
         Note::Gave(given) => show_given(given, out)?,
-        Note::Took(i, part) => {
-            write!(out, "link {i} is asked ")?;
-            put(part.as_slice(), out)?;
-        }
+        Note::Took(i, part) => write!(out, "link {i} is asked {}", shown(part.as_slice()))?,
         Note::Closed(i) => write!(out, "link {i} is closed")?,
         Note::Told(notice) => {
             write!(out, "told ")?;
@@ -175,10 +180,7 @@ fn show_given<W: Write>(given: &Given, out: &mut W) -> io::Result<()> {
     match given {
         Given::Moment(t) => write!(out, "> moment {t}"),
         Given::Linked(i) => write!(out, "> linked {i}"),
-        Given::LinkBytes(i, piece) => {
-            write!(out, "> bytes {i} ")?;
-            put(piece.as_slice(), out)
-        }
+        Given::LinkBytes(i, piece) => write!(out, "> bytes {i} {}", shown(piece.as_slice())),
         Given::LinkLost(i) => write!(out, "> lost {i}"),
     }
 }

@@ -10,7 +10,7 @@
 
 use crate::failure::Failure;
 use crate::played::Played;
-use crate::text::{decode, parted, put};
+use crate::text::{decode, parted, shown};
 use nut_words::{Line, LineCutter, WordFault, Words, split};
 use std::alloc::Global;
 use std::io;
@@ -51,8 +51,7 @@ fn show_split<W: Write>(alloc: Global, line: &[u8], out: &mut W) -> io::Result<P
 
 fn show_words<W: Write>(words: &Words<'_>, out: &mut W) -> io::Result<Played> {
     for index in 0..words.len() {
-        put(words.get(index), out)?;
-        write!(out, "|")?;
+        write!(out, "{}|", shown(words.get(index)))?;
     }
     Ok(Played::Step)
 }
@@ -62,19 +61,19 @@ fn feed<W: Write>(cutter: &mut LineCutter, piece: &[u8], out: &mut W) -> io::Res
     let mut left = piece;
     for _ in 0..piece.len() {
         let (line, used) = cutter.feed(left);
-        match line {
-            Some(Line::Text(text)) => show_line(text, out)?,
-            Some(Line::TooLong) => write!(out, "[!]")?,
-            None => break,
-        }
+        let Some(line) = line else {
+            break;
+        };
+        show_line(line, out)?;
         left = &left[used..];
     }
     let kept = cutter.kept();
     write!(out, " kept={kept}")
 }
 
-fn show_line<W: Write>(line: &[u8], out: &mut W) -> io::Result<()> {
-    write!(out, "[")?;
-    put(line, out)?;
-    write!(out, "]")
+fn show_line<W: Write>(line: Line<'_>, out: &mut W) -> io::Result<()> {
+    match line {
+        Line::Text(text) => write!(out, "[{}]", shown(text)),
+        Line::TooLong => write!(out, "[!]"),
+    }
 }
