@@ -18,6 +18,7 @@ from tests.support.harness import ROOT
 TESTS = (
     ("gate.believe", ()),
     ("programs.upsd_stdio", ("upsd",)),
+    ("programs.files", ("upsd", "upsmon")),
     ("rehearsals.server", ("rehearse",)),
     ("rehearsals.dummy", ("rehearse",)),
     ("rehearsals.monitor", ("rehearse",)),

@@ -12,6 +12,7 @@ check.
 check of the whole crate, and fails if the two disagree. Both need the libraries that a crate depends on: those that the gate
 has just built are used, and missing ones are built. The last line is 'N passed, M failed'."""
 
+import argparse
 import glob
 import os
 import re
@@ -356,22 +357,32 @@ def side_by_side(found, way):
     return {path: refused for said in toolchain().in_lanes(tasks).values() for path, refused in said.items()}
 
 
+def read_words(words):
+    """Returns what the words of the command line ask for."""
+    reader = argparse.ArgumentParser(prog="python3 -m tests.gate.wrong_bodies", description="Tests that the prover refuses wrong bodies.")
+    ways = reader.add_mutually_exclusive_group()
+    ways.add_argument("--look", action="store_true", help="only list the edits that cannot be applied")
+    ways.add_argument("--one-by-one", action="store_true", help="also try each edit in a check of its whole crate, and compare")
+    reader.add_argument("names", metavar="CRATE", nargs="*", help="a crate whose edits are tried; without one those of all crates are")
+    return reader.parse_args(words)
+
+
 def main(words):
+    options = read_words(words)
     os.chdir(ROOT)
-    names = [it for it in words if not it.startswith("--")]
-    crates = [it for it in toolchain().rtlib.crates_below(ROOT) if not names or it.name in names]
+    crates = [it for it in toolchain().rtlib.crates_below(ROOT) if not options.names or it.name in options.names]
     found, faults = look(crates)
-    faults += [f"{it}: crates.txt names no such crate" for it in names if it not in [crate.name for crate in crates]]
+    faults += [f"{it}: crates.txt names no such crate" for it in options.names if it not in [crate.name for crate in crates]]
     print(*faults, sep="\n", end="\n" if faults else "")
     found = {crate: it for crate, it in found.items() if it[1]}
     passed, failed = 0, len(faults)
-    if "--look" not in words:
+    if not options.look:
         build_libraries(found)
         for crate, (_, edits) in found.items():
             edits[:] = [it for it in edits if not it.fault]
         said = side_by_side(found, in_rounds)
         passed, failed = sum(said.values()), failed + len(said) - sum(said.values())
-        if "--one-by-one" in words:
+        if options.one_by_one:
             alone = side_by_side(found, lambda crate, _, edits, printing: one_by_one(crate, edits, printing))
             differ = sorted(it for it in said if said[it] != alone[it])
             for it in differ:

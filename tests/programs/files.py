@@ -1,0 +1,378 @@
+#!/usr/bin/env python3
+"""Has the programs check configuration files: each fault with its line, which of two faults is reported, and each limit, at it
+and just past it.
+
+    python3 -m tests.programs.files UPSD UPSMON
+
+The last line is 'N passed, M failed'."""
+
+import os
+import subprocess
+import sys
+import tempfile
+
+from tests.support.harness import ensure, expect, run_tests
+
+
+def numbered(line, count):
+    """Returns that many lines, each with its number, from 0 on."""
+    return b"".join(line % number for number in range(count))
+
+
+# For each file texts of it with the line and the kind of their fault, which is None if they have none.
+FILES = {
+    "ups.conf": [
+        (b"", None),
+        (b"[a]\n[a]\n", "2: Repeated"),
+        (b'[a]\ndesc = "x', "2: Unreadable"),
+        (b"desc = x\n", "1: OutsideSection"),
+        (b"[a]\ndesc =\n", "2: BadForm"),
+        (b"[a]\nfoo = x\n", "2: UnknownDirective"),
+        # words that cannot be read
+        (b'[a] "', "1: Unreadable"),
+        (b'[a]\ndesc = x\\', "2: Unreadable"),
+        (b"[a]\ndesc = \xc3\xa9\n", "2: Unreadable"),
+        (b"# caf\xc3\xa9\n", "1: Unreadable"),
+        (b'[a]\ndesc = "x"y\n', "2: Unreadable"),
+        (b"[a]\n\x00\n", "2: Unreadable"),
+        # section lines
+        (b"[]\n", "1: BadName"),
+        (b"[a/b]\n", "1: BadName"),
+        (b'"[a b]"\n', "1: BadName"),
+        (b'"[a]"\n[a]\n', "2: Repeated"),
+        (b"[A.b_c-9]\n[a.b_c-9]\n", None),
+        (b"[a] x\n", "1: OutsideSection"),
+        (b"[a]\n[b] x\n", "2: UnknownDirective"),
+        (b"[a]\n[b\n", "2: UnknownDirective"),
+        (b"[a]\nb]\n", "2: UnknownDirective"),
+        (b"[a]\n[\n", "2: UnknownDirective"),
+        # before the first section only this is tested
+        (b"foo\n", "1: OutsideSection"),
+        (b"desc\n", "1: OutsideSection"),
+        # directives, byte for byte
+        (b"[a]\nDesc = x\n", "2: UnknownDirective"),
+        (b"[a]\ndesc2 = x\n", "2: UnknownDirective"),
+        (b"[a]\nfoo\n", "2: UnknownDirective"),
+        # form
+        (b"[a]\ndesc x\n", "2: BadForm"),
+        (b"[a]\ndesc = x y\n", "2: BadForm"),
+        (b"[a]\ndesc == x\n", "2: BadForm"),
+        (b"[a]\ndesc\n", "2: BadForm"),
+        (b"[a]\ndesc = =\n", None),
+        # form is tested before values, and values before repetition
+        (b"[a]\ndriver = a/ b\n", "2: BadForm"),
+        (b"[a]\ndesc = x\ndesc =\n", "3: BadForm"),
+        (b"[a]\ndriver = x\ndriver = a/\n", "3: BadName"),
+        (b'[a]\ndriver = x\ndriver = ""\n', "3: BadName"),
+        (b"[a]\ndriver = x\nport = x\ndesc = x\ndriver = x\n", "5: Repeated"),
+        (b"[a]\ndesc = x\n\n# c\ndesc = y\n", "5: Repeated"),
+        # each section is tested on its own; the first faulty line is reported
+        (b"[a]\ndesc = x\n[b]\ndesc = x\n", None),
+        (b"[a]\nfoo = x\n[a]\n", "2: UnknownDirective"),
+        (b"[a]\r\n\r\n \t# c\r\ndesc=x\r\nport=y", None),
+        # limits, at each of them and just past it
+        (b"\n" * 1_048_576, None),
+        (b"\n" * 1_048_577, "0: PastLimit"),
+        (b"x" * 1_048_577, "0: PastLimit"),
+        (b"x" * 1_048_576, "1: PastLimit"),
+        (b"#" * 512 + b"\n[a]", None),
+        (b"#" * 513 + b"\n[a]", "1: PastLimit"),
+        (b"#" * 511 + b"\r\n", None),
+        (b"#" * 512 + b"\r\n", "1: PastLimit"),
+        (b'"' * 513, "1: PastLimit"),
+        (b"a " * 32, "1: OutsideSection"),
+        (b"a " * 33, "1: Unreadable"),
+        (b"[" + b"a" * 32 + b"]", None),
+        (b"[" + b"a" * 33 + b"]", "1: PastLimit"),
+        (b"[" + b"a" * 33 + b"/]", "1: BadName"),
+        (b"[a]\ndriver=" + b"d" * 32, None),
+        (b"[a]\ndriver=" + b"d" * 33, "2: PastLimit"),
+        (b"[a]\ndriver=" + b"d" * 33 + b"/", "2: BadName"),
+        (b"[a]\nport=" + b"d" * 128, None),
+        (b"[a]\nport=" + b"d" * 129, "2: PastLimit"),
+        (b"[a]\ndesc=" + b"d" * 128, None),
+        (b"[a]\ndesc=" + b"d" * 129, "2: PastLimit"),
+        (b"[a]\ndesc=x\ndesc=" + b"d" * 129, "3: PastLimit"),
+        (numbered(b"[s%d]\n", 32), None),
+        (numbered(b"[s%d]\n", 33), "33: PastLimit"),
+        (numbered(b"[s%d]\n", 32) + b"[s0]", "33: Repeated"),
+        (numbered(b"[s%d]\n", 32) + b"[s/]", "33: BadName"),
+        (numbered(b"[s%d]\n", 32) + b"desc = x", None),
+    ],
+    "upsd.users": [
+        (b"[mon]\nupsmon tertiary\n", "2: UnknownWord"),
+        (b"[mon]\nupsmon primary\nupsmon secondary\n", "3: Repeated"),
+        (b"[mon]\nupsmon primary\nupsmon x\n", "3: UnknownWord"),
+        (b"[mon]\nupsmon = primary\n", "2: BadForm"),
+        (b"[mon]\nupsmon\n", "2: BadForm"),
+        (b"[mon]\nupsmon Primary\n", "2: UnknownWord"),
+        (b'[a]\npassword = ""\n', "2: PastLimit"),
+        (b'[a]\npassword = x\npassword = ""\n', "3: PastLimit"),
+        (b"[a]\npassword = x\npassword = y\n", "3: Repeated"),
+        (b"[a]\npassword x\n", "2: BadForm"),
+        (b"[a]\nactions = SET\nactions = SET\nactions = FSD\n", None),
+        (b"[a]\nactions = set\n", "2: UnknownWord"),
+        (b"[a]\nactions = SET FSD\n", "2: BadForm"),
+        (b"[a]\ninstcmds = all\ninstcmds = ALL\ninstcmds = aLl\n", None),
+        (b"[a]\ninstcmds = load.off\ninstcmds = load.off\n", None),
+        (b"[a]\ninstcmds = a/b\n", "2: BadName"),
+        (b'[a]\ninstcmds = ""\n', "2: BadName"),
+        (b"[a]\ninstcmds = a b\n", "2: BadForm"),
+        (b"[a]\ndesc = x\n", "2: UnknownDirective"),
+        (b"password = x\n", "1: OutsideSection"),
+        (b"[a]\n[b]\n[a]\n", "3: Repeated"),
+        (b"[a]\nSET\n", "2: UnknownDirective"),
+        # limits, at each of them and just past it
+        (b"[a]\npassword=" + b"d" * 128, None),
+        (b"[a]\npassword=" + b"d" * 129, "2: PastLimit"),
+        (b"[a]\ninstcmds=" + b"d" * 64, None),
+        (b"[a]\ninstcmds=" + b"d" * 65, "2: PastLimit"),
+        (b"[a]\n" + b"instcmds=x\n" * 128, None),
+        (b"[a]\n" + b"instcmds=x\n" * 129, "130: PastLimit"),
+        (b"[a]\n" + b"instcmds=x\n" * 128 + b"instcmds=/", "130: BadName"),
+        (b"[a]\n" + b"instcmds=ALL\n" * 129, "130: PastLimit"),
+        (b"[a]\n" + b"actions=SET\n" * 1000, None),
+        (numbered(b"[s%d]\n", 64), None),
+        (numbered(b"[s%d]\n", 65), "65: PastLimit"),
+        (numbered(b"[s%d]\n", 64) + b"[s63]", "65: Repeated"),
+        (numbered(b"[s%d]\n", 64) + b"[]", "65: BadName"),
+    ],
+    "upsd.conf": [
+        (b"", None),
+        (b"MAXAGE 15\nMAXAGE 0\n", "2: BadNumber"),
+        (b"MAXAGE 15\nMAXAGE 16\n", "2: Repeated"),
+        (b"MAXAGE\n", "1: BadForm"),
+        (b"MAXAGE = 5\n", "1: BadForm"),
+        (b"MAXAGE 0 0\n", "1: BadForm"),
+        (b"MAXAGE 1x\n", "1: BadNumber"),
+        (b'MAXAGE ""\n', "1: BadNumber"),
+        (b"MAXAGE -1\n", "1: BadNumber"),
+        (b"MAXAGE +1\n", "1: BadNumber"),
+        (b"maxage 5\n", "1: UnknownDirective"),
+        (b"[a]\n", "1: UnknownDirective"),
+        (b"MAXCONN 256\nMAXCONN 257\n", "2: BadNumber"),
+        (b"MAXCONN 1\nMAXCONN 1\n", "2: Repeated"),
+        (b"LISTEN\n", "1: BadForm"),
+        (b"LISTEN a 1 2\n", "1: BadForm"),
+        (b"LISTEN a_b 1 2\n", "1: BadForm"),
+        (b"LISTEN a_b 0\n", "1: BadName"),
+        (b'LISTEN ""\n', "1: BadName"),
+        (b"LISTEN a 0\n", "1: BadNumber"),
+        (b"LISTEN ::1\nLISTEN ::1\nLISTEN 0.0.0.0 1\n", None),
+        (b"LISTEN = 1\n", "1: BadName"),
+        (b"CERTFILE x\n", "1: UnknownDirective"),
+        # numbers
+        (b"LISTEN a 1\nLISTEN a 65535", None),
+        (b"LISTEN a 65536", "1: BadNumber"),
+        (b"MAXAGE 1\nMAXCONN 1", None),
+        (b"MAXAGE 86400\nMAXCONN 256", None),
+        (b"MAXAGE 0", "1: BadNumber"),
+        (b"MAXAGE 86401", "1: BadNumber"),
+        (b"MAXCONN 0", "1: BadNumber"),
+        (b"MAXCONN 257", "1: BadNumber"),
+        (b"MAXAGE 000000015", None),
+        (b"MAXAGE 0000000015", "1: BadNumber"),
+        # limits, at each of them and just past it
+        (b"LISTEN " + b"a" * 64, None),
+        (b"LISTEN " + b"a" * 65, "1: BadName"),
+        (b"LISTEN a\n" * 16, None),
+        (b"LISTEN a\n" * 17, "17: PastLimit"),
+        (b"LISTEN a\n" * 16 + b"LISTEN a 0", "17: BadNumber"),
+    ],
+    "upsmon.conf": [
+        (b"", "0: PastLimit"),
+        (b"MINSUPPLIES 0\n", None),
+        (b"MONITOR u@h 1 mon m1 primary\n", None),
+        (b"MONITOR u@h 0 mon m1 primary\n", "0: PastLimit"),
+        (b"MONITOR u@h 1 mon m1 primary\nMINSUPPLIES 2\n", "0: PastLimit"),
+        (b"MINSUPPLIES 2\nMONITOR u@h 1 m p primary\nMONITOR v@h 1 m p secondary\n", None),
+        # a faulty line is reported before the sum
+        (b"MINSUPPLIES 2\nFOO\n", "2: UnknownDirective"),
+        # targets
+        (b"MONITOR u 1 m p primary\n", "1: BadName"),
+        (b"MONITOR @h 1 m p primary\n", "1: BadName"),
+        (b"MONITOR u@ 1 m p primary\n", "1: BadName"),
+        (b"MONITOR u@h: 1 m p primary\n", "1: BadName"),
+        (b"MONITOR u@h:0 1 m p primary\n", "1: BadName"),
+        (b"MONITOR u@h:65536 1 m p primary\n", "1: BadName"),
+        (b"MONITOR u@h_ 1 m p primary\n", "1: BadName"),
+        (b"MONITOR u@h@i 1 m p primary\n", "1: BadName"),
+        (b"MONITOR u@h 1 m p primary\nMONITOR u@h 2 n q secondary\n", "2: Repeated"),
+        (b"MONITOR u@h 1 m p primary\nMONITOR u@h:3493 1 m p primary\n", "2: Repeated"),
+        (b"MONITOR u@h:03493 1 m p primary\nMONITOR u@h 1 m p primary\n", "2: Repeated"),
+        (b"MONITOR u@h 1 m p primary\nMONITOR u@h:1 1 m p primary\n", None),
+        (b"MONITOR u@h 1 m p primary\nMONITOR u@H 1 m p primary\n", None),
+        (b"MONITOR u@h 1 m p primary\nMONITOR U@h 1 m p primary\n", None),
+        # values are tested from left to right
+        (b"MONITOR u 1 m p\n", "1: BadForm"),
+        (b"MONITOR u@h 1 m p primary x\n", "1: BadForm"),
+        (b"MONITOR u x m p primary\n", "1: BadName"),
+        (b"MONITOR u@h x m/ p primary\n", "1: BadNumber"),
+        (b'MONITOR u@h 1 m/ "" primary\n', "1: BadName"),
+        (b'MONITOR u@h 1 m "" master\n', "1: PastLimit"),
+        (b"MONITOR u@h 1 m p master\n", "1: UnknownWord"),
+        (b"MONITOR u@h 1 m p primary\nMONITOR u@h 1 m p x\n", "2: UnknownWord"),
+        # commands
+        (b'MINSUPPLIES 0\nSHUTDOWNCMD ""\n', "2: PastLimit"),
+        (b"MINSUPPLIES 0\nSHUTDOWNCMD a b\n", "2: BadForm"),
+        (b'MINSUPPLIES 0\nSHUTDOWNCMD a\nSHUTDOWNCMD ""\n', "3: PastLimit"),
+        (b"MINSUPPLIES 0\nSHUTDOWNCMD a\nSHUTDOWNCMD b\n", "3: Repeated"),
+        (b"MINSUPPLIES 0\nNOTIFYCMD a\nPOWERDOWNFLAG a\nNOTIFYCMD a\n", "4: Repeated"),
+        (b"MINSUPPLIES 0\nPOWERDOWNFLAG a\nPOWERDOWNFLAG a\n", "3: Repeated"),
+        (b"MINSUPPLIES 0\nMINSUPPLIES x\n", "2: BadNumber"),
+        (b"MINSUPPLIES 0\nMINSUPPLIES 0\n", "2: Repeated"),
+        # notices
+        (b"MINSUPPLIES 0\nNOTIFYMSG ONLINE x\nNOTIFYMSG ONBATT x\n", None),
+        (b"MINSUPPLIES 0\nNOTIFYMSG ONLINE x\nNOTIFYMSG ONLINE y\n", "3: Repeated"),
+        (b"MINSUPPLIES 0\nNOTIFYMSG ONLINE x\nNOTIFYMSG ONLINE\n", "3: BadForm"),
+        (b"MINSUPPLIES 0\nNOTIFYMSG online x\n", "2: UnknownWord"),
+        (b"MINSUPPLIES 0\nNOTIFYMSG NOPARENT x\n", "2: UnknownWord"),
+        (b'MINSUPPLIES 0\nNOTIFYMSG FSD ""\n', None),
+        (b"MINSUPPLIES 0\nNOTIFYMSG x y z\n", "2: BadForm"),
+        (b"MINSUPPLIES 0\nNOTIFYFLAG ONLINE SYSLOG\nNOTIFYMSG ONLINE x\n", None),
+        (b"MINSUPPLIES 0\nNOTIFYFLAG ONLINE SYSLOG+WALL+EXEC+IGNORE\n", None),
+        (b"MINSUPPLIES 0\nNOTIFYFLAG ONLINE EXEC+EXEC\n", None),
+        (b"MINSUPPLIES 0\nNOTIFYFLAG ONLINE EXEC\nNOTIFYFLAG ONLINE EXEC\n", "3: Repeated"),
+        (b'MINSUPPLIES 0\nNOTIFYFLAG ONLINE ""\n', "2: UnknownWord"),
+        (b"MINSUPPLIES 0\nNOTIFYFLAG ONLINE EXEC+\n", "2: UnknownWord"),
+        (b"MINSUPPLIES 0\nNOTIFYFLAG ONLINE +EXEC\n", "2: UnknownWord"),
+        (b"MINSUPPLIES 0\nNOTIFYFLAG ONLINE EXEC+MAIL\n", "2: UnknownWord"),
+        (b"MINSUPPLIES 0\nNOTIFYFLAG ONLINE exec\n", "2: UnknownWord"),
+        (b"MINSUPPLIES 0\nNOTIFYFLAG ONLINE EXEC + WALL\n", "2: BadForm"),
+        (b"MINSUPPLIES 0\nNOTIFYFLAG TEST EXEC\n", "2: UnknownWord"),
+        (b"MINSUPPLIES 0\nPOLLFREQ 5\nPOLLFREQ 5\n", "3: Repeated"),
+        # numbers
+        (b"MONITOR u@h 1000 m p primary", None),
+        (b"MONITOR u@h 1001 m p primary", "1: BadNumber"),
+        (b"MINSUPPLIES 32000", "0: PastLimit"),
+        (b"MINSUPPLIES 32001", "1: BadNumber"),
+        (b"MINSUPPLIES 0\nPOLLFREQ 1\nDEADTIME 1\nRBWARNTIME 1\nNOCOMMWARNTIME 1\nHOSTSYNC 0\nFINALDELAY 0", None),
+        (b"MINSUPPLIES 0\nPOLLFREQ 1000000\nHOSTSYNC 1000000", None),
+        (b"POLLFREQ 0", "1: BadNumber"),
+        (b"DEADTIME 0", "1: BadNumber"),
+        (b"RBWARNTIME 1000001", "1: BadNumber"),
+        (b"NOCOMMWARNTIME 0", "1: BadNumber"),
+        (b"HOSTSYNC 1000001", "1: BadNumber"),
+        # limits, at each of them and just past it
+        (b"MONITOR " + b"u" * 33 + b"@h 1 m p primary", "1: BadName"),
+        (b"MONITOR u@h 1 " + b"m" * 32 + b" p primary", None),
+        (b"MONITOR u@h 1 " + b"m" * 33 + b" p primary", "1: PastLimit"),
+        (b"MONITOR u@h 1 m " + b"p" * 128 + b" primary", None),
+        (b"MONITOR u@h 1 m " + b"p" * 129 + b" primary", "1: PastLimit"),
+        (b"MINSUPPLIES 0\nSHUTDOWNCMD " + b"c" * 256, None),
+        (b"MINSUPPLIES 0\nSHUTDOWNCMD " + b"c" * 257, "2: PastLimit"),
+        (b"MINSUPPLIES 0\nNOTIFYCMD " + b"c" * 257, "2: PastLimit"),
+        (b"MINSUPPLIES 0\nPOWERDOWNFLAG " + b"c" * 257, "2: PastLimit"),
+        (b"MINSUPPLIES 0\nNOTIFYMSG FSD " + b"c" * 128, None),
+        (b"MINSUPPLIES 0\nNOTIFYMSG FSD " + b"c" * 129, "2: PastLimit"),
+        (b"MINSUPPLIES 0\nNOTIFYMSG X " + b"c" * 129, "2: UnknownWord"),
+        (numbered(b"MONITOR u%d@h 1000 m p primary\n", 32) + b"MINSUPPLIES 32000", None),
+        (numbered(b"MONITOR u%d@h 1000 m p primary\n", 31) + b"MINSUPPLIES 31001", "0: PastLimit"),
+        (numbered(b"MONITOR u%d@h 1000 m p primary\n", 33), "33: PastLimit"),
+        (numbered(b"MONITOR u%d@h 1000 m p primary\n", 32) + b"MONITOR u31@h 1 m p primary", "33: Repeated"),
+        (numbered(b"MONITOR u%d@h 1000 m p primary\n", 32) + b"MONITOR v@h 1 m p x", "33: UnknownWord"),
+    ],
+    "cmdvartab": [
+        (b"", None),
+        (b"# a comment\n\n \t\r\n", None),
+        (b'VARDESC ups.model "UPS model"\n', None),
+        (b'CMDDESC load.cycle "Turn off, then on"', None),
+        (b"VARDESC ups.model UPS\n", None),
+        (b'VARDESC ups.model ""\n', None),
+        (b'VARDESC Ups_a-9.b "x" # a comment\n', None),
+        (b"VARDESC a =\n", None),
+        (b"VARDESC a = x\n", "1: BadForm"),
+        # a variable and a command may share a name, and the case of letters counts
+        (b"VARDESC a x\nCMDDESC a x\n", None),
+        (b"VARDESC a x\nVARDESC A x\n", None),
+        (b"VARDESC a x\nVARDESC b x\n\nVARDESC a y\n", "4: Repeated"),
+        (b"CMDDESC a x\nVARDESC a x\nCMDDESC a x\n", "3: Repeated"),
+        # words that don't read
+        (b'VARDESC a "x\n', "1: Unreadable"),
+        (b'VARDESC a x\\', "1: Unreadable"),
+        (b'VARDESC a "caf\xc3\xa9"\n', "1: Unreadable"),
+        (b'VARDESC a "x\ty"\n', "1: Unreadable"),
+        # directives, byte for byte
+        (b"vardesc a x\n", "1: UnknownDirective"),
+        (b"VARDESCR a x\n", "1: UnknownDirective"),
+        (b"DESC a x\n", "1: UnknownDirective"),
+        (b"[a]\n", "1: UnknownDirective"),
+        (b'""\n', "1: UnknownDirective"),
+        # form
+        (b"VARDESC\n", "1: BadForm"),
+        (b"VARDESC a\n", "1: BadForm"),
+        (b"CMDDESC a\n", "1: BadForm"),
+        (b"VARDESC a UPS model\n", "1: BadForm"),
+        (b"CMDDESC a b c\n", "1: BadForm"),
+        # form before the name, the name before the text, values before a repetition
+        (b"VARDESC a/b\n", "1: BadForm"),
+        (b"VARDESC a/b x\n", "1: BadName"),
+        (b'CMDDESC "" x\n', "1: BadName"),
+        (b'CMDDESC "a b" x\n', "1: BadName"),
+        (b"VARDESC a x\nVARDESC a/ x\n", "2: BadName"),
+        (b"VARDESC a x\nVARDESC a\n", "2: BadForm"),
+        # the first faulty line is named
+        (b"\n# x\nVARDESC a x\nFOO\nVARDESC a y\n", "4: UnknownDirective"),
+        # limits, at each of them and just past it
+        (b"VARDESC " + b"a" * 64 + b" x", None),
+        (b"VARDESC " + b"a" * 65 + b" x", "1: PastLimit"),
+        (b"VARDESC " + b"a" * 65 + b"/ x", "1: BadName"),
+        (b"CMDDESC a " + b"x" * 128, None),
+        (b"CMDDESC a " + b"x" * 129, "1: PastLimit"),
+        # a text that is too long comes before a repetition
+        (b"CMDDESC a x\nCMDDESC a " + b"x" * 129, "2: PastLimit"),
+        (b"CMDDESC a x\n" + numbered(b"VARDESC v%d x\n", 1024), None),
+        (b"CMDDESC a x\n" + numbered(b"VARDESC v%d x\n", 1025), "1026: PastLimit"),
+    ],
+}
+
+
+class Tests:
+    def __init__(self, upsd, upsmon, folder):
+        self.upsd, self.upsmon, self.folder = upsd, upsmon, folder
+
+    def checked(self, program, **texts):
+        """Returns what a program says of a folder of files, each named with '_' for '.'."""
+        with tempfile.TemporaryDirectory(dir=self.folder) as folder:
+            for name, text in texts.items():
+                with open(os.path.join(folder, name.replace("_", ".")), "wb") as file:
+                    file.write(text)
+            # upsmon looks for upsc, and finds none
+            done = subprocess.run([program, "--check", "--conf", folder], capture_output=True, timeout=60, env={"PATH": folder})
+        return done.returncode, done.stdout, done.stderr
+
+    def compare(self, name, program, **others):
+        """Compares the first fault that a program finds in each text of a file with the table."""
+        own = os.path.basename(program)
+        for text, fault in FILES[name]:
+            status, out, err = self.checked(program, **{**others, name.replace(".", "_"): text})
+            what = f"{name}, {len(text)} bytes: {text[:60]!r}"
+            if fault is None:
+                ensure(status == 0 and f"{own}: {name}:".encode() not in err, f"{what}: found {status}, {err!r}")
+            else:
+                found = status, out, err.split(b"\n")[0]
+                expect(found, (1, b"", f"{own}: {name}:{fault}".encode()), what)
+
+    def test_ups_conf(self):
+        self.compare("ups.conf", self.upsd, upsd_users=b"", upsd_conf=b"")
+
+    def test_upsd_users(self):
+        self.compare("upsd.users", self.upsd, ups_conf=b"", upsd_conf=b"")
+
+    def test_upsd_conf(self):
+        self.compare("upsd.conf", self.upsd, ups_conf=b"", upsd_users=b"")
+
+    def test_upsmon_conf(self):
+        self.compare("upsmon.conf", self.upsmon)
+
+    def test_cmdvartab(self):
+        self.compare("cmdvartab", self.upsd, ups_conf=b"", upsd_users=b"", upsd_conf=b"")
+
+
+def main():
+    with tempfile.TemporaryDirectory() as folder:
+        return run_tests(Tests(*map(os.path.abspath, sys.argv[1:3]), folder))
+
+
+if __name__ == "__main__":
+    sys.exit(main())
