@@ -6,21 +6,38 @@ use std::alloc::{AllocError, Global};
 
 /// Returns the command line of `upsd --stdio`.
 pub fn stdio_command<'a>(alloc: Global) -> Result<Command<'a>, AllocError> {
-    bare_command(alloc)
-        .arg(stdio(alloc).required(true))?
-        .arg(conf(alloc)?)?
-        .arg(ups(alloc))
+    let args = with(Ok(Vec::new(alloc)), Ok(stdio(alloc).required(true)));
+    let args = with(args, conf(alloc));
+    command_with(alloc, with(args, Ok(ups(alloc))))
 }
 
 /// Returns the command line of upsd: `upsd --stdio`, `upsd --conf DIR -s SOCKDIR` and `upsd --check`.
 pub fn upsd_command<'a>(alloc: Global) -> Result<Command<'a>, AllocError> {
-    bare_command(alloc)
-        .arg(conf(alloc)?)?
-        .arg(sockets(alloc)?)?
-        .arg(quiet_upsd(alloc)?)?
-        .arg(check_upsd(alloc)?)?
-        .arg(stdio(alloc))?
-        .arg(ups_of_stdio(alloc)?)
+    let args = with(Ok(Vec::new(alloc)), conf(alloc));
+    let args = with(args, sockets(alloc));
+    let args = with(args, quiet_upsd(alloc));
+    let args = with(args, check_upsd(alloc));
+    let args = with(args, Ok(stdio(alloc)));
+    command_with(alloc, with(args, ups_of_stdio(alloc)))
+}
+
+/// Appends an item, if memory was found for it and for those before.
+fn with<T: Drop>(
+    items: Result<Vec<T>, AllocError>,
+    item: Result<T, AllocError>,
+) -> Result<Vec<T>, AllocError> {
+    let mut items = items?;
+    items.push(item?)?;
+    Ok(items)
+}
+
+/// Returns a command line with these arguments.
+fn command_with<'a>(
+    alloc: Global,
+    args: Result<Vec<Arg<'a>>, AllocError>,
+) -> Result<Command<'a>, AllocError> {
+    let args = args?;
+    bare_command(alloc).args(args)
 }
 
 fn bare_command<'a>(alloc: Global) -> Command<'a> {
