@@ -21,23 +21,12 @@ pub fn changes(
     listens_elsewhere: bool,
 ) -> Result<String, AllocError> {
     let mut list = List::new(alloc);
-    list_missing(alloc, new, old, "added", &mut list)?;
-    list_missing(alloc, old, new, "removed", &mut list)?;
-    list_different(alloc, old, new, &mut list)?;
-    if have_other_users(old.users(), new.users()) {
-        list.add("users")?;
-    }
-    if old.max_age() != new.max_age() {
-        list.add(format!(in alloc; "MAXAGE {}", new.max_age())?.as_str())?;
-    }
-    if old.most_connections() != new.most_connections() {
-        list.add(format!(in alloc; "MAXCONN {}", new.most_connections())?.as_str())?;
-    }
-    if have_other_texts(old.descriptions(), new.descriptions()) {
-        list.add("cmdvartab")?;
-    }
+    list_missing(new, old, "added", &mut list);
+    list_missing(old, new, "removed", &mut list);
+    list_different(old, new, &mut list);
+    list_others(alloc, old, new, &mut list);
     if listens_elsewhere {
-        list.add("LISTEN takes effect at the next start")?;
+        list.add(&["LISTEN takes effect at the next start"]);
     }
     list.into_text()
 }
@@ -46,24 +35,55 @@ pub fn changes(
 #[derive(Drop)]
 struct List {
     text: String,
+    /// Whether memory was found for each item.
+    is_whole: bool,
 }
 
 impl List {
     fn new(alloc: Global) -> List {
         List {
             text: String::new(alloc),
+            is_whole: true,
         }
     }
 
-    fn add(&mut self, item: &str) -> Result<(), AllocError> {
+    /// Adds an item of these parts.
+    fn add(&mut self, parts: &[&str]) {
+        if self.put(parts).is_err() {
+            self.is_whole = false;
+        }
+    }
+
+    /// Appends the parts of an item.
+    fn put(&mut self, parts: &[&str]) -> Result<(), AllocError> {
         if !self.text.is_empty() {
             self.text.push_str(", ")?;
         }
-        self.text.push_str(item)
+        for part in parts {
+            self.text.push_str(part)?;
+        }
+        Ok(())
     }
 
+    /// Adds what is to be said of a UPS, behind its name and this mark.
+    fn add_ups(&mut self, name: &[u8], mark: &str, what: &str) {
+        self.add(&["UPS ", text_of(name), mark, what]);
+    }
+
+    /// Adds a directive with its number.
+    fn add_number(&mut self, alloc: Global, name: &str, number: usize) {
+        match format!(in alloc; "{number}") {
+            Ok(number) => self.add(&[name, " ", number.as_str()]),
+            Err(_) => self.is_whole = false,
+        }
+    }
+
+    /// Returns all items, or an error if memory was refused to one.
     fn into_text(self) -> Result<String, AllocError> {
         let mut text = self.text;
+        if !self.is_whole {
+            return Err(AllocError);
+        }
         if text.is_empty() {
             text.push_str("nothing changed")?;
         }
@@ -72,32 +92,19 @@ impl List {
 }
 
 /// Lists the UPSes of one configuration that the other doesn't have, with what that means.
-fn list_missing(
-    alloc: Global,
-    from: &Config,
-    other: &Config,
-    what: &str,
-    list: &mut List,
-) -> Result<(), AllocError> {
+fn list_missing(from: &Config, other: &Config, what: &str, list: &mut List) {
     for u in 0..from.number_of_upses() {
         let Some(ups) = from.ups_at(u) else {
             break;
         };
         if other.find_ups(ups.name).is_none() {
-            let name = text_of(ups.name);
-            list.add(format!(in alloc; "UPS {name} {what}")?.as_str())?;
+            list.add_ups(ups.name, " ", what);
         }
     }
-    Ok(())
 }
 
 /// Lists the UPSes that both configurations have, and that differ.
-fn list_different(
-    alloc: Global,
-    old: &Config,
-    new: &Config,
-    list: &mut List,
-) -> Result<(), AllocError> {
+fn list_different(old: &Config, new: &Config, list: &mut List) {
     for u in 0..new.number_of_upses() {
         let Some(ups) = new.ups_at(u) else {
             break;
@@ -106,11 +113,25 @@ fn list_different(
             continue;
         };
         if let Some(difference) = difference(&before, &ups) {
-            let name = text_of(ups.name);
-            list.add(format!(in alloc; "UPS {name}: {difference}")?.as_str())?;
+            list.add_ups(ups.name, ": ", difference);
         }
     }
-    Ok(())
+}
+
+/// Lists what differs besides the UPSes and the LISTEN lines.
+fn list_others(alloc: Global, old: &Config, new: &Config, list: &mut List) {
+    if have_other_users(old.users(), new.users()) {
+        list.add(&["users"]);
+    }
+    if old.max_age() != new.max_age() {
+        list.add_number(alloc, "MAXAGE", new.max_age() as usize);
+    }
+    if old.most_connections() != new.most_connections() {
+        list.add_number(alloc, "MAXCONN", new.most_connections());
+    }
+    if have_other_texts(old.descriptions(), new.descriptions()) {
+        list.add(&["cmdvartab"]);
+    }
 }
 
 /// Returns what of a UPS differs, if something does that clients or drivers notice.
