@@ -20,6 +20,32 @@ pub struct Settings {
 }
 
 impl Settings {
+    /// Returns settings in which nothing is set.
+    fn new(alloc: Global) -> Settings {
+        Settings {
+            ups: UpsConf::new(alloc),
+            users: UsersConf::new(alloc),
+            upsd: UpsdConf::new(alloc),
+            descriptions: None,
+        }
+    }
+
+    /// Reads the files of a folder, up to the first that has a fault.
+    fn read(
+        &mut self,
+        files: &impl Files,
+        alloc: Global,
+        folder: &str,
+    ) -> Result<(), FileFault<'static>> {
+        put(&mut self.ups, read_conf(files, alloc, folder))?;
+        put(&mut self.users, read_conf(files, alloc, folder))?;
+        put(&mut self.upsd, read_conf(files, alloc, folder))?;
+        put(
+            &mut self.descriptions,
+            read_conf_if_there(files, alloc, folder),
+        )
+    }
+
     /// Makes the configuration of a server.
     pub fn into_config(self) -> Config {
         let Settings {
@@ -36,25 +62,38 @@ impl Settings {
     }
 }
 
+/// Puts what was read in its place, unless that has a fault.
+fn put<T: Drop>(
+    place: &mut T,
+    read: Result<T, FileFault<'static>>,
+) -> Result<(), FileFault<'static>> {
+    *place = read?;
+    Ok(())
+}
+
 /// Reads the files of `--conf`, or without it the UPSes of `--ups`.
 pub fn read_options(
     files: &impl Files,
     alloc: Global,
     matches: &ArgMatches<'_>,
 ) -> Result<Settings, Failure<UpsdFault>> {
-    if let Some(folder) = matches.get_str("conf") {
-        return Ok(read_settings(files, alloc, folder)?);
+    match matches.get_str("conf") {
+        Some(folder) => Ok(read_settings(files, alloc, folder)?),
+        None => read_upses(alloc, matches.get_strs("ups").unwrap_or(&[])),
     }
-    let ups = match read_ups_options(alloc, matches.get_strs("ups").unwrap_or(&[])) {
-        Ok(ups) => ups,
-        Err(fault) => return Err(ups_failure(fault)),
-    };
-    Ok(Settings {
-        ups,
-        users: UsersConf::new(alloc),
-        upsd: UpsdConf::new(alloc),
-        descriptions: None,
-    })
+}
+
+/// Reads the values of `--ups`. Nothing else is set.
+fn read_upses(alloc: Global, values: &[&str]) -> Result<Settings, Failure<UpsdFault>> {
+    match read_ups_options(alloc, values) {
+        Ok(ups) => Ok(Settings {
+            ups,
+            users: UsersConf::new(alloc),
+            upsd: UpsdConf::new(alloc),
+            descriptions: None,
+        }),
+        Err(fault) => Err(ups_failure(fault)),
+    }
 }
 
 /// Reads the files of a folder.
@@ -63,12 +102,9 @@ fn read_settings(
     alloc: Global,
     folder: &str,
 ) -> Result<Settings, FileFault<'static>> {
-    Ok(Settings {
-        ups: read_conf(files, alloc, folder)?,
-        users: read_conf(files, alloc, folder)?,
-        upsd: read_conf(files, alloc, folder)?,
-        descriptions: read_conf_if_there(files, alloc, folder)?,
-    })
+    let mut settings = Settings::new(alloc);
+    let read = settings.read(files, alloc, folder);
+    read.and(Ok(settings))
 }
 
 /// Reads the files of a folder, and warns if everybody can read the passwords of upsd.users.
@@ -83,9 +119,22 @@ pub fn read_folder<E: Write>(
     err: &mut E,
 ) -> Result<Settings, FileFault<'static>> {
     let settings = read_settings(files, alloc, folder)?;
+    let warned = warn_if_readable(files, alloc, folder, err);
+    warned.and(Ok(settings))
+}
+
+/// Warns if everybody can read the passwords of upsd.users.
+fn warn_if_readable<E: Write>(
+    files: &impl Files,
+    alloc: Global,
+    folder: &str,
+    err: &mut E,
+) -> Result<(), FileFault<'static>> {
     match readable_file::<UsersConf>(files, alloc, folder) {
-        Ok(readable) => warn("upsd", readable, err),
-        Err(_) => return Err(FileFault::Memory),
+        Ok(readable) => {
+            warn("upsd", readable, err);
+            Ok(())
+        }
+        Err(_) => Err(FileFault::Memory),
     }
-    Ok(settings)
 }
