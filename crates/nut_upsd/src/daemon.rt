@@ -4,17 +4,17 @@ ghost use Rattle.std.specs.Prelude.{◌≡◌, ◌<◌, ◌-◌, ◌^◌, [], If
 ghost use Rattle.nut_server_spec.specs.Content.{content};
 
 use crate::command_line::upsd_command;
-use crate::configuration::{read_folder, read_options};
+use crate::configuration::{Settings, read_folder};
 use crate::listeners::listen;
 use crate::reloading::Reloading;
-use crate::stdio::serve_client;
-use crate::upsd_fault::UpsdFault;
+use crate::stdio::serve_options;
+use crate::upsd_fault::{UpsdFault, exit_status};
 use clap::ArgMatches;
 use mio::net::TcpListener;
 use nut_io::ServeFault;
 use nut_poll::{Report, Reports};
 use nut_program::{Failure, conf_folder, hold_closed_streams};
-use nut_server::Server;
+use nut_server::{Config, Server};
 use nut_server_loop::{World, serve};
 use nut_server_sockets::{Drivers, MioWorld};
 use std::alloc::{Alloc, Global};
@@ -56,10 +56,8 @@ pub fn run_upsd<S: AsStr, I: Read, O: Write, E: Write>(
     out: &mut O,
     err: &mut E,
 ) -> u8 {
-    match run(rt, alloc, words, input, out, err) {
-        Ok(()) => 0,
-        Err(failure) => failure.tell("upsd", out, err),
-    }
+    let served = run(rt, alloc, words, input, out, err);
+    exit_status(served, out, err)
 }
 
 fn run<S: AsStr, I: Read, O: Write, E: Write>(
@@ -71,15 +69,24 @@ fn run<S: AsStr, I: Read, O: Write, E: Write>(
     err: &mut E,
 ) -> Result<(), Failure<UpsdFault>> {
     let matches = upsd_command(alloc)?.try_get_matches_from(words)?;
+    run_matches(rt, alloc, &matches, input, out, err)
+}
+
+/// Does what a command line asks for that clap has accepted.
+fn run_matches<I: Read, O: Write, E: Write>(
+    rt: &(impl Wait + Files + Net + Clock + Env + Alloc),
+    alloc: Global,
+    matches: &ArgMatches<'_>,
+    input: &mut I,
+    out: &mut O,
+    err: &mut E,
+) -> Result<(), Failure<UpsdFault>> {
     if matches.get_flag("check") {
-        return check_files(rt, alloc, &matches, err);
+        return check_files(rt, alloc, matches, err);
     }
     match matches.get_str("sockets") {
-        Some(sockets) => serve_sockets(rt, alloc, &Options::new(&matches, sockets), err),
-        None => {
-            let settings = read_options(rt, alloc, &matches)?;
-            serve_client(rt, alloc, settings.into_config(), input, out)
-        }
+        Some(sockets) => serve_sockets(rt, alloc, &Options::new(matches, sockets), err),
+        None => serve_options(rt, alloc, matches, input, out),
     }
 }
 
@@ -92,7 +99,17 @@ fn check_files<R: Files + Env + Alloc, E: Write>(
     err: &mut E,
 ) -> Result<(), Failure<UpsdFault>> {
     let folder = conf_folder(rt, alloc, matches)?;
-    read_folder(rt, alloc, folder.as_str(), err)?;
+    check_folder(rt, alloc, folder.as_str(), err)
+}
+
+/// Reads the files of this folder, and writes of them what a start writes.
+fn check_folder<E: Write>(
+    files: &impl Files,
+    alloc: Global,
+    folder: &str,
+    err: &mut E,
+) -> Result<(), Failure<UpsdFault>> {
+    drop(read_folder(files, alloc, folder, err)?);
     Ok(())
 }
 
@@ -124,14 +141,61 @@ fn serve_sockets<R: Wait + Files + Net + Clock, E: Write>(
     options: &Options<'_>,
     err: &mut E,
 ) -> Result<(), Failure<UpsdFault>> {
-    let mut reloading = Reloading::new(rt, alloc, options.conf)?;
-    let settings = reloading.read(err)?;
-    let _held = hold_closed_streams(rt, alloc)?;
-    let listeners = listen(rt, alloc, &settings.upsd)?;
-    let Ok(mut server) = Server::new(alloc, reloading.start(settings)) else {
+    let reloading = Reloading::new(rt, alloc, options.conf)?;
+    let (settings, reloading) = beside(reloading.read(err), reloading)?;
+    serve_settings(rt, alloc, settings, reloading, options, err)
+}
+
+/// Serves clients with these settings. The standard streams that are closed are held meanwhile.
+fn serve_settings<R: Wait + Files + Net + Clock, E: Write>(
+    rt: &R,
+    alloc: Global,
+    settings: Settings,
+    reloading: Reloading<'_, R>,
+    options: &Options<'_>,
+    err: &mut E,
+) -> Result<(), Failure<UpsdFault>> {
+    let held = hold_closed_streams(rt, alloc);
+    let (_held, (settings, reloading)) = beside(held, (settings, reloading))?;
+    listen_and_serve(rt, alloc, settings, reloading, options, err)
+}
+
+/// Listens at the addresses of these settings, and serves clients with them.
+fn listen_and_serve<R: Wait + Files + Net + Clock, E: Write>(
+    rt: &R,
+    alloc: Global,
+    settings: Settings,
+    reloading: Reloading<'_, R>,
+    options: &Options<'_>,
+    err: &mut E,
+) -> Result<(), Failure<UpsdFault>> {
+    let listeners = listen(rt, alloc, &settings.upsd);
+    let (listeners, (settings, mut reloading)) = beside(listeners, (settings, reloading))?;
+    let config = reloading.start(settings);
+    serve_config(rt, alloc, config, listeners, reloading, options, err)
+}
+
+/// Returns what was made, and beside it this value.
+fn beside<A: Drop, B: Drop, F: Drop>(made: Result<A, F>, value: B) -> Result<(A, B), F> {
+    Ok((made?, value))
+}
+
+/// Serves all clients that connect to the listeners with this configuration.
+fn serve_config<R: Wait + Files + Net + Clock, E: Write>(
+    rt: &R,
+    alloc: Global,
+    config: Config,
+    listeners: Vec<TcpListener>,
+    reloading: Reloading<'_, R>,
+    options: &Options<'_>,
+    err: &mut E,
+) -> Result<(), Failure<UpsdFault>> {
+    let Ok(mut server) = Server::new(alloc, config) else {
         return Err(Failure::Memory);
     };
-    serve_listeners(rt, alloc, &mut server, listeners, reloading, options, err)
+    let served = serve_listeners(rt, alloc, &mut server, listeners, reloading, options, err);
+    drop(server);
+    served
 }
 
 /// Serves all clients that connect to the listeners.

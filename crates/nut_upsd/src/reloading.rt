@@ -85,12 +85,22 @@ impl<'r, F: Files> Reloading<'r, F> {
     /// Makes a new configuration, and notes what differs from that of a server.
     fn give(&mut self, server: &Server, settings: Settings) -> Result<Box<Config>, AllocError> {
         let listens_elsewhere = settings.upsd.listen != self.endpoints;
-        let config = settings.into_config();
-        let changes = changes(self.alloc, server.config(), &config, listens_elsewhere)?;
-        let upses = config.number_of_upses();
-        let config = Box::new(self.alloc, config)?;
+        let config = Box::new(self.alloc, settings.into_config())?;
+        let noted = self.note(server.config(), &config, listens_elsewhere);
+        noted.and(Ok(config))
+    }
+
+    /// Notes what a new configuration changes.
+    fn note(
+        &mut self,
+        old: &Config,
+        new: &Config,
+        listens_elsewhere: bool,
+    ) -> Result<(), AllocError> {
+        let changes = changes(self.alloc, old, new, listens_elsewhere)?;
+        let upses = new.number_of_upses();
         self.given = Some(Given { upses, changes });
-        Ok(config)
+        Ok(())
     }
 }
 

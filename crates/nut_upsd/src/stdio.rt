@@ -1,8 +1,12 @@
 //! `upsd --stdio`: one client over standard streams.
 
+ghost use Rattle.std.specs.Prelude.{◌≡◌, []};
+ghost use Rattle.nut_server_spec.specs.Content.{content};
+
 use crate::command_line::stdio_command;
 use crate::configuration::read_options;
-use crate::upsd_fault::UpsdFault;
+use crate::upsd_fault::{UpsdFault, exit_status};
+use clap::ArgMatches;
 use nut_program::Failure;
 use nut_server::{Config, Server};
 use nut_server_loop::{StreamWorld, serve};
@@ -34,10 +38,8 @@ pub fn run_stdio<S: AsStr, I: Read, O: Write, E: Write>(
     out: &mut O,
     err: &mut E,
 ) -> u8 {
-    match serve_words(rt, alloc, words, input, out) {
-        Ok(()) => 0,
-        Err(failure) => failure.tell("upsd", out, err),
-    }
+    let served = serve_words(rt, alloc, words, input, out);
+    exit_status(served, out, err)
 }
 
 /// Serves one client as the words of the command line say.
@@ -49,16 +51,28 @@ fn serve_words<S: AsStr, I: Read, O: Write>(
     out: &mut O,
 ) -> Result<(), Failure<UpsdFault>> {
     let matches = stdio_command(alloc)?.try_get_matches_from(words)?;
-    let config = read_options(rt, alloc, &matches)?.into_config();
-    serve_client(rt, alloc, config, input, out)
+    serve_options(rt, alloc, &matches, input, out)
 }
 
-/// Serves one client over a reader and a writer.
+/// Serves one client over a reader and a writer, with the configuration that the command line names.
 ///
 /// # Errors
 ///
-/// `Memory` if memory for the server cannot be allocated, `Input` if a read failed, `Output` if a write failed.
-pub fn serve_client<I: Read, O: Write>(
+/// The first fault of the configuration. `Memory` if memory for the server cannot be allocated, `Input` if a read
+/// failed, `Output` if a write failed.
+pub fn serve_options<I: Read, O: Write>(
+    rt: &(impl Wait + Files),
+    alloc: Global,
+    matches: &ArgMatches<'_>,
+    input: &mut I,
+    out: &mut O,
+) -> Result<(), Failure<UpsdFault>> {
+    let settings = read_options(rt, alloc, matches)?;
+    serve_config(rt, alloc, settings.into_config(), input, out)
+}
+
+/// Makes a server, which serves one client.
+fn serve_config<I: Read, O: Write>(
     rt: &impl Wait,
     alloc: Global,
     config: Config,
@@ -68,8 +82,22 @@ pub fn serve_client<I: Read, O: Write>(
     let Ok(mut server) = Server::new(alloc, config) else {
         return Err(Failure::Memory);
     };
+    let served = serve_client(rt, &mut server, input, out);
+    drop(server);
+    served
+}
+
+/// Serves one client to its end.
+fn serve_client<I: Read, O: Write>(
+    rt: &impl Wait,
+    server: &mut Server,
+    input: &mut I,
+    out: &mut O,
+) -> Result<(), Failure<UpsdFault>>
+    requires { server.old ≡ content server.old.configuration [] }
+{
     let mut world = StreamWorld::new(input, out);
-    let served = serve(rt, &mut server, &mut world);
+    let served = serve(rt, server, &mut world);
     if let Some(stream) = world.failed() {
         return Err(Failure::Own(UpsdFault::from(stream)));
     }

@@ -4,6 +4,7 @@ use nut_conf::FaultKind;
 use nut_program::{Failure, FileFault, OwnFault};
 use nut_server_loop::Stream;
 use std::fmt;
+use std::io::Write;
 
 /// The faults that only upsd has: before it serves anybody, or over standard streams.
 #[derive(Drop)]
@@ -62,5 +63,17 @@ pub fn ups_failure(fault: FaultKind) -> Failure<UpsdFault> {
     match fault {
         FaultKind::Memory => Failure::Memory,
         fault => Failure::Own(UpsdFault::Ups(fault)),
+    }
+}
+
+/// Returns the exit status of upsd: 0, or that of a failure, which is told.
+pub fn exit_status<O: Write, E: Write>(
+    served: Result<(), Failure<UpsdFault>>,
+    out: &mut O,
+    err: &mut E,
+) -> u8 {
+    match served {
+        Ok(()) => 0,
+        Err(failure) => failure.tell("upsd", out, err),
     }
 }
