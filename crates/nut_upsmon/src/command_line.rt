@@ -6,22 +6,37 @@ use std::alloc::{AllocError, Global};
 
 /// Returns the command line of upsmon: to watch, to check its file, and to look for POWERDOWNFLAG.
 pub fn upsmon_command<'a>(alloc: Global) -> Result<Command<'a>, AllocError> {
+    let kill_power = kill_power(alloc)?;
     let command = Command::new(alloc, "upsmon")
         .version("profile 1.3")
         .about("A monitor of UPSes that halts its machine when too few of them are left")
-        .arg(conf_of_upsmon(alloc))?
-        .arg(quiet_option(alloc, "Tell nothing of UPSes and servers"))?;
-    with_tasks(alloc, command)
-}
-
-/// Adds what upsmon can do in place of watching.
-fn with_tasks<'a>(alloc: Global, command: Command<'a>) -> Result<Command<'a>, AllocError> {
-    command
-        .arg(check_option(
+        .arg(conf_of_upsmon(alloc));
+    let command = with(
+        command,
+        quiet_option(alloc, "Tell nothing of UPSes and servers"),
+    );
+    let command = with(
+        command,
+        check_option(
             alloc,
             "Watch nothing: say the first fault of upsmon.conf, or how soon this machine stops",
-        ))?
-        .arg(kill_power(alloc)?)
+        ),
+    );
+    with(command, kill_power)
+}
+
+/// Adds an argument to a command line, unless memory for that is already refused.
+fn with<'a>(
+    command: Result<Command<'a>, AllocError>,
+    arg: Arg<'a>,
+) -> Result<Command<'a>, AllocError> {
+    match command {
+        Ok(command) => command.arg(arg),
+        Err(AllocError) => {
+            drop(arg);
+            Err(AllocError)
+        }
+    }
 }
 
 fn conf_of_upsmon<'a>(alloc: Global) -> Arg<'a> {
