@@ -136,16 +136,17 @@ impl<'r, R: Processes> LowRuntimes<'r, R> {
         self.questions.end();
     }
 
-    /// Tells what a question was answered that has ended, if it is about a UPS of this configuration.
+    /// Tells what a question was answered that has ended.
     fn hear<E: Write>(&mut self, mut question: Question<R::Started, Ups>, err: &mut E) {
-        if question.about.turn == self.turn {
-            let answer = answer_of(&mut question);
-            self.heed(question.about, answer, err);
-        }
+        let answer = answer_of(&mut question);
+        self.heed(question.about, answer, err);
     }
 
-    /// Tells what is known of a UPS by the answer about it.
+    /// Tells what is known of a UPS by the answer about it, if it is one of this configuration.
     fn heed<E: Write>(&mut self, ups: Ups, answer: Option<u64>, err: &mut E) {
+        if ups.turn != self.turn {
+            return;
+        }
         match answer {
             Some(seconds) => self.compare(&ups, seconds, err),
             None => self.ask_again(ups, err),
@@ -269,8 +270,7 @@ fn upses_of(alloc: Global, lines: &[Monitored], turn: u32) -> Result<Vec<Ups>, A
 /// The command that asks a server for this UPS.
 fn upsc(alloc: Global, name: &str) -> Result<Command<Global>, AllocError> {
     let mut command = Command::new(alloc, "upsc")?;
-    put_question(&mut command, name)?;
-    Ok(command)
+    put_question(&mut command, name).and(Ok(command))
 }
 
 fn put_question(command: &mut Command<Global>, name: &str) -> Result<(), AllocError> {

@@ -71,7 +71,7 @@ impl<'r, R: Processes> NotifyCommand<'r, R> {
 
     /// Takes a process that ends by itself, and waits for its end as for that of a run.
     pub fn adopt(&mut self, child: Child<R::Started>) {
-        let _ = self.running.push(child);
+        drop(self.running.push(child));
     }
 
     /// Starts the command, if there is one, and doesn't wait for it.
@@ -88,7 +88,7 @@ impl<'r, R: Processes> NotifyCommand<'r, R> {
         }
         match start(self.processes, self.alloc, script.as_str(), call) {
             Ok(child) => {
-                let _ = self.running.push(child);
+                self.adopt(child);
                 Ok(())
             }
             Err(error) => Err(CallFault::NotStarted(error)),
@@ -123,8 +123,10 @@ fn start<R: Processes>(
     script: &str,
     call: Call<'_>,
 ) -> io::Result<Child<R::Started>> {
-    let mut command = Command::new(alloc, SHELL)?;
-    start_shell(processes, &mut command, script, call)
+    let mut shell = Command::new(alloc, SHELL)?;
+    let started = start_shell(processes, &mut shell, script, call);
+    drop(shell);
+    started
 }
 
 /// Makes a shell run the script with this call.
