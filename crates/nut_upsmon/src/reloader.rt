@@ -125,9 +125,12 @@ impl Reloader {
         err: &mut E,
     ) -> Result<Reload, FileFault<'static>> {
         let config = read_conf(files, self.alloc, self.folder())?;
-        match self.compare(files, former, config, err) {
-            Ok(reload) => Ok(reload),
-            Err(_) => Err(FileFault::Memory),
+        match self.compare(files, former, &config, err) {
+            Ok(changes) => Ok(Reload { config, changes }),
+            Err(AllocError) => {
+                drop(config);
+                Err(FileFault::Memory)
+            }
         }
     }
 
@@ -136,12 +139,11 @@ impl Reloader {
         &self,
         files: &impl Files,
         former: &UpsmonConf,
-        config: UpsmonConf,
+        config: &UpsmonConf,
         err: &mut E,
-    ) -> Result<Reload, AllocError> {
-        tell_warnings(files, self.alloc, self.folder(), &config, err)?;
-        let changes = Changes::between(self.alloc, former, &config)?;
-        Ok(Reload { config, changes })
+    ) -> Result<Changes, AllocError> {
+        tell_warnings(files, self.alloc, self.folder(), config, err)?;
+        Changes::between(self.alloc, former, config)
     }
 
     /// Returns a configuration in which something has changed. If nothing has, that is told: the links stay.
@@ -155,16 +157,21 @@ impl Reloader {
 
     /// Returns the configuration that waits, unless it has to go on waiting, which is told once.
     fn take_waiting<E: Write>(&mut self, monitor: &Monitor, err: &mut E) -> Option<Reload> {
-        let reload = self.waiting.take()?;
-        let Some(obstacle) = first_obstacle(monitor, &reload.config) else {
-            return Some(reload);
-        };
+        match first_obstacle(monitor, &self.waiting.as_ref()?.config) {
+            Some(obstacle) => {
+                self.tell_wait_once(obstacle, err);
+                None
+            }
+            None => self.waiting.take(),
+        }
+    }
+
+    /// Tells that the configuration waits for a UPS, if that wasn't told before.
+    fn tell_wait_once<E: Write>(&mut self, obstacle: Obstacle<'_>, err: &mut E) {
         if !self.is_wait_told {
             self.is_wait_told = true;
             tell_wait(obstacle, err);
         }
-        self.waiting = Some(reload);
-        None
     }
 }
 
