@@ -5,37 +5,34 @@ use crate::halt::{Halt, HaltFault};
 use crate::reloader::{Reload, Reloader};
 use crate::starting::tell_start;
 use crate::watching::Follower;
-use linked_list_allocator::LocalHeap;
 use nut_conf::UpsmonConf;
 use nut_monitor::{Monitor, Notice};
 use nut_monitor_sockets::Herald;
 use nut_poll::Report;
 use nut_program::{FileFault, tell_not_reloaded};
-use std::alloc::Global;
+use std::alloc::AllocError;
 use std::io::Write;
+use std::mem;
 use std::process::Processes;
 use std::rt::Files;
 use std::time::Clock;
-use std::{io, mem};
 
 /// What upsmon does besides watching: it tells notices, keeps the halt of its machine prepared, and takes up a changed
 /// upsmon.conf. For that it ends the watch, and has the configuration for the next one.
 ///
 /// The halt that a configuration sets is prepared before the earlier one is given up, so there is no moment without.
 #[derive(Drop)]
-pub struct Caretaker<'r, R: Processes, O, E> {
+pub struct Caretaker<'c, 'r, R: Processes, O, E> {
     rt: &'r R,
-    alloc: Global,
-    heap: &'r LocalHeap,
-    err: E,
-    crier: Crier<'r, R, O>,
-    halt: Halt<'r, 'r, R>,
-    reloader: &'r mut Reloader,
+    err: &'c mut E,
+    crier: &'c mut Crier<'r, R, O>,
+    halt: &'c mut Halt<'r, 'r, R>,
+    reloader: &'c mut Reloader,
     /// The configuration of the next watch.
     next: Option<UpsmonConf>,
 }
 
-impl<'r, R, O, E> Caretaker<'r, R, O, E>
+impl<'c, 'r, R, O, E> Caretaker<'c, 'r, R, O, E>
 where
     R: Files + Processes + Clock,
     O: Write + Drop,
@@ -45,17 +42,13 @@ where
     /// operator is written to `err`.
     pub fn new(
         rt: &'r R,
-        alloc: Global,
-        heap: &'r LocalHeap,
-        err: E,
-        crier: Crier<'r, R, O>,
-        halt: Halt<'r, 'r, R>,
-        reloader: &'r mut Reloader,
-    ) -> Caretaker<'r, R, O, E> {
+        err: &'c mut E,
+        crier: &'c mut Crier<'r, R, O>,
+        halt: &'c mut Halt<'r, 'r, R>,
+        reloader: &'c mut Reloader,
+    ) -> Caretaker<'c, 'r, R, O, E> {
         Caretaker {
             rt,
-            alloc,
-            heap,
             err,
             crier,
             halt,
@@ -67,101 +60,74 @@ where
     /// Takes up a configuration in place of an earlier one. Returns whether it did. If not, everything goes on as
     /// before, and why is told.
     fn take_up(&mut self, former: &UpsmonConf, reload: Reload) -> bool {
-        let is_taken_up = self.change_over(former, &reload);
+        let is_taken_up = self.change_over(former, &reload.config);
         if is_taken_up {
-            self.next = Some(reload.config);
+            self.tell(&reload);
+            drop(self.next.replace(reload.config));
+        } else {
+            drop(reload);
         }
         is_taken_up
     }
 
-    /// Halts and tells by another configuration from now on, and reports that. Returns whether it does.
-    fn change_over(&mut self, former: &UpsmonConf, reload: &Reload) -> bool {
-        match self.prepare(&reload.config) {
-            Some(halt) => self.change_to(halt, former, reload),
-            None => false,
-        }
-    }
-
-    /// Goes on with the halt of another configuration, and tells by that. Returns whether it does.
-    fn change_to(&mut self, halt: Halt<'r, 'r, R>, former: &UpsmonConf, reload: &Reload) -> bool {
-        if self.crier.restart(&reload.config).is_err() {
-            tell_not_reloaded("upsmon", &FileFault::Memory, &mut self.err);
-            self.give_up(halt);
-            return false;
-        }
-        if former.power_down_flag != reload.config.power_down_flag {
-            halt.clear_flag(&mut self.err);
-        }
-        let former = mem::replace(&mut self.halt, halt);
-        self.give_up(former);
-        self.tell(reload);
-        true
-    }
-
-    /// Prepares the halt that a configuration sets. If that fails it is told.
-    fn prepare(&mut self, config: &UpsmonConf) -> Option<Halt<'r, 'r, R>> {
-        match Halt::prepare(self.rt, self.alloc, self.heap, config) {
-            Ok(halt) => self.make_ready(halt),
-            Err(_) => {
-                tell_not_reloaded("upsmon", &FileFault::Memory, &mut self.err);
-                None
+    /// Halts and tells by another configuration from now on. Returns whether it does.
+    fn change_over(&mut self, former: &UpsmonConf, config: &UpsmonConf) -> bool {
+        match self.halt.prepare_other(config) {
+            Ok(halt) => self.change_to(halt, former, config),
+            Err(AllocError) => {
+                tell_not_reloaded("upsmon", &FileFault::Memory, self.err);
+                false
             }
         }
     }
 
-    /// Starts the shell of a halt. If that fails it is told, and there is no halt.
-    fn make_ready(&mut self, mut halt: Halt<'r, 'r, R>) -> Option<Halt<'r, 'r, R>> {
-        match halt.make_ready() {
-            Ok(()) => Some(halt),
-            Err(error) => {
-                self.tell_not_started(error);
-                self.give_up(halt);
-                None
-            }
+    /// Goes on with the halt of another configuration, and tells by that. Returns whether it does. If not, this halt is
+    /// given up, and else the former one; the end of its shell is waited for.
+    fn change_to(
+        &mut self,
+        mut halt: Halt<'r, 'r, R>,
+        former: &UpsmonConf,
+        config: &UpsmonConf,
+    ) -> bool {
+        let is_ready = make_ready(&mut halt, self.err)
+            && change_crier(self.crier, config, self.err);
+        if is_ready {
+            exchange(self.halt, &mut halt, former, config, self.err);
         }
-    }
-
-    /// Tells why a halt's shell can't be started.
-    fn tell_not_started(&mut self, error: io::Error) {
-        let fault = HaltFault::NotStarted(error);
-        let _ = writeln!(&mut self.err, "upsmon: not reloaded: {fault}");
-    }
-
-    /// Gives a halt up, and waits for the end of its shell.
-    fn give_up(&mut self, halt: Halt<'r, 'r, R>) {
         if let Some(shell) = halt.give_up() {
             self.crier.adopt(shell);
         }
+        is_ready
     }
 
     /// Reports what a configuration that is taken up changes, and what it sets.
     fn tell(&mut self, reload: &Reload) {
         let reloaded = Report::Reloaded(reload.changes.as_str());
-        self.reloader.reports(&mut self.err).tell(reloaded);
-        tell_start(&reload.config, self.reloader.is_quiet(), &mut self.err);
+        self.reloader.reports(self.err).tell(reloaded);
+        tell_start(&reload.config, self.reloader.is_quiet(), self.err);
     }
 }
 
-impl<'r, R, O, E> Herald for Caretaker<'r, R, O, E>
+impl<'c, 'r, R, O, E> Herald for Caretaker<'c, 'r, R, O, E>
 where
     R: Files + Processes + Clock,
     O: Write + Drop,
     E: Write + Drop,
 {
     fn announce(&mut self, monitor: &Monitor, notice: Notice) {
-        self.crier.announce(monitor, notice, &mut self.err);
+        self.crier.announce(monitor, notice, self.err);
     }
 
     fn second(&mut self, monitor: &Monitor) -> bool {
-        self.crier.second(&mut self.err);
-        match self.reloader.second(self.rt, monitor, &mut self.err) {
+        self.crier.second(self.err);
+        match self.reloader.second(self.rt, monitor, self.err) {
             Some(reload) => self.take_up(monitor.config(), reload),
             None => false,
         }
     }
 }
 
-impl<'r, R, O, E> Follower for Caretaker<'r, R, O, E>
+impl<'c, 'r, R, O, E> Follower for Caretaker<'c, 'r, R, O, E>
 where
     R: Files + Processes + Clock,
     O: Write + Drop,
@@ -172,6 +138,56 @@ where
     }
 
     fn halt(&mut self, is_flagged: bool) -> Result<(), HaltFault> {
-        self.halt.carry_out(is_flagged, &mut self.err)
+        self.halt.carry_out(is_flagged, self.err)
     }
+}
+
+/// Starts the shell of a halt. Returns whether it is started. If not, why is told.
+fn make_ready<R, E>(halt: &mut Halt<'_, '_, R>, err: &mut E) -> bool
+where
+    R: Files + Processes + Clock,
+    E: Write,
+{
+    match halt.make_ready() {
+        Ok(()) => true,
+        Err(error) => {
+            let fault = HaltFault::NotStarted(error);
+            let _ = writeln!(err, "upsmon: not reloaded: {fault}");
+            false
+        }
+    }
+}
+
+/// Has a crier tell by another configuration. Returns whether it does. If not, why is told.
+fn change_crier<R, O, E>(crier: &mut Crier<'_, R, O>, config: &UpsmonConf, err: &mut E) -> bool
+where
+    R: Processes,
+    O: Write + Drop,
+    E: Write,
+{
+    match crier.restart(config) {
+        Ok(()) => true,
+        Err(AllocError) => {
+            tell_not_reloaded("upsmon", &FileFault::Memory, err);
+            false
+        }
+    }
+}
+
+/// Puts the halt of another configuration in the place of the former one, and gives that back in `halt`.
+fn exchange<'r, R, E>(
+    kept: &mut Halt<'r, 'r, R>,
+    halt: &mut Halt<'r, 'r, R>,
+    former: &UpsmonConf,
+    config: &UpsmonConf,
+    err: &mut E,
+)
+where
+    R: Files + Processes + Clock,
+    E: Write,
+{
+    if former.power_down_flag != config.power_down_flag {
+        halt.clear_flag(err);
+    }
+    mem::swap(kept, halt);
 }

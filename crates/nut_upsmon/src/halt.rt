@@ -7,7 +7,7 @@ use nut_conf::UpsmonConf;
 use nut_poll::text_of;
 use std::alloc::{AllocError, Global};
 use std::io::Write;
-use std::process::{Child, ExitStatus, OpenProcess, Processes};
+use std::process::{Child, ExitStatus, Processes};
 use std::rt::Files;
 use std::time::{Clock, Duration};
 use std::{fmt, io, thread};
@@ -62,6 +62,8 @@ pub fn halt_heap(alloc: Global) -> Result<LocalHeap, AllocError> {
 #[derive(Drop)]
 pub struct Halt<'r, 'h, R: Processes> {
     rt: &'r R,
+    alloc: Global,
+    heap: &'h LocalHeap,
     flag: Option<PowerDownFlag>,
     command: Option<ShutdownCommand<'r, 'h, R>>,
 }
@@ -76,9 +78,16 @@ impl<'r, 'h, R: Files + Processes + Clock> Halt<'r, 'h, R> {
     ) -> Result<Halt<'r, 'h, R>, AllocError> {
         Ok(Halt {
             rt,
+            alloc,
+            heap,
             flag: PowerDownFlag::of(alloc, config)?,
             command: shutdown_command(rt, heap, config)?,
         })
+    }
+
+    /// Makes the halt that another configuration sets, with the memory of the same heap. This one stays as it is.
+    pub fn prepare_other(&self, config: &UpsmonConf) -> Result<Halt<'r, 'h, R>, AllocError> {
+        Halt::prepare(self.rt, self.alloc, self.heap, config)
     }
 
     /// Starts the shell that will run SHUTDOWNCMD. If it cannot be started, it is tried again at the halt.
@@ -94,34 +103,25 @@ impl<'r, 'h, R: Files + Processes + Clock> Halt<'r, 'h, R> {
     }
 
     /// Gives the halt up. Returns the shell that was to run SHUTDOWNCMD, if there is one: it ends and runs nothing.
-    pub fn give_up(self) -> Option<Child<R::Started>> {
-        self.command?.give_up()
+    pub fn give_up(mut self) -> Option<Child<R::Started>> {
+        let shell = match &mut self.command {
+            Some(command) => command.give_up(),
+            None => None,
+        };
+        drop(self);
+        shell
     }
 
     /// Removes POWERDOWNFLAG if an earlier shutdown left it set: otherwise the scripts of the next ordinary shutdown
     /// would have the UPS cut its power. That it was removed is written to `err`. Anything else of that name is
     /// reported and left unchanged.
     pub fn clear_flag<E: Write>(&self, err: &mut E) {
-        let Some(flag) = &self.flag else {
-            return;
-        };
-        let path = flag.path();
-        let _ = match flag.clear(self.rt) {
-            Ok(FlagState::Absent) => Ok(()),
-            Ok(FlagState::Set) => writeln!(
-                err,
-                "upsmon: POWERDOWNFLAG {path} of an earlier shutdown is removed"
-            ),
-            Ok(FlagState::Foreign) => writeln!(
-                err,
-                "upsmon: warning: POWERDOWNFLAG {path} {}",
-                FlagFault::Foreign
-            ),
-            Err(error) => writeln!(
-                err,
-                "upsmon: warning: POWERDOWNFLAG {path} cannot be removed: {error}"
-            ),
-        };
+        if let Some(flag) = &self.flag {
+            match flag.clear(self.rt) {
+                Ok(state) => tell_found(flag.path(), state, err),
+                Err(error) => tell_kept(flag.path(), &error, err),
+            }
+        }
     }
 
     /// Halts the machine. If `is_flagged`, sets POWERDOWNFLAG; then, whether or not that succeeded, runs SHUTDOWNCMD
@@ -145,10 +145,39 @@ impl<'r, 'h, R: Files + Processes + Clock> Halt<'r, 'h, R> {
     fn set_flag<E: Write>(&self, err: &mut E) {
         if let Some(flag) = &self.flag {
             if let Err(fault) = flag.set(self.rt) {
-                let _ = writeln!(err, "upsmon: POWERDOWNFLAG {} {fault}", flag.path());
+                tell_unset(flag.path(), &fault, err);
             }
         }
     }
+}
+
+/// Tells what was found under the name of POWERDOWNFLAG. A flag that was set is removed.
+fn tell_found<E: Write>(path: &str, found: FlagState, err: &mut E) {
+    let _ = match found {
+        FlagState::Absent => Ok(()),
+        FlagState::Set => writeln!(
+            err,
+            "upsmon: POWERDOWNFLAG {path} of an earlier shutdown is removed"
+        ),
+        FlagState::Foreign => writeln!(
+            err,
+            "upsmon: warning: POWERDOWNFLAG {path} {}",
+            FlagFault::Foreign
+        ),
+    };
+}
+
+/// Tells why POWERDOWNFLAG isn't removed.
+fn tell_kept<E: Write>(path: &str, error: &io::Error, err: &mut E) {
+    let _ = writeln!(
+        err,
+        "upsmon: warning: POWERDOWNFLAG {path} cannot be removed: {error}"
+    );
+}
+
+/// Tells why POWERDOWNFLAG isn't set.
+fn tell_unset<E: Write>(path: &str, fault: &FlagFault, err: &mut E) {
+    let _ = writeln!(err, "upsmon: POWERDOWNFLAG {path} {fault}");
 }
 
 /// Returns SHUTDOWNCMD if upsmon.conf sets it.
@@ -172,13 +201,13 @@ fn run<R: Processes, E: Write>(
     command: &mut ShutdownCommand<'_, '_, R>,
     err: &mut E,
 ) -> Result<(), HaltFault> {
-    let mut shell = start(clock, command, err)?;
-    wait_for(&mut shell)
+    start(clock, command, err)?;
+    wait_for(command)
 }
 
 /// Waits for the end of a command.
-fn wait_for<P: OpenProcess>(shell: &mut Child<P>) -> Result<(), HaltFault> {
-    match shell.wait() {
+fn wait_for<R: Processes>(command: &mut ShutdownCommand<'_, '_, R>) -> Result<(), HaltFault> {
+    match command.wait() {
         Ok(status) if status.success() => Ok(()),
         Ok(status) => Err(HaltFault::Ended(status)),
         Err(error) => Err(HaltFault::NotWaited(error)),
@@ -190,11 +219,11 @@ fn start<R: Processes, E: Write>(
     clock: &impl Clock,
     command: &mut ShutdownCommand<'_, '_, R>,
     err: &mut E,
-) -> Result<Child<R::Started>, HaltFault> {
+) -> Result<(), HaltFault> {
     let mut told = None;
     for _ in 0..TRIES {
         match command.start() {
-            Ok(child) => return Ok(child),
+            Ok(()) => return Ok(()),
             Err(error) => {
                 if told != Some(error.kind()) {
                     told = Some(error.kind());

@@ -10,7 +10,7 @@ use crate::reloader::Reloader;
 use crate::stopping::Stopping;
 use crate::upsmon_fault::UpsmonFault;
 use crate::warning::tell_warnings;
-use crate::watching::watch_in_turn;
+use crate::watching::{WatchFault, watch_in_turn};
 use clap::ArgMatches;
 use linked_list_allocator::LocalHeap;
 use nut_conf::UpsmonConf;
@@ -201,7 +201,9 @@ where
     E: Write + AsRawFd + Copy,
 {
     let config = read_folder(rt, alloc, folder, told)?;
-    check_config(rt, alloc, &config, out, told)
+    let checked = check_config(rt, alloc, &config, out, told);
+    drop(config);
+    checked
 }
 
 /// Writes how soon the machine of a configuration stops, and asks the servers whether their UPSes say LB early enough for
@@ -231,8 +233,13 @@ fn read_folder<R: Files, E: Write + AsRawFd + Copy>(
     told: &mut LossyLines<E>,
 ) -> Result<UpsmonConf, Failure<UpsmonFault>> {
     let config = read_conf(rt, alloc, folder)?;
-    tell_warnings(rt, alloc, folder, &config, told)?;
-    Ok(config)
+    match tell_warnings(rt, alloc, folder, &config, told) {
+        Ok(()) => Ok(config),
+        Err(AllocError) => {
+            drop(config);
+            Err(Failure::Memory)
+        }
+    }
 }
 
 /// Watches the UPSes of upsmon.conf until the machine has to be halted, halts it, and gives the exit status.
@@ -269,7 +276,9 @@ where
 {
     let file = ReloadFile::new(rt, alloc, folder.as_str(), FILE_OF_SERVER)?;
     let mut reloader = Reloader::new(alloc, folder, file, is_quiet);
-    guard_reloaded(rt, alloc, &mut reloader, streams, told)
+    let guarded = guard_reloaded(rt, alloc, &mut reloader, streams, told);
+    drop(reloader);
+    guarded
 }
 
 /// Watches the UPSes of the upsmon.conf that is reloaded here until the machine has to be halted, halts it, and gives the
@@ -287,11 +296,12 @@ where
     E: Write + AsRawFd + Copy,
 {
     let config = read_folder(rt, alloc, reloader.folder(), told)?;
-    guard_with(rt, alloc, config, reloader, streams, told)
+    guard_with(rt, alloc, config, reloader, streams, told)?;
+    Ok(0)
 }
 
-/// Watches the UPSes of a configuration until the machine has to be halted, halts it, and gives the exit status. The
-/// standard streams that are closed are held meanwhile, so that no socket takes the place of one.
+/// Watches the UPSes of a configuration until the machine has to be halted, and halts it. The standard streams that are
+/// closed are held meanwhile, so that no socket takes the place of one.
 fn guard_with<R, O, E>(
     rt: &R,
     alloc: Global,
@@ -299,7 +309,7 @@ fn guard_with<R, O, E>(
     reloader: &mut Reloader,
     streams: Streams<O, E>,
     told: &mut LossyLines<E>,
-) -> Result<u8, Failure<UpsmonFault>>
+) -> Result<(), WatchFault>
 where
     R: Wait + Files + Net + Clock + Processes,
     O: Write + AsRawFd + Copy,
@@ -309,8 +319,8 @@ where
     guard_in_reserve(rt, alloc, config, reloader, streams, told)
 }
 
-/// Reserves the memory that the halt takes, watches the UPSes of a configuration until the machine has to be halted, halts
-/// it, and gives the exit status.
+/// Reserves the memory that the halt takes, watches the UPSes of a configuration until the machine has to be halted, and
+/// halts it.
 fn guard_in_reserve<R, O, E>(
     rt: &R,
     alloc: Global,
@@ -318,7 +328,7 @@ fn guard_in_reserve<R, O, E>(
     reloader: &mut Reloader,
     streams: Streams<O, E>,
     told: &mut LossyLines<E>,
-) -> Result<u8, Failure<UpsmonFault>>
+) -> Result<(), WatchFault>
 where
     R: Wait + Files + Net + Clock + Processes,
     O: Write + AsRawFd + Copy,
@@ -328,8 +338,8 @@ where
     watch_and_halt(rt, alloc, &heap, config, reloader, streams, told)
 }
 
-/// Prepares the halt, watches the UPSes of a configuration until the machine has to be halted, halts it, and gives the
-/// exit status. The memory that the halt takes comes from `heap`.
+/// Prepares the halt, watches the UPSes of a configuration until the machine has to be halted, and halts it. The memory
+/// that the halt takes comes from `heap`.
 fn watch_and_halt<R, O, E>(
     rt: &R,
     alloc: Global,
@@ -338,73 +348,38 @@ fn watch_and_halt<R, O, E>(
     reloader: &mut Reloader,
     streams: Streams<O, E>,
     told: &mut LossyLines<E>,
-) -> Result<u8, Failure<UpsmonFault>>
+) -> Result<(), WatchFault>
+where
+    R: Wait + Files + Net + Clock + Processes,
+    O: Write + AsRawFd + Copy,
+    E: Write + AsRawFd + Copy,
+{
+    let mut halt = ready_halt(rt, alloc, heap, &config, told)?;
+    let watched = watch_with(rt, alloc, config, &mut halt, reloader, streams, told);
+    drop(halt);
+    watched
+}
+
+/// Prepares what tells notices, watches the UPSes of a configuration until the machine has to be halted, and halts it.
+fn watch_with<'r, R, O, E>(
+    rt: &'r R,
+    alloc: Global,
+    config: UpsmonConf,
+    halt: &mut Halt<'r, 'r, R>,
+    reloader: &mut Reloader,
+    streams: Streams<O, E>,
+    told: &mut LossyLines<E>,
+) -> Result<(), WatchFault>
 where
     R: Wait + Files + Net + Clock + Processes,
     O: Write + AsRawFd + Copy,
     E: Write + AsRawFd + Copy,
 {
     let is_quiet = reloader.is_quiet();
-    let caretaker = caretaker_of(rt, alloc, heap, &config, reloader, streams, told)?;
-    watch_in_turn(rt, alloc, config, caretaker, is_quiet, told)?;
-    Ok(0)
-}
-
-/// Prepares the halt that a configuration sets, and then what tells notices.
-fn caretaker_of<'r, R, O, E>(
-    rt: &'r R,
-    alloc: Global,
-    heap: &'r LocalHeap,
-    config: &UpsmonConf,
-    reloader: &'r mut Reloader,
-    streams: Streams<O, E>,
-    told: &mut LossyLines<E>,
-) -> io::Result<Caretaker<'r, R, LossyLines<O>, LossyLines<E>>>
-where
-    R: Files + Net + Clock + Processes,
-    O: Write + AsRawFd + Copy,
-    E: Write + AsRawFd + Copy,
-{
-    let halt = ready_halt(rt, alloc, heap, config, told)?;
-    caretaker_with(rt, alloc, heap, config, halt, reloader, streams)
-}
-
-/// Prepares what tells notices, besides this halt.
-fn caretaker_with<'r, R, O, E>(
-    rt: &'r R,
-    alloc: Global,
-    heap: &'r LocalHeap,
-    config: &UpsmonConf,
-    halt: Halt<'r, 'r, R>,
-    reloader: &'r mut Reloader,
-    streams: Streams<O, E>,
-) -> io::Result<Caretaker<'r, R, LossyLines<O>, LossyLines<E>>>
-where
-    R: Files + Net + Clock + Processes,
-    O: Write + AsRawFd + Copy,
-    E: Write + AsRawFd + Copy,
-{
-    let crier = crier_of(rt, alloc, config, streams.out)?;
-    caretaker_that_tells(rt, alloc, heap, crier, halt, reloader, streams.err)
-}
-
-/// Makes the caretaker that tells the operator on this stream.
-fn caretaker_that_tells<'r, R, O, E>(
-    rt: &'r R,
-    alloc: Global,
-    heap: &'r LocalHeap,
-    crier: Crier<'r, R, LossyLines<O>>,
-    halt: Halt<'r, 'r, R>,
-    reloader: &'r mut Reloader,
-    err: E,
-) -> io::Result<Caretaker<'r, R, LossyLines<O>, LossyLines<E>>>
-where
-    R: Files + Net + Clock + Processes,
-    O: Write + AsRawFd + Copy,
-    E: Write + AsRawFd + Copy,
-{
-    let err = LossyLines::new(rt, alloc, "upsmon", err)?;
-    Ok(Caretaker::new(rt, alloc, heap, err, crier, halt, reloader))
+    let mut err = LossyLines::new(rt, alloc, "upsmon", streams.err)?;
+    let mut crier = crier_of(rt, alloc, &config, streams.out)?;
+    let caretaker = Caretaker::new(rt, &mut err, &mut crier, halt, reloader);
+    watch_in_turn(rt, alloc, config, caretaker, is_quiet, told)
 }
 
 /// Makes the halt that a configuration sets, removes a flag that was left, and starts the shell for SHUTDOWNCMD. If that
@@ -423,12 +398,17 @@ where
     let mut halt = Halt::prepare(rt, alloc, heap, config)?;
     halt.clear_flag(told);
     if let Err(error) = halt.make_ready() {
-        let _ = writeln!(
-            told,
-            "upsmon: warning: the shell that is to run SHUTDOWNCMD cannot be started yet: {error}"
-        );
+        tell_not_ready(&error, told);
     }
     Ok(halt)
+}
+
+/// Tells that the shell for SHUTDOWNCMD can't be started, and why.
+fn tell_not_ready<E: Write>(error: &io::Error, told: &mut E) {
+    let _ = writeln!(
+        told,
+        "upsmon: warning: the shell that is to run SHUTDOWNCMD cannot be started yet: {error}"
+    );
 }
 
 /// Makes the crier that prints notices on standard output and runs NOTIFYCMD.

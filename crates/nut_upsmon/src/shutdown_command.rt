@@ -8,7 +8,7 @@ use linked_list_allocator::LocalHeap;
 use std::alloc::AllocError;
 use std::io;
 use std::io::{ErrorKind, Write};
-use std::process::{Child, Command, OpenProcess, Processes, Stdio};
+use std::process::{Child, Command, ExitStatus, OpenProcess, Processes, Stdio};
 
 /// The script of the shell: it waits for a line, and then becomes SHUTDOWNCMD, which is its first argument. If its
 /// input ends without a line, as when upsmon ends, it ends and runs nothing.
@@ -23,7 +23,7 @@ const GO: &[u8] = b"\n";
 pub struct ShutdownCommand<'r, 'h, R: Processes> {
     processes: &'r R,
     command: Command<&'h LocalHeap>,
-    /// The shell that waits, if one was started.
+    /// The shell that waits or runs the command, if one was started.
     shell: Option<Child<R::Started>>,
 }
 
@@ -34,11 +34,9 @@ impl<'r, 'h, R: Processes> ShutdownCommand<'r, 'h, R> {
         heap: &'h LocalHeap,
         text: &str,
     ) -> Result<ShutdownCommand<'r, 'h, R>, AllocError> {
-        let mut command = Command::new(heap, SHELL)?;
-        put_words(&mut command, text)?;
         Ok(ShutdownCommand {
             processes,
-            command,
+            command: waiting_shell(heap, text)?,
             shell: None,
         })
     }
@@ -49,14 +47,15 @@ impl<'r, 'h, R: Processes> ShutdownCommand<'r, 'h, R> {
     ///
     /// That of the system if it cannot be started.
     pub fn make_ready(&mut self) -> io::Result<()> {
-        self.shell = Some(self.command.spawn(self.processes)?);
+        let shell = self.command.spawn(self.processes)?;
+        drop(self.shell.replace(shell));
         Ok(())
     }
 
     /// Gives the command up. Returns the shell that waits, if there is one: it ends and runs nothing, since its input
     /// ends.
-    pub fn give_up(self) -> Option<Child<R::Started>> {
-        self.shell.map(end_input)
+    pub fn give_up(&mut self) -> Option<Child<R::Started>> {
+        self.shell.take().map(end_input)
     }
 
     /// Makes the waiting shell run the command. Starts another shell for it if there is none, or it was ended
@@ -65,28 +64,55 @@ impl<'r, 'h, R: Processes> ShutdownCommand<'r, 'h, R> {
     /// # Errors
     ///
     /// That of the system if another shell cannot be started, or ends at once.
-    pub fn start(&mut self) -> io::Result<Child<R::Started>> {
-        match self.start_waiting() {
-            Some(shell) => Ok(shell),
-            None => self.start_other(),
+    pub fn start(&mut self) -> io::Result<()> {
+        if self.start_waiting().is_ok() {
+            return Ok(());
+        }
+        self.make_ready()?;
+        self.start_waiting()
+    }
+
+    /// Makes the waiting shell run the command. If it was ended meanwhile, there is none any more.
+    fn start_waiting(&mut self) -> io::Result<()> {
+        let started = self.release_shell();
+        if started.is_err() {
+            drop(self.shell.take());
+        }
+        started
+    }
+
+    /// Writes the line that the shell waits for.
+    fn release_shell(&mut self) -> io::Result<()> {
+        match &mut self.shell {
+            Some(shell) => release(&mut shell.stdin),
+            None => Err(no_shell()),
         }
     }
 
-    /// Makes the waiting shell run the command, if there is one that wasn't ended meanwhile.
-    fn start_waiting(&mut self) -> Option<Child<R::Started>> {
-        let mut shell = self.shell.take()?;
-        if release(&mut shell.stdin).is_err() {
-            return None;
+    /// Waits for the end of the shell that runs the command.
+    ///
+    /// # Errors
+    ///
+    /// That of the system, or `NotFound` if none was started.
+    pub fn wait(&mut self) -> io::Result<ExitStatus> {
+        match &mut self.shell {
+            Some(shell) => shell.wait(),
+            None => Err(no_shell()),
         }
-        Some(shell)
     }
+}
 
-    /// Makes a new shell run the command.
-    fn start_other(&mut self) -> io::Result<Child<R::Started>> {
-        let mut shell = self.command.spawn(self.processes)?;
-        release(&mut shell.stdin)?;
-        Ok(shell)
-    }
+fn no_shell() -> io::Error {
+    io::Error::from(ErrorKind::NotFound)
+}
+
+/// Makes the command of a shell that waits to run this text.
+fn waiting_shell<'h>(
+    heap: &'h LocalHeap,
+    text: &str,
+) -> Result<Command<&'h LocalHeap>, AllocError> {
+    let mut shell = Command::new(heap, SHELL)?;
+    put_words(&mut shell, text).and(Ok(shell))
 }
 
 /// Ends the input of a shell.

@@ -9,7 +9,7 @@ use nut_monitor::{Monitor, Phase};
 use nut_monitor_loop::{MonWorld, watch};
 use nut_monitor_sockets::{Herald, MioMonWorld};
 use nut_poll::Reports;
-use std::alloc::Global;
+use std::alloc::{AllocError, Global};
 use std::io;
 use std::io::{ErrorKind, Write};
 use std::net::Net;
@@ -42,6 +42,12 @@ pub enum WatchFault {
 impl From<io::Error> for WatchFault {
     fn from(error: io::Error) -> Self {
         WatchFault::Io(error)
+    }
+}
+
+impl From<AllocError> for WatchFault {
+    fn from(error: AllocError) -> Self {
+        WatchFault::Io(io::Error::from(error))
     }
 }
 
