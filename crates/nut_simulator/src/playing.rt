@@ -3,7 +3,7 @@
 use crate::fault::NutsimFault;
 use crate::news::write_news;
 use crate::progress::Progress;
-use nut_play::{Fleet, FleetFault, Step, StepFault, read_step};
+use nut_play::{Fleet, FleetFault, Logged, Step, StepFault, read_step};
 use nut_program::Failure;
 use nut_words::{Line, LineCutter};
 use std::alloc::Global;
@@ -45,15 +45,36 @@ pub fn play_schedule<'a, R: BufRead, O: Write, E: Write + IsTerminal>(
     err: &mut E,
 ) -> Result<(), Failure<NutsimFault<'a>>> {
     let mut out = BufWriter::new(alloc, out)?;
-    let played = play_on(alloc, fleet, schedule, &mut out, err);
-    let flushed = out.flush();
-    match played {
-        Err(Halt::BadStep(number)) => Err(Failure::Own(NutsimFault::BadStep(path, number))),
-        Err(Halt::Memory) => Err(Failure::Memory),
-        Err(Halt::Input) => Err(Failure::Own(NutsimFault::CannotRead(path))),
-        Err(Halt::Output) => Err(Failure::Io),
-        Ok(()) if flushed.is_err() => Err(Failure::Io),
+    match play_and_flush(alloc, fleet, schedule, &mut out, err) {
         Ok(()) => Ok(()),
+        Err(halt) => Err(failure_of(halt, path)),
+    }
+}
+
+/// Returns why nutsim ends if the playing of the schedule with this path stops.
+fn failure_of<'a>(halt: Halt, path: &'a str) -> Failure<NutsimFault<'a>> {
+    match halt {
+        Halt::BadStep(number) => Failure::Own(NutsimFault::BadStep(path, number)),
+        Halt::Memory => Failure::Memory,
+        Halt::Input => Failure::Own(NutsimFault::CannotRead(path)),
+        Halt::Output => Failure::Io,
+    }
+}
+
+/// Plays the lines of a schedule in a room, and flushes what they tell, also after a fault.
+fn play_and_flush<R: BufRead, O: Write, E: Write + IsTerminal>(
+    alloc: Global,
+    fleet: &mut Fleet,
+    schedule: &mut R,
+    out: &mut O,
+    err: &mut E,
+) -> Result<(), Halt> {
+    let played = play_on(alloc, fleet, schedule, out, err);
+    let flushed = out.flush();
+    played?;
+    match flushed {
+        Ok(()) => Ok(()),
+        Err(_) => Err(Halt::Output),
     }
 }
 
@@ -117,7 +138,12 @@ impl<'a, O: Write, E: Write + IsTerminal> Stage<'a, O, E> {
     fn play_line(&mut self, line: Line<'_>) -> Result<(), Halt> {
         self.number = self.number.saturating_add(1);
         let step = self.read(line)?;
-        self.play(&step)?;
+        self.play_step(&step)
+    }
+
+    /// Plays a step, and writes what it tells and, if that is due, how far the schedule has been played.
+    fn play_step(&mut self, step: &Step) -> Result<(), Halt> {
+        self.play(step)?;
         if self.progress.is_due(self.number) {
             self.show_progress()?;
         }
@@ -138,12 +164,16 @@ impl<'a, O: Write, E: Write + IsTerminal> Stage<'a, O, E> {
 
     /// Plays a step and writes what it tells.
     fn play(&mut self, step: &Step) -> Result<(), Halt> {
-        let log = match self.fleet.play(slice::from_ref(step)) {
-            Ok(log) => log,
-            Err(FleetFault::BadStep(_)) => return Err(Halt::BadStep(self.number)),
-            Err(FleetFault::Memory(_) | FleetFault::Failed) => return Err(Halt::Memory),
-        };
-        for logged in &log {
+        match self.fleet.play(slice::from_ref(step)) {
+            Ok(log) => self.write(log.as_slice()),
+            Err(FleetFault::BadStep(_)) => Err(Halt::BadStep(self.number)),
+            Err(FleetFault::Memory(_) | FleetFault::Failed) => Err(Halt::Memory),
+        }
+    }
+
+    /// Writes what a step told.
+    fn write(&mut self, log: &[Logged]) -> Result<(), Halt> {
+        for logged in log {
             self.progress.clear();
             if write_news(self.out, self.fleet, self.number, logged).is_err() {
                 return Err(Halt::Output);

@@ -1,10 +1,10 @@
 //! The configuration files of a room.
 
 use crate::fault::{NutsimFault, file_failure};
-use nut_conf::UpsmonConf;
+use nut_conf::{UpsConf, UpsmonConf, UsersConf};
 use nut_program::{Failure, FileFault, read_conf, read_conf_at};
 use nut_server::Config;
-use std::alloc::Global;
+use std::alloc::{AllocError, Global};
 use std::rt::Files;
 
 /// Reads ups.conf, upsd.users and upsd.conf in a folder.
@@ -14,9 +14,34 @@ pub fn read_config(
     folder: &str,
 ) -> Result<Config, FileFault<'static>> {
     let ups = read_conf(files, alloc, folder)?;
-    let users = read_conf(files, alloc, folder)?;
-    let upsd = read_conf(files, alloc, folder)?;
-    Ok(Config::new(ups, users, upsd))
+    read_users(files, alloc, folder, ups)
+}
+
+/// Reads upsd.users and upsd.conf in a folder, whose ups.conf is this.
+fn read_users(
+    files: &impl Files,
+    alloc: Global,
+    folder: &str,
+    ups: UpsConf,
+) -> Result<Config, FileFault<'static>> {
+    match read_conf(files, alloc, folder) {
+        Ok(users) => read_upsd(files, alloc, folder, ups, users),
+        Err(fault) => Err(fault),
+    }
+}
+
+/// Reads upsd.conf in a folder, whose ups.conf and upsd.users are these.
+fn read_upsd(
+    files: &impl Files,
+    alloc: Global,
+    folder: &str,
+    ups: UpsConf,
+    users: UsersConf,
+) -> Result<Config, FileFault<'static>> {
+    match read_conf(files, alloc, folder) {
+        Ok(upsd) => Ok(Config::new(ups, users, upsd)),
+        Err(fault) => Err(fault),
+    }
 }
 
 /// Reads the upsmon.conf of each monitor, in order.
@@ -26,10 +51,27 @@ pub fn read_monitors<'a>(
     paths: &[&'a str],
 ) -> Result<Vec<UpsmonConf>, Failure<NutsimFault<'a>>> {
     let mut monitors = Vec::new(alloc);
-    for path in paths {
-        monitors.push(read_monitor(files, alloc, path)?)?;
-    }
+    add_monitors(files, alloc, paths, &mut monitors)?;
     Ok(monitors)
+}
+
+/// Adds what the upsmon.conf of each monitor sets.
+fn add_monitors<'a>(
+    files: &impl Files,
+    alloc: Global,
+    paths: &[&'a str],
+    monitors: &mut Vec<UpsmonConf>,
+) -> Result<(), Failure<NutsimFault<'a>>> {
+    for path in paths {
+        let monitor = read_monitor(files, alloc, path)?;
+        add(monitors, monitor)?;
+    }
+    Ok(())
+}
+
+fn add(monitors: &mut Vec<UpsmonConf>, monitor: UpsmonConf) -> Result<(), AllocError> {
+    monitors.push(monitor)?;
+    Ok(())
 }
 
 /// Reads an upsmon.conf, whatever the file is called. A fault names it without its folder.

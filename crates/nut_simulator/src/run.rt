@@ -4,6 +4,8 @@ use crate::command::nutsim_command;
 use crate::fault::{NutsimFault, file_failure};
 use crate::playing::play_schedule;
 use crate::room::{read_config, read_monitors};
+use clap::ArgMatches;
+use nut_conf::UpsmonConf;
 use nut_play::Fleet;
 use nut_program::Failure;
 use nut_server::Config;
@@ -53,12 +55,7 @@ fn run<'a, S: AsStr, O: Write, E: Write + IsTerminal>(
     err: &mut E,
 ) -> Result<(), Failure<NutsimFault<'a>>> {
     let matches = nutsim_command(alloc)?.try_get_matches_from(words)?;
-    let names = Names {
-        folder: matches.get_str("folder").unwrap_or(""),
-        schedule: matches.get_str("schedule").unwrap_or(""),
-        monitors: matches.get_strs("monitors").unwrap_or(&[]),
-    };
-    play_room(files, alloc, names, out, err)
+    run_matches(files, alloc, &matches, out, err)
 }
 
 /// The names on a command line: the folder of the server's files, the schedule, and the file of each monitor.
@@ -69,6 +66,22 @@ struct Names<'a, 'b> {
     monitors: &'b [&'a str],
 }
 
+/// Plays the room of a command line that clap has accepted.
+fn run_matches<'a, O: Write, E: Write + IsTerminal>(
+    files: &impl Files,
+    alloc: Global,
+    matches: &ArgMatches<'a>,
+    out: &mut O,
+    err: &mut E,
+) -> Result<(), Failure<NutsimFault<'a>>> {
+    let names = Names {
+        folder: matches.get_str("folder").unwrap_or(""),
+        schedule: matches.get_str("schedule").unwrap_or(""),
+        monitors: matches.get_strs("monitors").unwrap_or(&[]),
+    };
+    play_room(files, alloc, names, out, err)
+}
+
 /// Reads the files of a room, and plays its schedule.
 fn play_room<'a, O: Write, E: Write + IsTerminal>(
     files: &impl Files,
@@ -77,27 +90,51 @@ fn play_room<'a, O: Write, E: Write + IsTerminal>(
     out: &mut O,
     err: &mut E,
 ) -> Result<(), Failure<NutsimFault<'a>>> {
-    let config = match read_config(files, alloc, names.folder) {
-        Ok(config) => config,
-        Err(fault) => return Err(file_failure(fault)),
-    };
-    let mut schedule = open_schedule(files, alloc, names.schedule)?;
-    let mut fleet = make_fleet(files, alloc, config, names.monitors)?;
-    play_schedule(alloc, &mut fleet, names.schedule, &mut schedule, out, err)
+    match read_config(files, alloc, names.folder) {
+        Ok(config) => play_on_server(files, alloc, config, names, out, err),
+        Err(fault) => Err(file_failure(fault)),
+    }
 }
 
-/// Makes a room of this server and of the monitors that these files configure.
-fn make_fleet<'a>(
+/// Reads the other files of a room with this server, and plays its schedule.
+fn play_on_server<'a, O: Write, E: Write + IsTerminal>(
     files: &impl Files,
     alloc: Global,
     config: Config,
-    paths: &[&'a str],
-) -> Result<Fleet, Failure<NutsimFault<'a>>> {
-    let monitors = read_monitors(files, alloc, paths)?;
+    names: Names<'a, '_>,
+    out: &mut O,
+    err: &mut E,
+) -> Result<(), Failure<NutsimFault<'a>>> {
+    let (mut schedule, monitors) = read_rest(files, alloc, names)?;
     match Fleet::new(alloc, config, monitors) {
-        Ok(fleet) => Ok(fleet),
+        Ok(fleet) => play_in(alloc, fleet, names.schedule, &mut schedule, out, err),
         Err(_) => Err(Failure::Memory),
     }
+}
+
+/// Opens the schedule of a room, and reads the files of its monitors.
+fn read_rest<'a, F: Files>(
+    files: &F,
+    alloc: Global,
+    names: Names<'a, '_>,
+) -> Result<(BufReader<F::File>, Vec<UpsmonConf>), Failure<NutsimFault<'a>>> {
+    let schedule = open_schedule(files, alloc, names.schedule)?;
+    match read_monitors(files, alloc, names.monitors) {
+        Ok(monitors) => Ok((schedule, monitors)),
+        Err(failure) => Err(failure),
+    }
+}
+
+/// Plays a schedule in a room that was made for it.
+fn play_in<'a, R: BufRead, O: Write, E: Write + IsTerminal>(
+    alloc: Global,
+    mut fleet: Fleet,
+    path: &'a str,
+    schedule: &mut R,
+    out: &mut O,
+    err: &mut E,
+) -> Result<(), Failure<NutsimFault<'a>>> {
+    play_schedule(alloc, &mut fleet, path, schedule, out, err)
 }
 
 /// Opens a schedule, and checks that it can be read.
