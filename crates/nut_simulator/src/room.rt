@@ -1,7 +1,7 @@
 //! The configuration files of a room.
 
 use crate::fault::{NutsimFault, file_failure};
-use nut_conf::{UpsConf, UpsmonConf, UsersConf};
+use nut_conf::{UpsConf, UpsdConf, UpsmonConf, UsersConf};
 use nut_program::{Failure, FileFault, read_conf, read_conf_at};
 use nut_server::Config;
 use std::alloc::{AllocError, Global};
@@ -14,35 +14,34 @@ pub fn read_config(
     folder: &str,
 ) -> Result<Config, FileFault<'static>> {
     let ups = read_conf(files, alloc, folder)?;
-    read_users(files, alloc, folder, ups)
-}
-
-/// Reads upsd.users and upsd.conf in a folder, whose ups.conf is this.
-fn read_users(
-    files: &impl Files,
-    alloc: Global,
-    folder: &str,
-    ups: UpsConf,
-) -> Result<Config, FileFault<'static>> {
     match read_conf(files, alloc, folder) {
-        Ok(users) => read_upsd(files, alloc, folder, ups, users),
-        Err(fault) => Err(fault),
+        Ok(users) => with_upsd(ups, users, read_conf(files, alloc, folder)),
+        Err(fault) => {
+            let_go(ups);
+            Err(fault)
+        }
     }
 }
 
-/// Reads upsd.conf in a folder, whose ups.conf and upsd.users are these.
-fn read_upsd(
-    files: &impl Files,
-    alloc: Global,
-    folder: &str,
+/// Returns the configuration with this ups.conf and upsd.users, and with upsd.conf as it was read.
+fn with_upsd(
     ups: UpsConf,
     users: UsersConf,
+    upsd: Result<UpsdConf, FileFault<'static>>,
 ) -> Result<Config, FileFault<'static>> {
-    match read_conf(files, alloc, folder) {
+    match upsd {
         Ok(upsd) => Ok(Config::new(ups, users, upsd)),
-        Err(fault) => Err(fault),
+        Err(fault) => {
+            let_go(ups);
+            let_users_go(users);
+            Err(fault)
+        }
     }
 }
+
+fn let_go(_ups: UpsConf) {}
+
+fn let_users_go(_users: UsersConf) {}
 
 /// Reads the upsmon.conf of each monitor, in order.
 pub fn read_monitors<'a>(

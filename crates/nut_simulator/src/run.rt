@@ -4,9 +4,8 @@ use crate::command::nutsim_command;
 use crate::fault::{NutsimFault, file_failure};
 use crate::playing::play_schedule;
 use crate::room::{read_config, read_monitors};
-use clap::ArgMatches;
 use nut_conf::UpsmonConf;
-use nut_play::Fleet;
+use nut_play::{Fleet, FleetFault};
 use nut_program::Failure;
 use nut_server::Config;
 use std::alloc::Global;
@@ -55,7 +54,12 @@ fn run<'a, S: AsStr, O: Write, E: Write + IsTerminal>(
     err: &mut E,
 ) -> Result<(), Failure<NutsimFault<'a>>> {
     let matches = nutsim_command(alloc)?.try_get_matches_from(words)?;
-    run_matches(files, alloc, &matches, out, err)
+    let names = Names {
+        folder: matches.get_str("folder").unwrap_or(""),
+        schedule: matches.get_str("schedule").unwrap_or(""),
+        monitors: matches.get_strs("monitors").unwrap_or(&[]),
+    };
+    play_room(files, alloc, names, out, err)
 }
 
 /// The names on a command line: the folder of the server's files, the schedule, and the file of each monitor.
@@ -64,22 +68,6 @@ struct Names<'a, 'b> {
     folder: &'a str,
     schedule: &'a str,
     monitors: &'b [&'a str],
-}
-
-/// Plays the room of a command line that clap has accepted.
-fn run_matches<'a, O: Write, E: Write + IsTerminal>(
-    files: &impl Files,
-    alloc: Global,
-    matches: &ArgMatches<'a>,
-    out: &mut O,
-    err: &mut E,
-) -> Result<(), Failure<NutsimFault<'a>>> {
-    let names = Names {
-        folder: matches.get_str("folder").unwrap_or(""),
-        schedule: matches.get_str("schedule").unwrap_or(""),
-        monitors: matches.get_strs("monitors").unwrap_or(&[]),
-    };
-    play_room(files, alloc, names, out, err)
 }
 
 /// Reads the files of a room, and plays its schedule.
@@ -105,12 +93,19 @@ fn play_on_server<'a, O: Write, E: Write + IsTerminal>(
     out: &mut O,
     err: &mut E,
 ) -> Result<(), Failure<NutsimFault<'a>>> {
-    let (mut schedule, monitors) = read_rest(files, alloc, names)?;
-    match Fleet::new(alloc, config, monitors) {
-        Ok(fleet) => play_in(alloc, fleet, names.schedule, &mut schedule, out, err),
-        Err(_) => Err(Failure::Memory),
+    match read_rest(files, alloc, names) {
+        Ok((mut schedule, monitors)) => {
+            let made = Fleet::new(alloc, config, monitors);
+            play_made(alloc, made, names.schedule, &mut schedule, out, err)
+        }
+        Err(failure) => {
+            let_go(config);
+            Err(failure)
+        }
     }
 }
+
+fn let_go(_config: Config) {}
 
 /// Opens the schedule of a room, and reads the files of its monitors.
 fn read_rest<'a, F: Files>(
@@ -126,16 +121,26 @@ fn read_rest<'a, F: Files>(
 }
 
 /// Plays a schedule in a room that was made for it.
-fn play_in<'a, R: BufRead, O: Write, E: Write + IsTerminal>(
+fn play_made<'a, R: BufRead, O: Write, E: Write + IsTerminal>(
     alloc: Global,
-    mut fleet: Fleet,
+    made: Result<Fleet, FleetFault>,
     path: &'a str,
     schedule: &mut R,
     out: &mut O,
     err: &mut E,
 ) -> Result<(), Failure<NutsimFault<'a>>> {
-    play_schedule(alloc, &mut fleet, path, schedule, out, err)
+    match made {
+        Ok(mut fleet) => {
+            let played = play_schedule(alloc, &mut fleet, path, schedule, out, err);
+            close(fleet);
+            played
+        }
+        Err(_) => Err(Failure::Memory),
+    }
 }
+
+/// Drops a room.
+fn close(_fleet: Fleet) {}
 
 /// Opens a schedule, and checks that it can be read.
 fn open_schedule<'a, F: Files>(
