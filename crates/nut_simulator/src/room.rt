@@ -17,7 +17,7 @@ pub fn read_config(
     match read_conf(files, alloc, folder) {
         Ok(users) => with_upsd(ups, users, read_conf(files, alloc, folder)),
         Err(fault) => {
-            let_go(ups);
+            drop(ups);
             Err(fault)
         }
     }
@@ -32,16 +32,12 @@ fn with_upsd(
     match upsd {
         Ok(upsd) => Ok(Config::new(ups, users, upsd)),
         Err(fault) => {
-            let_go(ups);
-            let_users_go(users);
+            drop(ups);
+            drop(users);
             Err(fault)
         }
     }
 }
-
-fn let_go(_ups: UpsConf) {}
-
-fn let_users_go(_users: UsersConf) {}
 
 /// Reads the upsmon.conf of each monitor, in order.
 pub fn read_monitors<'a>(

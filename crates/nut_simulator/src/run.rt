@@ -99,13 +99,11 @@ fn play_on_server<'a, O: Write, E: Write + IsTerminal>(
             play_made(alloc, made, names.schedule, &mut schedule, out, err)
         }
         Err(failure) => {
-            let_go(config);
+            drop(config);
             Err(failure)
         }
     }
 }
-
-fn let_go(_config: Config) {}
 
 /// Opens the schedule of a room, and reads the files of its monitors.
 fn read_rest<'a, F: Files>(
@@ -132,15 +130,12 @@ fn play_made<'a, R: BufRead, O: Write, E: Write + IsTerminal>(
     match made {
         Ok(mut fleet) => {
             let played = play_schedule(alloc, &mut fleet, path, schedule, out, err);
-            close(fleet);
+            drop(fleet);
             played
         }
         Err(_) => Err(Failure::Memory),
     }
 }
-
-/// Drops a room.
-fn close(_fleet: Fleet) {}
 
 /// Opens a schedule, and checks that it can be read.
 fn open_schedule<'a, F: Files>(
