@@ -34,6 +34,8 @@ PROMISES = (
         ("nut_dummy", None, ("Script.read", "Dummy.new", "Dummy.server_bytes", "looks_back", "dump_is_the_table")),)),
     ("A room", "`Fleet::new`, `Fleet::play` and `rooms_hold`: what every schedule of one server and its monitors leads to", (
         ("nut_play", None, ("Fleet.new", "Fleet.play", "rooms_hold")),)),
+    ("A room in time", "`room_stops_in_time`: how soon a room with one UPS stops", (
+        ("nut_in_time", None, ("room_stops_in_time",)),)),
     ("Lines of a schedule", "`read_step`: the step that a line says", (
         ("nut_play", "reading.rt", ("read_step",)),)),
 )
