@@ -14,7 +14,9 @@ use std::alloc::Global;
 /// The configuration of cmdvartab: what variables tell and what commands do, for people to read.
 #[derive(Drop)]
 pub struct Descriptions {
+    /// What variables tell, by their names.
     pub variables: Texts,
+    /// What commands do, by their names.
     pub commands: Texts,
 }
 
@@ -78,8 +80,12 @@ impl Draft for Descriptions {
 
 /// Reads cmdvartab (as NUT's file of this name: lines `VARDESC name "text"` and `CMDDESC name "text"`).
 ///
-/// Gives the descriptions that its lines set, or the first line with a fault and the first fault in it. Memory may run
-/// out only at a line with a backslash, or at one without a fault.
+/// Returns the descriptions that its lines set.
+///
+/// # Errors
+///
+/// The first fault of the first line that has one. `Memory` comes only at a line with a backslash, or at a line without a
+/// fault.
 pub fn read_descriptions(alloc: Global, bytes: &[u8]) -> Result<Descriptions, ConfFault>
     ensures means { Means (read_file descriptions_fault bytes.now) DescriptionsHold result }
     ensures memory { IfErr result (λ fault. fault.kind ≡ FaultKind.Memory → MayRunOut descriptions_fault descriptions_grow bytes.now fault.line) }

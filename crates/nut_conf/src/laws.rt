@@ -37,9 +37,9 @@ pub fn names_are_distinct()
     ensures users { (file : List ℕ) (lines : List Words) → read_file users_fault file ≡ Ok lines → HasDistinctNames (sections lines) }
 {}
 
-/// In a file that reads, what its lines set for a directive is as often as it may be, and no two settings are alike that
-/// may not be: no more endpoints, `instcmds` of a user, targets and descriptions than `limits` says, no target twice, no type of
-/// notice with two texts or two lines of flags, and no name with two descriptions.
+/// States a law and does nothing when called: in a file that reads, no directive is set more often than it may be, and no
+/// two settings are alike that may not be. There are no more endpoints, `instcmds` of a user, targets and descriptions than
+/// `limits` says, no target twice, no type of notice with two texts or two lines of flags, and no name with two descriptions.
 pub fn rules_are_kept()
     ensures ups { (file : List ℕ) (lines : List Words) → read_file ups_fault file ≡ Ok lines
         → (d : UpsDirective) → EachKeepsRule (ups_directive d) (sections lines) }

@@ -23,8 +23,11 @@ pub struct Monitored {
     pub target: Target,
     /// How many power supplies of this machine the UPS feeds: the power value.
     pub power: Number<0, 1000>,
+    /// The user as whom the monitor logs in.
     pub user: Name<USER_NAME_MAX>,
+    /// The password of that user.
     pub password: Text<1, PASSWORD_MAX>,
+    /// Whether this machine is a primary or a secondary of the UPS.
     pub role: Role,
 }
 

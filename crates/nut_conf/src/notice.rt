@@ -102,6 +102,7 @@ impl Notice {
 #[derive(Debug, PartialEq, Eq, Drop)]
 pub struct NoticeText {
     pub notice: Notice,
+    /// The text, in which `%s` stands for the UPS.
     pub text: Text<0, MESSAGE_MAX>,
 }
 
@@ -234,6 +235,7 @@ impl NoticeFlags {
 #[derive(Clone, Copy, Debug, PartialEq, Eq)]
 pub struct NoticeHandling {
     pub notice: Notice,
+    /// What is done with such a notice.
     pub flags: NoticeFlags,
 }
 

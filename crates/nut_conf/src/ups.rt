@@ -26,14 +26,18 @@ use std::alloc::Global;
 /// A UPS: a section of ups.conf. A directive that isn't set has its default.
 #[derive(Debug, Drop)]
 pub struct Ups {
+    /// The name of the driver's program.
     pub driver: Option<Name<DRIVER_NAME_MAX>>,
+    /// The port of the device, which only the driver reads.
     pub port: Option<Text<0, DEVICE_MAX>>,
+    /// The description, for people to read.
     pub desc: Option<Text<0, DESCRIPTION_MAX>>,
 }
 
 /// The configuration of ups.conf: at most [`UPSES_MAX`] UPSes by name, in the order of the file, numbered from 0.
 #[derive(Drop)]
 pub struct UpsConf {
+    /// The UPSes, each under its name.
     pub ups: Sections<Ups, UPSES_MAX>,
 }
 

@@ -20,7 +20,9 @@ use std::alloc::Global;
 /// An address and a port on which a server listens.
 #[derive(Debug, PartialEq, Eq, Drop)]
 pub struct Endpoint {
+    /// The address, without a port.
     pub address: Address,
+    /// The port.
     pub port: Port,
 }
 
@@ -29,7 +31,9 @@ pub struct Endpoint {
 pub struct UpsdConf {
     /// Of a file that was read, at most [`LISTENERS_MAX`].
     pub listen: Vec<Endpoint>,
+    /// MAXAGE, in seconds.
     pub max_age: Option<Number<1, 86400>>,
+    /// MAXCONN: how many connections may be open at once.
     pub max_conn: Option<Number<1, CONNECTIONS_MAX>>,
 }
 

@@ -27,15 +27,25 @@ use std::alloc::Global;
 pub struct UpsmonConf {
     /// At most [`MONITORS_MAX`](crate::limits::MONITORS_MAX), in the order of the file.
     pub monitors: Monitors,
+    /// MINSUPPLIES, in power values.
     pub min_supplies: Option<Number<0, 32000>>,
+    /// SHUTDOWNCMD, for the shell.
     pub shutdown_cmd: Option<Text<1, COMMAND_MAX>>,
+    /// NOTIFYCMD, for the shell.
     pub notify_cmd: Option<Text<1, COMMAND_MAX>>,
+    /// POWERDOWNFLAG, the path of a file.
     pub power_down_flag: Option<Text<1, COMMAND_MAX>>,
+    /// POLLFREQ, in seconds.
     pub poll_freq: Option<Number<1, 1000000>>,
+    /// DEADTIME, in seconds.
     pub dead_time: Option<Number<1, 1000000>>,
+    /// RBWARNTIME, in seconds.
     pub rb_warn_time: Option<Number<1, 1000000>>,
+    /// NOCOMMWARNTIME, in seconds.
     pub no_comm_warn_time: Option<Number<1, 1000000>>,
+    /// HOSTSYNC, in seconds.
     pub host_sync: Option<Number<0, 1000000>>,
+    /// FINALDELAY, in seconds.
     pub final_delay: Option<Number<0, 1000000>>,
     /// The texts that are set. A file that was read has at most one for each type of notice.
     pub messages: Vec<NoticeText>,

@@ -22,15 +22,20 @@ use std::alloc::Global;
 /// A user: a section of upsd.users.
 #[derive(Drop)]
 pub struct User {
+    /// The password. A user without one can't log in.
     pub password: Option<Text<1, PASSWORD_MAX>>,
+    /// The values of `actions`, in the order of the file.
     pub actions: Vec<Action>,
+    /// The values of `instcmds`: the commands that the user may give, or all.
     pub instcmds: Vec<Commands>,
+    /// Whether a monitor may log in as this user, and as which.
     pub upsmon: Option<Role>,
 }
 
 /// The configuration of upsd.users: at most [`USERS_MAX`] users by name, in the order of the file.
 #[derive(Drop)]
 pub struct UsersConf {
+    /// The users, each under its name.
     pub users: Sections<User, USERS_MAX>,
 }
 

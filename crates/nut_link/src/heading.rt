@@ -24,7 +24,7 @@ impl Model for Name {
 }
 
 impl Name {
-    /// Copies these bytes, if there are at most 512. It allocates nothing.
+    /// Copies these bytes, if there are at most [`LINE_MAX`]. It allocates nothing.
     fn copy(bytes: &[u8]) -> Option<Name>
         ensures some { IfSome result (λ n. n ≡ bytes.now) }
         ensures none { IfNone result (IsTrue (is_long bytes.now)) }

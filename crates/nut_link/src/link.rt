@@ -111,7 +111,7 @@ impl Link {
     /// The fault with which the link failed before, or with which it fails at the first line that it can't take: in this
     /// order `BadLine` for its form, `OutOfOrder`, `NotMine`, and `BadLine` for a row past
     /// [`ROWS_MAX`](nut_proto::ROWS_MAX). An answer that was complete before that line can still be taken out. `Memory`
-    /// comes only at a line that has a backslash, is a row, or names an error.
+    /// comes only at a line that has a backslash, is a row, names an error, or gives a request its number.
     pub fn feed(&mut self, piece: &[u8]) -> Result<(), LinkFault>
         ensures feeds { (done : ℕ) × Feeds self.old piece.now done result self.new }
 

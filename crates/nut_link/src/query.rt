@@ -165,7 +165,7 @@ fn hear_next(
     }
 }
 
-/// Appends the words of a row from the place `start` on, unless there are 512 rows already.
+/// Appends the words of a row from the place `start` on, unless there are [`ROWS_MAX`] rows already.
 fn push_row(alloc: Global, rows: &mut Rows, words: &Rest<'_>, start: usize) -> Result<(), LinkFault>
     ensures ok { OnOk result ((rows.new ≡ rows.old ++ drop start words.now ∷ []) × (length rows.old < ROWS_MAX)) }
     ensures err { IfErr result (λ fault. (fault ≡ Memory) ⊎ ((fault ≡ BadLine) × (ROWS_MAX ≤ length rows.old))) }

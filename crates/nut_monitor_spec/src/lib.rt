@@ -62,7 +62,9 @@ pub enum Query {
 /// The last query on a link, and the moment at which it was put, in seconds since the start.
 #[derive(Clone, Copy, Debug, PartialEq, Eq)]
 pub struct LastQuery {
+    /// What was asked.
     pub query: Query,
+    /// When it was put.
     pub moment: u64,
 }
 
@@ -75,6 +77,7 @@ pub struct Known {
     pub polled: u64,
     /// The moment of the last status without both OB and LB; if there is none, the moment of the first status.
     pub calm: u64,
+    /// Whether the server answers with a status.
     pub communication: Communication,
     /// The moment of the last REPLBATT notice: the battery needs to be replaced.
     pub replace_told: Option<u64>,
@@ -89,6 +92,7 @@ pub struct Known {
 /// A notice to the administrator (NOTIFYFLAG in upsmon.conf(5)).
 #[derive(Clone, Copy, Debug, PartialEq, Eq)]
 pub struct Notice {
+    /// What it reports.
     pub kind: NoticeKind,
     /// The number of the MONITOR line of the UPS that it is about, from 0 on; `None` for SHUTDOWN.
     pub line: Option<usize>,
@@ -202,14 +206,15 @@ pub fn cuts_do_not_matter()
     ensures { CutsDoNotMatter }
 {}
 
-/// A link keeps no more than one query of at most [`QUERY_MAX`](nut_link::QUERY_MAX) bytes, and
-/// [`LINE_MAX`](nut_words::LINE_MAX) bytes of an unfinished line.
+/// States a law and does nothing when called: if the queries of a MONITOR line can be written, its link keeps no more than
+/// one query of at most [`QUERY_MAX`](nut_link::QUERY_MAX) bytes, and [`LINE_MAX`](nut_words::LINE_MAX) bytes of an
+/// unfinished line.
 pub fn links_are_bounded()
     ensures { LinksAreBounded }
 {}
 
-/// No more than [`NOTICES_MAX`] notices wait, where there are at most [`MONITORS_MAX`](nut_conf::MONITORS_MAX) MONITOR
-/// lines.
+/// States a law and does nothing when called: no more than [`NOTICES_MAX`] notices wait, if there are at most
+/// [`MONITORS_MAX`](nut_conf::MONITORS_MAX) MONITOR lines.
 pub fn notices_are_few()
     ensures { NoticesAreFew }
 {}

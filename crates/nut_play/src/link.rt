@@ -47,7 +47,7 @@ impl Model for Link {
     ghost view = { λ l. record { connection = l.connection; to_server = l.to_server.items; to_monitor = l.to_monitor.items } };
 }
 
-/// Returns how many bytes a step moves that may move `n`, if `there` are there: at most 512.
+/// Returns how many bytes a step moves that may move `n`, if `there` are there: at most [`PIECE_MAX`].
 pub fn count_of(n: usize, there: usize) -> usize
     ensures value { result ≡ min (min n PIECE_MAX) there }
     ensures most { result ≤ PIECE_MAX }
@@ -100,7 +100,7 @@ impl Link {
         Ok(true)
     }
 
-    /// Moves bytes from the pipe to monitor `m`, on its link `i`. Returns whether the step was played.
+    /// Moves bytes from the pipe to the monitor, on the link at `place`. Returns whether the step was played.
     pub fn land(
         &mut self,
         monitor: &mut Monitor,
@@ -132,7 +132,7 @@ impl Link {
         Ok(true)
     }
 
-    /// Moves bytes from monitor `m` into the pipe of its link `i`. Returns whether the step was played.
+    /// Moves bytes from the monitor into the pipe of the link at `place`. Returns whether the step was played.
     pub fn send(
         &mut self,
         server: &Server,

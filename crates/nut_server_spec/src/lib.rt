@@ -31,7 +31,7 @@ pub enum Place {
     NewUpses,
 }
 
-/// Why an event is refused. Only `Memory` changes anything.
+/// Why an event is refused. Only `Memory` at a line changes anything.
 #[derive(Clone, Copy, Debug, PartialEq, Eq, Error)]
 pub enum Refused {
     /// No connection with this number is open.
@@ -172,13 +172,14 @@ pub fn bounds_hold()
     ensures { BoundsHold }
 {}
 
-/// No more connections are open than the configuration allows, and no more were opened than [`OPENED_MAX`].
+/// States a law and does nothing when called: no more connections are open than one of the configurations so far
+/// allowed, and no more were opened than [`OPENED_MAX`].
 pub fn connections_are_few()
     ensures { ConnectionsAreFew }
 {}
 
-/// Where the configuration is within the limits that its files have, no answer to one line is longer than 578,146 bytes:
-/// that to a LIST VAR of as many variables as a table holds.
+/// States a law and does nothing when called: if the configuration is within the limits that its files have, no answer to
+/// one line is longer than 578,146 bytes, which is that to a LIST VAR of as many variables as a table holds.
 pub fn answers_are_bounded()
     ensures { AnswersAreBounded }
 {

@@ -371,7 +371,7 @@ impl UpsState {
         &self.commands
     }
 
-    /// Whether a DUMPDONE came since the table was last empty: the driver has then told all that it knew.
+    /// Whether a DUMPDONE came since the table was made or last cleared: the driver has then told all that it knew.
     pub fn dump_done(&self) -> bool
         ensures { result ≡ self.now.dump_done }
     {

@@ -29,7 +29,7 @@ CutsDoNotMatter = (v : LinkValue) (x y : List ℕ) → IsRest v.rest → fed (x 
 abbrev pub RestsStay : Type 0
 RestsStay = (v : LinkValue) (x : List ℕ) → IsRest v.rest → IsRest (fed x v).rest
 
--- The line `OK` takes no memory, and a piece takes none that completes no line.
+-- The line `OK` takes no memory.
 abbrev pub OkTakesNoMemory : Type 0
 OkTakesNoMemory = may_take_memory (Text (codes "OK")) ≡ false
 

@@ -1,4 +1,4 @@
--- What always holds of the fields of a server's parts.
+-- For private functions, nothing here has to be believed: the numbers of sessions.
 use Rattle.std.specs.Prelude.{ℕ, List, map}
 use Rattle.nut_server_spec.specs.Content.{Session}
 
