@@ -423,6 +423,23 @@ class Tests:
         ]
         expect((status, said.splitlines(), os.path.exists(to)), (1, told, False), "what is told")
 
+    def test_check_reads_cmdvartab(self):
+        folder = self.nuts_files("described", cmdvartab='VARDESC ups.load "Load"\nVARIABLE ups.load "Load"\nVARDESC ups.temperature\n')
+        status, said = self.check("--upsd", folder)
+        told = [
+            f"{folder}/cmdvartab:2: UnknownDirective: VARIABLE ups.load \"Load\"",
+            "    take it out",
+            f"{folder}/cmdvartab:3: BadForm: VARDESC ups.temperature",
+            "    upsd(8) says what may stand there",
+        ]
+        expect((status, said.splitlines()), (1, told), "what is told")
+        with open(os.path.join(folder, "cmdvartab"), "w") as file:
+            file.write('VARDESC ups.load "Load"\n')
+        to = os.path.join(self.folder, "described anew")
+        expect(self.check("-w", to, folder), (0, ""), "mulgefa-check -w")
+        with open(os.path.join(to, "cmdvartab")) as file:
+            expect(file.read(), 'VARDESC ups.load "Load"\n', "what it wrote")
+
     def completed(self, line, breaks=" \t\n\"'><=;|&(:@"):
         """Returns what bash offers at the end of a line, with the tools of a scene in place of the programs."""
         scene = os.path.join(self.folder, "scene")
