@@ -12,15 +12,15 @@ const UPS_CONF: &[u8] =
 
 /// examples/upsd.users
 const UPSD_USERS: &[u8] =
-    b"# upsd.users: who may do what. Keep this file readable by upsd alone.\n\n# the administrator: may set variables and give every command\n[admin]\n    password = pw\n    actions = SET\n    instcmds = ALL\n\n# the machine that shuts the UPS down, last of all\n[monuser]\n    password = m1\n    upsmon primary\n\n# the other machine on the same UPS\n[guest]\n    password = \"m 2\"\n    upsmon secondary\n";
+    b"# upsd.users: who may do what. Keep this file readable by upsd alone; 'make\n# configure' gives each user a password of its own.\n\n# the administrator: may set variables and give every command\n[admin]\n    password = pw\n    actions = SET\n    instcmds = ALL\n\n# the machine that shuts the UPS down, last of all\n[monuser]\n    password = m1\n    upsmon primary\n\n# the other machine on the same UPS\n[guest]\n    password = \"m 2\"\n    upsmon secondary\n";
 
 /// examples/upsd.conf
 const UPSD_CONF: &[u8] =
-    b"# upsd.conf: how upsd serves.\n\n# this machine's own clients, and those of the room's network\nLISTEN 127.0.0.1\nLISTEN 192.168.1.10 3493\n\n# data is stale after this many seconds without a word from the driver\nMAXAGE 15\n\n# at most so many clients at a time\nMAXCONN 16\n";
+    b"# upsd.conf: how upsd serves.\n\n# this machine's own clients; those of the room's network want a line with an\n# address of this machine there, as LISTEN 192.168.1.10 3493\nLISTEN 127.0.0.1\n\n# data is stale after this many seconds without a word from the driver\nMAXAGE 15\n\n# at most so many clients at a time\nMAXCONN 16\n";
 
 /// examples/upsmon.conf
 const UPSMON_CONF: &[u8] =
-    b"# upsmon.conf, of the machine that shuts the UPS down.\n# The other machine has its own file: its MONITOR line names the user guest\n# and the server's address, and ends with secondary.\n\n# UPS@host, how many supplies it feeds, user, password, role\nMONITOR su700@localhost 1 monuser m1 primary\n\n# shut down as soon as no supply is left\nMINSUPPLIES 1\nSHUTDOWNCMD \"/sbin/shutdown -h +0\"\nPOWERDOWNFLAG /etc/killpower\n\n# run for the notices below that have EXEC\nNOTIFYCMD /usr/local/bin/tell-admin\nNOTIFYMSG ONBATT \"UPS %s: mains lost\"\nNOTIFYFLAG ONBATT SYSLOG+EXEC\nNOTIFYFLAG LOWBATT SYSLOG+WALL+EXEC\nNOTIFYFLAG ONLINE IGNORE\n\nPOLLFREQ 5\nDEADTIME 15\nHOSTSYNC 20\nFINALDELAY 5\nRBWARNTIME 43200\nNOCOMMWARNTIME 300\n";
+    b"# upsmon.conf, of the machine that shuts the UPS down.\n# The other machine has its own file: its MONITOR line names the user guest\n# and the server's address, and ends with secondary.\n\n# UPS@host, how many supplies it feeds, user, password, role\nMONITOR su700@localhost 1 monuser m1 primary\n\n# shut down as soon as no supply is left\nMINSUPPLIES 1\n\n# This only says what would be done. Once that comes when it should, this is the\n# line that stops the machine: SHUTDOWNCMD \"/sbin/shutdown -h +0\"\nSHUTDOWNCMD \"echo upsmon would stop this machine now\"\n\n# By this file the system's last scripts know that the UPS is to cut its power. It\n# lies where a boot clears it: one that stayed would cut the power at the next\n# ordinary shutdown. None but root may write there.\nPOWERDOWNFLAG /run/killpower\n\n# run for the notices below that have EXEC\nNOTIFYCMD \"logger -t upsmon\"\nNOTIFYMSG ONBATT \"UPS %s: mains lost\"\nNOTIFYFLAG ONBATT SYSLOG+EXEC\nNOTIFYFLAG LOWBATT SYSLOG+WALL+EXEC\nNOTIFYFLAG ONLINE IGNORE\n\nPOLLFREQ 5\nDEADTIME 15\nHOSTSYNC 20\nFINALDELAY 5\nRBWARNTIME 43200\nNOCOMMWARNTIME 300\n";
 
 /// A UPS's name, driver, port and description.
 type UpsRow = (&'static [u8], &'static [u8], &'static [u8], &'static [u8]);
@@ -183,7 +183,7 @@ fn upsd_conf_has(alloc: Global, file: &[u8], max_conn: u32, endpoints: &[(&[u8],
 
 #[test]
 fn upsd_conf(rt: HostRuntime) {
-    let endpoints: [(&[u8], u16); 2] = [(b"127.0.0.1", 3493), (b"192.168.1.10", 3493)];
+    let endpoints: [(&[u8], u16); 1] = [(b"127.0.0.1", 3493)];
     assert!(rt; upsd_conf_has(rt.alloc(), UPSD_CONF, 16, &endpoints));
 }
 
@@ -274,7 +274,7 @@ fn notices_are_read(alloc: Global) -> bool {
         Ok(conf) => {
             notices_are_set(&conf)
                 && conf.host_sync() == 20
-                && halts_by(&conf, b"/sbin/shutdown -h +0")
+                && halts_by(&conf, b"echo upsmon would stop this machine now")
         }
         Err(_) => false,
     }
