@@ -410,6 +410,18 @@ class Tests:
         expect((status, said.splitlines()[-1]), (0, f"{folder}/upsd.users is changed; what it was is {folder}/upsd.users.nut"), "mulgefa-check -i")
         found = {path: it for path, it in state_of(folder).items() if path.startswith("upsd.users")}
         expect({path: (it[0], it[3].decode()) for path, it in found.items()}, {"upsd.users": (0o604, "[a]\n" + new), "upsd.users.nut": (0o604, "[a]\n" + old)}, "its files")
+        # NUT's own file stays what it was, however often the file is changed
+        kept = {"upsd.users.nut": "[a]\n" + old}
+        for number in (2, 3):
+            mine = f"[mine{number}]\n" + old
+            with open(os.path.join(folder, "upsd.users"), "w") as file:
+                file.write(mine)
+            kept[f"upsd.users.nut.{number}"] = mine
+            told = f"{folder}/upsd.users is changed; what it was is {folder}/upsd.users.nut.{number}"
+            status, said = self.check("-i", folder)
+            expect((status, said.splitlines()[-1]), (0, told), "mulgefa-check -i once more")
+            found = {path: it[3].decode() for path, it in state_of(folder).items() if path.startswith("upsd.users")}
+            expect(found, {**kept, "upsd.users": f"[mine{number}]\n" + new}, "its files")
 
     def test_check_leaves_what_people_decide(self):
         folder = self.nuts_files("open", upsd_conf="MAXAGE 0\n", upsmon_conf="MINSUPPLIES 1\n")
