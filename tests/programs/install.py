@@ -14,7 +14,7 @@ import subprocess
 import sys
 import tempfile
 
-from tests.support.harness import expect, Failed, Missing, needed, ROOT, run_tests
+from tests.support.harness import ensure, expect, Failed, Missing, needed, ROOT, run_tests
 
 SERVERS = ("upsd", "upsmon")
 DRIVERS = ("dummy-ups",)
@@ -269,6 +269,68 @@ class Tests:
         _, said = self.configured("mine")
         expect(state_of(folder), first, "what a second call changes")
         expect(said, [f"{folder}/{example} is there already and stays as it is" for example in sorted(EXAMPLES)], "what is said")
+
+    def first_configuration(self, folder, failing="", at=0):
+        """Makes a first configuration as the packages do, while one call of a program fails. Returns the status, what was said,
+        how often the program was called, and the files that were noted as made."""
+        stand_in, count = os.path.join(self.folder, "stand-in"), os.path.join(self.folder, "calls")
+        os.makedirs(stand_in, exist_ok=True)
+        with open(count, "w"):
+            pass
+        if failing:
+            with open(os.path.join(stand_in, failing), "w") as file:
+                file.write(f'#!/bin/sh\necho >> "{count}"\n[ "$(wc -l < "{count}")" != {at} ] || exit 1\nPATH="${{PATH#*:}}"\nexec {failing} "$@"\n')
+            os.chmod(file.name, 0o755)
+        script = 'set -eu; . "$1/packaging/configure.sh"; first_configuration "$1/examples" "$2" $3'
+        env = {**os.environ, "PATH": f"{stand_in}:{os.environ['PATH']}", "GROUP": str(os.getgid()), "MADE": f"{folder}.made"}
+        words = ["sh", "-c", script, "sh", ROOT, folder, " ".join(EXAMPLES)]
+        done = subprocess.run(words, env=env, stdin=subprocess.DEVNULL, stdout=subprocess.PIPE, stderr=subprocess.STDOUT, timeout=60)
+        shutil.rmtree(stand_in)
+        made = []
+        if os.path.exists(f"{folder}.made"):
+            with open(f"{folder}.made") as file:
+                made = [os.path.relpath(line, folder) for line in file.read().splitlines()]
+        with open(count) as file:
+            return done.returncode, done.stdout.decode(), len(file.readlines()), made
+
+    def test_configure_fails_and_is_called_again(self):
+        """Each call of each program that makes a first configuration fails in turn. What is there then is complete, and noted;
+        another call makes the rest."""
+        modes = {example: 0o600 if example == "upsmon.conf" else 0o640 for example in EXAMPLES}
+        for program in ("chgrp", "chmod", "dirname", "head", "install", "ln", "mktemp", "mv", "sed", "tr"):
+            for at in range(1, 100):
+                folder = os.path.join(self.folder, f"{program} {at}/nut")
+                os.mkdir(os.path.dirname(folder))
+                what = f"call {at} of {program} fails"
+                status, said, calls, made = self.first_configuration(folder, program, at)
+                if calls < at:
+                    break
+                ensure(status != 0, f"{what}, and the status doesn't say so: {said}")
+                left = state_of(folder)
+                expect({name: it[0] for name, it in left.items()}, {name: modes[name] for name in made}, f"{what}: what is there")
+                ensure(set(os.listdir(os.path.dirname(folder))) <= {"nut", "nut.made"}, f"{what}: a folder is left over")
+                status, said, _, made = self.first_configuration(folder)
+                expect((status, sorted(made)), (0, sorted(EXAMPLES)), f"{what}: the next call: {said}")
+                found = state_of(folder)
+                expect({name: it[0] for name, it in found.items()}, modes, f"{what}: files and modes after the next call")
+                expect(stat.S_IMODE(os.stat(folder).st_mode), 0o750, f"{what}: the folder")
+                expect({name: found[name] for name in left}, left, f"{what}: what was there stays")
+                users, monitor = passwords_in(folder)
+                expect((len({*users.values()}), users["monuser"]), (3, monitor), f"{what}: the passwords fit")
+            ensure(at > 1, f"{program} is never called")
+
+    def test_configure_notes_no_file_of_others(self):
+        folder = os.path.join(self.folder, "interrupted/nut")
+        status, said, _, made = self.first_configuration(folder, "ln", 3)
+        expect((status, made), (1, [*EXAMPLES[:2]]), f"two files are made: {said}")
+        path = os.path.join(folder, EXAMPLES[2])
+        with open(path, "w") as file:
+            file.write("mine\n")
+        before = state_of_file(path)
+        status, said, _, made = self.first_configuration(folder)
+        ensure(f"{path} is there already and stays as it is" in said.splitlines(), f"what is said: {said}")
+        expect((status, sorted(made)), (0, sorted({*EXAMPLES} - {EXAMPLES[2]})), "the files that are noted")
+        expect(state_of_file(path), before, "the other's file")
 
     def test_configuration_reads(self):
         if not {"upsd", "upsmon"} <= set(self.built):
