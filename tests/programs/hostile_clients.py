@@ -7,6 +7,7 @@ If a minute or more has to pass, upsd runs with a faster clock (tests/support/ha
 line is 'N passed, M failed'."""
 
 import contextlib
+import functools
 import os
 import resource
 import signal
@@ -18,8 +19,8 @@ import sys
 import tempfile
 import time
 
-from tests.support.harness import Failed, Missing, build_library, ensure, expect, processor_time, run_tests
-from tests.support.room import NOT_CONNECTED, ONLINE, SOON, STATUS, VERSION, Client, Room, until
+from tests.support.harness import build_library, ensure, expect, processor_time, run_tests
+from tests.support.room import NOT_CONNECTED, ONLINE, SOON, STATUS, VERSION, Client, Room, accepted, stopped, until
 
 # the default of MAXCONN
 MOST = 256
@@ -97,16 +98,6 @@ def closing(clients):
             client.close()
 
 
-@contextlib.contextmanager
-def stopped(process):
-    """Stops a process, and lets it continue at the end."""
-    process.send_signal(signal.SIGSTOP)
-    try:
-        yield
-    finally:
-        process.send_signal(signal.SIGCONT)
-
-
 def said(process):
     """Returns what a process that is ended now has written to standard error."""
     process.kill()
@@ -117,15 +108,17 @@ class Tests:
     def __init__(self, upsd, dummy, folder):
         self.programs = (upsd, dummy)
         self.folder = folder
-        self.library = build_library("hasten", folder)
+
+    @functools.cached_property
+    def library(self):
+        """The library that hastens a clock, which the first test that needs it builds."""
+        return build_library("hasten", self.folder)
 
     def room(self, **texts):
         return Room(self.programs, self.folder, **texts)
 
     def hastened(self, room, haste, **settings):
         """Starts upsd with a clock that runs this many times as fast."""
-        if not os.path.exists(self.library):
-            raise Missing("a C compiler")
         env = {**os.environ, "LD_PRELOAD": self.library, "HASTE": str(haste), **settings}
         return room.upsd(env=env)
 
@@ -212,24 +205,32 @@ class Tests:
 
     def test_silent_login(self):
         """Ten minutes of the server's clock last six seconds here."""
-        with self.room() as room:
+        with self.room(conf=b"MAXAGE 86400\n") as room:
             room.dummy()
             upsd = self.hastened(room, 100)
             room.until(STATUS, ONLINE)
             begun = time.monotonic()
-            with closing([room.client() for _ in range(2)]) as clients:
-                silent, speaker = clients
-                for client in clients:
-                    client.send(LOG_IN)
-                    expect([client.line() for _ in range(3)], [b"OK\n"] * 3, "a login")
-                while not self.has_ended(silent) and time.monotonic() < begun + 60:
-                    expect(speaker.ask(b"GET NUMLOGINS su700\n"), b"NUMLOGINS su700 2\n", "both count")
+            # the second connects later, since one that hasn't logged in is closed after little more than half a second
+            with self.logged_in(room) as silent, self.logged_in(room) as speaker:
+                while True:
+                    counted = speaker.ask(b"GET NUMLOGINS su700\n")
+                    if self.has_ended(silent):
+                        break
+                    expect(counted, b"NUMLOGINS su700 2\n", "both count")
+                    ensure(time.monotonic() < begun + 60, "a login that is silent is there for an hour and more")
                     time.sleep(0.1)
                 took = (time.monotonic() - begun) * 100
-                ensure(self.has_ended(silent), "a login that is silent is there for an hour and more")
                 ensure(took > 599, f"a login was ended after {took:.0f} s of silence")
                 expect(speaker.ask(b"GET NUMLOGINS su700\n"), b"NUMLOGINS su700 1\n", "one still counts")
             ensure(SILENT.format(600) in said(upsd), "what is told of it")
+
+    @staticmethod
+    def logged_in(room):
+        """Returns a new client that is logged in."""
+        client = room.client()
+        client.send(LOG_IN)
+        expect([client.line() for _ in range(3)], [b"OK\n"] * 3, "a login")
+        return client
 
     @staticmethod
     def has_ended(client):
@@ -284,10 +285,15 @@ class Tests:
         anything."""
         with self.room(conf=b"MAXAGE 6\n") as room, room.driver() as listener:
             upsd = self.hastened(room, 20)
-            driver, _ = listener.accept()
+            driver = accepted(listener)
             with driver, room.client() as client:
-                driver.sendall(b'SETINFO ups.status "OL"\nDATAOK\nDUMPDONE\n')
-                until(lambda: client.ask(STATUS) == ONLINE, "the driver is heard")
+
+                def is_heard():
+                    # what it told stays fresh for a third of a second only
+                    driver.sendall(b'SETINFO ups.status "OL"\nDATAOK\nDUMPDONE\n')
+                    return client.ask(STATUS) == ONLINE
+
+                until(is_heard, "the driver is heard")
                 with stopped(upsd):
                     client.send(STATUS)
                     driver.sendall(b'SETINFO ups.status "OB"\n')

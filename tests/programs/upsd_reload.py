@@ -7,7 +7,6 @@ The last line is 'N passed, M failed'."""
 
 import os
 import re
-import socket
 import subprocess
 import sys
 import tempfile
@@ -16,7 +15,7 @@ import time
 from concurrent import futures
 
 from tests.support.harness import build_shim, ensure, expect, Failed, Missing, needed, processor_time, refusal, run_tests
-from tests.support.room import DEVICE, NOT_CONNECTED, ONLINE, Room, SOON, STATUS, USERS, VERSION, until
+from tests.support.room import DEVICE, NOT_CONNECTED, ONLINE, Room, SOON, STATUS, USERS, VERSION, accepted, until
 
 ONE = b'[su700]\ndesc = "Server room"\n'
 TWO = ONE + b"[old]\n"
@@ -115,9 +114,12 @@ class Reloaded(Room):
             file.write(text)
 
     def touch(self):
-        """Asks for a reload: makes the file, or changes its time."""
-        with open(self.path("reload"), "a"):
+        """Asks for a reload: changes the time of the file, or makes it. Either is one call, since upsd may remove the file at any
+        time."""
+        try:
             os.utime(self.path("reload"))
+        except FileNotFoundError:
+            open(self.path("reload"), "x").close()
 
     def is_asked(self):
         return os.path.exists(self.path("reload"))
@@ -146,19 +148,10 @@ class Reloaded(Room):
         except ConnectionError:
             return False
 
-    def listener(self, name):
-        """Returns a listener at the socket of a driver."""
-        listener = socket.socket(socket.AF_UNIX, socket.SOCK_STREAM)
-        listener.settimeout(SOON)
-        listener.bind(self.path(name))
-        listener.listen()
-        return listener
-
 
 def play_driver(listener, status=b"OL"):
     """Accepts upsd at the socket of a driver, and reports a status. Returns the link."""
-    link, _ = listener.accept()
-    link.settimeout(SOON)
+    link = accepted(listener)
     expect(link.recv(100), b"DUMPALL\n", "a driver is asked")
     link.sendall(b'SETINFO ups.status "%s"\nDATAOK\nDUMPDONE\n' % status)
     return link
@@ -523,15 +516,23 @@ class Tests:
         with self.room() as room:
             room.write("upsmon.conf", b"MINSUPPLIES 0\n")
             lines = room.serve()
-            for _ in range(2):
+            before = None
+            for _ in range(3):
                 room.touch()
                 lines.next(NOTHING)
                 ensure(room.is_asked(), "the file isn't left to another program")
-                begun = time.monotonic()
-                until(lambda: not room.is_asked(), "the file is removed")
-                ensure(time.monotonic() - begun > 1.5, "the file is removed too soon for another program")
+                there = time.monotonic()
+                end = there + SOON
+                while room.is_asked():
+                    there = time.monotonic()
+                    ensure(there < end, "the file isn't removed")
+                    time.sleep(0.02)
+                # it is seen by the first look after the last removal at the earliest, and removed two looks later
+                if before is not None:
+                    ensure(time.monotonic() - before > 2.5, "the file is removed too soon for another program")
+                before = there
             time.sleep(LOOKS)
-            expect(lines.count("upsd: reloaded"), 2, "reloads")
+            expect(lines.count("upsd: reloaded"), 3, "reloads")
             expect(lines.count("upsd: cannot remove"), 0, "faults")
 
     def test_no_look_without_sockets(self):

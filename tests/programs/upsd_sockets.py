@@ -16,7 +16,7 @@ import threading
 import time
 
 from tests.support.harness import Failed, Missing, expect, processor_time, run_tests
-from tests.support.room import Client, DEVICE, NOT_CONNECTED, ONLINE, Room, SOON, STATUS, VERSION, connected, has_ipv6, until
+from tests.support.room import Client, DEVICE, NOT_CONNECTED, ONLINE, Room, SOON, STATUS, VERSION, accepted, connected, has_ipv6, until
 
 
 class Tests:
@@ -134,12 +134,10 @@ class Tests:
     def test_driver_that_stops_in_mid_line(self):
         with self.room() as room, room.driver() as listener:
             room.upsd()
-            first, _ = listener.accept()
-            with first:
+            with accepted(listener) as first:
                 expect(first.recv(100), b"DUMPALL\n", "a driver is asked")
                 first.sendall(b'SETINFO ups.status "OL"\nSETINFO ups.id "a')
-            second, _ = listener.accept()
-            with second:
+            with accepted(listener) as second:
                 expect(second.recv(100), b"DUMPALL\n", "a driver is asked again")
                 second.sendall(b'SETINFO ups.status "OL"\n')
                 second.sendall(b'b"\nDATAOK\nDUMPDONE\n')
@@ -190,8 +188,7 @@ class Tests:
     def test_driver_that_says_how_requests_ended(self):
         with self.room() as room, room.driver() as listener:
             room.upsd()
-            driver, _ = listener.accept()
-            with driver, room.client() as client, driver.makefile("rb") as asked:
+            with accepted(listener) as driver, room.client() as client, driver.makefile("rb") as asked:
                 driver.sendall(b'SETINFO ups.status "OL"\nADDCMD load.off\nDATAOK\nDUMPDONE\n')
                 room.until(STATUS, ONLINE)
                 client.log_in()
@@ -215,10 +212,10 @@ class Tests:
             room.until(STATUS, ONLINE)
 
     def test_driver_that_never_reads(self):
-        with self.room() as room, room.driver() as listener:
+        # a driver that never answers is closed after MAXAGE
+        with self.room(conf=b"MAXAGE 86400\n") as room, room.driver() as listener:
             upsd = room.upsd()
-            driver, _ = listener.accept()
-            with driver, room.client() as client:
+            with accepted(listener) as driver, room.client() as client:
                 driver.sendall(b'SETINFO ups.id "x"\nSETFLAGS ups.id RW STRING\nSETAUX ups.id 128\nDATAOK\nDUMPDONE\n')
                 room.until(b"GET VAR su700 ups.id\n", b'VAR su700 ups.id "x"\n')
                 client.log_in()

@@ -35,7 +35,7 @@ from tests.support.monitored import (
     children_of,
     play,
 )
-from tests.support.room import SOON, Room, until
+from tests.support.room import SOON, Room, accepted, until
 
 
 class Driver:
@@ -54,7 +54,7 @@ class Driver:
         self.listener.close()
 
     def connect(self):
-        self.end, _ = self.listener.accept()
+        self.end = accepted(self.listener)
         self.tell(b"OL")
         self.end.sendall(b"DATAOK\nDUMPDONE\n")
 
@@ -76,6 +76,12 @@ def put_upsc(folder, script):
         file.write(f"#!/bin/sh\n{script}\n")
     os.chmod(file.name, 0o755)
     return f"{path}:/usr/bin:/bin"
+
+
+def times_asked(path):
+    """Returns how often such an upsc was called, which adds a line to a file each time."""
+    with open(path) as file:
+        return len(file.readlines())
 
 
 def squeezed(lines):
@@ -275,6 +281,8 @@ class Tests:
                 conf = f"MONITOR {server.target} 1 mon m1 secondary\n{QUICK}{set_flags}NOTIFYFLAG FSD IGNORE\n"
                 with self.watch(conf + 'NOTIFYCMD "touch FOLDER/run #"\nSHUTDOWNCMD "sleep 0.5"\n') as watch:
                     self.expect_halt(watch, [SHUTDOWN] if is_printed else [])
+                    if is_run:
+                        until(lambda: watch.read("run") is not None, f"NOTIFYCMD with {flags} is run")
                     expect(watch.read("run"), b"" if is_run else None, f"NOTIFYCMD with {flags}")
 
     def test_notify_command(self):
@@ -530,10 +538,11 @@ class Tests:
             env = {**os.environ, "PATH": path, "LD_PRELOAD": library, "HASTE": "20"}
             with self.watch(conf, "-q", env=env) as watch:
                 until(lambda: watch.lines("err"), "a warning", 15)
+                count = times_asked(asked)
+                ensure(count >= 2, "it isn't asked again after it gave no answer")
                 time.sleep(3)
                 expect(watch.lines("err"), [late % server.target], "what is told")
-                with open(asked) as file:
-                    expect(len(file.readlines()), 2, "how often it was asked")
+                expect(times_asked(asked), count, "how often it was asked, once it had answered")
 
     def test_shutdown_ends_the_questions(self):
         """A UPS that is asked for how early it says LB when the shutdown begins isn't asked for again."""
@@ -547,8 +556,7 @@ class Tests:
                 until(lambda: os.path.exists(asked), "a question", 15)
                 server.statuses[b"su700"] = b"FSD"
                 expect(watch.status(30), 0, "the halt")
-                with open(asked) as file:
-                    expect(len(file.readlines()), 1, "how often it was asked")
+                expect(times_asked(asked), 1, "how often it was asked")
 
     def test_folder_of_the_environment(self):
         conf = "MONITOR a@h 1 mon m1 primary\nSHUTDOWNCMD true\n"

@@ -16,8 +16,8 @@ import sys
 import tempfile
 
 from tests.support.harness import build_shim, expect
-from tests.support.monitored import FLAG, ON_BATTERY, QUICK, SHUTDOWN, Upstream, Watch, children_of, play, state_of
-from tests.support.room import ONLINE, STATUS, Room, until
+from tests.support.monitored import FLAG, ON_BATTERY, QUICK, SHUTDOWN, Upstream, Watch, children_of, play
+from tests.support.room import ONLINE, STATUS, Room, state_of, until
 
 WORD = FLAG.strip()
 HALTED = 'SHUTDOWNCMD "touch FOLDER/halted"\n'
@@ -203,13 +203,16 @@ class Tests:
         return seen
 
     def test_flag_is_its_owners(self):
-        with self.halting(f"POWERDOWNFLAG FOLDER/flag\n{HALTED}", preexec_fn=lambda: os.umask(0)) as (_, watch):
+        with tempfile.TemporaryDirectory(dir=self.folder) as folder:
+            flag = os.path.join(folder, "flag")
             # left behind by an upsmon that was killed while it wrote
-            self.file_of(b"upsm")(watch.path("flag.new"))
-            expect(watch.status(), 0, "status")
-            expect(watch.read("flag"), FLAG, "what the flag holds")
-            expect(oct(stat.S_IMODE(os.stat(watch.path("flag")).st_mode)), "0o600", "the flag's mode")
-            expect(os.path.exists(watch.path("flag.new")), False, "the new file")
+            self.file_of(b"upsm")(flag + ".new")
+            with self.halting(f"POWERDOWNFLAG {flag}\n{HALTED}", preexec_fn=lambda: os.umask(0)) as (_, watch):
+                expect(watch.status(), 0, "status")
+            with open(flag, "rb") as file:
+                expect(file.read(), FLAG, "what the flag holds")
+            expect(oct(stat.S_IMODE(os.stat(flag).st_mode)), "0o600", "the flag's mode")
+            expect(os.path.exists(flag + ".new"), False, "the new file")
 
     def test_is_the_flag_set(self):
         with tempfile.TemporaryDirectory(dir=self.folder) as folder:

@@ -239,8 +239,8 @@ class Tests:
                 late.drop()
                 time.sleep(3)
                 for watch, server in zip(watches, (kept, closed, late)):
+                    until(lambda: server.asked.count(STATUS) >= 2, "the status is asked for again")
                     expect((watch.process.poll(), SHUTDOWN in watch.lines()), (None, False), "it goes on")
-                    ensure(server.asked.count(STATUS) >= 2, "the status is asked for again")
                 # it still halts if there is a reason
                 kept.statuses[b"su700"] = b"OB LB"
                 closed.is_silent = late.is_silent = True

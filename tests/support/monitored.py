@@ -1,6 +1,5 @@
 """A running upsmon, and servers for it that the tests play."""
 
-import contextlib
 import os
 import shutil
 import signal
@@ -12,7 +11,7 @@ import threading
 import time
 
 from tests.support.harness import Failed, expect, processor_time, run_tests
-from tests.support.room import SOON, until
+from tests.support.room import SOON, stopped, until
 
 FLAG = b"upsmon-shutdown-file\n"
 ON_BATTERY = "UPS %s on battery"
@@ -39,15 +38,6 @@ def children_of(pid):
     """Returns the numbers of the processes that a process started and that weren't waited for."""
     with open(f"/proc/{pid}/task/{pid}/children") as file:
         return [int(it) for it in file.read().split()]
-
-
-def state_of(pid):
-    """Returns the system's letter for the state of a process: T if it is stopped, Z if it has ended; empty if there is none."""
-    try:
-        with open(f"/proc/{pid}/stat") as file:
-            return file.read().rsplit(")", 1)[1].split()[0]
-    except FileNotFoundError:
-        return ""
 
 
 class Watch:
@@ -78,15 +68,9 @@ class Watch:
         except ProcessLookupError:
             pass
 
-    @contextlib.contextmanager
     def stopped(self):
         """Stops it and all that it has started, for a while."""
-        self.signal(signal.SIGSTOP)
-        until(lambda: state_of(self.process.pid) == "T", "upsmon stands still")
-        try:
-            yield
-        finally:
-            self.signal(signal.SIGCONT)
+        return stopped(self.process, self.signal)
 
     def path(self, name):
         return os.path.join(self.folder, name)

@@ -1,7 +1,9 @@
 """A room of built programs: upsd and dummy drivers in a folder of their own, and clients that speak to them."""
 
+import contextlib
 import os
 import shutil
+import signal
 import socket
 import subprocess
 import tempfile
@@ -52,6 +54,35 @@ def connected(address):
         found.close()
         return None
     return found
+
+
+def accepted(listener):
+    """Returns the next connection of a listener. It has a limit of time of its own, since it doesn't get the listener's."""
+    found, _ = listener.accept()
+    found.settimeout(SOON)
+    return found
+
+
+def state_of(pid):
+    """Returns the system's letter for the state of a process: T if it is stopped, Z if it has ended; empty if there is none."""
+    try:
+        with open(f"/proc/{pid}/stat") as file:
+            return file.read().rsplit(")", 1)[1].split()[0]
+    except FileNotFoundError:
+        return ""
+
+
+@contextlib.contextmanager
+def stopped(process, send=None):
+    """Stops a process, waits until it stands still, and lets it continue at the end. `send` sends a signal, where others are to
+    have it too."""
+    send = send or process.send_signal
+    send(signal.SIGSTOP)
+    try:
+        until(lambda: state_of(process.pid) == "T", "a process stands still")
+        yield
+    finally:
+        send(signal.SIGCONT)
 
 
 class Client:
@@ -151,11 +182,10 @@ class Room:
     def can_connect(self, process):
         if process.poll() is not None:
             raise Failed(f"upsd ended with status {process.returncode}: {process.stderr.read()!r}")
-        try:
-            self.client().close()
-            return True
-        except ConnectionRefusedError:
-            return False
+        found = connected((self.host, self.port))
+        if found is not None:
+            found.close()
+        return found is not None
 
     def dummy(self, text=DEVICE, ending="dev", ups="su700"):
         """Starts a dummy driver."""
@@ -184,10 +214,14 @@ class Room:
         with self.client() as client:
             until(lambda: client.ask(request) == wanted, f"{request!r} gives {wanted!r}", within)
 
-    def driver(self):
-        """Returns a listener at the place where upsd looks for the driver of su700."""
+    def listener(self, name):
+        """Returns a listener at the socket of a driver."""
         listener = socket.socket(socket.AF_UNIX, socket.SOCK_STREAM)
         listener.settimeout(SOON)
-        listener.bind(self.path("dummy-ups-su700"))
+        listener.bind(self.path(name))
         listener.listen()
         return listener
+
+    def driver(self):
+        """Returns a listener at the place where upsd looks for the driver of su700."""
+        return self.listener("dummy-ups-su700")
