@@ -83,4 +83,4 @@ toolchain:
 	  echo "The Rattle toolchain is missing: its command 'rt' is not on the PATH."; \
 	  echo "Put the folder bin of its installation there; 'rt version' then prints its version (the README says which)."; \
 	  exit 1; }
-	@command -v python3 > /dev/null || { echo "python3 is missing: rt and the tests need Python 3.8 or later."; exit 1; }
+	@command -v python3 > /dev/null || { echo "python3 is missing: rt needs Python 3.8 or later, and the tests 3.10."; exit 1; }
