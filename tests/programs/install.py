@@ -24,6 +24,11 @@ EXAMPLES = ("ups.conf", "upsd.conf", "upsd.users", "upsmon.conf", "su700.dev")
 ROOMS = ("primary-alone", "primary-waits", "power-failure", "cut-network", "server-restarts")
 ROOM_FILES = ("m1.conf", "m2.conf", "m3.conf", "m4.conf", "m5.conf", "room", "ups.conf", "upsd.conf", "upsd.users")
 SCHEDULES = ("README.md", "primary.conf", "secondary.conf", *(f"{room}.sched" for room in ROOMS))
+# the settings of a unit that give it mounts of its own (systemd.exec(5)), or might
+OWN_MOUNTS = re.compile(
+    r"^(?:Private\w+|Protect\w+|ProcSubset|DynamicUser|Root(?:Directory|Image)\w*|Mount\w+|Extension\w+|TemporaryFileSystem|LogNamespace|\w+Paths|\w+NamespacePath)=.*$",
+    re.MULTILINE,
+)
 UNITS = {"upsd": "mulgefa-upsd.service", "upsmon": "mulgefa-upsmon.service", "dummy-ups": "mulgefa-dummy-ups@.service"}
 
 # Tools that print what those of a server with two UPSes print; a host named rack has another one.
@@ -592,6 +597,15 @@ class Tests:
             with open(os.path.join(prefix, "lib/systemd/system", UNITS[program])) as file:
                 text = file.read()
             expect(("=/srv/ups\n" in text, "/etc/nut" in text), (True, False), f"{program}: another folder")
+
+    def test_monitor_has_the_mounts_of_its_machine(self):
+        """What SHUTDOWNCMD unmounts has to be unmounted for the whole machine."""
+        texts = {}
+        for program, unit in UNITS.items():
+            with open(os.path.join(ROOT, "packaging", unit)) as file:
+                texts[program] = file.read()
+        expect(OWN_MOUNTS.findall(texts["upsmon"]), [], "settings of upsmon's unit")
+        ensure("ProtectKernelModules=yes" in OWN_MOUNTS.findall(texts["upsd"]), "those of upsd's aren't found")
 
     def test_units_are_read_by_systemd(self):
         analyze = needed("systemd-analyze", "systemd")
