@@ -296,6 +296,37 @@ class Tests:
             expect(sorted(found), services, f"what is enabled with MODE={mode}")
             root.do("dpkg --purge mulgefa-server mulgefa-client")
 
+    def test_service_that_was_disabled(self):
+        """A package that was removed and comes back enables nothing, and says so where nut.conf names its service."""
+        root = self.fresh("again")
+        os.mkdir(root.path("/etc/nut"))
+        root.write("/etc/nut/nut.conf", "MODE=netserver\n")
+        ensure("isn't enabled" not in root.do("dpkg -i /root/mulgefa-*.deb"), "the first installation enables both")
+        root.do("systemctl disable mulgefa-upsd")
+        root.do("dpkg --remove mulgefa-server mulgefa-client")
+        said = root.do("dpkg -i /root/mulgefa-*.deb")
+        told = ["mulgefa-upsd.service isn't enabled: 'systemctl enable --now mulgefa-upsd.service' does it"]
+        expect([line for line in said.splitlines() if "isn't enabled" in line], told, "what is told of the one that was disabled")
+
+    def test_installation_that_fails(self):
+        """If the first configuration fails in the middle, what is made later by hand isn't the package's to remove, and
+        another call makes the rest."""
+        root = self.fresh("failed")
+        # the first file is made, and the second can't be given to its group
+        stand_in = '#!/bin/sh\necho >> /root/calls\n[ "$(wc -l < /root/calls)" != 3 ] || exit 1\nexec /usr/bin/chgrp "$@"\n'
+        root.write("/usr/local/sbin/chgrp", stand_in, 0o755)
+        path = "PATH=/usr/local/sbin:$PATH; export PATH; "
+        status, said = root.run(path + "dpkg -i /root/mulgefa-*.deb")
+        ensure(status != 0, f"an installation that fails: {said}")
+        os.remove(root.path("/usr/local/sbin/chgrp"))
+        # the server's files follow upsmon.conf, which has no group of its own
+        expect(sorted(os.listdir(root.path("/etc/nut"))), ["ups.conf", "upsmon.conf"], "whole files are left")
+        root.write("/etc/nut/upsd.conf", "LISTEN 127.0.0.1\n")
+        root.do("dpkg --configure -a")
+        expect(sorted(os.listdir(root.path("/etc/nut"))), sorted(install.EXAMPLES), "the files")
+        root.do("dpkg --purge mulgefa-server mulgefa-client")
+        expect({name: root.read(f"/etc/nut/{name}") for name in os.listdir(root.path("/etc/nut"))}, {"upsd.conf": "LISTEN 127.0.0.1\n"}, "what a purge leaves")
+
 
 def main(tests, wants):
     """Runs tests of packages by the command line, which may begin with the folder of a saved root."""
