@@ -76,7 +76,12 @@ libraries_of() {
         needs dpkg-shlibdeps dpkg-dev
         install -d "$work/debian"
         printf 'Source: mulgefa\n\nPackage: mulgefa\nArchitecture: any\n' > "$work/debian/control"
-        (cd "$work" && dpkg-shlibdeps --ignore-missing-info -O $coded 2> /dev/null) | sed -n 's/^shlibs:Depends=//p'
+        # it warns of much that does no harm, so what it says is shown only if it fails
+        if ! (cd "$work" && dpkg-shlibdeps --ignore-missing-info -O $coded > libraries 2> complaints); then
+            cat "$work/complaints" >&2
+            exit 1
+        fi
+        sed -n 's/^shlibs:Depends=//p' "$work/libraries"
     fi
 }
 

@@ -174,9 +174,28 @@ class Tests:
             # otherwise dpkg would remove NUT's package after unpacking this one, and the same files with it: its /sbin/upsd is
             # our /usr/sbin/upsd
             ensure("Replaces" not in fields, f"{name} replaces files")
+            # a program is built with the system's C library
+            if any(package_of(f"bin/{program}") == name for program in self.packages.built):
+                ensure("libc6" in fields["Depends"], f"{name}: Depends: {fields['Depends']}")
         _, depends = run(["dpkg-deb", "--field", self.all_debs()["mulgefa-server"], "Depends"])
         _, version = run(["dpkg-deb", "--field", self.all_debs()["mulgefa-client"], "Version"])
         ensure(f"mulgefa-client (= {version.strip()})" in depends, f"the server wants this client: {depends}")
+
+    def test_libraries_that_cannot_be_told(self):
+        """If it can't be told what the programs need, no package is made, and what went wrong is shown."""
+        for program, package in (("dpkg-deb", "dpkg"), ("dpkg-shlibdeps", "dpkg-dev"), ("strip", "binutils")):
+            needed(program, package)
+        folder, stand_in, to = (os.path.join(self.packages.folder, it) for it in ("machine-code", "stand-in", "nowhere"))
+        for path in (folder, stand_in):
+            os.mkdir(path)
+        for program in install.programs():
+            shutil.copy(needed("true", "coreutils"), os.path.join(folder, program))
+        with open(os.path.join(stand_in, "dpkg-shlibdeps"), "w") as file:
+            file.write("#!/bin/sh\necho cannot find a library >&2\nexit 2\n")
+        os.chmod(file.name, 0o755)
+        env = {**os.environ, "PATH": f"{stand_in}:{os.environ['PATH']}", "BIN": folder, "TO": to, "SOURCE_DATE_EPOCH": self.packages.epoch}
+        status, said = run(["sh", os.path.join(ROOT, "packaging/packages.sh"), "deb"], env=env)
+        expect((status, said, os.listdir(to)), (1, "cannot find a library\n", []), "what is said and made")
 
     def test_units_in_packages(self):
         """NUT's names must not be both another name of a unit and what it excludes."""
