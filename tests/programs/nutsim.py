@@ -230,7 +230,10 @@ class Tests:
         self.program = program
         self.folder = folder
         self.stage = Stage(rehearse, folder)
-        self.shim = self.stage.shim
+
+    @property
+    def shim(self):
+        return self.stage.shim
 
     def room(self, name, config, rules):
         return RoomFiles(os.path.join(self.folder, name), config, rules)

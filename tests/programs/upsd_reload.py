@@ -14,7 +14,7 @@ import threading
 import time
 from concurrent import futures
 
-from tests.support.harness import build_shim, ensure, expect, Failed, Missing, needed, processor_time, refusal, run_tests
+from tests.support.harness import ensure, expect, Failed, Missing, needed, processor_time, refusal, run_tests, Shimmed
 from tests.support.room import DEVICE, NOT_CONNECTED, ONLINE, Room, SOON, STATUS, USERS, VERSION, accepted, until
 
 ONE = b'[su700]\ndesc = "Server room"\n'
@@ -165,11 +165,10 @@ def online(ups):
     return b'VAR %s ups.status "OL"\n' % ups
 
 
-class Tests:
+class Tests(Shimmed):
     def __init__(self, upsd, dummy, folder):
         self.programs = (upsd, dummy)
         self.folder = folder
-        self.shim = build_shim(folder)
 
     def room(self, **texts):
         return Reloaded(self.programs, self.folder, **texts)

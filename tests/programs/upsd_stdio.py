@@ -13,7 +13,7 @@ import sys
 import tempfile
 import time
 
-from tests.support.harness import build_shim, expect, Failed, Missing, refusal, refusals, ROOT, run_tests
+from tests.support.harness import expect, Failed, Missing, refusal, refusals, ROOT, run_tests, Shimmed
 
 ROOM = ["--stdio", "--ups", "su700=Server room"]
 EXAMPLES = ["--stdio", "--conf", os.path.join(ROOT, "examples")]
@@ -89,11 +89,10 @@ CONF_FAULTS = [
 ]
 
 
-class Tests:
+class Tests(Shimmed):
     def __init__(self, upsd, folder):
         self.upsd = upsd
         self.folder = folder
-        self.shim = build_shim(folder)
 
     def run(self, args, data=b"", env=None, **streams):
         streams = {"stdout": subprocess.PIPE, "stderr": subprocess.PIPE, **streams}
@@ -267,7 +266,7 @@ class Tests:
                     os.fchmod(file.fileno(), 0)
                 expect(self.run(args, b"VER\n"), cannot, f"{name} may not be read")
         cannot = (1, b"", b"upsd: ups.conf: cannot read\n")
-        for folder in (os.path.join(self.folder, "no-such-folder"), self.shim, ""):
+        for folder in (os.path.join(self.folder, "no-such-folder"), self.upsd, ""):
             expect(self.run(["--stdio", "--conf", folder], b"VER\n"), cannot, f"the folder {folder!r}")
 
     def test_descriptions_of_nut(self):

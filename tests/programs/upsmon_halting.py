@@ -15,7 +15,7 @@ import subprocess
 import sys
 import tempfile
 
-from tests.support.harness import build_shim, expect
+from tests.support.harness import expect, Shimmed
 from tests.support.monitored import FLAG, ON_BATTERY, QUICK, SHUTDOWN, Upstream, Watch, children_of, play
 from tests.support.room import ONLINE, STATUS, Room, state_of, until
 
@@ -76,11 +76,10 @@ class FullPipe:
         return found.lstrip(b"x")
 
 
-class Tests:
+class Tests(Shimmed):
     def __init__(self, programs, folder):
         self.upsd, self.dummy, self.upsc, self.upsmon = programs
         self.folder = folder
-        self.shim = build_shim(folder)
 
     def room(self):
         return Room((self.upsd, self.dummy), self.folder)

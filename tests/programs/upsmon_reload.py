@@ -10,7 +10,7 @@ import os
 import sys
 import time
 
-from tests.support.harness import build_shim, expect
+from tests.support.harness import expect, Shimmed
 from tests.support.monitored import FLAG, ON_BATTERY, QUICK, SHUTDOWN, Upstream, Watch, children_of, play
 from tests.support.room import SOON, STATUS, until
 
@@ -53,11 +53,10 @@ def until_asked(server, more=1):
     until(lambda: server.asked.count(STATUS) >= seen + more, "the status is asked for")
 
 
-class Tests:
+class Tests(Shimmed):
     def __init__(self, programs, folder):
         self.upsmon = programs[3]
         self.folder = folder
-        self.shim = build_shim(folder)
 
     def watch(self, conf, *words, **options):
         return Reloaded(self.upsmon, self.folder, conf, *words, **options)

@@ -121,7 +121,10 @@ class Tests:
         self.program = program
         self.folder = folder
         self.stage = Stage(program, folder)
-        self.shim = self.stage.shim
+
+    @property
+    def shim(self):
+        return self.stage.shim
 
     def run(self, path, env=None):
         """Plays a schedule. Returns the status, what is printed, what is written about a failure, and the greatest memory in

@@ -7,6 +7,7 @@ import itertools
 import os
 import shutil
 import subprocess
+import traceback
 from concurrent import futures
 
 HERE = os.path.dirname(os.path.abspath(__file__))
@@ -52,15 +53,23 @@ def build_library(name, folder):
     library = os.path.join(folder, f"{name}.so")
     compiler = shutil.which("cc") or shutil.which("clang")
     if compiler is None:
-        print(f"a C compiler is missing: the tests that need {name}.c need one (cc or clang)")
-    else:
-        subprocess.run([compiler, "-shared", "-fPIC", "-o", library, os.path.join(HERE, f"{name}.c"), "-ldl"], check=True)
+        raise Missing("a C compiler (cc or clang)")
+    subprocess.run([compiler, "-shared", "-fPIC", "-o", library, os.path.join(HERE, f"{name}.c"), "-ldl"], check=True)
     return library
 
 
 def build_shim(folder):
     """Builds the library that makes a program's calls fail. Returns its path."""
     return build_library("refuse", folder)
+
+
+class Shimmed:
+    """What has a folder, and in it the library that makes a program's calls fail. It is built when a test first needs it, so
+    that a lack of a compiler skips no other test."""
+
+    @functools.cached_property
+    def shim(self):
+        return build_shim(self.folder)
 
 
 def was_reached(count, at):
@@ -98,8 +107,11 @@ def run_test(tests, name):
         getattr(tests, name)()
     except Missing as missing:
         return "skipped", f"skipped {shown}: {missing}"
-    except (Failed, OSError, subprocess.SubprocessError, ValueError, LookupError, AttributeError) as found:
+    except (Failed, OSError, subprocess.SubprocessError) as found:
         return "failed", f"FAILED {shown}: {found}"
+    except Exception as found:
+        # a fault of the test itself, or an answer that it doesn't foresee: the other tests are run and counted all the same
+        return "failed", f"FAILED {shown}: {found!r}\n{traceback.format_exc()}"
     return "passed", f"ok {shown}"
 
 

@@ -3,19 +3,19 @@
 import os
 import subprocess
 
-from tests.support.harness import build_shim, expect, refusals
+from tests.support.harness import Shimmed, expect, refusals
 from tests.support.player import line_of
 
 # how a run ends in which memory was refused while no engine reports it
 OUT_OF_MEMORY = b"rehearse: out of memory\n"
 
 
-class Stage:
+class Stage(Shimmed):
     """The program, and the library that makes its calls fail."""
 
     def __init__(self, program, folder):
         self.program = program
-        self.shim = build_shim(folder)
+        self.folder = folder
 
     def run(self, steps, env=None):
         """Plays steps, each a tuple of a verb and its words. Returns the status, the output, and what is written about a
