@@ -20,6 +20,7 @@ HERE = os.path.dirname(os.path.abspath(__file__))
 sys.path.insert(0, os.path.dirname(HERE))
 
 from tests.support.harness import processor_time
+from tests.support.room import free_port
 
 NUT_UPSD = "/lib/nut/upsd"
 VARIABLES = 60
@@ -37,12 +38,6 @@ LOADS = [
 
 def script():
     return "ups.status: OL\n" + "".join(f"ambient.{i}.temperature: 21.{i}\n" for i in range(VARIABLES))
-
-
-def free_port():
-    with socket.socket() as found:
-        found.bind(("127.0.0.1", 0))
-        return found.getsockname()[1]
 
 
 class Server:

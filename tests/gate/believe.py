@@ -108,8 +108,8 @@ def without_blocks(lines):
 class Definition:
     """A definition: its text with its comment, and the number of lines of that."""
 
-    def __init__(self, crate, module, name, text):
-        self.crate, self.module, self.name = crate, module, name
+    def __init__(self, crate, name, text):
+        self.crate, self.name = crate, name
         self.body = "\n".join(it for it in text.splitlines() if not it.lstrip().startswith("--"))
         self.lines = sum(bool(it.strip()) for it in text.splitlines())
 
@@ -137,7 +137,7 @@ class Module:
             firsts.append(first)
         for at, first, end in zip(starts, firsts, firsts[1:] + [len(lines)]):
             kind, word = self.HEAD.match(lines[at]).groups()
-            self.definitions[word] = Definition(crate, name, word, "\n".join(lines[first:end]))
+            self.definitions[word] = Definition(crate, word, "\n".join(lines[first:end]))
             self.order.append(word)
             if kind and kind.startswith("data"):
                 for line in lines[at + 1:end]:

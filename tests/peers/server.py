@@ -15,7 +15,7 @@ import tempfile
 import time
 
 from tests.support import harness
-from tests.support.harness import Failed, Missing, expect, run_tests
+from tests.support.harness import Failed, expect, run_tests
 from tests.support.room import DEVICE, ONLINE, STATUS, Room, until
 
 # where Debian keeps NUT's daemons and drivers

@@ -7,13 +7,13 @@ It wants Debian's packages nut-server and nut-client, and runs their programs on
 last line is 'N passed, M failed'."""
 
 import os
-import socket
 import subprocess
 import sys
 import tempfile
 import time
 
 from tests.support.harness import Failed, expect, run_tests
+from tests.support.room import free_port
 
 DRIVER = "/lib/nut/dummy-ups"
 SERVER = "/lib/nut/upsd"
@@ -26,11 +26,6 @@ ups.status: OL
 ups.mfr: Dummy
 ups.model: Rehearsal
 """
-
-
-def free_port():
-    with socket.create_server(("127.0.0.1", 0)) as listener:
-        return listener.getsockname()[1]
 
 
 class Peers:

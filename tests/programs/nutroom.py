@@ -14,7 +14,6 @@ import functools
 import importlib.machinery
 import importlib.util
 import os
-import pty
 import random
 import re
 import shlex
@@ -29,6 +28,7 @@ from tests.programs.nutsim import server_files
 from tests.support.harness import ROOT, Failed, ensure, expect, run_tests
 from tests.support.model import Config, User, words_of
 from tests.support.room_model import Room, Rules, Watched, shown
+from tests.support.terminal import run_on_terminal
 
 PROGRAM = os.path.join(ROOT, "tools", "nutroom")
 PAGE = os.path.join(ROOT, "docs", "room.md")
@@ -233,9 +233,11 @@ class Tests:
 
     def test_nutsim_is_found(self):
         path = self.room(PAIR + LOW)
+        with open(PROGRAM) as file:
+            text = file.read()
         for at, env in (("tools", {}), ("bin", {}), ("other", {"PATH": os.path.join(self.folder, "found", "other")})):
             folder = os.path.join(self.folder, "found")
-            program = write(folder, "tools/nutroom", open(PROGRAM).read())
+            program = write(folder, "tools/nutroom", text)
             link = os.path.join(folder, at, "nutsim")
             os.makedirs(os.path.dirname(link), exist_ok=True)
             os.symlink(self.nutsim, link)
@@ -351,18 +353,9 @@ class Tests:
         self.picture(self.room(f"{PAIR}at 86400 su700 OB\n"))
 
     def test_progress_is_told_on_a_terminal(self):
-        main, other = pty.openpty()
-        try:
-            words = [sys.executable, PROGRAM, "--nutsim", self.nutsim, "-n", "2", "-s", "1", self.room(PAIR + LOW)]
-            done = subprocess.run(words, stdin=subprocess.DEVNULL, stdout=subprocess.PIPE, stderr=other, timeout=60)
-            os.close(other)
-            told = b""
-            with contextlib.suppress(OSError):
-                while piece := os.read(main, 4096):
-                    told += piece
-        finally:
-            os.close(main)
-        expect(done.returncode, 0, "the status")
+        words = [sys.executable, PROGRAM, "--nutsim", self.nutsim, "-n", "2", "-s", "1", self.room(PAIR + LOW)]
+        status, _, told = run_on_terminal(words)
+        expect(status, 0, "the status")
         bars = [f"\rnutroom: [{'#' * full}{'.' * (30 - full)}] {done} of 2 runs" for done, full in ((0, 0), (1, 15), (2, 30))]
         expect(told.decode(), "".join(bars) + "\r\x1b[K", "the bar")
 

@@ -8,9 +8,7 @@ Schedules are made from fixed seeds, so that each run of this test plays the sam
 
 import collections
 import concurrent.futures
-import contextlib
 import os
-import pty
 import re
 import shutil
 import subprocess
@@ -25,6 +23,7 @@ from tests.rehearsals.server import greatest_memory
 from tests.support.room_model import Room, Rules, Watched, line_of, rehearsed, shown
 from tests.support.room_schedules import UPSES, RoomMaker
 from tests.support.stage import Stage
+from tests.support.terminal import run_on_terminal
 
 EXAMPLES = os.path.join(ROOT, "examples")
 SCHEDULES = os.path.join(EXAMPLES, "schedules")
@@ -492,21 +491,8 @@ class Tests:
         found = self.run_on_terminal(room, path, env=env)
         expect((found, is_reached()), ((1, b"1: skipped\n", b"nutsim: I/O failed\r\n"), True), "news that can't be written above the progress")
 
-    def run_on_terminal(self, room, path, is_for_both=False, env=None):
-        """Returns the status, what is written to the output, and what to a terminal, which is the error output, or both."""
-        main, other = pty.openpty()
-        try:
-            words = [self.program, room.folder, path, *room.monitors]
-            out = other if is_for_both else subprocess.PIPE
-            done = subprocess.run(words, stdin=subprocess.DEVNULL, stdout=out, stderr=other, env={**os.environ, **(env or {})}, timeout=60)
-            os.close(other)
-            told = b""
-            with contextlib.suppress(OSError):
-                while piece := os.read(main, 4096):
-                    told += piece
-        finally:
-            os.close(main)
-        return done.returncode, done.stdout or b"", told
+    def run_on_terminal(self, room, path, **options):
+        return run_on_terminal([self.program, room.folder, path, *room.monitors], **options)
 
 
 def main():

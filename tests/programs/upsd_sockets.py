@@ -16,7 +16,7 @@ import threading
 import time
 
 from tests.support.harness import Failed, Missing, expect, processor_time, run_tests
-from tests.support.room import Client, DEVICE, NOT_CONNECTED, ONLINE, Room, SOON, STATUS, VERSION, accepted, connected, has_ipv6, until
+from tests.support.room import Client, DEVICE, NOT_CONNECTED, ONLINE, Room, SOON, STATUS, VERSION, accepted, free_port, has_ipv6, until
 
 
 class Tests:
@@ -259,9 +259,7 @@ class Tests:
             expect(found, (1, b"", b"upsd: cannot listen on 192.0.2.1:3493\n"), "an address of another machine")
 
     def test_several_listeners(self):
-        with socket.socket() as free:
-            free.bind(("127.0.0.1", 0))
-            port = free.getsockname()[1]
+        port = free_port()
         with self.room(conf=b"") as room:
             with open(room.path("upsd.conf"), "ab") as file:
                 file.write(b"LISTEN 127.0.0.2 %d\nLISTEN localhost %d\n" % (port, port))

@@ -137,7 +137,7 @@ class Tests:
             ) as primary:
                 room.until(b"GET NUMLOGINS su700\n", b"NUMLOGINS su700 2\n")
                 driver.tell(b"OB LB")
-                self.expect_told_before_shutdown(guest, target, {ON_BATTERY % target, BATTERY_LOW % target, FORCED % target})
+                self.expect_told_before_shutdown(guest, {ON_BATTERY % target, BATTERY_LOW % target, FORCED % target})
                 expect((guest.read("flag"), guest.read("halted")), (None, b""), "a secondary writes no POWERDOWNFLAG")
                 # the primary waits for the secondary, and no longer than it has to
                 self.expect_halt(primary, [ON_BATTERY % target, BATTERY_LOW % target, SHUTDOWN])
@@ -145,7 +145,7 @@ class Tests:
                 halted = [os.stat(it.path("halted")).st_mtime_ns for it in (guest, primary)]
                 expect(halted == sorted(halted), True, "the secondary halts first")
 
-    def expect_told_before_shutdown(self, watch, target, wanted):
+    def expect_told_before_shutdown(self, watch, wanted):
         """Expects it to halt after these notices. Their order depends on when it asked."""
         expect(watch.status(), 0, "status")
         lines = watch.lines()
@@ -324,21 +324,19 @@ class Tests:
                 expect(said[0].startswith("upsmon: NOTIFYCMD cannot be started: "), True, said[0])
 
     def test_notify_commands_are_bounded(self):
-        with Upstream() as server:
-            conf = "MINSUPPLIES 0\nSHUTDOWNCMD true\nPOLLFREQ 1\nNOCOMMWARNTIME 1\nNOTIFYFLAG NOCOMM EXEC\nNOTIFYCMD \"echo . >> FOLDER/run; sleep 60 #\"\n"
-            dead = Silent()
-            with dead:
-                # 32 lines, each of which has a notice every other second
-                lines = "".join(f"MONITOR u{i}@127.0.0.1:{dead.port} 0 mon m1 secondary\n" for i in range(32))
-                with self.watch(conf + lines, "-q") as watch:
-                    said = "upsmon: NOTIFYCMD is not run: 64 of it are running"
-                    until(lambda: said in watch.lines("err"), "that there are too many", 30)
-                    expect(set(watch.lines("err")), {said}, "what is said")
-                    until(lambda: len(watch.lines("run")) == 64, "all of them started", 30)
-                    self.end_children(watch)
-                    # once they have ended, others are run
-                    until(lambda: len(watch.lines("run")) > 64, "room for more", 30)
-                    self.end_children(watch)
+        conf = "MINSUPPLIES 0\nSHUTDOWNCMD true\nPOLLFREQ 1\nNOCOMMWARNTIME 1\nNOTIFYFLAG NOCOMM EXEC\nNOTIFYCMD \"echo . >> FOLDER/run; sleep 60 #\"\n"
+        with Silent() as dead:
+            # 32 lines, each of which has a notice every other second
+            lines = "".join(f"MONITOR u{i}@127.0.0.1:{dead.port} 0 mon m1 secondary\n" for i in range(32))
+            with self.watch(conf + lines, "-q") as watch:
+                said = "upsmon: NOTIFYCMD is not run: 64 of it are running"
+                until(lambda: said in watch.lines("err"), "that there are too many", 30)
+                expect(set(watch.lines("err")), {said}, "what is said")
+                until(lambda: len(watch.lines("run")) == 64, "all of them started", 30)
+                self.end_children(watch)
+                # once they have ended, others are run
+                until(lambda: len(watch.lines("run")) > 64, "room for more", 30)
+                self.end_children(watch)
 
     def end_children(self, watch):
         for pid in children_of(watch.process.pid):

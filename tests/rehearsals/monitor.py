@@ -15,7 +15,7 @@ import tempfile
 
 from tests.support.harness import Failed, ensure, expect, run_tests
 from tests.support.monitor_rows import MEMORY_RUNS, PRIMARY, RUNS, SCENES, Starved
-from tests.support.player import escaped
+from tests.support.player import places
 from tests.support.stage import Stage
 
 LACK = re.compile(rb"Memory \{ link: Some\(([0-9]+)\), lines: ([0-9]+) \} .*")
@@ -44,11 +44,6 @@ def steps_of(run):
 
 def is_piece(step):
     return step[0] == "monitor bytes"
-
-
-def places(piece):
-    """Returns the places at which a piece can be cut within its lines."""
-    return [at for at in range(1, len(piece)) if piece[at - 1 : at] != b"\n"]
 
 
 class Loop:

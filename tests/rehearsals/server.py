@@ -23,7 +23,7 @@ import urllib.parse
 
 from tests.support.harness import Failed, ensure, expect, refusals, run_tests
 from tests.support.model import Config
-from tests.support.player import Player, conf_steps, escaped, line_of, reload_steps
+from tests.support.player import Player, conf_steps, escaped, line_of, places, reload_steps
 from tests.support.reload_rows import RELOADS
 from tests.support.server_rows import PROBE, ROOM, ROWS, told
 from tests.support.schedules import UPSES, USERS, ScheduleMaker, shifted, variants
@@ -40,11 +40,6 @@ ERRORS = """ACCESS-DENIED UNKNOWN-UPS VAR-NOT-SUPPORTED CMD-NOT-SUPPORTED INVALI
     TOO-LONG INVALID-VALUE FEATURE-NOT-CONFIGURED DRIVER-NOT-CONNECTED DATA-STALE ALREADY-LOGGED-IN ALREADY-SET-PASSWORD
     ALREADY-SET-USERNAME USERNAME-REQUIRED PASSWORD-REQUIRED UNKNOWN-COMMAND""".split()
 REFUSALS = "NoSuchConnection NotConnected PieceTooLong Busy TooMuchTaken BadAddress Full".split()
-
-
-def places(piece):
-    """Returns the places at which a piece can be cut within its lines."""
-    return [at for at in range(1, len(piece)) if piece[at - 1 : at] != b"\n"]
 
 
 def halves(step, place):

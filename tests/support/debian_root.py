@@ -2,7 +2,6 @@
 systemd-nspawn."""
 
 import os
-import shutil
 import signal
 import subprocess
 import time

@@ -17,6 +17,11 @@ def line_of(step):
     return b" ".join([verb.encode(), *parts]) + b"\n"
 
 
+def places(piece):
+    """Returns the places at which a piece can be cut within its lines."""
+    return [at for at in range(1, len(piece)) if piece[at - 1 : at] != b"\n"]
+
+
 class Player:
     """The model, and what the program has to print for each step."""
 

@@ -33,6 +33,13 @@ def until(test, what, within=SOON):
         time.sleep(0.02)
 
 
+def free_port():
+    """Returns a port of this machine that nobody listens on."""
+    with socket.socket() as free:
+        free.bind(("127.0.0.1", 0))
+        return free.getsockname()[1]
+
+
 def has_ipv6():
     """Whether this machine has the IPv6 loopback address."""
     try:
@@ -142,9 +149,7 @@ class Room:
     def __init__(self, programs, folder, conf=b"", ups=b'[su700]\ndesc = "Server room"\n', descriptions=None):
         self.upsd_program, self.dummy_program = programs
         self.folder = tempfile.mkdtemp(dir=folder)
-        with socket.socket() as free:
-            free.bind(("127.0.0.1", 0))
-            self.port = free.getsockname()[1]
+        self.port = free_port()
         self.host = "127.0.0.1"
         self.running = []
         listen = b"" if b"LISTEN" in conf else b"LISTEN 127.0.0.1 %d\n" % self.port
