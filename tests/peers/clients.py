@@ -19,8 +19,8 @@ from tests.support.room import ONLINE, STATUS, until
 PYTHON = "/usr/bin/python3"
 
 DEVICE = b"ups.status: OL\nups.id: x\nups.model: 5 E\nbattery.charge: 100\n"
-# a battery that runs empty, after a monitor has had time to log in
-FAILURE = b"ups.status: OL\nTIMER 4\nups.status: OB\nTIMER 2\nups.status: OB LB\nTIMER 600\n"
+# a battery that runs empty
+FAILURE = b"ups.status: OB\nTIMER 2\nups.status: OB LB\nTIMER 600\n"
 USERS = b"\n[guest]\npassword = m2\nupsmon secondary\n"
 LOGINS = b"GET NUMLOGINS su700\n"
 
@@ -71,10 +71,16 @@ class ClientRoom(NutRoom):
         with open(self.path("upsd.users"), "ab") as file:
             file.write(USERS)
 
-    def serve(self, text=DEVICE, ending="dev"):
-        self.dummy(text, ending)
+    def serve(self):
+        self.driver_process = self.dummy(DEVICE)
         self.upsd()
         self.until(STATUS, ONLINE)
+
+    def fail(self):
+        """Has the mains fail: another driver takes the place of the one that said that all was well."""
+        self.driver_process.kill()
+        self.driver_process.wait()
+        self.dummy(FAILURE, "seq")
 
     def pynut(self, expression, *user):
         """Returns the value of an expression about PyNUT's client of this room."""
@@ -98,8 +104,9 @@ class ClientRoom(NutRoom):
             file.writelines(f"NOTIFYFLAG {notice} SYSLOG\n" for notice in NOTICES)
         os.chmod(path, 0o600)
         env = {**os.environ, "NUT_CONFPATH": folder, "NUT_STATEPATH": folder, "NUT_ALTPIDPATH": folder}
-        # -p: it has no other user to run as
-        return folder, self.start([*APART, folder, program, "-D", "-p"], env=env)
+        # -p: it has no other user to run as; what it says goes to a file, which can be read without waiting for more
+        with open(os.path.join(folder, "said"), "wb") as said:
+            return folder, self.start([*APART, folder, program, "-D", "-p"], env=env, stderr=said)
 
     def clients(self):
         """Returns the rows of LIST CLIENT."""
@@ -179,8 +186,13 @@ class Tests:
     def test_upsmon_of_nut_with_a_wrong_password(self):
         with self.room() as room:
             room.serve()
-            _, monitor = room.monitor("primary", user="mon no")
-            found = until(lambda: next((it for it in monitor.stderr if b"ERR" in it or b"enied" in it), b""), "it is told")
+            folder, _ = room.monitor("primary", user="mon no")
+
+            def refusal():
+                with open(os.path.join(folder, "said"), "rb") as said:
+                    return next((it for it in said if it.endswith(b"\n") and (b"ERR" in it or b"enied" in it)), b"")
+
+            found = until(refusal, "it is told")
             expect(b"ACCESS-DENIED" in found or b"denied" in found, True, f"what is told: {found!r}")
             expect(room.ask(LOGINS), b"NUMLOGINS su700 0\n", "nobody is logged in")
 
@@ -199,9 +211,10 @@ class Tests:
 
     def test_upsmon_of_nut_stops_its_machine(self):
         with self.room() as room:
-            room.serve(FAILURE, "seq")
+            room.serve()
             folder, monitor = room.monitor("primary")
             room.until(LOGINS, b"NUMLOGINS su700 1\n")
+            room.fail()
             room.until(STATUS, b'VAR su700 ups.status "FSD OB LB"\n', 30)
             until(lambda: os.path.exists(os.path.join(folder, "is-down")), "its SHUTDOWNCMD", 30)
             with open(os.path.join(folder, "killpower")) as file:
@@ -212,11 +225,12 @@ class Tests:
     def test_upsmon_of_nut_stops_its_room(self):
         """A secondary stops when the primary sets FSD, and the primary waits for it."""
         with self.room() as room:
-            room.serve(FAILURE, "seq")
+            room.serve()
             first, _ = room.monitor("primary")
             second, _ = room.monitor("secondary", user="guest m2")
             room.until(LOGINS, b"NUMLOGINS su700 2\n")
             expect(room.clients(), [b"CLIENT su700 127.0.0.1\n"] * 2, "who is logged in")
+            room.fail()
             for folder in (second, first):
                 until(lambda: os.path.exists(os.path.join(folder, "is-down")), f"SHUTDOWNCMD of {folder}", 30)
             times = [os.stat(os.path.join(folder, "is-down")).st_mtime_ns for folder in (second, first)]

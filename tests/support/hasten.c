@@ -4,9 +4,8 @@
  *   cc -shared -fPIC -o hasten.so hasten.c
  *   LD_PRELOAD=./hasten.so HASTE=20 PROGRAM ..
  *
- * The program's clock runs HASTE times as fast as the machine's, and it waits for its sockets as much shorter; HASTE may have
- * a fraction. With
- * ABORTED_ACCEPTS=N its first N accepts of a client fail as those of one that has gone away. */
+ * The program's clock runs HASTE times as fast as the machine's, and it waits for its sockets as much shorter; HASTE may
+ * have a fraction. With ABORTED_ACCEPTS=N its first N accepts of a client fail as those of one that has gone away. */
 #define _GNU_SOURCE
 #include <errno.h>
 #include <stdlib.h>
