@@ -425,8 +425,8 @@ class Tests:
             "told",
             ups_conf='maxretry = 3\n[apc]\n driver = usbhid-ups\n port = auto\n vendorid = 051d\n override.battery.charge.low = 30\n',
             upsd_conf="#\u00a0a comment\nMAXAGE 20\nSTATEPATH /run/nut\n",
-            upsd_users='[mon]\n password = "s3 cret"\n actions = set\n upsmon = master\n',
-            upsmon_conf='RUN_AS_USER nut\nMONITOR apc 1 mon "s3 cret" master # mine\nNOTIFYCMD /sbin/upssched\n',
+            upsd_users='[mon]\n password = "s3 cret"\n actions = set\n upsmon = master\n[guest]\n actions = fsd\n upsmon slave # ours\n',
+            upsmon_conf='RUN_AS_USER nut\nMONITOR apc 1 mon "s3 cret" master # mine\nMONITOR apc@rack 0 guest m2 slave\nNOTIFYCMD /sbin/upssched\n',
         )
         before = state_of(folder)
         told = [
@@ -440,6 +440,10 @@ class Tests:
             "    change it to: actions = SET",
             "upsd.users:4: BadForm: upsmon = master",
             "    change it to: upsmon primary",
+            "upsd.users:6: UnknownWord: actions = fsd",
+            "    change it to: actions = FSD",
+            "upsd.users:7: UnknownWord: upsmon slave # ours",
+            "    change it to: upsmon secondary # ours",
             "upsd.conf:1: Unreadable: #\u00a0a comment",
             "    change it to: #??a comment",
             "upsd.conf:3: UnknownDirective: STATEPATH /run/nut",
@@ -449,6 +453,8 @@ class Tests:
             "    take it out: not taken: there is one process, which the unit runs as root",
             "upsmon.conf:2: BadName: MONITOR apc 1 mon .. master",
             "    change it to: MONITOR apc@localhost 1 mon .. primary",
+            "upsmon.conf:3: UnknownWord: MONITOR apc@rack 0 guest .. slave",
+            "    change it to: MONITOR apc@rack 0 guest .. secondary",
             "note: upssched is NUT's, and isn't part of these packages; see from-nut(7)",
         ]
         status, said = self.check(folder)
@@ -464,8 +470,8 @@ class Tests:
         wanted = {
             "ups.conf": (0o640, "\n[apc]\n driver = usbhid-ups\n port = auto\n\n\n"),
             "upsd.conf": (0o640, "#??a comment\nMAXAGE 20\n\n"),
-            "upsd.users": (0o640, '[mon]\n password = "s3 cret"\n actions = SET\n upsmon primary\n'),
-            "upsmon.conf": (0o600, '\nMONITOR apc@localhost 1 mon "s3 cret" primary # mine\nNOTIFYCMD /sbin/upssched\n'),
+            "upsd.users": (0o640, '[mon]\n password = "s3 cret"\n actions = SET\n upsmon primary\n[guest]\n actions = FSD\n upsmon secondary # ours\n'),
+            "upsmon.conf": (0o600, '\nMONITOR apc@localhost 1 mon "s3 cret" primary # mine\nMONITOR apc@rack 0 guest m2 secondary\nNOTIFYCMD /sbin/upssched\n'),
         }
         expect((written, state_of(folder)), (wanted, before), "what it wrote")
 

@@ -7,15 +7,18 @@ all the same.
 The last line is 'N passed, M failed'."""
 
 import contextlib
+import ctypes
+import functools
 import itertools
 import os
 import signal
+import socket
 import stat
 import subprocess
 import sys
 import tempfile
 
-from tests.support.harness import expect, Shimmed
+from tests.support.harness import ensure, expect, Shimmed
 from tests.support.monitored import FLAG, ON_BATTERY, QUICK, SHUTDOWN, Upstream, Watch, children_of, play
 from tests.support.room import ONLINE, STATUS, Room, state_of, until
 
@@ -35,6 +38,13 @@ def fronts(lines, wanted):
 def is_running(pid):
     """Whether a process exists and hasn't ended."""
     return state_of(pid) not in ("", "Z", "X")
+
+
+def heed_modes():
+    """Has the program that is started next heed the modes of files and folders, which root doesn't otherwise."""
+    drop, dac_override = 24, 1
+    if os.geteuid() == 0 and ctypes.CDLL(None, use_errno=True).prctl(drop, dac_override, 0, 0, 0) != 0:
+        raise OSError(ctypes.get_errno(), "CAP_DAC_OVERRIDE can't be dropped")
 
 
 @contextlib.contextmanager
@@ -169,10 +179,16 @@ class Tests(Shimmed):
                     expect(said in watch.lines("err"), True, "that it is removed")
 
     def test_foreign_flag(self):
-        for lay in (self.file_of(b"mine\n"), os.mkfifo, os.mkdir, self.link):
+        # devices without a driver
+        devices = [functools.partial(os.mknod, mode=kind | 0o600) for kind in (stat.S_IFCHR, stat.S_IFBLK)]
+        for lay in (self.file_of(b"mine\n"), os.mkfifo, os.mkdir, self.link, self.socket_at, *devices):
             with tempfile.TemporaryDirectory(dir=self.folder) as folder:
                 flag = os.path.join(folder, "flag")
-                lay(flag)
+                try:
+                    lay(flag)
+                except PermissionError:
+                    ensure(lay in devices, f"{lay} is refused")
+                    continue
                 before = self.look(folder)
                 with self.halting(f"POWERDOWNFLAG {flag}\n{HALTED}", "-q") as (server, watch):
                     expect(watch.status(), 0, "status")
@@ -193,6 +209,10 @@ class Tests(Shimmed):
         self.file_of(FLAG)(path + ".other")
         os.symlink(path + ".other", path)
 
+    def socket_at(self, path):
+        with socket.socket(socket.AF_UNIX) as it:
+            it.bind(path)
+
     def look(self, folder):
         """Returns the visible state of each file of a folder."""
         seen = {}
@@ -212,6 +232,21 @@ class Tests(Shimmed):
                 expect(file.read(), FLAG, "what the flag holds")
             expect(oct(stat.S_IMODE(os.stat(flag).st_mode)), "0o600", "the flag's mode")
             expect(os.path.exists(flag + ".new"), False, "the new file")
+
+    def test_flag_that_cannot_be_removed(self):
+        """A flag of an earlier shutdown in a folder in which upsmon may not write: it stays, and the machine is halted."""
+        with tempfile.TemporaryDirectory(dir=self.folder) as folder:
+            flag = os.path.join(folder, "flag")
+            self.file_of(FLAG)(flag)
+            os.chmod(folder, 0o500)
+            before = self.look(folder)
+            with self.halting(f"POWERDOWNFLAG {flag}\n{HALTED}", "-q", preexec_fn=heed_modes) as (_, watch):
+                expect(watch.status(), 0, "status")
+                expect(watch.read("halted"), b"", "SHUTDOWNCMD is run all the same")
+                wanted = [f"upsmon: warning: POWERDOWNFLAG {flag} cannot be removed: ", f"upsmon: POWERDOWNFLAG {flag} cannot be written: "]
+                expect(fronts(watch.lines("err"), wanted), wanted, "what is told")
+            expect(self.look(folder), before, "what lies there")
+            os.chmod(folder, 0o700)
 
     def test_is_the_flag_set(self):
         with tempfile.TemporaryDirectory(dir=self.folder) as folder:
