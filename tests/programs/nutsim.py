@@ -441,13 +441,16 @@ class Tests:
                     expect((status, out, err), (0, due, b""), "without a refusal")
                     break
                 expect((status, err in told, due.startswith(out)), (1, True, True), f"read {at}: {err!r}, {out!r}")
+            ensure(at > len(told), f"{at - 1} reads were seen, of {len(told)} files")
             for at, env, is_reached in refusals(self.shim, "write"):
                 status, out, err = self.run(room, path, env=env)
                 if not is_reached():
+                    expect((status, out, err), (0, due, b""), "without a refusal")
                     break
                 # What a failed write left is written again at the end, so it may still appear: the status says that a write
                 # failed.
                 expect((status, err, due.startswith(out)), (1, b"nutsim: I/O failed\n", True), f"write {at}: {out!r}")
+            ensure(at > 1, "no write was seen")
 
     def test_a_long_schedule_takes_no_more_memory(self):
         room = self.room("long", ALONE, [PRIMARY])
