@@ -71,6 +71,9 @@ FILES = {
         (b'[a]\ndriver = x\ndriver = ""\n', "3: BadName"),
         (b"[a]\ndriver = x\nport = x\ndesc = x\ndriver = x\n", "5: Repeated"),
         (b"[a]\ndesc = x\n\n# c\ndesc = y\n", "5: Repeated"),
+        (b"[a]\ndriver = a/b\n", "2: BadName"),
+        # carriage returns are blanks
+        (b"[a]\r\ndesc = x\r\n\r\n[a]\r\n", "4: Repeated"),
         # each section is tested on its own; the first faulty line is reported
         (b"[a]\ndesc = x\n[b]\ndesc = x\n", None),
         (b"[a]\nfoo = x\n[a]\n", "2: UnknownDirective"),
@@ -117,6 +120,7 @@ FILES = {
         (b"[a]\npassword x\n", "2: BadForm"),
         (b"[a]\nactions = SET\nactions = SET\nactions = FSD\n", None),
         (b"[a]\nactions = set\n", "2: UnknownWord"),
+        (b"[a]\nactions = ALL\n", "2: UnknownWord"),
         (b"[a]\nactions = SET FSD\n", "2: BadForm"),
         (b"[a]\ninstcmds = all\ninstcmds = ALL\ninstcmds = aLl\n", None),
         (b"[a]\ninstcmds = load.off\ninstcmds = load.off\n", None),

@@ -7,6 +7,7 @@ The last line is 'N passed, M failed'."""
 
 import itertools
 import os
+import resource
 import shutil
 import subprocess
 import sys
@@ -24,6 +25,12 @@ LIST = b'BEGIN LIST UPS\nUPS su700 "Server room"\nEND LIST UPS\n'
 NUT_DESCRIPTIONS = "/usr/share/nut/cmdvartab"
 DESCRIPTION = b'UPSDESC su700 "Server room"\n'
 GOODBYE = b"OK Goodbye\n"
+
+
+def children_time():
+    """Returns how many seconds of processor time the runs have used that have ended."""
+    used = resource.getrusage(resource.RUSAGE_CHILDREN)
+    return used.ru_utime + used.ru_stime
 
 
 def error(name):
@@ -44,7 +51,8 @@ MIXED = [
 ]
 
 
-# faults of configuration files: the file's name, its text, and the message
+# A fault of each kind in each configuration file, which a start reports: the file's name, its text, and the message.
+# tests/programs/files.py has all the others.
 CONF_FAULTS = [
     ("ups.conf", b"[a]\n[a]\n", "2: Repeated"),
     ("ups.conf", b'[a]\ndesc = "x\n', "2: Unreadable"),
@@ -52,40 +60,28 @@ CONF_FAULTS = [
     ("ups.conf", b"[a]\ndesc =\n", "2: BadForm"),
     ("ups.conf", b"[a]\nfoo = x\n", "2: UnknownDirective"),
     ("ups.conf", b"\n# names\n[a/b]\n", "3: BadName"),
-    ("ups.conf", b"[a]\ndriver = a/b\n", "2: BadName"),
     ("ups.conf", b"[" + b"a" * 33 + b"]\n", "1: PastLimit"),
-    ("ups.conf", b"[a]\ndesc = " + b"x" * 129 + b"\n", "2: PastLimit"),
-    ("ups.conf", b"".join(b"[u%d]\n" % i for i in range(33)), "33: PastLimit"),
-    ("ups.conf", b"# " + b"x" * 511 + b"\n", "1: PastLimit"),
-    ("ups.conf", b"\n" * 1_048_577, "0: PastLimit"),
-    ("ups.conf", b"[a]\ndesc = x\ndesc = y\n", "3: Repeated"),
-    ("upsd.users", b"[mon]\nupsmon tertiary\n", "2: UnknownWord"),
-    ("upsd.users", b"[mon]\nactions = ALL\n", "2: UnknownWord"),
-    ("upsd.users", b'[mon]\npassword = ""\n', "2: PastLimit"),
+    ("upsd.users", b"[mon]\n[a]\n[mon]\n", "3: Repeated"),
+    ("upsd.users", b'[mon]\npassword = "x\n', "2: Unreadable"),
     ("upsd.users", b"upsmon primary\n", "1: OutsideSection"),
     ("upsd.users", b"[mon]\nupsmon = primary\n", "2: BadForm"),
-    ("upsd.conf", b"MAXAGE 15\nMAXAGE 0\n", "2: BadNumber"),
+    ("upsd.users", b"[mon]\nallowfrom = x\n", "2: UnknownDirective"),
+    ("upsd.users", b"[mon]\ninstcmds = a/b\n", "2: BadName"),
+    ("upsd.users", b"[mon]\nupsmon tertiary\n", "2: UnknownWord"),
+    ("upsd.users", b'[mon]\npassword = ""\n', "2: PastLimit"),
     ("upsd.conf", b"MAXAGE 15\nMAXAGE 16\n", "2: Repeated"),
-    ("upsd.conf", b"MAXCONN 257\n", "1: BadNumber"),
-    ("upsd.conf", b"LISTEN a_b 0\n", "1: BadName"),
+    ("upsd.conf", b"# \xff\n", "1: Unreadable"),
+    ("upsd.conf", b"MAXAGE\n", "1: BadForm"),
     ("upsd.conf", b"CERTFILE x\n", "1: UnknownDirective"),
-    ("cmdvartab", b"# names\n\nVARDESC a x\nCMDDESC a x\nVARDESC b x\nVARDESC a\n", "6: BadForm"),
-    ("cmdvartab", b"VARDESC a UPS model\n", "1: BadForm"),
+    ("upsd.conf", b"LISTEN a_b 0\n", "1: BadName"),
+    ("upsd.conf", b"MAXAGE 15\nMAXAGE 0\n", "2: BadNumber"),
+    ("upsd.conf", b"LISTEN a\n" * 17, "17: PastLimit"),
     ("cmdvartab", b"VARDESC a x\nCMDDESC a x\nVARDESC a y\n", "3: Repeated"),
+    ("cmdvartab", b'VARDESC a "x\n', "1: Unreadable"),
+    ("cmdvartab", b"# names\n\nVARDESC a x\nCMDDESC a x\nVARDESC b x\nVARDESC a\n", "6: BadForm"),
+    ("cmdvartab", b"\nvardesc a x\n", "2: UnknownDirective"),
     ("cmdvartab", b"VARDESC a/b x\n", "1: BadName"),
     ("cmdvartab", b"CMDDESC " + b"a" * 65 + b" x\n", "1: PastLimit"),
-    ("cmdvartab", b"CMDDESC a " + b"x" * 129 + b"\n", "1: PastLimit"),
-    ("cmdvartab", b"".join(b"VARDESC v%d x\n" % i for i in range(1025)), "1025: PastLimit"),
-    ("cmdvartab", b'VARDESC a "x\n', "1: Unreadable"),
-    ("cmdvartab", b"\nvardesc a x\n", "2: UnknownDirective"),
-    # bytes past ASCII, also in a comment
-    ("ups.conf", "[a]\ndesc = caf\u00e9\n".encode(), "2: Unreadable"),
-    ("upsd.conf", b"# \xff\n", "1: Unreadable"),
-    # carriage returns are blanks, and a last line needs no line feed
-    ("ups.conf", b"[a]\r\ndesc = x\r\n\r\n[a]\r\n", "4: Repeated"),
-    ("upsd.conf", b"MAXAGE 15\nMAXAGE 16", "2: Repeated"),
-    # the first faulty line is reported
-    ("ups.conf", b"[a]\nfoo = x\n[a]\n", "2: UnknownDirective"),
 ]
 
 
@@ -358,12 +354,12 @@ class Tests(Shimmed):
         for line in (b"\n", b"actions = SET\n", b"# " + b"x" * 509 + b"\n"):
             text = b"[a]\n" + line * (1_048_572 // len(line))
             args = self.conf(upsd_users=text.ljust(1_048_576))
-            begun = time.monotonic()
+            used = children_time()
             expect(self.run(args, b"VER\n"), (0, VERSION, b""), f"lines {line[:20]!r}")
-            worst = max(worst, time.monotonic() - begun)
-        print(f"   1,048,576 bytes take at most {worst:.3f} s")
+            worst = max(worst, children_time() - used)
+        print(f"   1,048,576 bytes take at most {worst:.3f} s of processor time")
         if worst > 1:
-            raise Failed(f"a file of 1,048,576 bytes took {worst:.3f} s")
+            raise Failed(f"a file of 1,048,576 bytes took {worst:.3f} s of processor time")
 
     def test_huge_conf_is_not_taken_into_memory(self):
         args = self.conf()
