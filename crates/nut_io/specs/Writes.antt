@@ -1,5 +1,6 @@
 -- What a write may take, and who is late after it.
-use Rattle.std.specs.Prelude.{◌<◌, ◌≤◌, ℕ, Bool, ◌||◌, ◌==◌}
+use Rattle.std.specs.Prelude.{◌<◌, ◌≤◌, ℕ, Bool, ◌||◌, ◌==◌, List, take, Option}
+use Rattle.std.specs.Io.KnownBytes.{Appends, Keeps}
 use Rattle.nut_io.specs.declared.types.Written.{Written}
 use Rattle.nut_io.specs.declared.types.Written.TheVariants.{Took, Later, Failed}
 
@@ -8,6 +9,12 @@ abbrev pub IsWithin : Written → ℕ → Type 0
 IsWithin (Took n) offered = (0 < n) × (n ≤ offered)
 IsWithin Later offered = Unit {0}
 IsWithin Failed offered = Unit {0}
+
+-- The writer took the bytes that the outcome says, from the front of those that were offered, and no others.
+abbrev pub Takes : Written → List ℕ → Option (List ℕ) → Option (List ℕ) → Type 0
+Takes (Took n) offered before after = Appends before after (take n offered)
+Takes Later offered before after = Keeps before after
+Takes Failed offered before after = Keeps before after
 
 -- whether d is late after a write to c: it was late before, or it is c and the write is to come later; used of
 -- connections, drivers and links

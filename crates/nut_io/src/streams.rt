@@ -1,6 +1,8 @@
 //! Reads and writes of one piece.
 
-ghost use Rattle.std.specs.Prelude.{◌≤◌, length, IfOk};
+ghost use Rattle.std.specs.Prelude.{◌≡◌, ◌≢◌, ◌≤◌, length, Ok, IfOk, IfErr, OnErr};
+ghost use Rattle.std.specs.Io.KnownBytes.{Consumes, IsAtEnd, Keeps, WriteAppends};
+ghost use Rattle.std.specs.IoError.{error_kind};
 
 use crate::Piece;
 use nut_words::PIECE_MAX;
@@ -8,11 +10,18 @@ use std::io;
 use std::io::{ErrorKind, Read, Write};
 
 /// Reads one piece, and returns its length: 0 at the end of the input. A read that is interrupted is tried again.
+/// After an error the piece means nothing.
 ///
 /// # Errors
 ///
-/// The error of the reader.
-pub fn read_piece<R: Read>(input: &mut R, piece: &mut Piece) -> io::Result<usize> {
+/// The error of the reader, which then gave no byte.
+pub fn read_piece<R: Read>(input: &mut R, piece: &mut Piece) -> io::Result<usize>
+    ensures ok { IfOk result (λ n. (n ≡ length piece.new.items)
+        × Consumes (R.remaining input.old) (R.remaining input.new) piece.new.items) }
+    ensures end { result ≡ Ok 0 → IsAtEnd (R.remaining input.new) }
+    ensures err { OnErr result (Keeps (R.remaining input.old) (R.remaining input.new)) }
+    ensures retried { IfErr result (λ e. error_kind e ≢ ErrorKind.Interrupted) }
+{
     *piece = Piece::from([0; PIECE_MAX]);
     for _ in 0..u64::MAX {
         match input.read(piece.as_mut_slice()) {
@@ -24,7 +33,7 @@ pub fn read_piece<R: Read>(input: &mut R, piece: &mut Piece) -> io::Result<usize
             Err(e) => return Err(e),
         }
     }
-    Err(io::Error::from(ErrorKind::Interrupted))
+    Err(io::Error::from(ErrorKind::TimedOut))
 }
 
 /// Writes what the writer takes at once, and returns how many bytes that was. A write that is interrupted is tried
@@ -32,9 +41,11 @@ pub fn read_piece<R: Read>(input: &mut R, piece: &mut Piece) -> io::Result<usize
 ///
 /// # Errors
 ///
-/// The error of the writer.
+/// The error of the writer, which then took no byte.
 pub fn write_some<T: Write>(output: &mut T, bytes: &[u8]) -> io::Result<usize>
-    ensures { IfOk result (λ n. n ≤ length bytes.now) }
+    ensures bound { IfOk result (λ n. n ≤ length bytes.now) }
+    ensures bytes { WriteAppends (T.contents output.old) (T.contents output.new) result bytes.now }
+    ensures retried { IfErr result (λ e. error_kind e ≢ ErrorKind.Interrupted) }
 {
     for _ in 0..u64::MAX {
         match output.write(bytes) {
@@ -43,5 +54,5 @@ pub fn write_some<T: Write>(output: &mut T, bytes: &[u8]) -> io::Result<usize>
             Err(e) => return Err(e),
         }
     }
-    Err(io::Error::from(ErrorKind::Interrupted))
+    Err(io::Error::from(ErrorKind::TimedOut))
 }

@@ -1,7 +1,8 @@
 //! One end of a connection, whose reads and writes don't block.
 
 ghost use Rattle.std.specs.Prelude.{length};
-ghost use Rattle.nut_io.specs.Writes.{IsWithin};
+ghost use Rattle.nut_io.specs.Writes.{IsWithin, Takes};
+ghost use Rattle.nut_poll.specs.Hearing.{IsHeard};
 
 use mio::event::Event;
 use nut_io::{Piece, Written, read_piece, write_some};
@@ -51,7 +52,9 @@ impl<S: Read + Write> Link<S> {
 
     /// Reads what is there, up to a piece. If it is less than a piece, there was no more, unless the other end has
     /// ended or sent urgent data. Urgent data itself is skipped.
-    pub fn hear(&mut self, piece: &mut Piece) -> Heard {
+    pub fn hear(&mut self, piece: &mut Piece) -> Heard
+        ensures { IsHeard result piece.new.items (S.remaining self.old.stream) (S.remaining self.new.stream) }
+    {
         match read_piece(&mut self.stream, piece) {
             Ok(0) => Heard::End,
             Ok(n) if n == piece.capacity() || self.ends || self.is_urgent => Heard::Part,
@@ -66,7 +69,8 @@ impl<S: Read + Write> Link<S> {
 
     /// Offers at least one byte, and returns the outcome.
     pub fn offer(&mut self, bytes: &[u8]) -> Written
-        ensures { IsWithin result (length bytes.now) }
+        ensures within { IsWithin result (length bytes.now) }
+        ensures takes { Takes result bytes.now (S.contents self.old.stream) (S.contents self.new.stream) }
     {
         if !self.takes {
             return Written::Later;

@@ -1,4 +1,5 @@
 pub mod Record
+pub mod Streams
 pub mod Served
 pub mod Memory
 pub mod ServedAll

@@ -1,6 +1,11 @@
 //! A world over a reader and a writer, with one client.
 
-ghost use Rattle.std.specs.Prelude.{◌≡◌, true, false, List, None, OnErr};
+ghost use Rattle.std.specs.Prelude.{◌≡◌, ◌+◌, ◌-◌, ◌^◌, ◌<◌, ◌⊎◌, ℕ, true, false, List, length, None, Ok, IfOk, OnErr, is_ok, if◌then◌else◌};
+ghost use Rattle.std.specs.Io.KnownBytes.{IsAtEnd, Keeps};
+ghost use Rattle.nut_server_spec.specs.Acceptance.{may_read, session_of};
+ghost use Rattle.nut_io.specs.Writes.{IsWithin, Takes, late_after};
+ghost use Rattle.nut_server_loop.specs.Record.{tells_next, tells_write, MayCome};
+ghost use Rattle.nut_server_loop.specs.Streams.{IsRead, no_record};
 ghost use Rattle.nut_server_loop.specs.declared.streams.Stage.{Stage};
 ghost use Rattle.nut_server_loop.specs.declared.streams.Stage.TheVariants.{Ended};
 
@@ -89,7 +94,21 @@ impl<'a, R: Read, T: Write> World for StreamWorld<'a, R, T> {
         self.faults
     }
 
-    fn next(&mut self, server: &Server, piece: &mut Piece) -> Result<Next, Fault> {
+    fn next(&mut self, server: &Server, piece: &mut Piece) -> Result<Next, Fault>
+        requires { self.old.faults < 2 ^ 64 - 1 }
+        ensures ok { IfOk result (λ n. no_record ≡ tells_next n piece.new.items no_record) }
+        ensures err { OnErr result (no_record ≡ no_record) }
+        ensures read { IfOk result (λ n. MayCome n server.now) }
+        ensures ended { result ≡ Ok Next.End → self.new.stage ≡ Ended }
+        ensures none_late { (d : ℕ) → false ≡ false }
+        ensures no_driver_late { (u : ℕ) → false ≡ false }
+        ensures counted { self.new.faults ≡ (if is_ok result then self.old.faults else self.old.faults + 1) }
+        ensures reached { Unit {0} }
+        ensures gives { IfOk result (λ n. IsRead n piece.new.items (R.remaining self.old.input.now) (R.remaining self.new.input.now)) }
+        ensures gives_none { OnErr result (Keeps (R.remaining self.old.input.now) (R.remaining self.new.input.now)) }
+        ensures at_end { result ≡ Ok Next.End → (self.old.stage ≡ Ended) ⊎ (may_read (session_of 1 server.now.sessions) ≡ false)
+            ⊎ IsAtEnd (R.remaining self.new.input.now) }
+    {
         if self.stage == Stage::Arriving {
             self.stage = Stage::Present;
             return Ok(Next::Open(address()));
@@ -112,7 +131,19 @@ impl<'a, R: Read, T: Write> World for StreamWorld<'a, R, T> {
         }
     }
 
-    fn write(&mut self, _c: u64, bytes: &[u8]) -> Result<Written, Fault> {
+    fn write(&mut self, _c: u64, bytes: &[u8]) -> Result<Written, Fault>
+        requires few { self.old.faults < 2 ^ 64 - 1 }
+        requires some { 0 < length bytes.now }
+        ensures ok { IfOk result (λ w. no_record ≡ tells_write w _c bytes.now no_record) }
+        ensures err { OnErr result (no_record ≡ no_record) }
+        ensures within { IfOk result (λ w. IsWithin w (length bytes.now)) }
+        ensures late { IfOk result (λ w. (d : ℕ) → false ≡ late_after w _c (λ _. false) d) }
+        ensures drivers { (u : ℕ) → false ≡ false }
+        ensures counted { self.new.faults ≡ (if is_ok result then self.old.faults else self.old.faults + 1) }
+        ensures reached { Unit {0} }
+        ensures took { IfOk result (λ w. Takes w bytes.now (T.contents self.old.output.now) (T.contents self.new.output.now)) }
+        ensures took_none { OnErr result (Keeps (T.contents self.old.output.now) (T.contents self.new.output.now)) }
+    {
         match write_some(self.output, bytes) {
             Ok(n) if n > 0 => Ok(Written::Took(n)),
             _ => {
