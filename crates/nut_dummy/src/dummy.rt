@@ -1,6 +1,5 @@
 //! The dummy driver.
 ghost use Rattle.std.specs.Prelude.{◌≡◌, ◌<◌, ℕ, List, [], ◌∷◌, MatchResult, IfOk, OnOk, IfErr, length};
-ghost use Rattle.nut_queue.specs.Front.{IsFrontPart};
 ghost use Rattle.nut_dummy.specs.Dump.{DumpsWhereAsked};
 ghost use Rattle.nut_dummy.specs.History.{BytesStand, Call, Linked, Moment, Stands, Took};
 ghost use Rattle.nut_dummy.specs.Script.{Script as ScriptValue};
@@ -199,9 +198,9 @@ impl Dummy {
         Ok(())
     }
 
-    /// Returns some of the bytes that wait, from the first on; empty only if none wait.
+    /// Returns all bytes that wait.
     pub fn waiting(&self) -> &[u8]
-        ensures { IsFrontPart result.now (waits_of self.now) }
+        ensures { result.now ≡ waits_of self.now }
     {
         self.teller.outbox.front()
     }

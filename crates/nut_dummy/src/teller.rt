@@ -1,6 +1,5 @@
 //! What a driver holds and tells.
 ghost use Rattle.std.specs.Prelude.{◌≡◌, [], ⊤, false, OnErr, OnOk};
-ghost use Rattle.nut_queue.specs.Front.{IsFrontPart};
 ghost use Rattle.nut_dummy.specs.machine.Teller.{changed, dumped_all, answered, heard, relinked};
 ghost use Rattle.nut_dummy.specs.inside.Changes.{change_of};
 

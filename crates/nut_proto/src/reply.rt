@@ -1,5 +1,6 @@
 //! The lines that the server answers with, and how they are written.
-ghost use Rattle.std.specs.Prelude.{◌≡◌, ◌++◌, OnOk, OnErr};
+ghost use Rattle.std.specs.Prelude.{◌≡◌, ◌++◌, length, OnOk, OnErr};
+ghost use Rattle.nut_words.specs.Out.{Fits, Exceeds};
 ghost use Rattle.nut_proto.specs.Lines.{line};
 ghost use Rattle.nut_proto.specs.Replies.{reply_line, version_parts, commands_parts, type_parts, kind_part};
 
@@ -138,6 +139,8 @@ impl Reply<'_> {
     pub fn put<O: Out>(&self, out: &mut O) -> Result<(), O::Fault>
         ensures ok { OnOk result (O.held out.new ≡ O.held out.old ++ reply_line self.now) }
         ensures err { OnErr result (O.held out.new ≡ O.held out.old) }
+        ensures fits { OnOk result (Fits O.most (length (O.held out.old ++ reply_line self.now))) }
+        ensures full { OnErr result (Exceeds O.most (length (O.held out.old ++ reply_line self.now))) }
     {
         match self {
             Reply::Accepted => put_line(out, &[text(b"OK")]),
@@ -256,6 +259,8 @@ impl Reply<'_> {
 fn put_version<O: Out>(out: &mut O) -> Result<(), O::Fault>
     ensures ok { OnOk result (O.held out.new ≡ O.held out.old ++ line version_parts) }
     ensures err { OnErr result (O.held out.new ≡ O.held out.old) }
+    ensures fits { OnOk result (Fits O.most (length (O.held out.old ++ line version_parts))) }
+    ensures full { OnErr result (Exceeds O.most (length (O.held out.old ++ line version_parts))) }
 {
     out.append(b"Network UPS Tools upsd profile 1.3\n")
 }
@@ -264,6 +269,8 @@ fn put_version<O: Out>(out: &mut O) -> Result<(), O::Fault>
 fn put_commands<O: Out>(out: &mut O) -> Result<(), O::Fault>
     ensures ok { OnOk result (O.held out.new ≡ O.held out.old ++ line commands_parts) }
     ensures err { OnErr result (O.held out.new ≡ O.held out.old) }
+    ensures fits { OnOk result (Fits O.most (length (O.held out.old ++ line commands_parts))) }
+    ensures full { OnErr result (Exceeds O.most (length (O.held out.old ++ line commands_parts))) }
 {
     out.append(
         b"Commands: GET LIST SET INSTCMD USERNAME PASSWORD LOGIN PRIMARY FSD LOGOUT VER NETVER HELP STARTTLS\n",
@@ -279,6 +286,8 @@ fn put_type<'a, O: Out>(
 ) -> Result<(), O::Fault>
     ensures ok { OnOk result (O.held out.new ≡ O.held out.old ++ line (type_parts ups.now variable.now writable kind)) }
     ensures err { OnErr result (O.held out.new ≡ O.held out.old) }
+    ensures fits { OnOk result (Fits O.most (length (O.held out.old ++ line (type_parts ups.now variable.now writable kind)))) }
+    ensures full { OnErr result (Exceeds O.most (length (O.held out.old ++ line (type_parts ups.now variable.now writable kind)))) }
 {
     if writable {
         put_line(

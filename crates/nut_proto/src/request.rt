@@ -252,6 +252,8 @@ impl ListQuery<'_> {
     pub fn put_begin<O: Out>(&self, out: &mut O) -> Result<(), O::Fault>
         ensures ok { OnOk result (O.held out.new ≡ O.held out.old ++ begin_line self.now) }
         ensures err { OnErr result (O.held out.new ≡ O.held out.old) }
+        ensures fits { OnOk result (Fits O.most (length (O.held out.old ++ begin_line self.now))) }
+        ensures full { OnErr result (Exceeds O.most (length (O.held out.old ++ begin_line self.now))) }
     {
         self.put_marked(out, &[text(b"BEGIN"), text(b"LIST")])
     }
@@ -265,6 +267,8 @@ impl ListQuery<'_> {
     pub fn put_end<O: Out>(&self, out: &mut O) -> Result<(), O::Fault>
         ensures ok { OnOk result (O.held out.new ≡ O.held out.old ++ end_line self.now) }
         ensures err { OnErr result (O.held out.new ≡ O.held out.old) }
+        ensures fits { OnOk result (Fits O.most (length (O.held out.old ++ end_line self.now))) }
+        ensures full { OnErr result (Exceeds O.most (length (O.held out.old ++ end_line self.now))) }
     {
         self.put_marked(out, &[text(b"END"), text(b"LIST")])
     }

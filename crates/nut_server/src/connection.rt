@@ -2,7 +2,6 @@
 
 ghost use Rattle.std.specs.Prelude.{◌≡◌, ◌≢◌, ◌≤◌, ◌++◌, ℕ, List, [], ◌∷◌, true, Some, None, All, IfSome, IsSome, OnSome, drop, length, map, option_map, OnOk, OnErr};
 ghost use Rattle.nut_words.specs.Cutter.{kept_of};
-ghost use Rattle.nut_queue.specs.Front.{IsFrontPart};
 ghost use Rattle.nut_server_spec.specs.Acceptance.{may_read, leaves};
 ghost use Rattle.nut_server_spec.specs.Answer.{is_logged_in};
 ghost use Rattle.nut_words.specs.Lines.{Text, lines};
@@ -146,9 +145,9 @@ impl Connection {
         self.outbox.len()
     }
 
-    /// Returns a front part of the bytes that wait for the client. It is empty only if none wait.
+    /// Returns all bytes that wait for the client.
     pub fn waiting(&self) -> &[u8]
-        ensures { IsFrontPart result.now self.now.waits }
+        ensures { result.now ≡ self.now.waits }
     {
         self.outbox.front()
     }

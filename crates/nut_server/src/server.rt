@@ -256,9 +256,9 @@ impl Server {
         }
     }
 
-    /// Returns a front part of the bytes that wait for a connection. It is empty only if none wait.
+    /// Returns all bytes that wait for a connection: none if it isn't open.
     pub fn waiting(&self, c: u64) -> &[u8]
-        ensures { IsFrontPart result.now (waiting_of c self.now.sessions) }
+        ensures { result.now ≡ waiting_of c self.now.sessions }
     {
         match self.connections.get(c) {
             Some(connection) => connection.waiting(),

@@ -1,6 +1,6 @@
 -- Each step of the loop keeps `Served`.
-use Rattle.std.proofs.Common.{◌≡◌, ℕ, ◌<◌, ◌≤◌, false, List, [], ◌∷◌, length, take, drop, Option, Some, None, Result, Ok, Err, IfSome, OnOk, OnErr, refl, sym, ◌∙◌, ap, subst, arith, length-append}
-use Rattle.std.proofs.lemmas.List.{take-append-le}
+use Rattle.std.proofs.Common.{◌≡◌, ℕ, ◌<◌, ◌≤◌, false, List, [], ◌∷◌, ◌++◌, length, take, drop, Option, Some, None, Result, Ok, Err, IfSome, OnOk, OnErr, refl, sym, ◌∙◌, ap, subst, arith, length-append}
+use Rattle.std.proofs.lemmas.List.{append-nil, drop_all, take-append-le}
 use Rattle.nut_queue.specs.Front.{IsFrontPart}
 use Rattle.nut_server_spec.specs.declared.Place.{Place}
 use Rattle.nut_server_spec.specs.declared.Place.TheVariants.{Line, Report, NewUpses}
@@ -158,6 +158,12 @@ same_asked first h e u before accepted nothing stays same = λ known.
     same (sym (cleared-other first h u e stays) ∙ known) ∙ sym (driver_sent-other first h u e accepted nothing stays)
 
 -- ---- what is offered
+
+pub whole_is_front : (part all : List ℕ) → part ≡ all → IsFrontPart part all
+whole_is_front part all same = record {
+  front = sym same ∙ sym (append-nil part) ∙ ap (λ rest. part ++ rest) (sym (drop_all (length part) all (omega (arith, ap length same))));
+  some = λ none. sym same ∙ none;
+}
 
 pub length_of_front : (part all : List ℕ) → IsFrontPart part all → length part ≤ length all
 length_of_front part all front = omega (arith, ap length front.front, length-append part (drop (length part) all))

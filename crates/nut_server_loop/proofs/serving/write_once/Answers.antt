@@ -1,20 +1,20 @@
 use Rattle.std.proofs.Common.{◌<◌, [], length, subst, arith}
-use Rattle.nut_server_loop.proofs.Steps.{at_err, stays}
+use Rattle.nut_server_loop.proofs.Steps.{at_err, stays, whole_is_front}
 use Rattle.nut_server_loop.proofs.Writes.{write_took, write_late, write_broke, closed_ended}
 use Rattle.nut_server_loop.proofs.Settles.{waits_less, only_took, none_waits, only_broke}
 use Rattle.nut_server_loop.proofs.serving.write_once.Goals as goal
 
 pub returns-in-Took-clause-ok : goal.returns-in-Took-clause-ok
 returns-in-Took-clause-ok g c =
-    write_took g.first _ _ _ _ c.args.c c.waiting.result.now _ c.in-Took.n _ c.requires.1.1.1 c.in-Took.is c.in_ok-n.ensures.ok c.in_ok-n.ensures.within c.waiting.ensures c.arrive.ensures.answered c.arrive.ensures.stands
+    write_took g.first _ _ _ _ c.args.c c.waiting.result.now _ c.in-Took.n _ c.requires.1.1.1 c.in-Took.is c.in_ok-n.ensures.ok c.in_ok-n.ensures.within (whole_is_front _ _ c.waiting.ensures) c.arrive.ensures.answered c.arrive.ensures.stands
 
 pub returns-in-Took-clause-less : goal.returns-in-Took-clause-less
 returns-in-Took-clause-less g c = λ same.
-    waits_less g.first _ _ _ c.args.c c.waiting.result.now _ c.in-Took.n _ c.requires.1.1.1 c.in-Took.is c.in_ok-n.ensures.within c.waiting.ensures c.arrive.ensures.answered c.arrive.ensures.stands
+    waits_less g.first _ _ _ c.args.c c.waiting.result.now _ c.in-Took.n _ c.requires.1.1.1 c.in-Took.is c.in_ok-n.ensures.within (whole_is_front _ _ c.waiting.ensures) c.arrive.ensures.answered c.arrive.ensures.stands
 
 pub returns-in-Took-clause-only : goal.returns-in-Took-clause-only
 returns-in-Took-clause-only g c =
-    only_took g.first _ _ _ c.args.c c.waiting.result.now _ c.in-Took.n _ c.requires.1.1.1 c.in-Took.is c.in_ok-n.ensures.within c.waiting.ensures c.arrive.ensures.answered c.arrive.ensures.stands
+    only_took g.first _ _ _ c.args.c c.waiting.result.now _ c.in-Took.n _ c.requires.1.1.1 c.in-Took.is c.in_ok-n.ensures.within (whole_is_front _ _ c.waiting.ensures) c.arrive.ensures.answered c.arrive.ensures.stands
 
 pub returns-in-Later-clause-ok : goal.returns-in-Later-clause-ok
 returns-in-Later-clause-ok g c =
