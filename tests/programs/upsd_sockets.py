@@ -256,6 +256,17 @@ class Tests:
             said = f"upsd: cannot listen on 127.0.0.1:{room.port}\n".encode()
             expect(found, (1, b"", said), "a port in use")
 
+    def test_port_in_use_beside_a_listener(self):
+        """A listener at another address doesn't stand for the one that is in use."""
+        with self.room() as room, socket.socket() as other:
+            other.bind(("127.0.0.1", room.port))
+            other.listen()
+            for hosts, said in ((("127.0.0.2", "127.0.0.1"), "127.0.0.1"), (("127.0.0.1", "0.0.0.0"), "0.0.0.0")):
+                with open(room.path("upsd.conf"), "w") as file:
+                    file.writelines(f"LISTEN {host} {room.port}\n" for host in hosts)
+                found = self.run(self.programs[0], "--conf", room.folder, "-s", room.folder)
+                expect(found, (1, b"", f"upsd: cannot listen on {said}:{room.port}\n".encode()), f"{hosts}")
+
     def test_host_that_is_not_here(self):
         with self.room(conf=b"LISTEN 192.0.2.1 3493\n") as room:
             found = self.run(self.programs[0], "--conf", room.folder, "-s", room.folder)
@@ -309,29 +320,59 @@ class Tests:
             with Client((first, room.port)) as client:
                 expect(client.ask(b"VER\n"), VERSION, first)
 
-    def test_every_address_twice(self):
+    def one_listener(self, lines, at, clients):
+        """Starts upsd with LISTEN lines for these hosts. It listens at one address alone, and serves clients at others."""
+        with self.room() as room:
+            with open(room.path("upsd.conf"), "w") as file:
+                file.writelines(f"LISTEN {host} {room.port}\n" for host in lines)
+            upsd = room.start([self.programs[0], "--conf", room.folder, "-s", room.folder])
+            expect(upsd.stderr.readline(), f"upsd: listening on {at}:{room.port}\n".encode(), f"{lines}")
+            expect(upsd.stderr.readline().startswith(b"upsd: UPS su700, driver at "), True, f"{lines}: no other listener")
+            for host in clients:
+                with Client((host, room.port)) as client:
+                    expect(client.ask(b"VER\n"), VERSION, f"{host}, by {lines}")
+
+    def test_lines_of_ipv4_that_add_nothing(self):
+        """The same line twice, and one address beside every address, in either order."""
+        local = ["127.0.0.1", "127.0.0.2"]
+        self.one_listener(["127.0.0.1", "127.0.0.1"], "127.0.0.1", ["127.0.0.1"])
+        self.one_listener(["0.0.0.0", "0.0.0.0"], "0.0.0.0", local)
+        self.one_listener(["0.0.0.0", "127.0.0.1"], "0.0.0.0", local)
+        self.one_listener(["127.0.0.1", "0.0.0.0"], "0.0.0.0", local)
+        self.one_listener(["127.0.0.2", "127.0.0.1", "0.0.0.0", "127.0.0.2"], "0.0.0.0", local)
+
+    def test_lines_of_ipv6_that_add_nothing(self):
         """A listener at every address by IPv6 also serves those of IPv4, so lines for these beside it change nothing."""
         if not has_ipv6():
             raise Missing("this machine has no IPv6")
-        for hosts in (("0.0.0.0", "::"), ("::", "0.0.0.0"), ("127.0.0.1", "::")):
-            with self.room() as room:
-                with open(room.path("upsd.conf"), "w") as file:
-                    file.writelines(f"LISTEN {host} {room.port}\n" for host in hosts)
-                upsd = room.start([self.programs[0], "--conf", room.folder, "-s", room.folder])
-                expect(upsd.stderr.readline(), f"upsd: listening on [::]:{room.port}\n".encode(), f"{hosts}")
-                for host in ("127.0.0.1", "::1"):
-                    with Client((host, room.port)) as client:
-                        expect(client.ask(b"VER\n"), VERSION, f"{host}, by {hosts}")
+        both = ["127.0.0.1", "::1"]
+        self.one_listener(["::1", "::1"], "[::1]", ["::1"])
+        self.one_listener(["::", "::"], "[::]", both)
+        self.one_listener(["0.0.0.0", "::"], "[::]", both)
+        self.one_listener(["::", "0.0.0.0"], "[::]", both)
+        self.one_listener(["127.0.0.1", "::"], "[::]", both)
+        self.one_listener(["127.0.0.1", "0.0.0.0", "::1", "0:0:0:0:0:0:0:0"], "[::]", both)
 
-    def test_every_address_once(self):
-        """The same line twice is a fault, also for every address."""
+    def test_every_address_of_ipv4_beside_one_of_ipv6(self):
         if not has_ipv6():
             raise Missing("this machine has no IPv6")
         with self.room() as room:
-            with open(room.path("upsd.conf"), "w") as file:
-                file.write(f"LISTEN :: {room.port}\n" * 2)
-            found = self.run(self.programs[0], "--conf", room.folder, "-s", room.folder)
-            expect(found, (1, b"", f"upsd: cannot listen on :::{room.port}\n".encode()), "the same address twice")
+            found = self.listening(room, f"::1 {room.port}", f"0.0.0.0 {room.port}")
+            expect(found, ["0.0.0.0", "::1"], "where it listens")
+            for host in ("127.0.0.1", "::1"):
+                with Client((host, room.port)) as client:
+                    expect(client.ask(b"VER\n"), VERSION, host)
+
+    def test_same_host_at_two_ports(self):
+        with socket.socket() as free:
+            free.bind(("127.0.0.1", 0))
+            port = free.getsockname()[1]
+        with self.room() as room:
+            found = self.listening(room, f"127.0.0.1 {port}", f"0.0.0.0 {room.port}")
+            expect(found, ["0.0.0.0", "127.0.0.1"], "where it listens")
+            for at in (port, room.port):
+                with Client(("127.0.0.1", at)) as client:
+                    expect(client.ask(b"VER\n"), VERSION, f"at port {at}")
 
     def test_addresses_of_clients(self):
         for listen, hosts, rows in (
