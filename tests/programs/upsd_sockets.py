@@ -5,6 +5,7 @@
 
 The last line is 'N passed, M failed'."""
 
+import errno
 import os
 import resource
 import signal
@@ -31,6 +32,12 @@ class Tests:
     def run(self, *words):
         done = subprocess.run(words, stdin=subprocess.DEVNULL, capture_output=True, timeout=60)
         return done.returncode, done.stdout, done.stderr
+
+    @staticmethod
+    def said(process):
+        """Ends a process. Returns the lines that it has written to standard error."""
+        process.kill()
+        return process.stderr.read().decode().splitlines()
 
     # From here on, each method whose name begins with 'test_' is a test.
 
@@ -402,7 +409,7 @@ class Tests:
 
     def test_too_many_connections(self):
         with self.room(conf=b"MAXCONN 2\n") as room:
-            room.upsd()
+            upsd = room.upsd("-q")
             until(room.serves, "the first connection has gone")
             with room.client() as first:
                 expect(first.ask(b"VER\n"), VERSION, "the first")
@@ -413,10 +420,19 @@ class Tests:
                             expect(third.is_closed(), True, "the third is closed")
                 until(room.serves, "a place that was left is taken again")
                 expect(first.ask(b"VER\n"), VERSION, "the first again")
+                # what is told is told at most once a second
+                time.sleep(1.5)
+                with room.client() as second:
+                    expect(second.ask(b"VER\n"), VERSION, "the second again")
+                    for _ in range(5):
+                        with room.client() as third:
+                            expect(third.is_closed(), True, "the third is closed again")
+            told = ["upsd: cannot let a client in: MAXCONN 2 is reached"]
+            expect(self.said(upsd), told * 2, "it is told once until a client was let in again")
 
     def test_256_connections(self):
         with self.room() as room:
-            room.upsd()
+            upsd = room.upsd("-q")
             clients = []
             try:
                 for _ in range(256):
@@ -432,6 +448,7 @@ class Tests:
             finally:
                 for client in clients:
                     client.close()
+            expect(self.said(upsd), ["upsd: cannot let a client in: MAXCONN 256 is reached"], "what is told of the 257th")
 
     def test_want_of_descriptors(self):
         def few():
@@ -443,7 +460,7 @@ class Tests:
             try:
                 expect(clients[0].ask(b"VER\n"), VERSION, "the first client")
                 used = processor_time(upsd.pid)
-                time.sleep(1.5)
+                time.sleep(3.5)
                 expect(clients[0].ask(b"VER\n"), VERSION, "the first client later")
                 if processor_time(upsd.pid) - used > 0.5:
                     raise Failed("processor time is used while descriptors are wanting")
@@ -453,6 +470,10 @@ class Tests:
             finally:
                 for client in clients:
                     client.close()
+            # once for those that wait, and perhaps once more after the first of them was let in
+            told = self.said(upsd)
+            why = f"upsd: cannot let a client in: {os.strerror(errno.EMFILE)} "
+            expect((len(told) in (1, 2), all(line.startswith(why) for line in told)), (True, True), f"what is told: {told}")
 
     def test_clients_that_come_and_go(self):
         with self.room() as room:
