@@ -33,6 +33,7 @@ GREEDY_MAX_KIB = MOST * (570 + 64 + 32)
 LONG = b"ups.status: OL\n" + b"".join(b"ambient.%d.status: %s\n" % (i, b"x" * 100) for i in range(200))
 STALE = b"ERR DATA-STALE\n"
 SILENT = "upsd: client 127.0.0.1 closed: silent for {} s"
+FULL = f"upsd: cannot let a client in: MAXCONN {MOST} is reached"
 LOG_IN = b"USERNAME mon\nPASSWORD m1\nLOGIN su700\n"
 
 
@@ -201,7 +202,7 @@ class Tests:
                 expect(room.serves(), True, "a new client is served")
                 expect(speaker.ask(b"VER\n"), VERSION, "a client that spoke all the time")
             told = [line for line in said(upsd) if "client" in line]
-            expect(told, [SILENT.format(60)] * (MOST - 1), "what is told of it")
+            expect(told, [FULL] + [SILENT.format(60)] * (MOST - 1), "what is told of it")
 
     def test_silent_login(self):
         """Ten minutes of the server's clock last six seconds here."""

@@ -5,6 +5,7 @@
 
 The last line is 'N passed, M failed'."""
 
+import contextlib
 import os
 import re
 import subprocess
@@ -559,6 +560,26 @@ class Tests(Shimmed):
                 os.remove(once)
                 room.reload(None, "upsd: reloaded: UPS old added")
                 expect(client.ask(status_of(b"old")), NOT_CONNECTED, "what was read")
+
+    def test_clients_without_memory(self):
+        """Clients for which there is no memory wait. It is told once, also with -q, and they are served as soon as there is some."""
+        once = os.path.join(self.folder, "thirsty")
+        env = {"LD_PRELOAD": self.shim, "REFUSE": "memory", "REFUSE_ONCE": once}
+        told = "upsd: cannot let a client in: out of memory"
+        with self.room() as room:
+            lines = room.serve("-q", env=env)
+            with contextlib.ExitStack() as closing:
+                first = closing.enter_context(room.client())
+                expect(first.ask(b"VER\n"), VERSION, "before")
+                open(once, "w").close()
+                clients = [closing.enter_context(room.client()) for _ in range(40)]
+                until(lambda: lines.count(told), "a client can't be let in")
+                time.sleep(LOOKS)
+                expect(first.ask(b"VER\n"), VERSION, "one that is there already")
+                os.remove(once)
+                for client in clients:
+                    expect(client.ask(b"VER\n"), VERSION, "one that waited")
+            expect(lines.lines, [told], "what is told")
 
     def test_each_allocation_refused_in_turn(self):
         """A reload that is refused memory changes nothing, or a driver is dialled a second later. The next one succeeds."""

@@ -5,6 +5,7 @@
 
 The last line is 'N passed, M failed'."""
 
+import errno
 import os
 import resource
 import signal
@@ -31,6 +32,12 @@ class Tests:
     def run(self, *words):
         done = subprocess.run(words, stdin=subprocess.DEVNULL, capture_output=True, timeout=60)
         return done.returncode, done.stdout, done.stderr
+
+    @staticmethod
+    def said(process):
+        """Ends a process. Returns the lines that it has written to standard error."""
+        process.kill()
+        return process.stderr.read().decode().splitlines()
 
     # From here on, each method whose name begins with 'test_' is a test.
 
@@ -253,6 +260,17 @@ class Tests:
             said = f"upsd: cannot listen on 127.0.0.1:{room.port}\n".encode()
             expect(found, (1, b"", said), "a port in use")
 
+    def test_port_in_use_beside_a_listener(self):
+        """A listener at another address doesn't stand for the one that is in use."""
+        with self.room() as room, socket.socket() as other:
+            other.bind(("127.0.0.1", room.port))
+            other.listen()
+            for hosts, said in ((("127.0.0.2", "127.0.0.1"), "127.0.0.1"), (("127.0.0.1", "0.0.0.0"), "0.0.0.0")):
+                with open(room.path("upsd.conf"), "w") as file:
+                    file.writelines(f"LISTEN {host} {room.port}\n" for host in hosts)
+                found = self.run(self.programs[0], "--conf", room.folder, "-s", room.folder)
+                expect(found, (1, b"", f"upsd: cannot listen on {said}:{room.port}\n".encode()), f"{hosts}")
+
     def test_host_that_is_not_here(self):
         with self.room(conf=b"LISTEN 192.0.2.1 3493\n") as room:
             found = self.run(self.programs[0], "--conf", room.folder, "-s", room.folder)
@@ -304,29 +322,59 @@ class Tests:
             with Client((first, room.port)) as client:
                 expect(client.ask(b"VER\n"), VERSION, first)
 
-    def test_every_address_twice(self):
+    def one_listener(self, lines, at, clients):
+        """Starts upsd with LISTEN lines for these hosts. It listens at one address alone, and serves clients at others."""
+        with self.room() as room:
+            with open(room.path("upsd.conf"), "w") as file:
+                file.writelines(f"LISTEN {host} {room.port}\n" for host in lines)
+            upsd = room.start([self.programs[0], "--conf", room.folder, "-s", room.folder])
+            expect(upsd.stderr.readline(), f"upsd: listening on {at}:{room.port}\n".encode(), f"{lines}")
+            expect(upsd.stderr.readline().startswith(b"upsd: UPS su700, driver at "), True, f"{lines}: no other listener")
+            for host in clients:
+                with Client((host, room.port)) as client:
+                    expect(client.ask(b"VER\n"), VERSION, f"{host}, by {lines}")
+
+    def test_lines_of_ipv4_that_add_nothing(self):
+        """The same line twice, and one address beside every address, in either order."""
+        local = ["127.0.0.1", "127.0.0.2"]
+        self.one_listener(["127.0.0.1", "127.0.0.1"], "127.0.0.1", ["127.0.0.1"])
+        self.one_listener(["0.0.0.0", "0.0.0.0"], "0.0.0.0", local)
+        self.one_listener(["0.0.0.0", "127.0.0.1"], "0.0.0.0", local)
+        self.one_listener(["127.0.0.1", "0.0.0.0"], "0.0.0.0", local)
+        self.one_listener(["127.0.0.2", "127.0.0.1", "0.0.0.0", "127.0.0.2"], "0.0.0.0", local)
+
+    def test_lines_of_ipv6_that_add_nothing(self):
         """A listener at every address by IPv6 also serves those of IPv4, so lines for these beside it change nothing."""
         if not has_ipv6():
             raise Missing("this machine has no IPv6")
-        for hosts in (("0.0.0.0", "::"), ("::", "0.0.0.0"), ("127.0.0.1", "::")):
-            with self.room() as room:
-                with open(room.path("upsd.conf"), "w") as file:
-                    file.writelines(f"LISTEN {host} {room.port}\n" for host in hosts)
-                upsd = room.start([self.programs[0], "--conf", room.folder, "-s", room.folder])
-                expect(upsd.stderr.readline(), f"upsd: listening on [::]:{room.port}\n".encode(), f"{hosts}")
-                for host in ("127.0.0.1", "::1"):
-                    with Client((host, room.port)) as client:
-                        expect(client.ask(b"VER\n"), VERSION, f"{host}, by {hosts}")
+        both = ["127.0.0.1", "::1"]
+        self.one_listener(["::1", "::1"], "[::1]", ["::1"])
+        self.one_listener(["::", "::"], "[::]", both)
+        self.one_listener(["0.0.0.0", "::"], "[::]", both)
+        self.one_listener(["::", "0.0.0.0"], "[::]", both)
+        self.one_listener(["127.0.0.1", "::"], "[::]", both)
+        self.one_listener(["127.0.0.1", "0.0.0.0", "::1", "0:0:0:0:0:0:0:0"], "[::]", both)
 
-    def test_every_address_once(self):
-        """The same line twice is a fault, also for every address."""
+    def test_every_address_of_ipv4_beside_one_of_ipv6(self):
         if not has_ipv6():
             raise Missing("this machine has no IPv6")
         with self.room() as room:
-            with open(room.path("upsd.conf"), "w") as file:
-                file.write(f"LISTEN :: {room.port}\n" * 2)
-            found = self.run(self.programs[0], "--conf", room.folder, "-s", room.folder)
-            expect(found, (1, b"", f"upsd: cannot listen on :::{room.port}\n".encode()), "the same address twice")
+            found = self.listening(room, f"::1 {room.port}", f"0.0.0.0 {room.port}")
+            expect(found, ["0.0.0.0", "::1"], "where it listens")
+            for host in ("127.0.0.1", "::1"):
+                with Client((host, room.port)) as client:
+                    expect(client.ask(b"VER\n"), VERSION, host)
+
+    def test_same_host_at_two_ports(self):
+        with socket.socket() as free:
+            free.bind(("127.0.0.1", 0))
+            port = free.getsockname()[1]
+        with self.room() as room:
+            found = self.listening(room, f"127.0.0.1 {port}", f"0.0.0.0 {room.port}")
+            expect(found, ["0.0.0.0", "127.0.0.1"], "where it listens")
+            for at in (port, room.port):
+                with Client(("127.0.0.1", at)) as client:
+                    expect(client.ask(b"VER\n"), VERSION, f"at port {at}")
 
     def test_addresses_of_clients(self):
         for listen, hosts, rows in (
@@ -356,7 +404,7 @@ class Tests:
 
     def test_too_many_connections(self):
         with self.room(conf=b"MAXCONN 2\n") as room:
-            room.upsd()
+            upsd = room.upsd("-q")
             until(room.serves, "the first connection has gone")
             with room.client() as first:
                 expect(first.ask(b"VER\n"), VERSION, "the first")
@@ -367,10 +415,19 @@ class Tests:
                             expect(third.is_closed(), True, "the third is closed")
                 until(room.serves, "a place that was left is taken again")
                 expect(first.ask(b"VER\n"), VERSION, "the first again")
+                # what is told is told at most once a second
+                time.sleep(1.5)
+                with room.client() as second:
+                    expect(second.ask(b"VER\n"), VERSION, "the second again")
+                    for _ in range(5):
+                        with room.client() as third:
+                            expect(third.is_closed(), True, "the third is closed again")
+            told = ["upsd: cannot let a client in: MAXCONN 2 is reached"]
+            expect(self.said(upsd), told * 2, "it is told once until a client was let in again")
 
     def test_256_connections(self):
         with self.room() as room:
-            room.upsd()
+            upsd = room.upsd("-q")
             clients = []
             try:
                 for _ in range(256):
@@ -386,6 +443,7 @@ class Tests:
             finally:
                 for client in clients:
                     client.close()
+            expect(self.said(upsd), ["upsd: cannot let a client in: MAXCONN 256 is reached"], "what is told of the 257th")
 
     def test_want_of_descriptors(self):
         def few():
@@ -397,7 +455,7 @@ class Tests:
             try:
                 expect(clients[0].ask(b"VER\n"), VERSION, "the first client")
                 used = processor_time(upsd.pid)
-                time.sleep(1.5)
+                time.sleep(3.5)
                 expect(clients[0].ask(b"VER\n"), VERSION, "the first client later")
                 if processor_time(upsd.pid) - used > 0.5:
                     raise Failed("processor time is used while descriptors are wanting")
@@ -407,6 +465,10 @@ class Tests:
             finally:
                 for client in clients:
                     client.close()
+            # once for those that wait, and perhaps once more after the first of them was let in
+            told = self.said(upsd)
+            why = f"upsd: cannot let a client in: {os.strerror(errno.EMFILE)} "
+            expect((len(told) in (1, 2), all(line.startswith(why) for line in told)), (True, True), f"what is told: {told}")
 
     def test_clients_that_come_and_go(self):
         with self.room() as room:

@@ -17,7 +17,11 @@ pub enum Report<'a> {
     Missed(&'a str, io::Error),
     /// The driver of a UPS disconnected.
     Lost(&'a str),
-    /// A client can't be accepted.
+    /// A client isn't let in, because MAXCONN, which is this, is reached.
+    Full(usize),
+    /// No client is let in until the next start, because this many were.
+    Spent(u64),
+    /// No client can be let in, for this reason.
     ShutOut(io::Error),
     /// A client from this address was silent for this many seconds, and its connection is closed.
     Shed(IpAddr, u64),
@@ -49,6 +53,13 @@ impl<'a> fmt::Display for Report<'a> {
             Report::Connected(name) => write!(f, "UPS {name}: driver connected"),
             Report::Missed(name, error) => write!(f, "UPS {name}: no driver yet: {error}"),
             Report::Lost(name) => write!(f, "UPS {name}: driver lost"),
+            Report::Full(most) => write!(f, "cannot let a client in: MAXCONN {most} is reached"),
+            Report::Spent(most) => {
+                write!(
+                    f,
+                    "cannot let a client in: {most} were let in since the start"
+                )
+            }
             Report::ShutOut(error) => write!(f, "cannot let a client in: {error}"),
             Report::Shed(address, seconds) => {
                 write!(f, "client {address} closed: silent for {seconds} s")
@@ -96,11 +107,16 @@ impl<'a, E: Write> Reports<'a, E> {
         }
     }
 
-    /// Writes a report after the program's name. A report that can't be written is dropped.
+    /// Writes a report after the program's name, if reports are wanted. One that can't be written is dropped.
     pub fn tell(&mut self, report: Report<'_>) {
         if self.are_wanted {
-            let _ = writeln!(self.err, "{}: {report}", self.program);
+            self.warn(report);
         }
+    }
+
+    /// Writes a report after the program's name, whether or not reports are wanted. One that can't be written is dropped.
+    pub fn warn(&mut self, report: Report<'_>) {
+        let _ = writeln!(self.err, "{}: {report}", self.program);
     }
 
     /// Returns where reports are written, for what is told whether or not they are wanted.

@@ -15,6 +15,8 @@ use nut_server::Server;
 use slab::Slab;
 use std::alloc::Global;
 use std::collections::HashMap;
+use std::io;
+use std::io::ErrorKind;
 use std::net::IpAddr;
 
 /// A client that has been silent for longer than it may.
@@ -53,8 +55,12 @@ impl Clients {
         self.sockets.reserve(1).is_ok() && self.keys.try_reserve(1).is_ok()
     }
 
-    /// Keeps the socket of a connection and registers it with the poll. If that fails, closes it and returns false.
-    pub fn add(&mut self, registry: &Registry, number: u64, guest: Guest) -> bool {
+    /// Keeps the socket of a connection and registers it with the poll.
+    ///
+    /// # Errors
+    ///
+    /// The error of the registration, or a lack of memory. The socket is closed then.
+    pub fn add(&mut self, registry: &Registry, number: u64, guest: Guest) -> io::Result<()> {
         let Guest {
             mut stream,
             address,
@@ -62,19 +68,17 @@ impl Clients {
         let key = self.sockets.vacant_key();
         let all = Interest::READABLE | Interest::WRITABLE | Interest::PRIORITY;
         let token = Source::Client(key).token();
-        if registry.register(&mut stream, token, all).is_err() {
-            return false;
-        }
+        registry.register(&mut stream, token, all)?;
         let _ = keep_alive(&stream);
         let client = Client::new(number, address, stream, self.second);
         if self.keys.insert(number, key).is_err() {
-            return false;
+            return Err(io::Error::from(ErrorKind::OutOfMemory));
         }
         if self.sockets.insert(client).is_err() {
             self.keys.remove(&number);
-            return false;
+            return Err(io::Error::from(ErrorKind::OutOfMemory));
         }
-        true
+        Ok(())
     }
 
     /// Returns the number of the connection whose socket has this key.

@@ -67,6 +67,14 @@ impl Door {
         Ok(address)
     }
 
+    /// Whether the server refused the connection of the client that was accepted last.
+    pub fn is_refused(&self, server: &Server) -> bool {
+        match &self.arrival {
+            Some(arrival) => server.opened() <= arrival.opened,
+            None => false,
+        }
+    }
+
     /// Returns the client that was accepted last and the number of its connection. If the server refused the
     /// connection, closes the socket and returns `None`.
     pub fn seat(&mut self, server: &Server) -> Option<(u64, Guest)> {

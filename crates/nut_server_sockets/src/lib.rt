@@ -7,6 +7,7 @@ mod clients;
 mod door;
 mod driver;
 mod drivers;
+mod hindrances;
 mod keepalive;
 mod mio_world;
 mod reloader;

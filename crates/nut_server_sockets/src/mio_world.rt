@@ -45,7 +45,7 @@ pub struct MioWorld<'r, 'e, R, E, L> {
 
 impl<'r, 'e, R: Net + Clock, E: Write, L: Reloader + Drop> MioWorld<'r, 'e, R, E, L> {
     /// Returns the world of these listeners and these drivers, which asks this reloader for new configurations. Reports
-    /// say when drivers come and go.
+    /// say when drivers come and go, and what keeps clients out.
     ///
     /// # Errors
     ///

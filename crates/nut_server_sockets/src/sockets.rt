@@ -7,8 +7,9 @@ ghost use Rattle.nut_server_loop.specs.declared.types.Next.TheVariants as next;
 ghost use Rattle.nut_server_spec.specs.Content.{Content};
 
 use crate::clients::Clients;
-use crate::door::{Door, concerns_one};
+use crate::door::{Door, Guest, concerns_one};
 use crate::drivers::Drivers;
+use crate::hindrances::Hindrances;
 use crate::reloader::Reloader;
 use crate::source::Source;
 use crate::stall::Stall;
@@ -35,6 +36,7 @@ pub struct Sockets<'r, 'e, R, E, L> {
     rounds: Rounds,
     door: Door,
     clients: Clients,
+    hindrances: Hindrances,
     drivers: Drivers,
     reports: Reports<'e, E>,
     reloader: L,
@@ -74,6 +76,7 @@ impl<'r, 'e, R: Net + Clock, E: Write, L: Reloader + Drop> Sockets<'r, 'e, R, E,
             rounds,
             door,
             clients: Clients::new(alloc),
+            hindrances: Hindrances::none(),
             drivers,
             reports,
             reloader,
@@ -154,11 +157,25 @@ impl<'r, 'e, R: Net + Clock, E: Write, L: Reloader + Drop> Sockets<'r, 'e, R, E,
     /// Keeps the socket of a connection that the server accepted, and closes that of one that it refused. Returns the
     /// number of a connection that the server accepted and whose socket can't be kept.
     fn seat(&mut self, server: &Server) -> Option<u64> {
-        let (number, guest) = self.door.seat(server)?;
-        if self.clients.add(self.rounds.registry(), number, guest) {
-            return None;
+        if self.door.is_refused(server) {
+            self.hindrances.tell_refusal(server, &mut self.reports);
         }
-        Some(number)
+        let (number, guest) = self.door.seat(server)?;
+        self.keep(number, guest)
+    }
+
+    /// Keeps the socket of a connection. Returns its number if that is impossible.
+    fn keep(&mut self, number: u64, guest: Guest) -> Option<u64> {
+        match self.clients.add(self.rounds.registry(), number, guest) {
+            Ok(()) => {
+                self.hindrances.end();
+                None
+            }
+            Err(error) => {
+                self.hindrances.tell_error(error, &mut self.reports);
+                Some(number)
+            }
+        }
     }
 
     /// Closes the socket of a client that was silent for too long. Returns the number of its connection.
@@ -249,12 +266,14 @@ impl<'r, 'e, R: Net + Clock, E: Write, L: Reloader + Drop> Sockets<'r, 'e, R, E,
         None
     }
 
-    /// Accepts a client. If there is no room or no descriptor for it, that is tried again in the next second.
+    /// Accepts a client. If there is no memory or no descriptor for one, that is reported, whether or not a client waits,
+    /// and tried again in the next second.
     fn look_at_listener(&mut self, server: &Server, i: usize) -> Option<Next>
         ensures may { IfSome result (λ n. MayCome n server.now) }
         ensures goes_on { IfSome result (λ n. n ≢ next.End) }
     {
         if !self.clients.make_room() {
+            self.tell_shut_out(io::Error::from(ErrorKind::OutOfMemory));
             return None;
         }
         match self.door.let_in(i, server.opened()) {
@@ -266,11 +285,16 @@ impl<'r, 'e, R: Net + Clock, E: Write, L: Reloader + Drop> Sockets<'r, 'e, R, E,
                 if concerns_one(&error) {
                     self.rounds.ready.insert(Source::Listener(i).token());
                 } else if error.kind() != ErrorKind::WouldBlock {
-                    self.reports.tell(Report::ShutOut(error));
+                    self.tell_shut_out(error);
                 }
                 None
             }
         }
+    }
+
+    /// Reports that no client can be let in.
+    fn tell_shut_out(&mut self, error: io::Error) {
+        self.hindrances.tell_error(error, &mut self.reports);
     }
 
     /// Dials a driver that isn't connected, and reads from one that is.
@@ -354,6 +378,7 @@ impl<'r, 'e, R: Net + Clock, E: Write, L: Reloader + Drop> Sockets<'r, 'e, R, E,
         let passed = moment.saturating_sub(self.moment);
         self.moment = moment;
         self.clients.second();
+        self.hindrances.second();
         self.drivers.catch_up(server);
         self.sheds = true;
         self.asks = true;

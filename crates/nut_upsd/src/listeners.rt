@@ -8,13 +8,39 @@ use nut_program::Failure;
 use std::alloc::Global;
 use std::io;
 use std::io::ErrorKind;
-use std::net::{Net, ToSocketAddrs};
+use std::net::{IpAddr, Net, SocketAddr, ToSocketAddrs};
 
-/// Every address of IPv6 and, unless the system is configured otherwise, of IPv4.
-const EVERY_ADDRESS: &str = "::";
+/// Which addresses a LISTEN line names.
+#[derive(Clone, Copy, PartialEq, Eq)]
+enum Reach {
+    /// Every address of IPv6 and, unless the system is configured otherwise, of IPv4: `::`.
+    Every,
+    /// Every address of IPv4: `0.0.0.0`.
+    EveryOfIpv4,
+    /// An address, or the first of a host.
+    One,
+}
 
-/// Listens at the LISTEN addresses of upsd.conf: first at those that are every address, then in the order of the file.
-/// If an address is in use and there is a listener at every address with that port, that one serves it.
+impl Reach {
+    /// Returns which addresses a host stands for.
+    fn of(host: &str) -> Reach {
+        let Ok(ip) = host.parse::<IpAddr>() else {
+            return Reach::One;
+        };
+        let ip = ip.to_canonical();
+        if !ip.is_unspecified() {
+            Reach::One
+        } else if ip.is_ipv6() {
+            Reach::Every
+        } else {
+            Reach::EveryOfIpv4
+        }
+    }
+}
+
+/// Listens at the LISTEN addresses of upsd.conf: first at those that are every address, then at those that are every
+/// address of IPv4, then at the others, each in the order of the file. If an address is in use and one of these listeners
+/// serves it, it needs none of its own.
 ///
 /// # Errors
 ///
@@ -26,25 +52,29 @@ pub fn listen(
     conf: &UpsdConf,
 ) -> Result<Vec<TcpListener>, Failure<UpsdFault>> {
     let mut listeners = Vec::new(alloc);
-    for is_every in [true, false] {
-        for i in 0..conf.endpoints() {
-            let Some((host, port)) = endpoint(conf, i) else {
-                break;
-            };
-            if (host == EVERY_ADDRESS) != is_every {
-                continue;
-            }
-            match listen_beside(net, conf, host, port) {
-                Ok(Some(listener)) => listeners.push(listener)?,
-                Ok(None) => {}
-                Err(_) => {
-                    let host = String::from_str(alloc, host)?;
-                    return Err(Failure::Own(UpsdFault::Listen(host, port)));
-                }
-            }
-        }
+    for reach in [Reach::Every, Reach::EveryOfIpv4, Reach::One] {
+        add_listeners(net, alloc, conf, reach, &mut listeners)?;
     }
     Ok(listeners)
+}
+
+/// Listens at the LISTEN addresses with this reach, in the order of the file.
+fn add_listeners(
+    net: &impl Net,
+    alloc: Global,
+    conf: &UpsdConf,
+    reach: Reach,
+    listeners: &mut Vec<TcpListener>,
+) -> Result<(), Failure<UpsdFault>> {
+    for i in 0..conf.endpoints() {
+        let Some((host, port)) = endpoint(conf, i) else {
+            break;
+        };
+        if Reach::of(host) == reach {
+            add_listener(net, alloc, host, port, listeners)?;
+        }
+    }
+    Ok(())
 }
 
 /// Returns an endpoint of upsd.conf, with its address as text.
@@ -53,43 +83,62 @@ fn endpoint(conf: &UpsdConf, i: usize) -> Option<(&str, u16)> {
     Some((text_of(address), port))
 }
 
-/// Listens at a host unless a listener at every address serves it already.
-fn listen_beside(
+/// Listens at a host, unless one of the listeners serves it already.
+fn add_listener(
     net: &impl Net,
-    conf: &UpsdConf,
+    alloc: Global,
     host: &str,
     port: u16,
+    listeners: &mut Vec<TcpListener>,
+) -> Result<(), Failure<UpsdFault>> {
+    match listen_at(net, host, port, listeners.as_slice()) {
+        Ok(Some(listener)) => listeners.push(listener)?,
+        Ok(None) => {}
+        Err(_) => return Err(cannot_listen(alloc, host, port)),
+    }
+    Ok(())
+}
+
+/// Returns why upsd ends if it is impossible to listen at a host.
+fn cannot_listen(alloc: Global, host: &str, port: u16) -> Failure<UpsdFault> {
+    match String::from_str(alloc, host) {
+        Ok(host) => Failure::Own(UpsdFault::Listen(host, port)),
+        Err(_) => Failure::Memory,
+    }
+}
+
+/// Listens at the first of the host's addresses at which that is possible. Returns `None` if one of these listeners
+/// serves that address already.
+fn listen_at(
+    net: &impl Net,
+    host: &str,
+    port: u16,
+    listeners: &[TcpListener],
 ) -> io::Result<Option<TcpListener>> {
-    match listen_at(net, host, port) {
-        Ok(listener) => Ok(Some(listener)),
-        Err(error) => {
-            let is_served = host != EVERY_ADDRESS && is_at_every_address(conf, port);
-            if is_served && error.kind() == ErrorKind::AddrInUse {
-                return Ok(None);
-            }
-            Err(error)
-        }
-    }
-}
-
-/// Whether upsd.conf says to listen at every address on this port.
-fn is_at_every_address(conf: &UpsdConf, port: u16) -> bool {
-    for i in 0..conf.endpoints() {
-        if endpoint(conf, i) == Some((EVERY_ADDRESS, port)) {
-            return true;
-        }
-    }
-    false
-}
-
-/// Listens at the first of the host's addresses at which that is possible.
-fn listen_at(net: &impl Net, host: &str, port: u16) -> io::Result<TcpListener> {
     let mut last = io::Error::from(ErrorKind::NotFound);
     for address in (host, port).to_socket_addrs(net)? {
         match TcpListener::bind(net, address) {
-            Ok(listener) => return Ok(listener),
+            Ok(listener) => return Ok(Some(listener)),
             Err(error) => last = error,
+        }
+        if last.kind() == ErrorKind::AddrInUse && is_served(listeners, address) {
+            return Ok(None);
         }
     }
     Err(last)
+}
+
+/// Whether one of these listeners serves clients at this address.
+fn is_served(listeners: &[TcpListener], address: SocketAddr) -> bool {
+    listeners.iter().any(
+        |listener| matches!(listener.local_addr(), Ok(at) if includes(at, address)),
+    )
+}
+
+/// Whether a listener at the first address serves clients at the second one: the ports are the same, and so are the
+/// addresses, or the first is every address of that kind.
+fn includes(at: SocketAddr, address: SocketAddr) -> bool {
+    let (listener, one) = (at.ip().to_canonical(), address.ip().to_canonical());
+    let is_every = listener.is_unspecified() && (listener.is_ipv6() || one.is_ipv4());
+    at.port() == address.port() && (is_every || listener == one)
 }

@@ -1,0 +1,88 @@
+//! What keeps clients out, each cause of which is reported once.
+
+ghost use Rattle.std.specs.Prelude.{◌≡◌, ◌↔◌, IsTrue, true, false};
+
+use nut_poll::{Report, Reports};
+use nut_server::Server;
+use nut_server_spec::OPENED_MAX;
+use std::io;
+use std::io::{ErrorKind, Write};
+
+/// Which causes that keep clients out were reported since a client was let in. At most one report is made in a second,
+/// so that clients that come and go don't fill a log.
+#[derive(Drop)]
+pub struct Hindrances {
+    /// Whether it was reported that the server refuses clients.
+    has_told_refusal: bool,
+    /// Whether a lack of memory was reported.
+    has_told_memory: bool,
+    /// Whether another error was reported.
+    has_told_error: bool,
+    /// Whether something was reported in this second.
+    has_told: bool,
+}
+
+impl Hindrances {
+    /// Returns the state before any was reported.
+    pub fn none() -> Hindrances {
+        Hindrances {
+            has_told_refusal: false,
+            has_told_memory: false,
+            has_told_error: false,
+            has_told: false,
+        }
+    }
+
+    /// Notes that a client was let in.
+    pub fn end(&mut self) {
+        self.has_told_refusal = false;
+        self.has_told_memory = false;
+        self.has_told_error = false;
+    }
+
+    /// Begins a second.
+    pub fn second(&mut self) {
+        self.has_told = false;
+    }
+
+    /// Reports that the server refused a client.
+    pub fn tell_refusal<E: Write>(&mut self, server: &Server, reports: &mut Reports<'_, E>) {
+        if note(&mut self.has_told_refusal, &mut self.has_told) {
+            reports.warn(refusal_by(server));
+        }
+    }
+
+    /// Reports an error for which no client can be let in.
+    pub fn tell_error<E: Write>(&mut self, error: io::Error, reports: &mut Reports<'_, E>) {
+        let is_due = if error.kind() == ErrorKind::OutOfMemory {
+            note(&mut self.has_told_memory, &mut self.has_told)
+        } else {
+            note(&mut self.has_told_error, &mut self.has_told)
+        };
+        if is_due {
+            reports.warn(Report::ShutOut(error));
+        }
+    }
+}
+
+/// Returns whether a cause is to be reported, and notes that it is.
+fn note(has_told_it: &mut bool, has_told: &mut bool) -> bool
+    ensures due { IsTrue result ↔ (has_told_it.old ≡ false) × (has_told.old ≡ false) }
+    ensures told { IsTrue result → (has_told_it.new ≡ true) × (has_told.new ≡ true) }
+{
+    let is_due = !*has_told_it && !*has_told;
+    if is_due {
+        *has_told_it = true;
+        *has_told = true;
+    }
+    is_due
+}
+
+/// Returns why a server refuses clients.
+fn refusal_by(server: &Server) -> Report<'static> {
+    if server.opened() >= OPENED_MAX {
+        Report::Spent(OPENED_MAX)
+    } else {
+        Report::Full(server.config().most_connections())
+    }
+}
