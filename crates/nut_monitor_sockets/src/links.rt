@@ -1,6 +1,6 @@
 //! All links of a monitor, watched by one poll.
 
-ghost use Rattle.std.specs.Prelude.{◌≡◌, ◌≢◌, length, IfSome, IfOk, Some, None};
+ghost use Rattle.std.specs.Prelude.{◌≡◌, ◌≢◌, length, vec_len, IfSome, IfOk, Some, None};
 ghost use Rattle.nut_io.specs.Writes.{IsWithin};
 ghost use Rattle.nut_monitor_loop.specs.declared.types.Next.TheVariants as next;
 
@@ -107,6 +107,14 @@ impl<'r, 'e, R: Net + Clock + Processes, E: Write> Links<'r, 'e, R, E> {
         self.handed = None;
         self.look_up();
         Ok(())
+    }
+
+    /// Closes all links, and ends the look-ups. Nothing is reported.
+    pub fn leave(&mut self)
+        ensures { vec_len self.new.upstreams ≡ 0 }
+    {
+        self.upstreams.clear();
+        self.look_ups.end();
     }
 
     /// Returns what comes next, after at most one wait.

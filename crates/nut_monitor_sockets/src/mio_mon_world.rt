@@ -90,6 +90,11 @@ impl<'r, 'e, R: Net + Clock + Processes, H: Herald, E: Write> MioMonWorld<'r, 'e
         Ok(())
     }
 
+    /// Closes all links, and ends the look-ups: nothing more is watched. Nothing is reported.
+    pub fn leave(&mut self) {
+        self.links.leave();
+    }
+
     /// Returns the herald.
     pub fn herald(&mut self) -> &mut H {
         &mut self.herald

@@ -22,7 +22,7 @@ pub trait Follower: Herald {
     /// Takes the configuration of the next watch, if the watch ended for one.
     fn take_next(&mut self) -> Option<UpsmonConf>;
 
-    /// Halts the machine, and sets POWERDOWNFLAG first if `is_flagged`.
+    /// Halts the machine, and sets POWERDOWNFLAG first if `is_flagged`. All links are closed before.
     ///
     /// # Errors
     ///
@@ -122,6 +122,8 @@ where
 {
     match keep_watch(rt, alloc, config, world) {
         Ok(Phase::Halted { flag }) => {
+            // This machine is logged out before it halts, so that no primary waits for it.
+            world.leave();
             world.herald().halt(flag)?;
             Ok(None)
         }
