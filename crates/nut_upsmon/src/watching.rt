@@ -1,6 +1,6 @@
 //! Watches one configuration after the other.
 
-ghost use Rattle.std.specs.Prelude.{◌≡◌, ◌<◌, ◌-◌, ◌^◌, [], IfOk, IfSome};
+ghost use Rattle.std.specs.Prelude.{◌≡◌, ◌<◌, ◌-◌, ◌^◌, [], IfOk, IfSome, OnOk};
 
 use crate::halt::HaltFault;
 use crate::starting::tell_start;
@@ -127,26 +127,28 @@ where
             world.herald().halt(flag)?;
             Ok(None)
         }
-        Ok(Phase::Watching | Phase::Forcing | Phase::Final) => Ok(restart(world)?),
+        Ok(Phase::Watching | Phase::Forcing | Phase::Final) => Ok(Some(restart(world)?)),
         Err(kind) => Err(WatchFault::Io(io::Error::from(kind))),
     }
 }
 
 /// Begins anew with the configuration for which the watch ended, and returns it.
-fn restart<'r, 'e, R, H, E>(
-    world: &mut MioMonWorld<'r, 'e, R, H, E>,
-) -> io::Result<Option<UpsmonConf>>
+///
+/// # Errors
+///
+/// `Other` if there is none: then the watch ended without a reason. Those of [`MioMonWorld::restart`].
+fn restart<'r, 'e, R, H, E>(world: &mut MioMonWorld<'r, 'e, R, H, E>) -> io::Result<UpsmonConf>
 where
     R: Net + Clock + Processes,
     H: Follower,
     E: Write,
-    ensures { IfOk result (λ next. IfSome next (λ _. world.new.faults ≡ 0)) }
+    ensures { OnOk result (world.new.faults ≡ 0) }
 {
     let Some(config) = world.herald().take_next() else {
-        return Ok(None);
+        return Err(io::Error::from(ErrorKind::Other));
     };
     world.restart(&config)?;
-    Ok(Some(config))
+    Ok(config)
 }
 
 /// Watches the UPSes of a configuration in a world until the machine has to be halted, or the world ends.
