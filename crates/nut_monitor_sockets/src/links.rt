@@ -200,7 +200,7 @@ impl<'r, 'e, R: Net + Clock + Processes, E: Write> Links<'r, 'e, R, E> {
             return;
         };
         let is_told = upstream.note_reply(query, reply);
-        if is_read && is_behind_opening(query) && upstream.begins_to_serve() {
+        if is_read && is_after_opening(query) && upstream.begins_to_serve() {
             self.reports.tell(Report::Reached(upstream.name()));
         }
         if is_told {
@@ -454,7 +454,7 @@ fn next_look_up<R: Processes>(upstreams: &[Upstream], look_ups: &LookUps<'_, R>)
 }
 
 /// Whether a query comes after those that open a link.
-fn is_behind_opening(query: Query) -> bool {
+fn is_after_opening(query: Query) -> bool {
     match query {
         Query::Status | Query::Fsd | Query::NumLogins => true,
         Query::Username | Query::Password | Query::Login | Query::Primary => false,

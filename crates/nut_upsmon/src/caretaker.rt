@@ -65,6 +65,7 @@ where
             self.tell(&reload);
             drop(self.next.replace(reload.config));
         } else {
+            // dropped by a call, which keeps the proof of this function short
             drop(reload);
         }
         is_taken_up
@@ -81,8 +82,8 @@ where
         }
     }
 
-    /// Goes on with the halt of another configuration, and tells by that. Returns whether it does. If not, this halt is
-    /// given up, and else the former one; the end of its shell is waited for.
+    /// Goes on with the halt of another configuration, and tells by that. Returns whether it does. The halt that isn't
+    /// kept, this one or the former, is given up, and the crier waits for the end of its shell.
     fn change_to(
         &mut self,
         mut halt: Halt<'r, 'r, R>,

@@ -128,6 +128,7 @@ impl Reloader {
         match self.compare(files, former, &config, err) {
             Ok(changes) => Ok(Reload { config, changes }),
             Err(AllocError) => {
+                // dropped by a call, which keeps the proof of this function short
                 drop(config);
                 Err(FileFault::Memory)
             }

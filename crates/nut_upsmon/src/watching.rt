@@ -33,7 +33,7 @@ pub trait Follower: Herald {
 /// Why upsmon ends without having halted the machine.
 #[derive(Drop)]
 pub enum WatchFault {
-    /// No memory, no socket or no clock is to be had, or the wait for the sockets failed.
+    /// Memory, a socket or the clock isn't available, or the wait for the sockets failed.
     Io(io::Error),
     /// The machine should have been halted.
     Halt(HaltFault),
