@@ -151,6 +151,22 @@ class Tests:
         lines = watch.lines()
         expect((set(lines[:-1]), len(lines), lines[-1]), (wanted, len(wanted) + 1, SHUTDOWN), "what upsmon prints")
 
+    def test_halting_machine_is_logged_out(self):
+        """The server doesn't count a machine whose SHUTDOWNCMD runs, so that no primary waits for it."""
+        with self.room() as room, Driver(room) as driver:
+            room.upsd()
+            driver.connect()
+            asks, counts = b"GET NUMLOGINS su700\n", b"NUMLOGINS su700 %d\n"
+            lasts = 'SHUTDOWNCMD "touch FOLDER/begun; sleep 5; touch FOLDER/ended"\n'
+            conf = f"MONITOR su700@127.0.0.1:{room.port} 1 guest g1 secondary\n{QUICK}{lasts}"
+            with self.watch(conf) as guest, room.client() as client:
+                until(lambda: client.ask(asks) == counts % 1, "the machine is logged in")
+                driver.tell(b"OB LB")
+                until(lambda: guest.read("begun") is not None, "SHUTDOWNCMD is run")
+                until(lambda: client.ask(asks) == counts % 0 or guest.read("ended") is not None, "the machine is logged out")
+                expect(guest.read("ended"), None, "SHUTDOWNCMD has not ended by then")
+                expect(guest.status(), 0, "status")
+
     def test_primary_waits_for_hostsync(self):
         with Upstream(status=b"OL") as server:
             server.logins = 2

@@ -14,4 +14,5 @@ mod refusals;
 mod upstream;
 
 pub use herald::Herald;
+pub use links::NewLinks;
 pub use mio_mon_world::MioMonWorld;

@@ -1,6 +1,6 @@
 //! All links of a monitor, watched by one poll.
 
-ghost use Rattle.std.specs.Prelude.{◌≡◌, ◌≢◌, length, IfSome, IfOk, Some, None};
+ghost use Rattle.std.specs.Prelude.{◌≡◌, ◌≢◌, length, vec_len, IfSome, IfOk, Some, None};
 ghost use Rattle.nut_io.specs.Writes.{IsWithin};
 ghost use Rattle.nut_monitor_loop.specs.declared.types.Next.TheVariants as next;
 
@@ -11,11 +11,11 @@ use crate::look_ups::LookUps;
 use crate::refusals::title;
 use crate::upstream::Upstream;
 use mio::{Events, Token};
-use nut_conf::UpsmonConf;
+use nut_conf::{MONITORS_MAX, UpsmonConf};
 use nut_io::{Piece, Written};
 use nut_monitor::{Monitor, Phase, Query};
 use nut_monitor_loop::Next;
-use nut_poll::{Heard, Ready, Report, Reports, Rounds, SOCKETS_MAX, text_of};
+use nut_poll::{Heard, Ready, Report, Reports, Rounds, SOCKETS_MAX, Seconds, text_of};
 use std::alloc::{AllocError, Global};
 use std::io;
 use std::io::Write;
@@ -46,6 +46,25 @@ struct Handed {
     answer: Option<(Query, Reply)>,
 }
 
+/// The links of a monitor that is about to watch: none is made yet.
+#[derive(Drop)]
+pub struct NewLinks {
+    upstreams: Vec<Upstream>,
+}
+
+impl NewLinks {
+    /// Returns the links of a monitor with this configuration.
+    ///
+    /// # Errors
+    ///
+    /// [`AllocError`] if memory cannot be allocated.
+    pub fn of(alloc: Global, config: &UpsmonConf) -> Result<NewLinks, AllocError> {
+        Ok(NewLinks {
+            upstreams: upstreams_of(alloc, config)?,
+        })
+    }
+}
+
 /// The links to the servers of the MONITOR lines, by the numbers of the lines, and a clock. The token of a link is its
 /// number.
 #[derive(Drop)]
@@ -65,48 +84,67 @@ pub struct Links<'r, 'e, R: Processes, E> {
 }
 
 impl<'r, 'e, R: Net + Clock + Processes, E: Write> Links<'r, 'e, R, E> {
-    /// Returns the links of a monitor with this configuration. Their servers are about to be called.
+    /// Returns an empty set of links.
     ///
     /// # Errors
     ///
     /// The error of the poll or of the clock, or a lack of memory.
-    pub fn new(
+    pub fn none(
         rt: &'r R,
         alloc: Global,
-        config: &UpsmonConf,
         reports: Reports<'e, E>,
     ) -> io::Result<Links<'r, 'e, R, E>> {
-        let upstreams = upstreams_of(alloc, config)?;
-        let mut links = Links {
+        Ok(Links {
             rt,
             alloc,
-            rounds: Rounds::new(rt, alloc, upstreams.len())?,
-            upstreams,
+            rounds: Rounds::new(rt, alloc, MONITORS_MAX)?,
+            upstreams: Vec::new(alloc),
             look_ups: LookUps::none(rt, alloc),
             limits: CALM,
             is_ending: false,
             handed: None,
             reports,
-        };
-        links.look_up();
-        Ok(links)
+        })
     }
 
-    /// Begins anew with the links of a monitor with this configuration, and closes all others. Look-ups that are under
-    /// way go on.
+    /// Begins with these links, and closes all others. Their servers are about to be called. Look-ups that are under way
+    /// go on. The poll stays: a late report of a closed socket harms no other.
     ///
     /// # Errors
     ///
-    /// Those of [`Links::new`]. Nothing has changed then.
-    pub fn restart(&mut self, config: &UpsmonConf) -> io::Result<()> {
-        let upstreams = upstreams_of(self.alloc, config)?;
-        self.rounds = Rounds::new(self.rt, self.alloc, upstreams.len())?;
-        self.upstreams = upstreams;
+    /// The error of the clock. Nothing has changed then.
+    pub fn begin(&mut self, links: NewLinks) -> io::Result<()> {
+        match Seconds::start(self.rt) {
+            Ok(seconds) => {
+                self.begin_at(seconds, links);
+                Ok(())
+            }
+            Err(error) => {
+                // dropped by a call, which keeps the proof of this function short
+                drop(links);
+                Err(error)
+            }
+        }
+    }
+
+    /// Begins with these links, and with a clock that was just started.
+    fn begin_at(&mut self, seconds: Seconds, links: NewLinks) {
+        self.upstreams = links.upstreams;
+        self.rounds.seconds = seconds;
+        self.rounds.ready.insert_first(MONITORS_MAX);
+        self.rounds.begin();
         self.limits = CALM;
         self.is_ending = false;
         self.handed = None;
         self.look_up();
-        Ok(())
+    }
+
+    /// Closes all links, and ends the look-ups. Nothing is reported.
+    pub fn leave(&mut self)
+        ensures { vec_len self.new.upstreams ≡ 0 }
+    {
+        self.upstreams.clear();
+        self.look_ups.end();
     }
 
     /// Returns what comes next, after at most one wait.
@@ -192,7 +230,7 @@ impl<'r, 'e, R: Net + Clock + Processes, E: Write> Links<'r, 'e, R, E> {
             return;
         };
         let is_told = upstream.note_reply(query, reply);
-        if is_read && is_behind_opening(query) && upstream.begins_to_serve() {
+        if is_read && is_after_opening(query) && upstream.begins_to_serve() {
             self.reports.tell(Report::Reached(upstream.name()));
         }
         if is_told {
@@ -446,7 +484,7 @@ fn next_look_up<R: Processes>(upstreams: &[Upstream], look_ups: &LookUps<'_, R>)
 }
 
 /// Whether a query comes after those that open a link.
-fn is_behind_opening(query: Query) -> bool {
+fn is_after_opening(query: Query) -> bool {
     match query {
         Query::Status | Query::Fsd | Query::NumLogins => true,
         Query::Username | Query::Password | Query::Login | Query::Primary => false,

@@ -7,9 +7,9 @@ ghost use Rattle.nut_poll.specs.Late.{is_noted};
 ghost use Rattle.nut_monitor_sockets.specs.Untold.{untold_watch};
 
 use crate::herald::Herald;
-use crate::links::Links;
+use crate::links::{Links, NewLinks};
 use arrayvec::ArrayVec;
-use nut_conf::{MONITORS_MAX, UpsmonConf};
+use nut_conf::MONITORS_MAX;
 use nut_io::{Fault, Piece, Written};
 use nut_monitor::{Monitor, Notice};
 use nut_monitor_loop::{MonWorld, Next};
@@ -50,8 +50,7 @@ pub struct MioMonWorld<'r, 'e, R: Processes, H, E> {
 }
 
 impl<'r, 'e, R: Net + Clock + Processes, H: Herald, E: Write> MioMonWorld<'r, 'e, R, H, E> {
-    /// Returns the world of a monitor with this configuration. The server of each of its MONITOR lines is called.
-    /// Reports say when servers come and go.
+    /// Returns a world that has no links yet. Reports say when servers come and go.
     ///
     /// # Errors
     ///
@@ -59,14 +58,13 @@ impl<'r, 'e, R: Net + Clock + Processes, H: Herald, E: Write> MioMonWorld<'r, 'e
     pub fn new(
         rt: &'r R,
         alloc: Global,
-        config: &UpsmonConf,
         herald: H,
         reports: Reports<'e, E>,
     ) -> io::Result<MioMonWorld<'r, 'e, R, H, E>>
         ensures { IfOk result (λ w. w.faults ≡ 0) }
     {
         Ok(MioMonWorld {
-            links: Links::new(rt, alloc, config, reports)?,
+            links: Links::none(rt, alloc, reports)?,
             herald,
             late: ArrayVec::new(),
             faults: 0,
@@ -74,20 +72,25 @@ impl<'r, 'e, R: Net + Clock + Processes, H: Herald, E: Write> MioMonWorld<'r, 'e
         })
     }
 
-    /// Begins anew for a monitor with this configuration: the server of each of its MONITOR lines is called, and all
-    /// earlier links are closed. Look-ups that are under way go on.
+    /// Begins for a monitor with these links: their servers are called, and all earlier links are closed. Look-ups that
+    /// are under way go on. It needs neither memory nor a descriptor.
     ///
     /// # Errors
     ///
-    /// If there is no poll, no clock or no memory. Nothing has changed then.
-    pub fn restart(&mut self, config: &UpsmonConf) -> io::Result<()>
+    /// If there is no clock. Nothing has changed then.
+    pub fn begin(&mut self, links: NewLinks) -> io::Result<()>
         ensures { OnOk result (self.new.faults ≡ 0) }
     {
-        self.links.restart(config)?;
+        self.links.begin(links)?;
         self.late.clear();
         self.faults = 0;
         self.has_ended = false;
         Ok(())
+    }
+
+    /// Closes all links, and ends the look-ups: nothing more is watched. Nothing is reported.
+    pub fn leave(&mut self) {
+        self.links.leave();
     }
 
     /// Returns the herald.

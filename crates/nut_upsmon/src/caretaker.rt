@@ -1,5 +1,6 @@
 //! What upsmon does besides watching.
 
+use crate::beginning::Beginning;
 use crate::crier::Crier;
 use crate::halt::{Halt, HaltFault};
 use crate::reloader::{Reload, Reloader};
@@ -18,9 +19,10 @@ use std::rt::Files;
 use std::time::Clock;
 
 /// What upsmon does besides watching: it tells notices, keeps the halt of its machine prepared, and takes up a changed
-/// upsmon.conf. For that it ends the watch, and has the configuration for the next one.
+/// upsmon.conf. For that it ends the watch, and has what the next one begins with.
 ///
-/// The halt that a configuration sets is prepared before the earlier one is given up, so there is no moment without.
+/// The halt that a configuration sets is prepared before the earlier one is given up, so there is no moment without. What
+/// the next watch begins with is made even before that: once the change is reported, no lack of memory can end upsmon.
 #[derive(Drop)]
 pub struct Caretaker<'c, 'r, R: Processes, O, E> {
     rt: &'r R,
@@ -28,8 +30,8 @@ pub struct Caretaker<'c, 'r, R: Processes, O, E> {
     crier: &'c mut Crier<'r, R, O>,
     halt: &'c mut Halt<'r, 'r, R>,
     reloader: &'c mut Reloader,
-    /// The configuration of the next watch.
-    next: Option<UpsmonConf>,
+    /// What the next watch begins with.
+    next: Option<Beginning>,
 }
 
 impl<'c, 'r, R, O, E> Caretaker<'c, 'r, R, O, E>
@@ -60,11 +62,12 @@ where
     /// Takes up a configuration in place of an earlier one. Returns whether it did. If not, everything goes on as
     /// before, and why is told.
     fn take_up(&mut self, former: &UpsmonConf, reload: Reload) -> bool {
-        let is_taken_up = self.change_over(former, &reload.config);
+        let is_taken_up = self.change_over(former, reload.config());
         if is_taken_up {
             self.tell(&reload);
-            drop(self.next.replace(reload.config));
+            drop(self.next.replace(reload.beginning));
         } else {
+            // dropped by a call, which keeps the proof of this function short
             drop(reload);
         }
         is_taken_up
@@ -81,8 +84,8 @@ where
         }
     }
 
-    /// Goes on with the halt of another configuration, and tells by that. Returns whether it does. If not, this halt is
-    /// given up, and else the former one; the end of its shell is waited for.
+    /// Goes on with the halt of another configuration, and tells by that. Returns whether it does. The halt that isn't
+    /// kept, this one or the former, is given up, and the crier waits for the end of its shell.
     fn change_to(
         &mut self,
         mut halt: Halt<'r, 'r, R>,
@@ -104,7 +107,7 @@ where
     fn tell(&mut self, reload: &Reload) {
         let reloaded = Report::Reloaded(reload.changes.as_str());
         self.reloader.reports(self.err).tell(reloaded);
-        tell_start(&reload.config, self.reloader.is_quiet(), self.err);
+        tell_start(reload.config(), self.reloader.is_quiet(), self.err);
     }
 }
 
@@ -133,7 +136,7 @@ where
     O: Write + Drop,
     E: Write + Drop,
 {
-    fn take_next(&mut self) -> Option<UpsmonConf> {
+    fn take_next(&mut self) -> Option<Beginning> {
         self.next.take()
     }
 

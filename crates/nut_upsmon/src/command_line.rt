@@ -33,6 +33,7 @@ fn with<'a>(
     match command {
         Ok(command) => command.arg(arg),
         Err(AllocError) => {
+            // dropped by a call, which keeps the proof of this function short
             drop(arg);
             Err(AllocError)
         }

@@ -80,7 +80,7 @@ impl<'a, R: Processes, O: Write + Drop> Crier<'a, R, O> {
     /// Receives a notice of this monitor. A run that can't be started is told on `err`.
     pub fn announce<E: Write>(&mut self, monitor: &Monitor, notice: Notice, err: &mut E) {
         if notice.line.is_none() {
-            // that of the shutdown
+            // Only the notice of the shutdown is about no line. A machine that stops needs no warning of LB.
             self.runtimes.end();
         }
         let config = monitor.config();

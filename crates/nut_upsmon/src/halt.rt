@@ -56,9 +56,9 @@ pub fn halt_heap(alloc: Global) -> Result<LocalHeap, AllocError> {
     LocalHeap::new(alloc, HEAP)
 }
 
-/// The steps that halt the machine, prepared before they are needed: carrying them out allocates nothing. If SHUTDOWNCMD's shell
-/// has been ended meanwhile, starting another one takes the heap's memory, and some small blocks that the C library
-/// needs to start a process.
+/// The steps that halt the machine, prepared before they are needed: carrying them out allocates nothing. If
+/// SHUTDOWNCMD's shell has been ended meanwhile, starting another one takes the heap's memory, and some small blocks
+/// that the C library needs to start a process.
 #[derive(Drop)]
 pub struct Halt<'r, 'h, R: Processes> {
     rt: &'r R,
@@ -108,6 +108,7 @@ impl<'r, 'h, R: Files + Processes + Clock> Halt<'r, 'h, R> {
             Some(command) => command.give_up(),
             None => None,
         };
+        // dropped by a call, which keeps the proof of this function short
         drop(self);
         shell
     }
@@ -125,8 +126,8 @@ impl<'r, 'h, R: Files + Processes + Clock> Halt<'r, 'h, R> {
     }
 
     /// Halts the machine. If `is_flagged`, sets POWERDOWNFLAG; then, whether or not that succeeded, runs SHUTDOWNCMD
-    /// and waits for it. A start that fails is tried again each second, thirty times. A flag that cannot be set, and
-    /// each reason why a start fails, is written to `err` once.
+    /// and waits for it. Why a flag cannot be set is written to `err`. A start that fails is tried again each second,
+    /// thirty times. Why a start fails is written to `err`, unless the try before failed for the same reason.
     ///
     /// # Errors
     ///
@@ -214,7 +215,8 @@ fn wait_for<R: Processes>(command: &mut ShutdownCommand<'_, '_, R>) -> Result<()
     }
 }
 
-/// Starts a command, trying again if it fails. Each reason why it cannot be started is written once.
+/// Starts a command, trying again if it fails. Why a start fails is written to `err`, unless the try before failed for
+/// the same reason.
 fn start<R: Processes, E: Write>(
     clock: &impl Clock,
     command: &mut ShutdownCommand<'_, '_, R>,

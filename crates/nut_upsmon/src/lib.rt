@@ -1,6 +1,7 @@
 //! What upsmon runs: a monitor over sockets, the people and commands that it tells, and the halt of its machine.
 #![tactic(auto)]
 
+mod beginning;
 mod caretaker;
 mod changes;
 mod command_line;

@@ -53,13 +53,13 @@ struct Ups {
     name: String,
     /// How often its server was asked and didn't answer.
     tries: u8,
-    /// Of which configuration it is.
-    turn: u32,
+    /// The number of its configuration.
+    generation: u32,
 }
 
-/// Asks for `battery.runtime.low` of each UPS that feeds this machine, and warns where a UPS says LB later than this machine
-/// needs to stop. Each question is a process of its own, `upsc UPS battery.runtime.low`, which is killed after five seconds:
-/// nobody waits for a server.
+/// Asks for `battery.runtime.low` of each UPS that feeds this machine, and warns if a UPS reports LB later than this
+/// machine needs to stop. Each question is a process of its own, `upsc UPS battery.runtime.low`, which is killed after
+/// five seconds: nobody waits for a server.
 #[derive(Drop)]
 pub struct LowRuntimes<'r, R: Processes> {
     alloc: Global,
@@ -69,13 +69,13 @@ pub struct LowRuntimes<'r, R: Processes> {
     /// How many steps pass before the next question.
     pause: u8,
     /// The number of the configuration, from 0 on. An answer about a UPS of an earlier one is let go.
-    turn: u32,
+    generation: u32,
     left: Vec<Ups>,
     questions: Questions<'r, R, Ups>,
 }
 
 impl<'r, R: Processes> LowRuntimes<'r, R> {
-    /// Those that a monitor with this configuration asks for while it watches.
+    /// Returns the questions that a monitor with this configuration asks while it watches.
     pub fn watched(
         processes: &'r R,
         alloc: Global,
@@ -84,7 +84,8 @@ impl<'r, R: Processes> LowRuntimes<'r, R> {
         LowRuntimes::new(processes, alloc, config, WATCH)
     }
 
-    /// None is asked for that doesn't feed this machine, and none at all where it needs no UPS.
+    /// Returns the questions of this configuration: one for each UPS that feeds the machine, and none if the machine needs
+    /// no UPS.
     fn new(
         processes: &'r R,
         alloc: Global,
@@ -97,7 +98,7 @@ impl<'r, R: Processes> LowRuntimes<'r, R> {
             needed,
             patience,
             pause: patience.pause,
-            turn: 0,
+            generation: 0,
             left,
             questions: Questions::none(processes, alloc, patience.question),
         })
@@ -109,17 +110,17 @@ impl<'r, R: Processes> LowRuntimes<'r, R> {
     ///
     /// [`AllocError`] if memory for their names cannot be allocated. Nothing has changed then.
     pub fn restart(&mut self, config: &UpsmonConf) -> Result<(), AllocError> {
-        let turn = self.turn.wrapping_add(1);
-        let (needed, left) = asked(self.alloc, config, turn)?;
+        let generation = self.generation.wrapping_add(1);
+        let (needed, left) = asked(self.alloc, config, generation)?;
         self.needed = needed;
         self.left = left;
-        self.turn = turn;
+        self.generation = generation;
         self.pause = self.patience.pause;
         Ok(())
     }
 
-    /// Takes a step: tells an answer that came, ends questions that take too long, and asks the next. Gives whether another
-    /// step is needed.
+    /// Takes a step: reports an answer that came, kills questions that take too long, and asks the next. Returns whether
+    /// another step is needed.
     pub fn step<E: Write>(&mut self, err: &mut E) -> bool {
         if let Some(question) = self.questions.take() {
             self.hear(question, err);
@@ -136,7 +137,7 @@ impl<'r, R: Processes> LowRuntimes<'r, R> {
         self.questions.end();
     }
 
-    /// Tells what a question was answered that has ended.
+    /// Reports the answer to a question that has ended.
     fn hear<E: Write>(&mut self, mut question: Question<R::Started, Ups>, err: &mut E) {
         let answer = answer_of(&mut question);
         self.heed(question.about, answer, err);
@@ -144,7 +145,7 @@ impl<'r, R: Processes> LowRuntimes<'r, R> {
 
     /// Tells what is known of a UPS by the answer about it, if it is one of this configuration.
     fn heed<E: Write>(&mut self, ups: Ups, answer: Option<u64>, err: &mut E) {
-        if ups.turn != self.turn {
+        if ups.generation != self.generation {
             return;
         }
         match answer {
@@ -153,7 +154,7 @@ impl<'r, R: Processes> LowRuntimes<'r, R> {
         }
     }
 
-    /// Warns where a UPS says LB too late.
+    /// Warns if a UPS reports LB too late.
     fn compare<E: Write>(&self, ups: &Ups, seconds: u64, err: &mut E) {
         if seconds < self.needed {
             let _ = writeln!(
@@ -174,7 +175,7 @@ impl<'r, R: Processes> LowRuntimes<'r, R> {
         }
     }
 
-    /// Asks for the next one, where it is time.
+    /// Asks the next question if it is time.
     fn ask_next<E: Write>(&mut self, err: &mut E) {
         if self.pause > 0 {
             self.pause -= 1;
@@ -202,7 +203,8 @@ impl<'r, R: Processes> LowRuntimes<'r, R> {
 /// Asks for each UPS of a configuration once, waits for the answers, at most ten seconds in all, and tells them.
 ///
 /// # Errors
-/// Where the memory for their names isn't to be had.
+///
+/// [`AllocError`] if memory for their names cannot be allocated.
 pub fn check_low_runtimes<R: Processes + Clock, E: Write>(
     rt: &R,
     alloc: Global,
@@ -245,22 +247,29 @@ fn tell_unknown<E: Write>(ups: &Ups, err: &mut E) {
 }
 
 /// How many seconds this machine needs by a configuration, and the UPSes that are asked for.
-fn asked(alloc: Global, config: &UpsmonConf, turn: u32) -> Result<(u64, Vec<Ups>), AllocError> {
+fn asked(
+    alloc: Global,
+    config: &UpsmonConf,
+    generation: u32,
+) -> Result<(u64, Vec<Ups>), AllocError> {
     match Stopping::of(config) {
-        Stopping::Within(needed) => Ok((needed, upses_of(alloc, &config.monitors.lines, turn)?)),
+        Stopping::Within(needed) => Ok((
+            needed,
+            upses_of(alloc, &config.monitors.lines, generation)?,
+        )),
         Stopping::Never => Ok((0, Vec::new(alloc))),
     }
 }
 
 /// The UPSes of the lines that feed this machine.
-fn upses_of(alloc: Global, lines: &[Monitored], turn: u32) -> Result<Vec<Ups>, AllocError> {
+fn upses_of(alloc: Global, lines: &[Monitored], generation: u32) -> Result<Vec<Ups>, AllocError> {
     let mut upses = Vec::with_capacity(alloc, lines.len())?;
     for line in lines {
         if line.power.value > 0 {
             upses.push(Ups {
                 name: String::from_str(alloc, text_of(&line.written))?,
                 tries: 0,
-                turn,
+                generation,
             })?;
         }
     }
@@ -270,6 +279,7 @@ fn upses_of(alloc: Global, lines: &[Monitored], turn: u32) -> Result<Vec<Ups>, A
 /// The command that asks a server for this UPS.
 fn upsc(alloc: Global, name: &str) -> Result<Command<Global>, AllocError> {
     let mut command = Command::new(alloc, "upsc")?;
+    // `and` drops `command` if that failed
     put_question(&mut command, name).and(Ok(command))
 }
 
@@ -278,13 +288,13 @@ fn put_question(command: &mut Command<Global>, name: &str) -> Result<(), AllocEr
     Ok(())
 }
 
-/// The seconds that a process printed which has ended well.
+/// Returns the seconds that the process printed. `None` unless it ended with status 0.
 fn answer_of<P: OpenProcess>(question: &mut Question<P, Ups>) -> Option<u64> {
     let mut answer = [0; ANSWER_MAX];
     seconds_in(question.answer(&mut answer)?)
 }
 
-/// The whole seconds of a number such as `120` or `120.5`, with a line feed behind it.
+/// Returns the whole seconds of a number such as `120` or `120.5`, with a line feed after it.
 fn seconds_in(answer: &[u8]) -> Option<u64> {
     let digits = answer.split(|byte| matches!(*byte, b'.' | b'\n')).next()?;
     str::from_utf8(digits).ok()?.parse().ok()

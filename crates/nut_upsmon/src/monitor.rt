@@ -41,22 +41,23 @@ struct Streams<O, E> {
 
 /// Runs upsmon. Returns its exit status.
 ///
-/// `words` are those of the command line `upsmon [--conf DIR] [-q]`, the program's name first. It watches the UPSes of
-/// upsmon.conf until the machine has to be halted. The file is in the folder DIR, or else in that of the variable
-/// NUT_CONFPATH, or in `/etc/nut`. If a server isn't linked, upsmon tries to connect again each second. A notice is
-/// printed on `out` as one line if its flags have SYSLOG or WALL, and NOTIFYCMD is run with it if they have EXEC; with
-/// IGNORE neither is done. At the halt, POWERDOWNFLAG is set if a MONITOR line is primary, and then SHUTDOWNCMD is run.
-/// All that this takes is prepared before anything is watched. The status is 0 if SHUTDOWNCMD ended with 0 or there is
-/// none, else 1. A POWERDOWNFLAG that an earlier shutdown left is removed at the start.
+/// `words` are those of the command line `upsmon [--conf DIR] [-q] [--check]` or `upsmon [--conf DIR] -K`, the program's
+/// name first. It watches the UPSes of upsmon.conf until the machine has to be halted. The file is in the folder DIR, or
+/// else in that of the variable NUT_CONFPATH, or in `/etc/nut`. If a server isn't linked, upsmon tries to connect again
+/// each second. A notice is printed on `out` as one line if its flags have SYSLOG or WALL, and NOTIFYCMD is run with it
+/// if they have EXEC; with IGNORE neither is done. At the halt all links are closed, POWERDOWNFLAG is set if a MONITOR
+/// line is primary, and then SHUTDOWNCMD is run. All that this takes is prepared before anything is watched. The status
+/// is 0 if SHUTDOWNCMD ended with 0 or there is none, else 1. A POWERDOWNFLAG that an earlier shutdown left is removed
+/// at the start.
 ///
-/// With `-K` nothing is watched: the status is 0 where POWERDOWNFLAG is set, else 1. With `--check` nothing is watched either:
-/// upsmon.conf is read as a start does, what a start says of it is said, and how soon this machine stops goes to `out`. The
-/// servers are asked whether their UPSes say LB early enough for that. The status is 0 where the file has no fault.
+/// With `-K` nothing is watched: the status is 0 if POWERDOWNFLAG is set, else 1. With `--check` nothing is watched
+/// either: upsmon reads upsmon.conf, writes what a start writes of it, prints on `out` how soon this machine stops, and
+/// asks the servers whether their UPSes report LB early enough for that. The status is 0 if the file has no fault.
 ///
-/// When the file `reload` is made in the folder, upsmon.conf is read again. If it has a fault, or the halt that it sets
-/// can't be prepared, that is written to `err`, and the UPSes are watched as before. So they are while a shutdown is under
-/// way; and a UPS that is on battery or has a forced shutdown, and goes on being watched, is waited for. What has changed
-/// is then written to `err`, and all links are made anew.
+/// When somebody makes the file `reload` in the folder, upsmon reads upsmon.conf again. If the file has a fault, the halt
+/// that it sets can't be prepared, or a shutdown has begun, upsmon says so on `err` and watches as before. A UPS that
+/// stays watched and is on battery or has a forced shutdown holds the change up until it has neither. Then upsmon writes
+/// what has changed, and makes all links anew.
 ///
 /// What upsmon.conf should set otherwise is written to `err`, and so are how soon this machine stops and the UPSes that
 /// are watched, a line each; with `-q` only what should be set otherwise is. A line that `out` or `err` doesn't take at
@@ -129,12 +130,14 @@ where
     E: Write + AsRawFd + Copy,
 {
     if matches.get_flag("killpower") {
-        look_for_flag(rt, alloc, matches)
-    } else if matches.get_flag("check") {
-        check_file(rt, alloc, matches, streams.out, told)
-    } else {
-        guard(rt, alloc, matches, streams, told)
+        return look_for_flag(rt, alloc, matches);
     }
+    if matches.get_flag("check") {
+        check_file(rt, alloc, matches, streams.out, told)?;
+    } else {
+        guard(rt, alloc, matches, streams, told)?;
+    }
+    Ok(0)
 }
 
 /// Returns whether the flag that upsmon.conf names is set, as an exit status: 0 if it is, else 1.
@@ -170,14 +173,14 @@ fn flag_status(
     Ok(u8::from(!is_set))
 }
 
-/// Checks upsmon.conf in the folder that a command line names. Returns the exit status.
+/// Checks upsmon.conf in the folder that a command line names.
 fn check_file<R, O, E>(
     rt: &R,
     alloc: Global,
     matches: &ArgMatches<'_>,
     out: O,
     told: &mut LossyLines<E>,
-) -> Result<u8, Failure<UpsmonFault>>
+) -> Result<(), Failure<UpsmonFault>>
 where
     R: Files + Clock + Processes + Env + Alloc,
     O: Write + AsRawFd + Copy,
@@ -187,14 +190,14 @@ where
     check_folder(rt, alloc, folder.as_str(), out, told)
 }
 
-/// Reads upsmon.conf in this folder, says of it what a start does, and checks it. Returns the exit status.
+/// Reads upsmon.conf in this folder, says of it what a start does, and checks it.
 fn check_folder<R, O, E>(
     rt: &R,
     alloc: Global,
     folder: &str,
     out: O,
     told: &mut LossyLines<E>,
-) -> Result<u8, Failure<UpsmonFault>>
+) -> Result<(), Failure<UpsmonFault>>
 where
     R: Files + Clock + Processes,
     O: Write + AsRawFd + Copy,
@@ -202,19 +205,20 @@ where
 {
     let config = read_folder(rt, alloc, folder, told)?;
     let checked = check_config(rt, alloc, &config, out, told);
+    // dropped by a call, which keeps the proof of this function short
     drop(config);
     checked
 }
 
-/// Writes how soon the machine of a configuration stops, and asks the servers whether their UPSes say LB early enough for
-/// that. Returns the exit status.
+/// Writes how soon the machine of a configuration stops, and asks the servers whether their UPSes report LB early enough
+/// for that.
 fn check_config<R, O, E>(
     rt: &R,
     alloc: Global,
     config: &UpsmonConf,
     mut out: O,
     told: &mut LossyLines<E>,
-) -> Result<u8, Failure<UpsmonFault>>
+) -> Result<(), Failure<UpsmonFault>>
 where
     R: Clock + Processes,
     O: Write + AsRawFd + Copy,
@@ -222,7 +226,7 @@ where
 {
     Stopping::of(config).tell(&mut out)?;
     check_low_runtimes(rt, alloc, config, told)?;
-    Ok(0)
+    Ok(())
 }
 
 /// Reads upsmon.conf in this folder, and writes what it should set otherwise.
@@ -236,20 +240,21 @@ fn read_folder<R: Files, E: Write + AsRawFd + Copy>(
     match tell_warnings(rt, alloc, folder, &config, told) {
         Ok(()) => Ok(config),
         Err(AllocError) => {
+            // dropped by a call, which keeps the proof of this function short
             drop(config);
             Err(Failure::Memory)
         }
     }
 }
 
-/// Watches the UPSes of upsmon.conf until the machine has to be halted, halts it, and gives the exit status.
+/// Watches the UPSes of upsmon.conf until the machine has to be halted, and halts it.
 fn guard<R, O, E>(
     rt: &R,
     alloc: Global,
     matches: &ArgMatches<'_>,
     streams: Streams<O, E>,
     told: &mut LossyLines<E>,
-) -> Result<u8, Failure<UpsmonFault>>
+) -> Result<(), Failure<UpsmonFault>>
 where
     R: Wait + Files + Net + Clock + Processes + Env + Alloc,
     O: Write + AsRawFd + Copy,
@@ -259,8 +264,7 @@ where
     guard_folder(rt, alloc, folder, matches.get_flag("quiet"), streams, told)
 }
 
-/// Watches the UPSes of upsmon.conf in this folder until the machine has to be halted, halts it, and gives the exit
-/// status.
+/// Watches the UPSes of upsmon.conf in this folder until the machine has to be halted, and halts it.
 fn guard_folder<R, O, E>(
     rt: &R,
     alloc: Global,
@@ -268,7 +272,7 @@ fn guard_folder<R, O, E>(
     is_quiet: bool,
     streams: Streams<O, E>,
     told: &mut LossyLines<E>,
-) -> Result<u8, Failure<UpsmonFault>>
+) -> Result<(), Failure<UpsmonFault>>
 where
     R: Wait + Files + Net + Clock + Processes,
     O: Write + AsRawFd + Copy,
@@ -277,19 +281,19 @@ where
     let file = ReloadFile::new(rt, alloc, folder.as_str(), FILE_OF_SERVER)?;
     let mut reloader = Reloader::new(alloc, folder, file, is_quiet);
     let guarded = guard_reloaded(rt, alloc, &mut reloader, streams, told);
+    // dropped by a call, which keeps the proof of this function short
     drop(reloader);
     guarded
 }
 
-/// Watches the UPSes of the upsmon.conf that is reloaded here until the machine has to be halted, halts it, and gives the
-/// exit status.
+/// Watches the UPSes of the upsmon.conf that is reloaded here until the machine has to be halted, and halts it.
 fn guard_reloaded<R, O, E>(
     rt: &R,
     alloc: Global,
     reloader: &mut Reloader,
     streams: Streams<O, E>,
     told: &mut LossyLines<E>,
-) -> Result<u8, Failure<UpsmonFault>>
+) -> Result<(), Failure<UpsmonFault>>
 where
     R: Wait + Files + Net + Clock + Processes,
     O: Write + AsRawFd + Copy,
@@ -297,7 +301,7 @@ where
 {
     let config = read_folder(rt, alloc, reloader.folder(), told)?;
     guard_with(rt, alloc, config, reloader, streams, told)?;
-    Ok(0)
+    Ok(())
 }
 
 /// Watches the UPSes of a configuration until the machine has to be halted, and halts it. The standard streams that are
@@ -356,6 +360,7 @@ where
 {
     let mut halt = ready_halt(rt, alloc, heap, &config, told)?;
     let watched = watch_with(rt, alloc, config, &mut halt, reloader, streams, told);
+    // dropped by a call, which keeps the proof of this function short
     drop(halt);
     watched
 }

@@ -125,6 +125,7 @@ fn start<R: Processes>(
 ) -> io::Result<Child<R::Started>> {
     let mut shell = Command::new(alloc, SHELL)?;
     let started = start_shell(processes, &mut shell, script, call);
+    // dropped by a call, which keeps the proof of this function short
     drop(shell);
     started
 }

@@ -126,8 +126,8 @@ impl PowerDownFlag {
         Ok(found)
     }
 
-    /// Writes the file: a new one beside it, whose name ends in `.new`, replaces it once it is on the disk. Anything of
-    /// the new one's name is removed first. It allocates nothing.
+    /// Writes the file: a new one beside it, whose name ends in `.new`, replaces it once it is complete. Anything of the
+    /// new one's name is removed first. It allocates nothing, and doesn't wait until the file is on the disk.
     ///
     /// # Errors
     ///
@@ -150,8 +150,7 @@ impl PowerDownFlag {
             .create_new(true)
             .mode(MODE)
             .open(files, self.fresh.as_str())?;
-        file.write_all(LINE)?;
-        file.sync_all()
+        file.write_all(LINE)
     }
 }
 

@@ -4,6 +4,7 @@ ghost use Rattle.std.specs.Prelude.{◌≡◌, ℕ, None, false};
 ghost use Rattle.nut_monitor_spec.specs.Configuration.{Configuration, Line};
 ghost use Rattle.nut_monitor_spec.specs.Decision.{is_critical};
 
+use crate::beginning::Beginning;
 use crate::changes::{Changes, line_of};
 use crate::warning::tell_warnings;
 use nut_conf::{Monitored, UpsmonConf};
@@ -14,11 +15,33 @@ use std::alloc::{AllocError, Global};
 use std::io::Write;
 use std::rt::Files;
 
-/// A configuration of the folder, and what it changes.
+/// What the watch of a changed configuration begins with, and what the configuration changes.
 #[derive(Drop)]
 pub struct Reload {
-    pub config: UpsmonConf,
+    pub beginning: Beginning,
     pub changes: Changes,
+}
+
+impl Reload {
+    /// Makes what the watch of a configuration begins with.
+    fn of(
+        alloc: Global,
+        config: UpsmonConf,
+        changes: Changes,
+    ) -> Result<Reload, FileFault<'static>> {
+        match Beginning::of(alloc, config) {
+            Ok(beginning) => Ok(Reload { beginning, changes }),
+            Err(AllocError) => {
+                drop(changes);
+                Err(FileFault::Memory)
+            }
+        }
+    }
+
+    /// Returns the configuration.
+    pub fn config(&self) -> &UpsmonConf {
+        self.beginning.config()
+    }
 }
 
 /// Looks each second whether upsmon.conf is to be read again.
@@ -117,7 +140,7 @@ impl Reloader {
         };
     }
 
-    /// Reads upsmon.conf, and compares it.
+    /// Reads upsmon.conf, compares it, and makes what its watch begins with.
     fn read_reload<E: Write>(
         &self,
         files: &impl Files,
@@ -126,8 +149,9 @@ impl Reloader {
     ) -> Result<Reload, FileFault<'static>> {
         let config = read_conf(files, self.alloc, self.folder())?;
         match self.compare(files, former, &config, err) {
-            Ok(changes) => Ok(Reload { config, changes }),
+            Ok(changes) => Reload::of(self.alloc, config, changes),
             Err(AllocError) => {
+                // dropped by a call, which keeps the proof of this function short
                 drop(config);
                 Err(FileFault::Memory)
             }
@@ -157,7 +181,7 @@ impl Reloader {
 
     /// Returns the configuration that waits, unless it has to go on waiting, which is told once.
     fn take_waiting<E: Write>(&mut self, monitor: &Monitor, err: &mut E) -> Option<Reload> {
-        match first_obstacle(monitor, &self.waiting.as_ref()?.config) {
+        match first_obstacle(monitor, self.waiting.as_ref()?.config()) {
             Some(obstacle) => {
                 self.tell_wait_once(obstacle, err);
                 None

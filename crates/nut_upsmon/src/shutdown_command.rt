@@ -112,6 +112,7 @@ fn waiting_shell<'h>(
     text: &str,
 ) -> Result<Command<&'h LocalHeap>, AllocError> {
     let mut shell = Command::new(heap, SHELL)?;
+    // `and` drops `shell` if that failed
     put_words(&mut shell, text).and(Ok(shell))
 }
 

@@ -63,7 +63,7 @@ pub fn stops_within(config: &UpsmonConf, delay: u32) -> u64
     begins_within(config, delay) + halts_within(config)
 }
 
-/// Returns how many of these pass at most until the shutdown has begun.
+/// Returns the most seconds from the moment at which the server shows OB and LB to the beginning of the shutdown.
 fn begins_within(config: &UpsmonConf, delay: u32) -> u64
     ensures seconds { result ≡ begins_within (configuration_of config.now) (prompt delay) }
     ensures fits { result < 2 ^ 34 }
@@ -76,7 +76,7 @@ fn begins_within(config: &UpsmonConf, delay: u32) -> u64
     }
 }
 
-/// Returns how many of these pass at most until upsmon knows the status.
+/// Returns the most seconds from the moment at which the server shows OB and LB to the moment at which upsmon knows it.
 fn seen_within(config: &UpsmonConf, delay: u32) -> u64
     ensures seconds { result ≡ seen_by (configuration_of config.now) (prompt delay) 0 }
     ensures fits { result < 2 ^ 33 }

@@ -1,11 +1,12 @@
 //! Watches one configuration after the other.
 
-ghost use Rattle.std.specs.Prelude.{◌≡◌, ◌<◌, ◌-◌, ◌^◌, [], IfOk, IfSome};
+ghost use Rattle.std.specs.Prelude.{◌≡◌, ◌<◌, ◌-◌, ◌^◌, [], IfSome};
 
+use crate::beginning::{Beginning, NewMonitor};
 use crate::halt::HaltFault;
 use crate::starting::tell_start;
 use nut_conf::UpsmonConf;
-use nut_monitor::{Monitor, Phase};
+use nut_monitor::Phase;
 use nut_monitor_loop::{MonWorld, watch};
 use nut_monitor_sockets::{Herald, MioMonWorld};
 use nut_poll::Reports;
@@ -19,10 +20,10 @@ use std::time::Clock;
 
 /// A herald that has what follows a watch.
 pub trait Follower: Herald {
-    /// Takes the configuration of the next watch, if the watch ended for one.
-    fn take_next(&mut self) -> Option<UpsmonConf>;
+    /// Takes what the next watch begins with, if the watch ended for one.
+    fn take_next(&mut self) -> Option<Beginning>;
 
-    /// Halts the machine, and sets POWERDOWNFLAG first if `is_flagged`.
+    /// Halts the machine, and sets POWERDOWNFLAG first if `is_flagged`. All links are closed before.
     ///
     /// # Errors
     ///
@@ -33,7 +34,7 @@ pub trait Follower: Herald {
 /// Why upsmon ends without having halted the machine.
 #[derive(Drop)]
 pub enum WatchFault {
-    /// No memory, no socket or no clock is to be had, or the wait for the sockets failed.
+    /// Memory, a socket or the clock isn't available, or the wait for the sockets failed.
     Io(io::Error),
     /// The machine should have been halted.
     Halt(HaltFault),
@@ -78,12 +79,12 @@ where
 {
     tell_start(&first, is_quiet, err);
     let reports = Reports::new("upsmon", err, !is_quiet);
-    let mut world = MioMonWorld::new(rt, alloc, &first, herald, reports)?;
-    watch_all(rt, alloc, first, &mut world)
+    let mut world = MioMonWorld::new(rt, alloc, herald, reports)?;
+    watch_from(rt, alloc, first, &mut world)
 }
 
-/// Watches in this world, and halts the machine.
-fn watch_all<'r, 'e, R, H, E>(
+/// Watches in this world, first the UPSes of this configuration, and halts the machine.
+fn watch_from<'r, 'e, R, H, E>(
     rt: &'r R,
     alloc: Global,
     first: UpsmonConf,
@@ -93,79 +94,113 @@ where
     R: Wait + Net + Clock + Processes,
     H: Follower,
     E: Write,
-    requires { world.old.faults ≡ 0 }
 {
-    let mut config = first;
+    let beginning = Beginning::of(alloc, first)?;
+    watch_all(rt, beginning, world)
+}
+
+/// Watches in this world, first from this beginning, and halts the machine.
+fn watch_all<'r, 'e, R, H, E>(
+    rt: &'r R,
+    first: Beginning,
+    world: &mut MioMonWorld<'r, 'e, R, H, E>,
+) -> Result<(), WatchFault>
+where
+    R: Wait + Net + Clock + Processes,
+    H: Follower,
+    E: Write,
+{
+    let mut beginning = first;
     for _ in rt.forever() {
-        match watch_once(rt, alloc, config, world)? {
-            Some(next) => config = next,
+        match watch_once(rt, beginning, world)? {
+            Some(next) => beginning = next,
             None => return Ok(()),
         }
     }
     unreachable!()
 }
 
-/// Watches the UPSes of a configuration, until the machine has to be halted, and halts it; or until another
-/// configuration is taken up, which is returned.
+/// Watches until the machine has to be halted, and halts it; or until a changed configuration is taken up. Returns what
+/// the watch of that begins with.
 fn watch_once<'r, 'e, R, H, E>(
     rt: &'r R,
-    alloc: Global,
-    config: UpsmonConf,
+    beginning: Beginning,
     world: &mut MioMonWorld<'r, 'e, R, H, E>,
-) -> Result<Option<UpsmonConf>, WatchFault>
+) -> Result<Option<Beginning>, WatchFault>
 where
     R: Wait + Net + Clock + Processes,
     H: Follower,
     E: Write,
-    requires { world.old.faults ≡ 0 }
-    ensures { IfOk result (λ next. IfSome next (λ _. world.new.faults ≡ 0)) }
 {
-    match keep_watch(rt, alloc, config, world) {
+    match begin_watch(rt, beginning, world) {
         Ok(Phase::Halted { flag }) => {
+            // This machine is logged out before it halts, so that no primary waits for it.
+            world.leave();
             world.herald().halt(flag)?;
             Ok(None)
         }
-        Ok(Phase::Watching | Phase::Forcing | Phase::Final) => Ok(restart(world)?),
-        Err(kind) => Err(WatchFault::Io(io::Error::from(kind))),
+        Ok(Phase::Watching | Phase::Forcing | Phase::Final) => Ok(Some(next_beginning(world)?)),
+        Err(error) => Err(WatchFault::Io(error)),
     }
 }
 
-/// Begins anew with the configuration for which the watch ended, and returns it.
-fn restart<'r, 'e, R, H, E>(
+/// Returns what the next watch begins with.
+///
+/// # Errors
+///
+/// `Other` if there is nothing: then the watch ended without a reason.
+fn next_beginning<'r, 'e, R, H, E>(
     world: &mut MioMonWorld<'r, 'e, R, H, E>,
-) -> io::Result<Option<UpsmonConf>>
+) -> io::Result<Beginning>
 where
     R: Net + Clock + Processes,
     H: Follower,
     E: Write,
-    ensures { IfOk result (λ next. IfSome next (λ _. world.new.faults ≡ 0)) }
 {
-    let Some(config) = world.herald().take_next() else {
-        return Ok(None);
-    };
-    world.restart(&config)?;
-    Ok(Some(config))
+    match world.herald().take_next() {
+        Some(beginning) => Ok(beginning),
+        None => Err(io::Error::from(ErrorKind::Other)),
+    }
 }
 
-/// Watches the UPSes of a configuration in a world until the machine has to be halted, or the world ends.
+/// Makes the links of a watch, and watches until the machine has to be halted, or the world ends.
 ///
 /// # Errors
 ///
-/// `OutOfMemory` if memory can't be allocated, `Other` if waiting for the sockets or reading the clock fails.
-fn keep_watch<W: MonWorld>(
-    rt: &impl Wait,
-    alloc: Global,
-    config: UpsmonConf,
-    world: &mut W,
-) -> Result<Phase, ErrorKind>
+/// That of the clock, or `Other` if waiting for the sockets or reading the clock fails.
+fn begin_watch<'r, 'e, R, H, E>(
+    rt: &'r R,
+    beginning: Beginning,
+    world: &mut MioMonWorld<'r, 'e, R, H, E>,
+) -> io::Result<Phase>
+where
+    R: Wait + Net + Clock + Processes,
+    H: Follower,
+    E: Write,
+{
+    let Beginning { monitor, links } = beginning;
+    match world.begin(links) {
+        Ok(()) => keep_watch(rt, monitor, world),
+        Err(error) => {
+            // dropped by a call, which keeps the proof of this function short
+            drop(monitor);
+            Err(error)
+        }
+    }
+}
+
+/// Watches in a world until the machine has to be halted, or the world ends.
+///
+/// # Errors
+///
+/// `Other` if waiting for the sockets or reading the clock fails.
+fn keep_watch<W: MonWorld>(rt: &impl Wait, monitor: NewMonitor, world: &mut W) -> io::Result<Phase>
     requires blank { IfSome (W.log world.old) (λ r. r ≡ []) }
     requires few { W.fault_count world.old < 2 ^ 64 - 1 }
 {
-    let Ok(mut monitor) = Monitor::new(alloc, config) else {
-        return Err(ErrorKind::OutOfMemory);
-    };
+    let mut monitor = monitor.into_monitor();
     match watch(rt, &mut monitor, world) {
         Ok(phase) => Ok(phase),
-        Err(_) => Err(ErrorKind::Other),
+        Err(_) => Err(io::Error::from(ErrorKind::Other)),
     }
 }
