@@ -53,8 +53,8 @@ Adds query row words =
 abbrev pub type_words : Bool → VariableKind → List (List ℕ)
 type_words writable kind = if writable then codes "RW" ∷ part_word (kind_part kind) ∷ [] else part_word (kind_part kind) ∷ []
 
--- What the server replies to each request is taken as its answer; so is a refusal, whatever was asked, and the only answer
--- to STARTTLS. A count of logins has at most 9 digits.
+-- What the server replies to each request is taken as its answer, and each row of a list as one more row. A refusal is an
+-- answer whatever was asked, and STARTTLS has no other. A count of logins has at most 9 digits.
 pub record RepliesMatch : Type 0 where
   pub refused : (request : Request) (refusal : Refusal) → Answers request (replies.Refused refusal) (outcomes.Refused (refusal_name refusal))
   -- GET
