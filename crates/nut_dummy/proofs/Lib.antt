@@ -7,3 +7,4 @@ pub mod HeardLemmas
 pub mod LimitLemmas
 pub mod FilledLemmas
 pub mod DumpLemmas
+pub mod MemoryLemmas

@@ -1,9 +1,9 @@
 //! The dummy driver.
-ghost use Rattle.std.specs.Prelude.{◌≡◌, ◌<◌, ℕ, List, [], ◌∷◌, MatchResult, IfOk, OnOk, IfErr, length};
+ghost use Rattle.std.specs.Prelude.{◌≡◌, ℕ, List, [], ◌∷◌, MatchResult, IfOk, OnOk, IfErr, length};
 ghost use Rattle.nut_dummy.specs.Dump.{DumpsWhereAsked};
 ghost use Rattle.nut_dummy.specs.History.{BytesStand, Call, Linked, Moment, Stands, Took};
 ghost use Rattle.nut_dummy.specs.Script.{Script as ScriptValue};
-ghost use Rattle.nut_dummy.specs.machine.Dummy.{beginning, linked, waits_of, brought, told_bytes, cut, cut_behind, Passes, Hears, Takes};
+ghost use Rattle.nut_dummy.specs.machine.Dummy.{beginning, linked, waits_of, told_bytes, cut, cut_behind, MayRunOut, Passes, Hears, Takes};
 
 use crate::begin::into_variables;
 use crate::script::Script;
@@ -110,7 +110,8 @@ impl Dummy {
     ///
     /// # Errors
     ///
-    /// `Busy` exactly while bytes wait. `Memory(0)` if memory cannot be allocated. Nothing changed then.
+    /// `Busy` exactly while bytes wait. `Memory(0)` if memory cannot be allocated, which comes only if something is to be
+    /// told. Nothing changed then.
     pub fn moment(&mut self, t: u64) -> Result<(), DummyFault>
         ensures passes { Passes t self.old self.new result }
         ensures stands { (script : ScriptValue) (start : ℕ) (h : List Call) → Stands script start h self.old
@@ -135,7 +136,7 @@ impl Dummy {
     /// Takes in a piece. An `Err` has the number of lines that took effect before memory could not be allocated.
     fn hear(&mut self, piece: &[u8]) -> Result<(), usize>
         ensures heard { OnOk result (self.new ≡ told_bytes piece.now self.old) }
-        ensures stopped { IfErr result (λ k. (k < length (brought piece.now self.old)) × (cut self.new ≡ cut_behind k piece.now self.old)) }
+        ensures stopped { IfErr result (λ k. MayRunOut k piece.now self.old × (cut self.new ≡ cut_behind k piece.now self.old)) }
     {
         let alloc = self.alloc;
         match hear_lines(&mut self.cutter, &mut self.teller, alloc, piece) {
@@ -160,6 +161,7 @@ impl Dummy {
     ///
     /// The first of these that applies: `NotLinked`; `Busy`, exactly while bytes wait; `PieceTooLong` past [`PIECE_MAX`]
     /// bytes. These change nothing. `Memory` with the number of lines that were done, which stand; then the link is cut.
+    /// It comes only at a line that holds a backslash, or for which something is told.
     pub fn server_bytes(&mut self, piece: &[u8]) -> Result<(), DummyFault>
         ensures heard { Hears piece.now self.old self.new result }
         ensures stands { (script : ScriptValue) (start : ℕ) (h : List Call) → Stands script start h self.old

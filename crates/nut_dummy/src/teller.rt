@@ -1,6 +1,6 @@
 //! What a driver holds and tells.
-ghost use Rattle.std.specs.Prelude.{◌≡◌, [], ⊤, false, OnErr, OnOk};
-ghost use Rattle.nut_dummy.specs.machine.Teller.{changed, dumped_all, answered, heard, relinked};
+ghost use Rattle.std.specs.Prelude.{◌≡◌, ◌<◌, [], ◌++◌, ⊤, false, length, IsTrue, OnErr, OnOk};
+ghost use Rattle.nut_dummy.specs.machine.Teller.{changed, dumped_all, answered, heard, may_take_memory, relinked, tells_more};
 ghost use Rattle.nut_dummy.specs.inside.Changes.{change_of};
 
 use crate::command::Command;
@@ -29,6 +29,18 @@ impl Model for Teller {
     ghost view = { λ t. record { variables = t.variables.items; asked = t.asked; waits = t.outbox } };
 }
 
+/// Appends these bytes to those that wait. If there are none, it takes no memory.
+fn queue(outbox: &mut Outbox, bytes: &[u8]) -> Result<(), AllocError>
+    ensures ok { OnOk result (outbox.new ≡ outbox.old ++ bytes.now) }
+    ensures err { OnErr result ((outbox.new ≡ outbox.old) × (0 < length bytes.now)) }
+{
+    if bytes.is_empty() {
+        Ok(())
+    } else {
+        outbox.push(bytes)
+    }
+}
+
 impl Teller {
     /// Makes a teller without a link.
     pub fn new(alloc: Global, variables: Vec<Variable>) -> Teller
@@ -50,10 +62,10 @@ impl Teller {
     }
 
     /// Applies a change to all variables, and tells how the request with this number ended. The lines are made first, so
-    /// that nothing changes if memory cannot be allocated.
+    /// that nothing changes if memory cannot be allocated. It takes none unless something is told.
     pub fn change(&mut self, change: &Change<'_>, number: Option<u32>) -> Result<(), AllocError>
         ensures ok { OnOk result (self.new ≡ changed number (change_of change.now) self.old) }
-        ensures err { OnErr result (self.new ≡ self.old) }
+        ensures err { OnErr result ((self.new ≡ self.old) × IsTrue (tells_more self.old (changed number (change_of change.now) self.old))) }
     {
         self.scratch.clear();
         if self.asked {
@@ -62,7 +74,7 @@ impl Teller {
         let done = is_done(change, &self.variables);
         self.scratch
             .extend_from_slice(ended(number, done).as_slice())?;
-        self.outbox.push(self.scratch.as_slice())?;
+        queue(&mut self.outbox, self.scratch.as_slice())?;
         follow_all(&mut self.variables, change, self.asked);
         Ok(())
     }
@@ -80,10 +92,10 @@ impl Teller {
         Ok(())
     }
 
-    /// Does what the server asked.
+    /// Does what the server asked. It takes no memory unless something is told.
     fn answer(&mut self, ask: Option<DriverAsk<'_>>) -> Result<(), AllocError>
         ensures ok { OnOk result (self.new ≡ answered ask.entry self.old) }
-        ensures err { OnErr result (self.new ≡ self.old) }
+        ensures err { OnErr result ((self.new ≡ self.old) × IsTrue (tells_more self.old (answered ask.entry self.old))) }
     {
         match ask {
             None => Ok(()),
@@ -116,7 +128,7 @@ impl Teller {
                     },
                     number,
                 ),
-                None => self.outbox.push(ended(number, false).as_slice()),
+                None => queue(&mut self.outbox, ended(number, false).as_slice()),
             },
         }
     }
@@ -131,7 +143,8 @@ impl Teller {
     }
 }
 
-/// Takes in the lines of the server. If memory cannot be allocated for one, nothing changes.
+/// Takes in the lines of the server. If memory cannot be allocated for one, nothing changes. That comes only at a line
+/// that holds a backslash, or for which something is told.
 impl HearLine for Teller {
     type With = Global;
 
@@ -141,7 +154,7 @@ impl HearLine for Teller {
 
     ghost GoesOn = { λ _. ⊤ };
 
-    ghost Stops = { λ _ _ before _ after. after ≡ before };
+    ghost Stops = { λ _ line before _ after. (after ≡ before) × IsTrue (may_take_memory line before) };
 
     fn hear_line(&mut self, alloc: Global, line: Line<'_>) -> Result<(), AllocError> {
         let Line::Text(text) = line else {

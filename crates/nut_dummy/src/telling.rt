@@ -1,5 +1,5 @@
 //! The lines that tell of all variables, in their order.
-ghost use Rattle.std.specs.Prelude.{◌≡◌, ◌++◌, true, map, OnOk};
+ghost use Rattle.std.specs.Prelude.{◌≡◌, ◌<◌, ◌++◌, true, length, map, OnErr, OnOk};
 ghost use Rattle.std.specs.List.{flat_map, list_any};
 ghost use Rattle.nut_dummy.specs.Telling.{text, closing_messages};
 ghost use Rattle.nut_dummy.specs.machine.Teller.{says, followed, lines_of, dump, dumped, ended, is_assigned, is_done, untold};
@@ -20,7 +20,8 @@ pub fn say_all(
     variables: &[Variable],
     change: &Change<'_>,
 ) -> Result<(), AllocError>
-    ensures { OnOk result (out.new.items ≡ out.old.items ++ flat_map (says (change_of change.now)) variables.now) }
+    ensures ok { OnOk result (out.new.items ≡ out.old.items ++ flat_map (says (change_of change.now)) variables.now) }
+    ensures err { OnErr result (0 < length (flat_map (says (change_of change.now)) variables.now)) }
 {
     for variable in variables {
         variable.say(out, change)?;

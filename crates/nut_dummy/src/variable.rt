@@ -1,5 +1,5 @@
 //! A variable of a dummy driver.
-ghost use Rattle.std.specs.Prelude.{◌≡◌, ◌++◌, [], ◌∷◌, false, true, option_map, map, IsTrue, IfSome, OnOk};
+ghost use Rattle.std.specs.Prelude.{◌≡◌, ◌<◌, ◌++◌, [], ◌∷◌, false, true, length, option_map, map, IsTrue, IfSome, OnErr, OnOk};
 ghost use Rattle.nut_dummy.specs.Item.{is_value};
 ghost use Rattle.nut_dummy.specs.Due.{at_start};
 ghost use Rattle.nut_dummy.specs.Telling.{text, limits, variable_messages};
@@ -202,7 +202,8 @@ impl Variable {
 
     /// Appends the lines that tell a change of it.
     pub fn say(&self, out: &mut Vec<u8>, change: &Change<'_>) -> Result<(), AllocError>
-        ensures { OnOk result (out.new.items ≡ out.old.items ++ says (change_of change.now) self.now) }
+        ensures ok { OnOk result (out.new.items ≡ out.old.items ++ says (change_of change.now) self.now) }
+        ensures err { OnErr result (0 < length (says (change_of change.now) self.now)) }
     {
         if !self.is_told(change) {
             return Ok(());

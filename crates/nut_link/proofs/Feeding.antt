@@ -1,5 +1,5 @@
 -- How a link hears a piece by the lines that it completes.
-use Rattle.std.proofs.Common.{◌≡◌, ℕ, true, List, [], ◌∷◌, ◌++◌, Option, Some, None, is_some, Result, Ok, Err, if◌then◌else◌, refl, sym, ap, ap₂, subst, ◌∙◌, inl, inr, OnOk, IfErr, ◌⊎◌}
+use Rattle.std.proofs.Common.{◌≡◌, ℕ, ◌+◌, true, false, List, [], ◌∷◌, ◌++◌, length, Option, Some, None, is_some, Result, Ok, Err, if◌then◌else◌, refl, sym, ap, ap₂, subst, ◌∙◌, inl, inr, OnOk, IfErr, ◌⊎◌, add-one}
 use Rattle.std.proofs.lemmas.Bool.{cases_Bool}
 use Rattle.std.proofs.lemmas.List.{append_assoc}
 use Rattle.nut_words.specs.Lines.{LineText, Text, rest, lines_after, rest_after}
@@ -9,7 +9,7 @@ use Rattle.nut_words.specs.Hearing.{StopsAt}
 use Rattle.nut_link.specs.declared.exchange.Exchange.{Exchange}
 use Rattle.nut_link.specs.declared.fault.LinkFault.{LinkFault}
 use Rattle.nut_link.specs.declared.fault.LinkFault.TheVariants.{Memory}
-use Rattle.nut_link.specs.Hearing.{Feeds, Hears, RunsOut}
+use Rattle.nut_link.specs.Hearing.{Feeds, Hears, LacksMemory, RunsOut, count_heard}
 use Rattle.nut_link.specs.Link.{answer_by, failed, fed, heard, lines_heard, link_with, moved, on_line}
 use Rattle.nut_link.specs.laws.Laws.{CutsDoNotMatter, RestsStay}
 
@@ -69,6 +69,38 @@ heard_on e e' line result ok h =
 pub heard_over : (e e' : Exchange) (line : LineText) (result : Result (Unit {0}) LinkFault) (fault : LinkFault) → result ≡ Err fault → Hears e line result e' → is_some e'.fault ≡ true
 heard_over e e' line result fault err h = some_at e'.fault fault (sym err ∙ h.answered)
 
+-- An exchange that hasn't failed behind some lines hadn't failed before them.
+going_before : (ls : List LineText) (e : Exchange) → (lines_heard ls e).fault ≡ None → e.fault ≡ None
+going_before ls e going = elim (cases_Bool (is_some e.fault)) [
+  | inl over ↦ ap (λ e. e.fault) (sym (lines_heard_failed ls e over)) ∙ going
+  | inr on ↦ none_of e.fault on
+] where
+  none_of : (o : Option LinkFault) → is_some o ≡ false → o ≡ None
+  none_of None is = refl
+  none_of (Some fault) is = absurd (cc)
+
+-- An exchange that failed hears no line.
+count_over : (ls : List LineText) (e : Exchange) → is_some e.fault ≡ true → count_heard ls e ≡ 0
+count_over [] e over = refl
+count_over (l ∷ ls) e over = ap (λ b. if b then 0 else count_heard ls (heard l e) + 1) (ap (λ e. is_some e.fault) (heard_failed l e over) ∙ over)
+
+-- Lines behind which it goes on are heard, one by one.
+count_on : (l : LineText) (ls : List LineText) (e : Exchange) → (lines_heard ls (heard l e)).fault ≡ None → count_heard (l ∷ ls) e ≡ count_heard ls (heard l e) + 1
+count_on l ls e going = ap (λ o. if is_some o then 0 else count_heard ls (heard l e) + 1) (going_before ls (heard l e) going)
+
+count_all : (ls : List LineText) (e : Exchange) → (lines_heard ls e).fault ≡ None → count_heard ls e ≡ length ls
+count_all [] e going = refl
+count_all (l ∷ ls) e going = count_on l ls e going ∙ ap (λ n. n + 1) (count_all ls (heard l e) going) ∙ add-one (length ls)
+
+-- It fails at a line behind others.
+count_until : (earlier later : List LineText) (line : LineText) (e : Exchange) → (lines_heard earlier e).fault ≡ None → is_some (heard line (lines_heard earlier e)).fault ≡ true
+    → count_heard (earlier ++ line ∷ later) e ≡ length earlier
+count_until [] later line e going over = ap (λ b. if b then 0 else count_heard later (heard line e) + 1) over
+count_until (l ∷ ls) later line e going over =
+    ap (λ o. if is_some o then 0 else count_heard (ls ++ line ∷ later) (heard l e) + 1) (going_before ls (heard l e) going)
+    ∙ ap (λ n. n + 1) (count_until ls later line (heard l e) going over)
+    ∙ add-one (length ls)
+
 -- A link that failed is as it was.
 pub fed_over : (r : LineText) (e : Exchange) (p : List ℕ) (fault : LinkFault) → e.fault ≡ Some fault → Feeds (link_with r e) p 0 (Err fault) (link_with r e)
 fed_over r e p fault failed =
@@ -77,7 +109,21 @@ fed_over r e p fault failed =
     record {
       answered = sym (ap answer_by failed);
       stands = inl (link_failed r (rest_after (link_with r e).rest p) e over ∙ ap (link_with (rest_after (link_with r e).rest p)) (sym same));
+      count = inl (sym (count_over (lines_after (link_with r e).rest p) e over));
     }
+
+-- memory ran out at the line at which an exchange stopped
+lacked : (ls : List LineText) (e e' : Exchange) (done : ℕ) (fault : LinkFault) (at : StopsAt heard (λ line before. (before.fault ≡ None) × Hears before line (Err fault) e') ls e done)
+    → LacksMemory (lines_heard at.earlier e) at.line e' → RunsOut ls e done e'
+lacked ls e e' done fault at lacks = record {
+  earlier = at.earlier;
+  line = at.line;
+  later = at.later;
+  parted = at.parted;
+  count = sym at.count;
+  going = at.stops.0;
+  stands = lacks;
+}
 
 -- the exchange failed at a line of the piece, or memory ran out there
 pub stopped : (r s : LineText) (e e' : Exchange) (p : List ℕ) (done : ℕ) (fault : LinkFault) → e.fault ≡ None → StopsAt heard (λ line before. (before.fault ≡ None) × Hears before line (Err fault) e') (lines_after r p) e done
@@ -85,15 +131,19 @@ pub stopped : (r s : LineText) (e e' : Exchange) (p : List ℕ) (done : ℕ) (fa
 stopped r s e e' p done fault going at = elim at.stops.1.stands [
   | inl said ↦
       inl (failed_heard r s e (lines_heard at.earlier e) e' p at.earlier at.later at.line going (heard_over (lines_heard at.earlier e) e' at.line (Err fault) fault refl at.stops.1) at.parted refl said)
-  | inr lacks ↦ inr (record {
-    earlier = at.earlier;
-    line = at.line;
-    later = at.later;
-    parted = at.parted;
-    count = sym at.count;
-    going = at.stops.0;
-    stands = lacks;
-  })
+  | inr lacks ↦ inr (lacked (lines_after r p) e e' done fault at lacks)
+]
+
+-- how many of these lines were heard
+pub counted : (ls : List LineText) (e e' : Exchange) (done : ℕ) (result : Result (Unit {0}) LinkFault) → OnOk result (done ≡ length ls) → OnOk result (e' ≡ lines_heard ls e) → OnOk result (e'.fault ≡ None)
+    → IfErr result (λ fault. StopsAt heard (λ line before. (before.fault ≡ None) × Hears before line (Err fault) e') ls e done) → (done ≡ count_heard ls e) ⊎ RunsOut ls e done e'
+counted ls e e' done (Ok u) count is goes_on at = inl (count ∙ sym (count_all ls e (ap (λ e. e.fault) (sym is) ∙ goes_on)))
+counted ls e e' done (Err fault) count is goes_on at = elim at.stops.1.stands [
+  | inl said ↦
+      let over : is_some (heard at.line (lines_heard at.earlier e)).fault ≡ true =
+      ap (λ e. is_some e.fault) (sym said) ∙ heard_over (lines_heard at.earlier e) e' at.line (Err fault) fault refl at.stops.1 in
+      inl (at.count ∙ sym (ap (λ ls. count_heard ls e) at.parted ∙ count_until at.earlier at.later at.line e at.stops.0 over))
+  | inr lacks ↦ inr (lacked ls e e' done fault at lacks)
 ]
 
 -- what a piece does to an exchange that goes on
@@ -105,8 +155,9 @@ piece_heard r s e e' p done (Err fault) going rest_is is goes_on at = (at.stops.
 
 -- What a piece does to a link follows from what it does to its exchange.
 pub fed_link : (r s : LineText) (e e' : Exchange) (p : List ℕ) (done : ℕ) (result : Result (Unit {0}) LinkFault) → e.fault ≡ None → result ≡ answer_by e'.fault
-    → (link_with s e' ≡ fed p (link_with r e)) ⊎ RunsOut (lines_after r p) e done e' → Feeds (link_with r e) p done result (link_with s e')
-fed_link r s e e' p done result going answered stands = record {
+    → (link_with s e' ≡ fed p (link_with r e)) ⊎ RunsOut (lines_after r p) e done e' → (done ≡ count_heard (lines_after r p) e) ⊎ RunsOut (lines_after r p) e done e'
+    → Feeds (link_with r e) p done result (link_with s e')
+fed_link r s e e' p done result going answered stands count = record {
   answered = answered;
   stands = elim stands [
     | inl said ↦ inl said
@@ -115,6 +166,7 @@ fed_link r s e e' p done result going answered stands = record {
       rest_over s e' (ap (λ e. is_some e.fault) out.stands.0),
     )
   ];
+  count = subst (λ r. (done ≡ count_heard (lines_after r p) e) ⊎ RunsOut (lines_after r p) e done e') (sym (rest_going r e going)) count;
 } where
   rest_going : (r : LineText) (e : Exchange) → e.fault ≡ None → (link_with r e).rest ≡ r
   rest_going r e going = ap (λ o. if is_some o then Text [] else r) going

@@ -1,5 +1,5 @@
 -- How a call hears a line or a piece: as `Link` defines, unless memory runs out.
-use Rattle.std.specs.Prelude.{◌≡◌, ℕ, ◌||◌, Bool, true, false, IsTrue, List, [], ◌∷◌, ◌++◌, length, None, Result, Ok, Err, ◌⊎◌}
+use Rattle.std.specs.Prelude.{◌≡◌, ℕ, ◌+◌, ◌||◌, Bool, true, false, if◌then◌else◌, IsTrue, List, [], ◌∷◌, ◌++◌, length, None, is_some, Result, Ok, Err, ◌⊎◌}
 use Rattle.nut_words.specs.Lines.{LineText, Text, TooLong, lines_after}
 use Rattle.nut_words.specs.Reader.{has_backslash}
 use Rattle.nut_proto.specs.Answers.{answer_in}
@@ -50,7 +50,14 @@ pub record RunsOut (lines : List LineText) (before : Exchange) (done : ℕ) (aft
   pub going : (lines_heard earlier before).fault ≡ None
   pub stands : LacksMemory (lines_heard earlier before) line after
 
--- A link is fed a piece.
+-- how many of these lines an exchange hears before the one at which it fails: all of them, if it fails at none
+abbrev pub count_heard : List LineText → Exchange → ℕ
+count_heard [] e = 0
+count_heard (line ∷ lines) e = if is_some (heard line e).fault then 0 else count_heard lines (heard line e) + 1
+
+-- A link is fed a piece. `done` is how many lines it heard before the one at which it failed or memory ran out.
 pub record Feeds (before : LinkValue) (piece : List ℕ) (done : ℕ) (result : Result (Unit {0}) LinkFault) (after : LinkValue) : Type 0 where
   pub answered : result ≡ answer_by after.exchange.fault
   pub stands : (after ≡ fed piece before) ⊎ (RunsOut (lines_after before.rest piece) before.exchange done after.exchange × (after.rest ≡ Text []))
+  pub count :
+      (done ≡ count_heard (lines_after before.rest piece) before.exchange) ⊎ RunsOut (lines_after before.rest piece) before.exchange done after.exchange

@@ -16,7 +16,8 @@ pub fn ok_takes_no_memory()
     ensures { OkTakesNoMemory }
 {}
 
-/// A law, with nothing to run: what the server replies to a request is taken as its answer.
+/// A law, with nothing to run: what the server replies to each request is taken as its answer, and each row of a list as
+/// one more row.
 pub fn replies_match()
     ensures { RepliesMatch }
 {}

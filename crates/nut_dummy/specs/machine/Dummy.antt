@@ -1,5 +1,6 @@
 -- A dummy driver: how it begins, and how each call changes it.
-use Rattle.std.specs.Prelude.{◌≡◌, ℕ, ◌-◌, ◌<◌, Bool, true, false, not, List, [], ◌∷◌, Option, Some, None, Result, Ok, Err, if◌then◌else◌, is_some, length, drop, map, max, take, nat_lt}
+use Rattle.std.specs.Prelude.{◌≡◌, ℕ, ◌-◌, Bool, true, false, not, IsTrue, List, [], ◌∷◌, Option, Some, None, Result, Ok, Err, if◌then◌else◌, is_some, length, drop, map, max, take, nat_lt, slice_get}
+use Rattle.std.specs.Option.{option_map_or}
 use Rattle.nut_words.specs.Lines.{LineText, Text, lines_after, rest_after}
 use Rattle.nut_words.specs.declared.limits.TheConstants.{PIECE_MAX}
 use Rattle.nut_state.specs.Sorted.{put}
@@ -8,7 +9,7 @@ use Rattle.nut_dummy.specs.declared.dummy.DummyFault.TheVariants as faults
 use Rattle.nut_dummy.specs.Command.{command_variables}
 use Rattle.nut_dummy.specs.Due.{at_start}
 use Rattle.nut_dummy.specs.Script.{Script, Timeline, timeline}
-use Rattle.nut_dummy.specs.machine.Teller.{Variable, Teller, Passing, changed, heard_all, relinked}
+use Rattle.nut_dummy.specs.machine.Teller.{Variable, Teller, Passing, changed, heard_all, may_take_memory, relinked, tells_more}
 
 -- The moment of the start and the greatest so far, in seconds; the seconds of a round; whether there is a link, and its
 -- unfinished line; what is held and told.
@@ -97,26 +98,35 @@ bytes_refusal piece s =
 abbrev pub took_refusal : ℕ → Content → Option DummyFault
 took_refusal n s = if nat_lt (length (waits_of s)) n then Some faults.TooMuchTaken else None
 
+-- ---- where memory may run out
+
+-- The line with the number k, counted from 0, of those that a piece completes may take memory, behind the lines before it.
+abbrev pub MayRunOut : ℕ → List ℕ → Content → Type 0
+MayRunOut k piece s =
+    IsTrue (option_map_or (λ line. may_take_memory line (heard_all (take k (brought piece s)) s.teller)) (slice_get (brought piece s) k) false)
+
 -- ---- the result of a call
 
 -- A fault is that of the first test that refuses the call, and nothing changed.
 abbrev pub IsRefused : Content → Content → Option DummyFault → DummyFault → Type 0
 IsRefused old new refusal fault = (refusal ≡ Some fault) × (new ≡ old)
 
--- A moment passes or is refused. If memory ran out, nothing changed.
+-- A moment passes or is refused. If memory ran out, something was to be told, and nothing changed.
 abbrev pub Passes : {U : Type 0} → ℕ → Content → Content → Result U DummyFault → Type 0
 Passes t old new (Ok u) = (moment_refusal old ≡ None) × (new ≡ passed t old)
-Passes t old new (Err (faults.Memory k)) = (moment_refusal old ≡ None) × (k ≡ 0) × (new ≡ old)
+Passes t old new (Err (faults.Memory k)) =
+    (moment_refusal old ≡ None) × IsTrue (tells_more old.teller (passed t old).teller) × (k ≡ 0) × (new ≡ old)
 Passes t old new (Err faults.NotLinked) = IsRefused old new (moment_refusal old) faults.NotLinked
 Passes t old new (Err faults.Busy) = IsRefused old new (moment_refusal old) faults.Busy
 Passes t old new (Err faults.TooMuchTaken) = IsRefused old new (moment_refusal old) faults.TooMuchTaken
 Passes t old new (Err faults.PieceTooLong) = IsRefused old new (moment_refusal old) faults.PieceTooLong
 
--- A piece is heard or refused. If memory ran out, the lines before took effect, and the link is cut.
+-- A piece is heard or refused. If memory ran out, it was at a line that may take some; the lines before it took effect,
+-- and the link is cut.
 abbrev pub Hears : {U : Type 0} → List ℕ → Content → Content → Result U DummyFault → Type 0
 Hears piece old new (Ok u) = (bytes_refusal piece old ≡ None) × (new ≡ told_bytes piece old)
 Hears piece old new (Err (faults.Memory k)) =
-    (bytes_refusal piece old ≡ None) × (k < length (brought piece old)) × (new ≡ cut_behind k piece old)
+    (bytes_refusal piece old ≡ None) × MayRunOut k piece old × (new ≡ cut_behind k piece old)
 Hears piece old new (Err faults.NotLinked) = IsRefused old new (bytes_refusal piece old) faults.NotLinked
 Hears piece old new (Err faults.Busy) = IsRefused old new (bytes_refusal piece old) faults.Busy
 Hears piece old new (Err faults.TooMuchTaken) = IsRefused old new (bytes_refusal piece old) faults.TooMuchTaken

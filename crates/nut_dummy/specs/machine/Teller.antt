@@ -1,13 +1,13 @@
 -- What a driver holds and tells, and how each call and each line changes it. The law `looks_back` says that this is
 -- what looking back over all calls says.
-use Rattle.std.specs.Prelude.{ℕ, ◌||◌, ◌&&◌, Bool, true, false, not, List, [], ◌++◌, Option, Some, None, if◌then◌else◌, codes, decimal, is_some, map}
+use Rattle.std.specs.Prelude.{ℕ, ◌||◌, ◌&&◌, Bool, true, false, not, List, [], ◌++◌, Option, Some, None, if◌then◌else◌, codes, decimal, is_some, length, map, nat_lt}
 use Rattle.std.specs.List.{flat_map, list_any}
 use Rattle.std.specs.Option.{option_and_then, option_map_or, option_or}
 use Rattle.std.specs.Result.{result_ok}
 use Rattle.std.specs.Str.{bytes_eq}
 use Rattle.nut_words.specs.Hearing.{heard_all as all_heard}
 use Rattle.nut_words.specs.Lines.{LineText, Text, TooLong}
-use Rattle.nut_words.specs.Reader.{spelled}
+use Rattle.nut_words.specs.Reader.{has_backslash, spelled}
 use Rattle.nut_proto.specs.declared.driver_ask.DriverAsk.{DriverAsk}
 use Rattle.nut_proto.specs.declared.driver_ask.DriverAsk.TheVariants as asks
 use Rattle.nut_proto.specs.DriverAsks.{ask_of}
@@ -139,6 +139,21 @@ heard line s = answered (asked_by line) s
 
 abbrev pub heard_all : List LineText → Teller → Teller
 heard_all lines s = all_heard heard lines s
+
+-- ---- where memory may run out
+
+-- whether something is told between two tellers: more bytes wait
+abbrev pub tells_more : Teller → Teller → Bool
+tells_more before after = nat_lt (length before.waits) (length after.waits)
+
+-- whether a line holds a backslash; one that is too long counts as holding none
+abbrev pub with_backslash : LineText → Bool
+with_backslash (Text line) = has_backslash line
+with_backslash TooLong = false
+
+-- Whether a line may take memory: it holds a backslash, or something is told for it.
+abbrev pub may_take_memory : LineText → Teller → Bool
+may_take_memory line s = with_backslash line || tells_more s (heard line s)
 
 -- ---- a link that is made or cut
 

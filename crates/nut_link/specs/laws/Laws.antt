@@ -1,16 +1,23 @@
 -- What holds of every link. Each of these is the contract of a function of the crate.
-use Rattle.std.specs.Prelude.{◌≡◌, ℕ, false, List, [], ◌∷◌, ◌++◌, None, Ok, codes}
+use Rattle.std.specs.Prelude.{◌≡◌, ℕ, ℤ, ◌<◌, ◌^◌, Bool, false, if◌then◌else◌, List, [], ◌∷◌, ◌++◌, length, Option, None, Ok, codes, decimal}
+use Rattle.std.specs.Fmt.{signed_decimal}
 use Rattle.nut_words.specs.Lines.{Text}
 use Rattle.nut_proto.specs.declared.answer.Answer.TheVariants as answers
 use Rattle.nut_proto.specs.declared.reply.Reply.{Reply}
 use Rattle.nut_proto.specs.declared.reply.Reply.TheVariants as replies
+use Rattle.nut_proto.specs.declared.reply.VariableKind.{VariableKind}
+use Rattle.nut_proto.specs.declared.limits.TheConstants.{ROWS_MAX}
 use Rattle.nut_proto.specs.declared.request.ListQuery.{ListQuery}
+use Rattle.nut_proto.specs.declared.request.ListQuery.TheVariants as queries
 use Rattle.nut_proto.specs.declared.request.Request.{Request}
 use Rattle.nut_proto.specs.declared.request.Request.TheVariants as requests
-use Rattle.nut_proto.specs.Lines.{message_words}
+use Rattle.nut_proto.specs.declared.tracking.TrackingStatus.{TrackingStatus}
+use Rattle.nut_proto.specs.Lines.{message_words, part_word}
 use Rattle.nut_proto.specs.laws.ReadBack.{answer_to}
 use Rattle.nut_proto.specs.Refusals.{refusal_name}
+use Rattle.nut_proto.specs.Replies.{commands_parts, kind_part, version_parts}
 use Rattle.nut_proto.specs.Requests.{query_parts}
+use Rattle.nut_proto.specs.Tracking.{IsTrackingNumber, status_word, switch_word}
 use Rattle.nut_proto.specs.declared.refusal.Refusal.{Refusal}
 use Rattle.nut_link.specs.declared.outcome.Outcome.{Outcome}
 use Rattle.nut_link.specs.declared.outcome.Outcome.TheVariants as outcomes
@@ -37,17 +44,58 @@ OkTakesNoMemory = may_take_memory (Text (codes "OK")) ≡ false
 abbrev pub Answers : Request → Reply → Outcome → Type 0
 Answers request reply outcome = progress (expected request) None (answer_to reply) ≡ Ok (Complete outcome)
 
--- What the server replies to each request is taken as its answer; so is a refusal, whatever was asked.
+-- The server's row adds these words to a list that has room for one more.
+abbrev pub Adds : ListQuery → Reply → List (List ℕ) → Type 0
+Adds query row words =
+    (rows : List (List (List ℕ))) → length rows < ROWS_MAX → next (listing query) rows (answer_to row) ≡ Ok (Listing (rows ++ words ∷ []))
+
+-- what GET TYPE says of a variable: `RW` if it may be set, and the kind of its values
+abbrev pub type_words : Bool → VariableKind → List (List ℕ)
+type_words writable kind = if writable then codes "RW" ∷ part_word (kind_part kind) ∷ [] else part_word (kind_part kind) ∷ []
+
+-- What the server replies to each request is taken as its answer, and each row of a list as one more row. A refusal is an
+-- answer whatever was asked, and STARTTLS has no other. A count of logins has at most 9 digits.
 pub record RepliesMatch : Type 0 where
   pub refused : (request : Request) (refusal : Refusal) → Answers request (replies.Refused refusal) (outcomes.Refused (refusal_name refusal))
+  -- GET
+  pub logins : (ups : List ℕ) (n : ℕ) → n < 10 ^ 9 → Answers (requests.GetNumLogins ups) (replies.NumLogins ups n) (outcomes.Said (decimal n ∷ []))
   pub description : (ups text : List ℕ) → Answers (requests.GetUpsDesc ups) (replies.UpsDesc ups text) (outcomes.Said (text ∷ []))
   pub value : (ups variable text : List ℕ) → Answers (requests.GetVar ups variable) (replies.Var ups variable text) (outcomes.Said (text ∷ []))
+  pub kind : (ups variable : List ℕ) (writable : Bool) (is : VariableKind) →
+      Answers (requests.GetType ups variable) (replies.Type ups variable writable is) (outcomes.Said (type_words writable is))
   pub variable : (ups name text : List ℕ) → Answers (requests.GetDesc ups name) (replies.Desc ups name text) (outcomes.Said (text ∷ []))
   pub command : (ups name text : List ℕ) → Answers (requests.GetCmdDesc ups name) (replies.CmdDesc ups name text) (outcomes.Said (text ∷ []))
+  pub tracking : (on : Bool) → Answers requests.GetTracking (replies.TrackingIs on) (outcomes.Said (switch_word on ∷ []))
+  pub tracked : (number : ℕ) (status : TrackingStatus) →
+      Answers (requests.GetTrackingOf number) (replies.Tracking number status) (outcomes.Said (status_word status ∷ []))
+  -- what changes something
+  pub set : (ups variable text : List ℕ) → Answers (requests.SetVar ups variable text) replies.Accepted outcomes.Done
+  pub set_as : (ups variable text : List ℕ) (number : ℕ) → IsTrackingNumber number →
+      Answers (requests.SetVar ups variable text) (replies.AcceptedAs number) (outcomes.Said (decimal number ∷ []))
+  pub instructed : (ups name : List ℕ) (parameter : Option (List ℕ)) → Answers (requests.InstCmd ups name parameter) replies.Accepted outcomes.Done
+  pub instructed_as : (ups name : List ℕ) (parameter : Option (List ℕ)) (number : ℕ) → IsTrackingNumber number →
+      Answers (requests.InstCmd ups name parameter) (replies.AcceptedAs number) (outcomes.Said (decimal number ∷ []))
+  pub switched : (on : Bool) → Answers (requests.SetTracking on) replies.Accepted outcomes.Done
+  pub user : (name : List ℕ) → Answers (requests.Username name) replies.Accepted outcomes.Done
+  pub password : (text : List ℕ) → Answers (requests.Password text) replies.Accepted outcomes.Done
   pub login : (ups : List ℕ) → Answers (requests.Login ups) replies.Accepted outcomes.Done
+  pub primary : (ups : List ℕ) → Answers (requests.Primary ups) replies.Accepted outcomes.Done
   pub shutdown : (ups : List ℕ) → Answers (requests.Fsd ups) replies.FsdSet outcomes.Done
   pub logout : Answers requests.Logout replies.Goodbye outcomes.Done
+  -- what asks for a text
+  pub version : Answers requests.Ver replies.Version (outcomes.Said (message_words version_parts))
+  pub network_version : Answers requests.NetVer replies.NetworkVersion (outcomes.Said (codes "1.3" ∷ []))
+  pub commands : Answers requests.Help replies.Commands (outcomes.Said (message_words commands_parts))
+  -- LIST
   pub begins : (query : ListQuery) → progress (listing query) None (answers.Begin (message_words (query_parts query))) ≡ Ok (Listing [])
+  pub of_ups : (ups text : List ℕ) → Adds queries.Ups (replies.Ups ups text) (ups ∷ text ∷ [])
+  pub of_var : (ups variable text : List ℕ) → Adds (queries.Var ups) (replies.Var ups variable text) (variable ∷ text ∷ [])
+  pub of_rw : (ups variable text : List ℕ) → Adds (queries.Rw ups) (replies.Rw ups variable text) (variable ∷ text ∷ [])
+  pub of_cmd : (ups name : List ℕ) → Adds (queries.Cmd ups) (replies.Cmd ups name) (name ∷ [])
+  pub of_enum : (ups variable text : List ℕ) → Adds (queries.Enum ups variable) (replies.Enum ups variable text) (text ∷ [])
+  pub of_range : (ups variable : List ℕ) (minimum maximum : ℤ) →
+      Adds (queries.Range ups variable) (replies.Range ups variable minimum maximum) (signed_decimal minimum ∷ signed_decimal maximum ∷ [])
+  pub of_client : (ups address : List ℕ) → Adds (queries.Client ups) (replies.Client ups address) (address ∷ [])
   pub ends : (query : ListQuery) (rows : List (List (List ℕ))) → next (listing query) rows (answers.End (message_words (query_parts query))) ≡ Ok (Complete (outcomes.List rows))
 
 -- A new link keeps no more than it may, and no call but `feed` makes it keep more. Of `feed` its own contract says so.

@@ -1,5 +1,6 @@
 use Rattle.nut_link.proofs.Bounded.{heard_stage_within, link_within}
-use Rattle.nut_link.proofs.Feeding.{fed_link, fed_over, piece_heard}
+use Rattle.nut_words.specs.Lines.{lines_after}
+use Rattle.nut_link.proofs.Feeding.{counted, fed_link, fed_over, piece_heard}
 use Rattle.nut_link.proofs.link.Link.feed_lines.Goals as goal
 
 pub returns-in-Some-clause-feeds : goal.returns-in-Some-clause-feeds
@@ -22,7 +23,8 @@ returns-clause-feeds c =
     let v = c.self.inside in
     let h = c.hear_lines in
     let heard = piece_heard v.cutter h.new.cutter v.exchange h.new.hearer c.args.piece.now h.result.0 h.result.1 c.in_default.is h.ensures.rest h.ensures.heard h.ensures.goes_on h.ensures.stops in
-    rw (← c.self.view_is) (fed_link v.cutter h.new.cutter v.exchange h.new.hearer c.args.piece.now h.result.0 h.result.1 c.in_default.is heard.0 heard.1)
+    let count = counted (lines_after v.cutter c.args.piece.now) v.exchange h.new.hearer h.result.0 h.result.1 h.ensures.count h.ensures.heard h.ensures.goes_on h.ensures.stops in
+    rw (← c.self.view_is) (fed_link v.cutter h.new.cutter v.exchange h.new.hearer c.args.piece.now h.result.0 h.result.1 c.in_default.is heard.0 heard.1 count)
 
 pub returns-clause-bounded : goal.returns-clause-bounded
 returns-clause-bounded c =
