@@ -14,8 +14,9 @@ import sys
 import tempfile
 import threading
 import time
+from concurrent import futures
 
-from tests.support.harness import Failed, build_shim, expect, refusals, run_tests
+from tests.support.harness import Failed, build_shim, ensure, expect, refusals, run_tests
 from tests.support.model import LINE_MAX
 
 # every byte that a value may have
@@ -226,6 +227,54 @@ class Server:
             sent += len(reply)
 
 
+class Teller:
+    """A listener on loopback that sends these pieces to each client, with a pause after each, and then nothing. It reads nothing
+    and leaves each connection open."""
+
+    def __init__(self, pieces, pause=0):
+        self.pieces = pieces
+        self.pause = pause
+        self.clients = []
+        self.listener = socket.create_server(("127.0.0.1", 0))
+        self.at = "127.0.0.1:%d" % self.listener.getsockname()[1]
+        threading.Thread(target=self.serve, daemon=True).start()
+
+    def serve(self):
+        while True:
+            client, _ = self.listener.accept()
+            self.clients.append(client)
+            threading.Thread(target=self.tell, args=(client,), daemon=True).start()
+
+    def tell(self, client):
+        for piece in self.pieces:
+            client.sendall(piece)
+            time.sleep(self.pause)
+
+
+class Crowded:
+    """A listener on loopback that accepts nobody and whose queue is full, so that no further connection is made."""
+
+    def __init__(self):
+        self.listener = socket.socket()
+        self.listener.bind(("127.0.0.1", 0))
+        self.listener.listen(0)
+        self.at = "127.0.0.1:%d" % self.listener.getsockname()[1]
+        self.waiting = []
+        if all(self.has_room() for _ in range(64)):
+            raise Failed("the queue of a listener doesn't fill")
+
+    def has_room(self):
+        """Whether one more client could connect. It stays."""
+        client = socket.socket()
+        self.waiting.append(client)
+        client.settimeout(0.5)
+        try:
+            client.connect(self.listener.getsockname())
+        except TimeoutError:
+            return False
+        return True
+
+
 class Tests:
     def __init__(self, tools, folder):
         self.tools = tools
@@ -266,6 +315,31 @@ class Tests:
         expect(found, (1, b"", b"Error: PENDING\n"), "a request that doesn't end")
         expect(self.heard(), [*TRACKED, b"INSTCMD su700 never.ends", *[b"GET TRACKING 6"] * 11], "what it asks")
         expect(10 <= time.monotonic() - started < 15, True, "it stays for ten seconds")
+
+    def timed(self, case):
+        """Runs a tool with the server at a place. Returns what it did, as `run` does, and for how many seconds it ran."""
+        tool, arguments, at = case
+        words = [self.tools[tool], *(word.replace("AT", at) for word in arguments)]
+        started = time.monotonic()
+        done = subprocess.run(words, capture_output=True, timeout=60)
+        return (done.returncode, done.stdout, done.stderr), time.monotonic() - started
+
+    def test_servers_that_take_too_long(self):
+        failed, lost = ((1, b"", b"Error: connection %s\n" % word) for word in (b"failed", b"lost"))
+        silent, halting, crowded = Teller([]), Teller([b"BEGIN LIST "]), Crowded()
+        asks = (("upsc", ["su700@AT"]), ("upsrw", ["su700@AT"]), ("upscmd", ["-l", "su700@AT"]))
+        cases = [(*ask, place.at) for place in (silent, halting, crowded) for ask in asks]
+        # the whole takes longer than a tool waits, and no pause does
+        answer = ANSWERS[b"LIST VAR su700"]
+        slow = Teller([answer[:9], answer[9:40], answer[40:80], answer[80:]], pause=4)
+        cases.append(("upsc", ["su700@AT"], slow.at))
+        with futures.ThreadPoolExecutor(len(cases)) as pool:
+            found = list(pool.map(self.timed, cases))
+        wanted = [lost] * 6 + [failed] * 3 + [(0, VARIABLES, b"")]
+        for (tool, _, at), (end, seconds), want in zip(cases, found, wanted):
+            what = f"{tool} with the server at {at}"
+            expect(end, want, what)
+            ensure(5 < seconds < 60, f"{what} took {seconds:.1f} seconds")
 
     def test_object_is_what_a_reader_of_json_takes(self):
         self.server.whole()

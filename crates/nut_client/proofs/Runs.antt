@@ -41,7 +41,7 @@ pub append_none : (known : Option (List ℕ)) → append_known known [] ≡ know
 append_none None = refl
 append_none (Some bytes) = ap Some (append-nil bytes)
 
--- A part of a line that was heard behind b.
+-- A part of a line that was heard after b.
 record HeardPart (v : LinkValue) (b p : List ℕ) : Type 0 where
   line : LineText
   heard_is : (fed p v).exchange ≡ heard line v.exchange

@@ -31,7 +31,7 @@ at_start script left link unread input before all here none = record {
   link_is = here;
 }
 
--- bytes behind whole lines complete lines of their own
+-- bytes after whole lines complete lines of their own
 lines_behind : (b x : List ℕ) → rest b ≡ Text [] → lines (b ++ x) ≡ lines b ++ lines x
 lines_behind b x ended = lines-append b x ∙ ap (λ r. lines b ++ lines_after r x) ended ∙ ap (λ ls. lines b ++ ls) (sym (lines-append [] x))
 

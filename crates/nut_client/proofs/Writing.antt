@@ -17,7 +17,7 @@ keeps_on (Some xs) (Some ys) (Some zs) x f g = g ∙ f
 keeps_on (Some xs) (Some ys) None x f g = g
 keeps_on (Some xs) None c x f g = absurd f
 
--- more was written behind a beginning
+-- more was written after a beginning
 pub wrote_more : (a b c : Option (List ℕ)) (at n : ℕ) (bytes rest : List ℕ) → rest ≡ drop at bytes → Appends a b (take at bytes) → Appends b c (take n rest) → Appends a c (take (at + n) bytes)
 wrote_more a b c at n bytes rest is first more =
     subst (λ x. Appends a c x) (ap (λ l. take at bytes ++ take n l) is ∙ sym (take-add at n bytes)) (appends_on a b c (take at bytes) (take n rest) first more)
@@ -38,7 +38,7 @@ pub put_part : (done : Bool) (bytes : List ℕ) (w : Written) → done ≡ false
 put_part true bytes w is all = absurd (cc)
 put_part false bytes w is cut = cut
 
--- a text that was cut short is cut short with more behind it
+-- a text that was cut short is cut short with more after it
 pub cut_before : (w : Written) (x y : List ℕ) → IsCutShort x w → IsCutShort (x ++ y) w
 cut_before w x y c = (c.0, (c.1.0, c.1.1 ++ y, ap (λ l. l ++ y) c.1.2 ∙ append_assoc c.1.0 c.1.1 y, c.1.3))
 
@@ -47,7 +47,7 @@ pub cut_behind : (a b c : Option (List ℕ)) (failed : Type 0) (x y : List ℕ) 
 cut_behind a b c failed x y first cut =
     (cut.0, (x ++ cut.1.0, cut.1.1, ap (λ l. x ++ l) cut.1.2 ∙ sym (append_assoc x cut.1.0 cut.1.1), appends_on a b c x cut.1.0 first cut.1.3))
 
--- a part of a text behind another
+-- a part of a text after another
 pub put_behind : (a b c : Option (List ℕ)) (failed : Type 0) (done : Bool) (x y : List ℕ) → Appends a b x → Puts done y (taken b c failed) → HasText (x ++ y) (taken a c failed)
 put_behind a b c failed true x y first all = inl (all.0, appends_on a b c x y first all.1)
 put_behind a b c failed false x y first cut = inr (cut_behind a b c failed x y first cut)

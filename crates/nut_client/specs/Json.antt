@@ -6,7 +6,7 @@ use Rattle.std.specs.List.{flat_map}
 abbrev pub hex_digit : ℕ → ℕ
 hex_digit n = if nat_lt n 10 then 48 + n else 87 + n
 
--- A byte in a string (section 7): `"` and `\` behind a backslash; another byte of 0x20 to 0x7E as it is; any other as
+-- A byte in a string (section 7): `"` and `\` after a backslash; another byte of 0x20 to 0x7E as it is; any other as
 -- `\u` and four hexadecimal digits, so that the text is ASCII.
 abbrev pub escaped : ℕ → List ℕ
 escaped b =

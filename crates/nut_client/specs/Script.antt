@@ -1,5 +1,5 @@
 -- What each tool asks and prints: one query after the other, each chosen by the answers so far, and the text that is
--- printed once the last answer came (upsc(8), upsrw(8), upscmd(8), in the forms of docs/tools.md).
+-- printed once the last answer has come (upsc(8), upsrw(8), upscmd(8), in the forms of docs/tools.md).
 use Rattle.std.specs.Prelude.{ℕ, zero, suc, Bool, true, List, [], ◌∷◌, ◌++◌, codes, slice_index_or, Option, Some, None, if◌then◌else◌}
 use Rattle.std.specs.Option.{option_map_or}
 use Rattle.std.specs.List.{flat_map, list_any}
@@ -27,8 +27,8 @@ use Rattle.nut_client.specs.declared.wanted.Wanted.{Wanted}
 use Rattle.nut_client.specs.declared.wanted.Wanted.TheVariants as wanteds
 use Rattle.nut_client.specs.Json.{json_object}
 
--- What is left to do: to print a text, to fail, to ask a query and continue by its outcome, or to pause for a second and
--- continue.
+-- What is left to do: to print a text, to fail, to ask a query and continue by its outcome, or to pause for a second
+-- and continue.
 pub data Script : Type 0 where
   Prints : List ℕ → Script
   Fails : Failure → Script
@@ -78,7 +78,7 @@ row_lines form rows = flat_map (row_line form) rows
 abbrev pub lists : Request → Form → Script
 lists query form = Asks query (on_rows (λ rows. Prints (row_lines form rows)))
 
--- `Type:`, and each word of a variable's type behind a blank
+-- `Type:`, and each word of a variable's type after a blank
 abbrev pub type_line : List (List ℕ) → List ℕ
 type_line kind = codes "Type:" ++ flat_map (λ w. 32 ∷ w) kind ++ 10 ∷ []
 

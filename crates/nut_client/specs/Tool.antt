@@ -49,7 +49,7 @@ failure_of faults.TooMuchTaken = failures.BadAnswer
 failure_of faults.Memory = failures.Memory
 failure_of faults.BadQuery = failures.BadQuery
 
--- A script begins behind these queries: its first query is asked if it is writable. A pause changes nothing but the
+-- A script begins after these queries: its first query is asked if it is writable. A pause changes nothing but the
 -- time.
 abbrev pub begin : List ℕ → Script → Run
 begin queries (Prints text) = record { queries = queries; standing = Printed text }
@@ -94,7 +94,7 @@ is_over (Waits e next) = false
 is_over (Printed text) = true
 is_over (Failed failure) = true
 
--- Of these bytes at most PIECE_MAX stand behind some by which a run still waits.
+-- Of these bytes at most PIECE_MAX come after some by which a run still waits.
 pub record LastRead (run : List ℕ → Run) (bytes : List ℕ) : Type 0 where
   pub early : List ℕ
   pub late : List ℕ
@@ -102,7 +102,7 @@ pub record LastRead (run : List ℕ → Run) (bytes : List ℕ) : Type 0 where
   pub few : length late ≤ PIECE_MAX
   pub waits : is_over (run early).standing ≡ false
 
--- What a tool has read: nothing, or at most PIECE_MAX bytes behind some by which it still waited.
+-- What a tool has read: nothing, or at most PIECE_MAX bytes after some by which it still waited.
 abbrev pub IsReadInTime : (List ℕ → Run) → List ℕ → Type 0
 IsReadInTime run bytes = (bytes ≡ []) ⊎ LastRead run bytes
 

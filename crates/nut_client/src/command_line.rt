@@ -100,7 +100,7 @@ fn parse<'a, W: AsStr>(command: Command<'a>, words: &'a [W]) -> Result<ArgMatche
     Ok(matches)
 }
 
-/// Wraps a failure as a refusal.
+/// Returns the options, or their failure as a refusal.
 pub(crate) fn refused(options: Result<Options<'_>, Failure>) -> Result<Options<'_>, Refusal>
     ensures { (meant : Result OptionsMeant FailureValue) → AreOptions meant options.entry → IsRead (Ok meant) result }
 {

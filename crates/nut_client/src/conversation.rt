@@ -14,7 +14,8 @@ use nut_proto::Request;
 use std::alloc::Global;
 use std::sync::Wait;
 
-/// A link over a connection. Bytes that were read behind an answer are kept until the next query was sent.
+/// A link over a connection. Bytes that were read after an answer are kept, and fed to the link once the next query was
+/// sent.
 #[derive(Drop)]
 pub(crate) struct Conversation {
     link: Link,
@@ -22,7 +23,7 @@ pub(crate) struct Conversation {
 }
 
 impl Conversation {
-    /// Makes a conversation in which nothing was said.
+    /// Makes a conversation in which nothing has been said.
     pub(crate) fn new(alloc: Global) -> Self
         ensures link { result.link ≡ fresh }
         ensures unread { result.unread ≡ [] }
@@ -33,7 +34,7 @@ impl Conversation {
         }
     }
 
-    /// Sends a query and waits for its answer. The link is fed one line at a time.
+    /// Sends a query and waits for its answer. The link is fed no more than a line at a time.
     pub(crate) fn ask<S: Stream>(
         &mut self,
         rt: &impl Wait,

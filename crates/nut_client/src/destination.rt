@@ -44,7 +44,8 @@ fn read_bytes(name: &[u8]) -> Result<Target, Failure>
     }
 }
 
-/// Reads `host[:port]` as the part behind `@` in the name of a UPS called `u`. Without it, the host is `localhost`.
+/// Reads `host[:port]` as the part after `@` in the name of a UPS, which is called `u`. If no server is given, the host
+/// is `localhost`.
 pub(crate) fn read_server(server: Option<&str>) -> Result<Target, Failure>
     ensures { IsTarget (target (at_server (option_map (λ s. s.now) server.entry))) result }
 {

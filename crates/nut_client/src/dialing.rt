@@ -1,15 +1,44 @@
-//! Connecting to a server over TCP.
+//! Connecting to a server over TCP, and the limits in time of a connection.
 use crate::destination::Destination;
 use crate::stream::ByteStream;
-use std::net::{Net, OpenStream, TcpStream};
-use std::str;
+use std::net::{Net, OpenStream, TcpStream, ToSocketAddrs};
+use std::time::Duration;
+use std::{io, str};
 
-/// Connects to a server over TCP, with TCP_NODELAY, so that what is sent goes out at once. `None` if there is no
-/// destination, its host is not UTF-8, or no connection can be made.
+/// For how many seconds a tool waits for an address of the server's host to accept a connection.
+const ACCEPT_SECONDS: u64 = 10;
+
+/// For how many seconds a read waits for the server to send something, and a write for it to take something.
+const SILENCE_SECONDS: u64 = 10;
+
+/// Connects to a server over TCP, with TCP_NODELAY, so that what is sent goes out at once. The addresses of its host
+/// are tried in turn, each for at most 10 seconds; how long the host's name is looked up is left to the resolver. A
+/// read or a write over the connection fails if the server sends or takes nothing for 10 seconds. `None` if there is no
+/// destination, its host is not UTF-8 or has no address, no address accepts a connection in time, or the system doesn't
+/// let these options be set.
 pub fn dial<R: Net>(net: &R, destination: Option<Destination>) -> Option<ByteStream<R::Stream>> {
     let destination = destination?;
     let host = str::from_utf8(destination.host.as_bytes()).ok()?;
-    let stream = TcpStream::connect(net, (host, destination.port.number)).ok()?;
-    stream.set_nodelay(true).ok()?;
+    let stream = connect(net, host, destination.port.number)?;
+    set_options(&stream).ok()?;
     Some(ByteStream::new(stream))
+}
+
+/// Connects to the first address of this host that accepts a connection in time. `None` if there is none.
+fn connect<R: Net>(net: &R, host: &str, port: u16) -> Option<R::Stream> {
+    let limit = Duration::from_secs(ACCEPT_SECONDS);
+    for address in (host, port).to_socket_addrs(net).ok()? {
+        if let Ok(stream) = TcpStream::connect_timeout(net, &address, limit) {
+            return Some(stream);
+        }
+    }
+    None
+}
+
+/// Switches TCP_NODELAY on, and limits how long a read or a write waits.
+fn set_options(stream: &impl OpenStream) -> io::Result<()> {
+    let limit = Some(Duration::from_secs(SILENCE_SECONDS));
+    stream.set_nodelay(true)?;
+    stream.set_read_timeout(limit)?;
+    stream.set_write_timeout(limit)
 }

@@ -29,14 +29,14 @@ use std::{io, thread};
 /// For how many seconds a tool pauses before it asks again whether a request has ended.
 const PAUSE: u64 = 1;
 
-/// Asks a server what is wanted of the UPS of this name. Returns the text to print once the last answer came.
+/// Asks a server what is wanted of the UPS of this name. Returns the text to print once the last answer has come.
 ///
 /// # Errors
 ///
 /// `Refused` with the name of the error if the server refuses a query; `BadAnswer` if a line doesn't answer the query;
 /// `Untracked` if a request that is to be tracked gets no number; `Unconfirmed` if it failed, is forgotten, or is still
-/// pending after ten seconds; `BadQuery` if a query isn't writable; `ConnectionLost` if the connection ends or fails before the last answer;
-/// `Memory` if memory cannot be allocated.
+/// pending after ten pauses; `BadQuery` if a query isn't writable; `ConnectionLost` if the connection ends or fails
+/// before the last answer; `Memory` if memory cannot be allocated.
 pub fn ask_server<S: Stream>(
     rt: &(impl Wait + Clock),
     alloc: Global,
@@ -52,7 +52,8 @@ pub fn ask_server<S: Stream>(
     do_task(rt, &mut conversation, stream, Task::new(alloc, ups, wanted))
 }
 
-/// Does a task over a conversation in which nothing was said. Returns the text to print once the last answer came.
+/// Does a task over a conversation in which nothing has been said. Returns the text to print once the last answer has
+/// come.
 fn do_task<S: Stream>(
     rt: &(impl Wait + Clock),
     conversation: &mut Conversation,
@@ -222,7 +223,7 @@ fn is_asked_for(error: &clap::Error) -> bool
     )
 }
 
-/// Writes clap's text for a command line that it refuses to `err`. Returns status 2.
+/// Writes to `err` clap's text for a command line that clap refuses. Returns status 2.
 fn tell_fault<E: Output>(rt: &impl Wait, text: &Text, err: &mut E) -> u8
     ensures status { result ≡ 2 }
     ensures text { HasText text.now (written E.contents E.has_failed err.old err.new) }

@@ -16,7 +16,7 @@ pub enum Failure {
     BadName,
     /// No connection was made.
     NoConnection,
-    /// The connection ended before the last answer, or a read or a write failed.
+    /// The connection ended before the last answer, or a read or a write failed, as when the server takes too long.
     ConnectionLost,
     /// The server refused a query, with an error of this name.
     Refused(Text),
@@ -66,7 +66,7 @@ impl From<LinkFault> for Failure {
 }
 
 impl Failure {
-    /// Returns what is written of it to standard error, behind `Error: `.
+    /// Returns what is written of it to standard error, after `Error: `.
     pub(crate) fn reason(&self) -> &[u8]
         ensures { result.now ≡ reason self.now }
     {

@@ -63,7 +63,7 @@ fn put_member(out: &mut Vec<u8>, row: &Fields) -> Result<(), AllocError>
     Ok(())
 }
 
-/// Appends further members, each behind a comma.
+/// Appends further members, each after a comma.
 fn put_more(out: &mut Vec<u8>, rows: &[Fields]) -> Result<(), AllocError>
     ensures { OnOk result (out.new.items ≡ out.old.items ++ flat_map (λ r. codes ", " ++ member r) rows.now) }
 {

@@ -1,8 +1,8 @@
-//! The tools upsc, upsrw and upscmd: what a command line asks for, what a tool asks a server, and what it prints and how it
-//! ends by what the server answers.
+//! The tools upsc, upsrw and upscmd: what a command line asks for, what a tool asks a server, and, by what the server
+//! answers, what the tool prints and how it ends.
 //!
-//! The command lines are in `specs/CommandLine.antt`, what each of them asks and prints in `specs/Script.antt`, how a tool
-//! runs and ends in `specs/Tool.antt`. A tool asks over a link of `nut_link`, whose public items stand here too.
+//! The command lines are in `specs/CommandLine.antt`, what each of them asks and prints in `specs/Script.antt`, how a
+//! tool runs and ends in `specs/Tool.antt`. A tool asks over a link of `nut_link`, whose public items stand here too.
 #![tactic(auto)]
 
 mod command_line;

@@ -26,7 +26,7 @@ pub enum Values {
     Enum,
     /// The ranges that the server lists.
     Range,
-    /// Anything else.
+    /// The server lists neither values nor ranges.
     Free,
 }
 
@@ -64,7 +64,7 @@ pub(crate) fn put_rows(out: &mut Vec<u8>, form: Form, rows: &[Fields]) -> Result
     Ok(())
 }
 
-/// Appends the words of a variable's type, each behind a blank.
+/// Appends the words of a variable's type, each after a blank.
 fn put_words(out: &mut Vec<u8>, words: &[Text]) -> Result<(), AllocError>
     ensures { OnOk result (out.new.items ≡ out.old.items ++ flat_map (λ w. 32 ∷ w) words.now) }
 {

@@ -14,7 +14,7 @@ pub enum Moved {
     Bytes(usize),
     /// No byte was moved, and it can be tried again.
     Again,
-    /// No byte was moved, and none will be: the connection has ended or failed.
+    /// No byte was moved, and it isn't tried again: the connection or the output has ended or failed.
     Lost,
 }
 
@@ -29,7 +29,7 @@ pub trait Stream {
     /// It has ended or failed.
     ghost has_ended: { Self → Type 0 };
 
-    /// Reads some of the bytes that the server sent into a place that isn't empty. It may wait for them.
+    /// Reads some of the bytes that the server sent. The place for them has room for at least one. It may wait.
     fn read(&mut self, place: &mut [u8]) -> Moved
         requires room { 0 < length place.old }
         ensures gave { Gave result place.new (remaining self.old) (remaining self.new) }
@@ -65,7 +65,7 @@ impl<T: Read + Write> ByteStream<T> {
     }
 }
 
-/// Returns what a read or a write with this result has moved, of at most `most` bytes.
+/// Returns what a read or a write of at most `most` bytes has moved if this is its result.
 fn what_moved(count: io::Result<usize>, most: usize) -> Moved
     ensures exact { result ≡ moved_of count most }
     ensures within { IsWithin result most }
@@ -75,6 +75,7 @@ fn what_moved(count: io::Result<usize>, most: usize) -> Moved
         Ok(n) => Moved::Bytes(n.min(most)),
         Err(error) => match error.kind() {
             ErrorKind::Interrupted => Moved::Again,
+            // A read or a write that a limit of time ends gives `WouldBlock`: the server is given up.
             _ => Moved::Lost,
         },
     }

@@ -54,7 +54,7 @@ impl Shown {
 /// How far a tool has come.
 #[derive(Drop)]
 pub(crate) enum Step<'a> {
-    /// Nothing was answered yet.
+    /// Nothing has been answered yet.
     Begun(Wanted<'a>),
     /// The user's name was accepted. The password and the deed are left.
     Password(Word<'a>, Deed<'a>, Until),
@@ -64,11 +64,11 @@ pub(crate) enum Step<'a> {
     Tracking(Deed<'a>),
     /// Tracking is on. The deed is left.
     TrackedDeed(Deed<'a>),
-    /// The request of this number was accepted. The tool asks whether it has ended, and may pause so often.
+    /// The request of this number was accepted. The tool asks whether it has ended, and may pause this many times.
     Waits(u32, u32),
-    /// The request of this number is pending. The tool pauses, asks whether it has ended, and may pause so often again.
+    /// The request of this number is pending. The tool pauses, asks again, and may then pause this many times more.
     Pauses(u32, u32),
-    /// This is asked about the first row that wasn't shown yet.
+    /// This is asked about the first row that hasn't been shown yet.
     Shows(Question, Shown),
     /// The text is complete.
     Done(Vec<u8>),
@@ -389,7 +389,7 @@ fn put_answer(
     Ok(None)
 }
 
-/// Takes in the answer to a question about the first row that wasn't shown yet.
+/// Takes in the answer to a question about the first row that hasn't been shown yet.
 fn hear_row<'a>(question: Question, shown: Shown, outcome: Outcome) -> Result<Step<'a>, Failure>
     ensures { (ups : List ℕ) → Leads ups (answered outcome (showing_of ups question shown)) result }
 {

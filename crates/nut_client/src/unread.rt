@@ -1,4 +1,4 @@
-//! Bytes that were read from a connection and not used yet.
+//! Bytes that were read from a connection and haven't been used yet.
 ghost use Rattle.std.specs.Prelude.{◌≡◌, ◌⊎◌, ◌<◌, ◌≤◌, [], IfErr, IfOk, OnErr, OnOk, drop, length};
 ghost use Rattle.std.specs.Io.KnownBytes.{prepend_known};
 ghost use Rattle.nut_client.specs.inside.Unread.{IsLinePart};
@@ -12,7 +12,7 @@ use nut_words::PIECE_MAX;
 use std::marker::Model;
 use std::sync::Wait;
 
-/// Bytes that were read from a connection and not used yet.
+/// Bytes that were read from a connection and haven't been used yet.
 #[derive(Drop)]
 pub(crate) struct Unread {
     bytes: ArrayVec<u8, PIECE_MAX>,

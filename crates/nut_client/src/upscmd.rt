@@ -82,8 +82,8 @@ fn options_in<'a>(matches: &ArgMatches<'a>) -> Result<Options<'a>, Failure>
     options_of(wanted, value(matches, "name"))
 }
 
-/// Returns what the options ask for. A list takes neither a user nor a command nor the flag to wait, and a command, with
-/// a parameter or without one, needs a user and a password.
+/// Returns what the options ask for. A list takes neither a user nor a command nor the flag to wait. A command, with a
+/// parameter or without one, needs a user and a password.
 fn wanted_by<'a>(
     list: bool,
     wait: bool,

@@ -24,7 +24,7 @@ pub enum Wanted<'a> {
     Does(Word<'a>, Word<'a>, Deed<'a>, Until),
 }
 
-/// How long a tool stays that has a UPS do something.
+/// How long a tool stays if it has a UPS do something.
 #[derive(Clone, Copy, Debug, PartialEq, Eq)]
 pub enum Until {
     /// Until the server has accepted the request.

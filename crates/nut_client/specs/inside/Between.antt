@@ -1,4 +1,4 @@
--- The state of a tool between two queries: this is left of its script, and these bytes were read and not heard yet.
+-- The state of a tool between two queries: this is left of its script, and these bytes were read and not yet heard.
 use Rattle.std.specs.Prelude.{◌≡◌, ℕ, List, [], ◌++◌, Option}
 use Rattle.std.specs.Io.KnownBytes.{append_known, prepend_known}
 use Rattle.nut_words.specs.Lines.{Text, rest}

@@ -55,7 +55,7 @@ abbrev pub Comes : Request → List ℕ → Result Outcome Failure → Type 0
 Comes request heard (Ok outcome) = (rest heard ≡ Text []) × ((queries : List ℕ) (next : Outcome → Script) → after (lines heard) (begin queries (Asks request next)) ≡ begin (queries ++ request_line request) (next outcome))
 Comes request heard (Err failure) = (failure ≡ Memory) ⊎ ((queries : List ℕ) (next : Outcome → Script) → Err failure ≡ ending (after (lines heard) (begin queries (Asks request next))).standing)
 
--- What was written for a query, behind what was written before.
+-- What was written for a query, after what was written before.
 abbrev pub Asked : Request → List ℕ → Result Outcome Failure → List ℕ → Type 0
 Asked request heard (Ok outcome) written = written ≡ request_line request
 Asked request heard (Err failure) written = (queries : List ℕ) (next : Outcome → Script) → WasWrittenBy failure (queries ++ written) (after (lines heard) (begin queries (Asks request next))).queries
@@ -65,7 +65,7 @@ abbrev pub IsBrokenOff : Request → List ℕ → List ℕ → Type 0
 IsBrokenOff request heard written = (queries : List ℕ) (next : Outcome → Script) → length (queries ++ written) < length (after (lines heard) (begin queries (Asks request next))).queries
 
 -- What has been read since a query was asked, with these bytes that had been read before: no more, or at most PIECE_MAX
--- bytes behind some by which the query still waited.
+-- bytes after some by which the query still waited.
 abbrev pub IsReadFor : Request → List ℕ → List ℕ → Type 0
 IsReadFor request unread bytes =
     (bytes ≡ unread) ⊎ ((queries : List ℕ) (next : Outcome → Script) → LastRead (λ heard. after (lines heard) (begin queries (Asks request next))) bytes)

@@ -46,7 +46,7 @@ abbrev pub ends_row : List ℕ → Taken → List ℕ → List (List (List ℕ))
 ends_row ups kind text [] = Prints text
 ends_row ups kind text (row ∷ rows) = with_values ups (word 0 row) kind text (λ shown. settings ups (shown ++ line []) rows)
 
--- what is left if this is asked about the first row, behind the text so far
+-- what is left if this is asked about the first row, after the text so far
 abbrev pub showing : List ℕ → Question → List ℕ → List (List (List ℕ)) → Script
 showing ups questions.Kind text rows = settings ups text rows
 showing ups questions.Values text rows = ends_row ups values.Enum text rows
@@ -121,7 +121,7 @@ abbrev pub GivesNumber : Outcome → Result ℕ Failure → Type 0
 GivesNumber outcome (Ok number) = (next : ℕ → Script) → on_number next outcome ≡ next number
 GivesNumber outcome (Err failure) = (breaks_off failure ≡ false) × ((next : ℕ → Script) → on_number next outcome ≡ Fails failure)
 
--- After an answer about a row, this is the text, and this is the next question about the row, or the rows behind it are
+-- After an answer about a row, this is the text, and this is the next question about the row, or the rows after it are
 -- left.
 abbrev pub ShowsRow : List ℕ → Question → List ℕ → List (List ℕ) → List (List (List ℕ)) → Outcome → List ℕ → Result (Option Question) Failure → Type 0
 ShowsRow ups question text row rows outcome text' (Ok (Some other)) = answered outcome (showing ups question text (row ∷ rows)) ≡ showing ups other text' (row ∷ rows)

@@ -5,7 +5,7 @@ use Rattle.nut_client.specs.Tool.{Ends, ending, is_over, run_of}
 use Rattle.nut_client.specs.declared.failure.Failure.{Failure}
 use Rattle.nut_client.specs.declared.failure.Failure.TheVariants as failures
 
--- Bytes behind the last answer change nothing.
+-- Bytes after the last answer change nothing.
 abbrev pub MoreBytesAreIgnored : Type 0
 MoreBytesAreIgnored = (script : Script) (bytes more : List ℕ) → is_over (run_of script bytes).standing ≡ true → run_of script (bytes ++ more) ≡ run_of script bytes
 
