@@ -26,8 +26,9 @@ const TEXT_MAX: usize = LOG_LINE_MAX + 128;
 /// What is written is kept until a line is whole. A write never fails.
 ///
 /// The stream keeps its mode, because other processes may share it. Instead the system is asked, before each line,
-/// whether the stream takes one. A file always does. There are two exceptions in which a write may wait: another
-/// process fills a shared pipe between the question and the write, or a terminal has room for only a part of the line.
+/// whether the stream takes one; of a file it always says yes. A write may still wait in three cases: another process
+/// fills a shared pipe between the question and the write, a terminal has room for only a part of the line, or a file
+/// lies on a disk or server that doesn't answer.
 #[derive(Drop)]
 pub struct LossyLines<S> {
     stream: S,

@@ -106,8 +106,8 @@ impl<P: OpenProcess, T> Question<P, T> {
     /// Reads the answer of a question that has ended: the bytes that the process printed, at most as many as this buffer
     /// holds. There is none if the process failed.
     ///
-    /// All of the output is there already and is read with one call, so the read doesn't wait for a process that still
-    /// holds the pipe and prints nothing.
+    /// A process that has ended prints nothing more, and one read takes what the pipe holds. If it printed nothing and
+    /// another process still holds the pipe, this read waits for that process. `getent` and `upsc` leave none behind.
     pub fn answer<'b>(&mut self, buffer: &'b mut [u8]) -> Option<&'b [u8]> {
         let Ok(Some(status)) = self.child.try_wait() else {
             return None;

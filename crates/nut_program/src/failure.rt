@@ -64,7 +64,7 @@ impl<F: From<FileFault<'static>>> From<FileFault<'static>> for Failure<F> {
     }
 }
 
-/// A fault that only one program has. It is displayed as the text behind the program's name.
+/// A fault that only one program has. It is displayed after the program's name.
 pub trait OwnFault: Display {
     /// Returns the word of a directive that no line of a configuration file may have, if that is the fault.
     fn unknown_word(&self) -> Option<&str>;

@@ -34,7 +34,8 @@ pub enum Look {
 }
 
 /// The file `reload` in the folder of a program's configuration files. An operator who makes it, or touches it, asks for
-/// a reload.
+/// a reload. The program looks for it each second. The folder has to be on a local disk: the look waits for the file
+/// system.
 ///
 /// The program removes the file and then reads the others, so that no change after a request is missed. There are two
 /// exceptions. If the program can't remove the file, for example because only root can write to the folder, each change

@@ -68,7 +68,7 @@ pub fn readable_file<C: ConfFile>(
     }
 }
 
-/// Writes a warning, if there is one, behind the program's name. A warning that can't be written is dropped.
+/// Writes a warning, if there is one, after the program's name. A warning that can't be written is dropped.
 pub fn warn<T: Display + Drop, E: Write>(program: &str, warning: Option<T>, err: &mut E) {
     if let Some(warning) = warning {
         let _ = writeln!(err, "{program}: warning: {warning}");

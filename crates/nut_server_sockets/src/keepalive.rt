@@ -19,6 +19,8 @@ pub fn keep_alive(stream: &TcpStream) -> bool {
     let fd = stream.as_raw_fd();
     let (on, idle) = (number(1), number(IDLE));
     let (interval, probes) = (number(INTERVAL), number(PROBES));
+    // The binding lends the system 16 bytes, of which it reads the first 4: each of these options is a C int. The
+    // descriptor is that of a stream that is borrowed meanwhile.
     unsafe {
         c::setsockopt(fd, c::SOL_SOCKET, c::SO_KEEPALIVE, &on, 4) == 0
             && c::setsockopt(fd, c::IPPROTO_TCP, c::TCP_KEEPIDLE, &idle, 4) == 0

@@ -6,8 +6,8 @@ use std::io::Write;
 
 /// Gives new configurations to a server.
 pub trait Reloader {
-    /// Returns a new configuration, if one was asked for since the last call. If there is one that can't be read, it is
-    /// told why. The call is made once a second.
+    /// Returns a new configuration, if one was asked for since the last call. If it can't be read, reports why and returns
+    /// `None`. The call is made once a second.
     fn look<E: Write>(
         &mut self,
         server: &Server,

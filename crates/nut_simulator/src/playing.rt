@@ -99,7 +99,7 @@ fn play_on<R: BufRead, O: Write, E: Write + IsTerminal>(
 }
 
 impl<'a, O: Write, E: Write + IsTerminal> Stage<'a, O, E> {
-    /// Plays all lines of a schedule. Bytes behind the last line feed are a line, too.
+    /// Plays all lines of a schedule. Bytes after the last line feed are a line, too.
     fn play_lines<R: BufRead>(&mut self, schedule: &mut R) -> Result<(), Halt> {
         let mut cutter = LineCutter::new();
         let mut is_line_open = false;

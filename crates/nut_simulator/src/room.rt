@@ -17,6 +17,7 @@ pub fn read_config(
     match read_conf(files, alloc, folder) {
         Ok(users) => with_upsd(ups, users, read_conf(files, alloc, folder)),
         Err(fault) => {
+            // dropped by a call, which keeps the proof of this function short
             drop(ups);
             Err(fault)
         }
@@ -32,6 +33,7 @@ fn with_upsd(
     match upsd {
         Ok(upsd) => Ok(Config::new(ups, users, upsd)),
         Err(fault) => {
+            // dropped by calls, which keep the proof of this function short
             drop(ups);
             drop(users);
             Err(fault)
@@ -64,6 +66,7 @@ fn add_monitors<'a>(
     Ok(())
 }
 
+/// Adds what an upsmon.conf sets. In the loop, beside its `?`, this would make a long proof.
 fn add(monitors: &mut Vec<UpsmonConf>, monitor: UpsmonConf) -> Result<(), AllocError> {
     monitors.push(monitor)?;
     Ok(())

@@ -99,6 +99,7 @@ fn play_on_server<'a, O: Write, E: Write + IsTerminal>(
             play_made(alloc, made, names.schedule, &mut schedule, out, err)
         }
         Err(failure) => {
+            // dropped by a call, which keeps the proof of this function short
             drop(config);
             Err(failure)
         }
@@ -118,7 +119,7 @@ fn read_rest<'a, F: Files>(
     }
 }
 
-/// Plays a schedule in a room that was made for it.
+/// Plays a schedule in a room, if memory was found for it.
 fn play_made<'a, R: BufRead, O: Write, E: Write + IsTerminal>(
     alloc: Global,
     made: Result<Fleet, FleetFault>,
@@ -130,6 +131,7 @@ fn play_made<'a, R: BufRead, O: Write, E: Write + IsTerminal>(
     match made {
         Ok(mut fleet) => {
             let played = play_schedule(alloc, &mut fleet, path, schedule, out, err);
+            // dropped by a call, which keeps the proof of this function short
             drop(fleet);
             played
         }

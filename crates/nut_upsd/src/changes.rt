@@ -65,7 +65,7 @@ impl List {
         Ok(())
     }
 
-    /// Adds what is to be said of a UPS, behind its name and this mark.
+    /// Adds what is to be said of a UPS, after its name and this mark.
     fn add_ups(&mut self, name: &[u8], mark: &str, what: &str) {
         self.add(&["UPS ", text_of(name), mark, what]);
     }

@@ -21,7 +21,8 @@ pub fn upsd_command<'a>(alloc: Global) -> Result<Command<'a>, AllocError> {
     command_with(alloc, with(args, ups_of_stdio(alloc)))
 }
 
-/// Appends an item, if memory was found for it and for those before.
+/// Appends an item. If memory was refused to it or to an earlier one, hands that error on, so that the caller has one
+/// early return and not six.
 fn with<T: Drop>(
     items: Result<Vec<T>, AllocError>,
     item: Result<T, AllocError>,

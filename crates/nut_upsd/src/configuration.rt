@@ -62,7 +62,8 @@ impl Settings {
     }
 }
 
-/// Puts what was read in its place, unless that has a fault.
+/// Puts what was read in its place, unless that has a fault. What was read before lies in its place already, so no early
+/// return has to drop it.
 fn put<T: Drop>(
     place: &mut T,
     read: Result<T, FileFault<'static>>,
@@ -104,6 +105,7 @@ fn read_settings(
 ) -> Result<Settings, FileFault<'static>> {
     let mut settings = Settings::new(alloc);
     let read = settings.read(files, alloc, folder);
+    // `and` drops the settings if that failed
     read.and(Ok(settings))
 }
 
@@ -120,6 +122,7 @@ pub fn read_folder<E: Write>(
 ) -> Result<Settings, FileFault<'static>> {
     let settings = read_settings(files, alloc, folder)?;
     let warned = warn_if_readable(files, alloc, folder, err);
+    // `and` drops the settings if that failed
     warned.and(Ok(settings))
 }
 

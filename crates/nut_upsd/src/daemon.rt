@@ -28,8 +28,8 @@ use std::time::Clock;
 
 /// Runs upsd. Returns its exit status.
 ///
-/// `words` are those of the command line, the program's name first. `upsd --stdio ..` is [`run_stdio`]'s, which says
-/// what happens to words that clap refuses and to files with faults. `upsd --conf DIR -s SOCKDIR` serves clients over
+/// `words` are those of the command line, the program's name first. `upsd --stdio ..` does what [`run_stdio`] does, which
+/// says what happens to words that clap refuses and to files with faults. `upsd --conf DIR -s SOCKDIR` serves clients over
 /// TCP at each LISTEN address of upsd.conf, and connects to the driver of each UPS at the socket `SOCKDIR/DRIVER-NAME`,
 /// trying again each second until that succeeds. It ends if waiting for the sockets or reading the clock fails; then
 /// `upsd: I/O failed` is written, and the status is 1.
@@ -109,6 +109,7 @@ fn check_folder<E: Write>(
     folder: &str,
     err: &mut E,
 ) -> Result<(), Failure<UpsdFault>> {
+    // dropped by a call, which keeps the proof of this function short
     drop(read_folder(files, alloc, folder, err)?);
     Ok(())
 }
@@ -133,8 +134,8 @@ impl<'m> Options<'m> {
     }
 }
 
-/// Serves clients over sockets, and reports to the operator on `err` unless that is to be quiet. Returns only if the
-/// world fails.
+/// Serves clients over sockets, and reports to the operator on `err` unless that is to be quiet. Returns only with a
+/// fault: of the files, of a listener, of memory, or of the world.
 fn serve_sockets<R: Wait + Files + Net + Clock, E: Write>(
     rt: &R,
     alloc: Global,
@@ -142,7 +143,7 @@ fn serve_sockets<R: Wait + Files + Net + Clock, E: Write>(
     err: &mut E,
 ) -> Result<(), Failure<UpsdFault>> {
     let reloading = Reloading::new(rt, alloc, options.conf)?;
-    let (settings, reloading) = beside(reloading.read(err), reloading)?;
+    let (settings, reloading) = paired(reloading.read(err), reloading)?;
     serve_settings(rt, alloc, settings, reloading, options, err)
 }
 
@@ -156,7 +157,7 @@ fn serve_settings<R: Wait + Files + Net + Clock, E: Write>(
     err: &mut E,
 ) -> Result<(), Failure<UpsdFault>> {
     let held = hold_closed_streams(rt, alloc);
-    let (_held, (settings, reloading)) = beside(held, (settings, reloading))?;
+    let (_held, (settings, reloading)) = paired(held, (settings, reloading))?;
     listen_and_serve(rt, alloc, settings, reloading, options, err)
 }
 
@@ -170,13 +171,14 @@ fn listen_and_serve<R: Wait + Files + Net + Clock, E: Write>(
     err: &mut E,
 ) -> Result<(), Failure<UpsdFault>> {
     let listeners = listen(rt, alloc, &settings.upsd);
-    let (listeners, (settings, mut reloading)) = beside(listeners, (settings, reloading))?;
+    let (listeners, (settings, mut reloading)) = paired(listeners, (settings, reloading))?;
     let config = reloading.start(settings);
     serve_config(rt, alloc, config, listeners, reloading, options, err)
 }
 
-/// Returns what was made, and beside it this value.
-fn beside<A: Drop, B: Drop, F: Drop>(made: Result<A, F>, value: B) -> Result<(A, B), F> {
+/// Returns what was made, and `value` beside it. If nothing was made, `value` is dropped here, in one place: a drop at
+/// each caller's `?` makes its proof long (docs/tests.md).
+fn paired<A: Drop, B: Drop, F: Drop>(made: Result<A, F>, value: B) -> Result<(A, B), F> {
     Ok((made?, value))
 }
 
@@ -194,6 +196,7 @@ fn serve_config<R: Wait + Files + Net + Clock, E: Write>(
         return Err(Failure::Memory);
     };
     let served = serve_listeners(rt, alloc, &mut server, listeners, reloading, options, err);
+    // dropped by a call, which keeps the proof of this function short
     drop(server);
     served
 }

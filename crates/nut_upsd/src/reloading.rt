@@ -87,6 +87,7 @@ impl<'r, F: Files> Reloading<'r, F> {
         let listens_elsewhere = settings.upsd.listen != self.endpoints;
         let config = Box::new(self.alloc, settings.into_config())?;
         let noted = self.note(server.config(), &config, listens_elsewhere);
+        // `and` drops the configuration if that failed
         noted.and(Ok(config))
     }
 

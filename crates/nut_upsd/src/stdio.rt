@@ -23,13 +23,16 @@ use std::sync::Wait;
 /// clap refuses them, its text is written to `err`, and the status is 2; the help and the version are written to `out`,
 /// with status 0.
 ///
-/// With `--conf` the files ups.conf, upsd.users and upsd.conf of the folder are read, in this order, and then cmdvartab, if
-/// it is there. The first fault is told as `upsd: ups.conf:2: Repeated`, and a file that can't be read as `upsd: ups.conf: cannot read`. The values of
-/// `--ups` are read in the order given, and the first fault is told as `upsd: --ups: <fault>`. Nothing is served then.
-/// A failed read is told as `upsd: input failed`, a failed write as `upsd: output failed`, and a refused growth as
-/// `upsd: out of memory`.
+/// With `--conf` the files ups.conf, upsd.users and upsd.conf of the folder are read, in this order, and then cmdvartab,
+/// if it is there. The first fault is told as `upsd: ups.conf:2: Repeated`, and a file that can't be read as
+/// `upsd: ups.conf: cannot read`. The values of `--ups` are read in the order given, and the first fault is told as
+/// `upsd: --ups: BadName`. Nothing is served then. A failed read is told as `upsd: input failed`, a failed write as
+/// `upsd: output failed`, and a lack of memory as `upsd: out of memory`.
 ///
 /// Replies are written as soon as a piece of the input was read, so `out` should not buffer.
+///
+/// It is for callers that have no sockets and no clock. The program upsd calls [`run_upsd`](crate::run_upsd), which does
+/// the same for these words.
 pub fn run_stdio<S: AsStr, I: Read, O: Write, E: Write>(
     rt: &(impl Wait + Files),
     alloc: Global,
@@ -83,6 +86,7 @@ fn serve_config<I: Read, O: Write>(
         return Err(Failure::Memory);
     };
     let served = serve_client(rt, &mut server, input, out);
+    // dropped by a call, which keeps the proof of this function short
     drop(server);
     served
 }

@@ -23,7 +23,7 @@ pub fn read_ups_options(alloc: Global, values: &[&str]) -> Result<UpsConf, Fault
     Ok(ups)
 }
 
-/// Appends the UPS that a value names. Its name is before the first `=`, its description behind it.
+/// Appends the UPS that a value names. Its name is before the first `=`, its description after it.
 ///
 /// # Errors
 ///
