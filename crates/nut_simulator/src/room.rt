@@ -66,7 +66,7 @@ fn add_monitors<'a>(
     Ok(())
 }
 
-/// Adds what an upsmon.conf sets. In the loop, beside its `?`, this would make a long proof.
+/// Adds what an upsmon.conf sets. It is apart from the loop, to keep the proof of that short.
 fn add(monitors: &mut Vec<UpsmonConf>, monitor: UpsmonConf) -> Result<(), AllocError> {
     monitors.push(monitor)?;
     Ok(())
