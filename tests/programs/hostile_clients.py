@@ -20,7 +20,7 @@ import tempfile
 import time
 
 from tests.support.harness import build_library, ensure, expect, processor_time, run_tests
-from tests.support.room import NOT_CONNECTED, ONLINE, SOON, STATUS, VERSION, Client, Room, accepted, stopped, until
+from tests.support.room import NOT_CONNECTED, ONLINE, SOON, STATUS, VERSION, Client, Room, accepted, said, stopped, until
 
 # the default of MAXCONN
 MOST = 256
@@ -97,12 +97,6 @@ def closing(clients):
     finally:
         for client in clients:
             client.close()
-
-
-def said(process):
-    """Returns what a process that is ended now has written to standard error."""
-    process.kill()
-    return process.stderr.read().decode().splitlines()
 
 
 class Tests:

@@ -17,7 +17,7 @@ import threading
 import time
 
 from tests.support.harness import Failed, Missing, expect, processor_time, run_tests
-from tests.support.room import Client, DEVICE, NOT_CONNECTED, ONLINE, Room, SOON, STATUS, VERSION, accepted, free_port, has_ipv6, until
+from tests.support.room import Client, DEVICE, NOT_CONNECTED, ONLINE, Room, SOON, STATUS, VERSION, accepted, free_port, has_ipv6, said, until
 
 
 class Tests:
@@ -32,12 +32,6 @@ class Tests:
     def run(self, *words):
         done = subprocess.run(words, stdin=subprocess.DEVNULL, capture_output=True, timeout=60)
         return done.returncode, done.stdout, done.stderr
-
-    @staticmethod
-    def said(process):
-        """Ends a process. Returns the lines that it has written to standard error."""
-        process.kill()
-        return process.stderr.read().decode().splitlines()
 
     # From here on, each method whose name begins with 'test_' is a test.
 
@@ -366,9 +360,7 @@ class Tests:
                     expect(client.ask(b"VER\n"), VERSION, host)
 
     def test_same_host_at_two_ports(self):
-        with socket.socket() as free:
-            free.bind(("127.0.0.1", 0))
-            port = free.getsockname()[1]
+        port = free_port()
         with self.room() as room:
             found = self.listening(room, f"127.0.0.1 {port}", f"0.0.0.0 {room.port}")
             expect(found, ["0.0.0.0", "127.0.0.1"], "where it listens")
@@ -423,7 +415,7 @@ class Tests:
                         with room.client() as third:
                             expect(third.is_closed(), True, "the third is closed again")
             told = ["upsd: cannot let a client in: MAXCONN 2 is reached"]
-            expect(self.said(upsd), told * 2, "it is told once until a client was let in again")
+            expect(said(upsd), told * 2, "it is told once until a client was let in again")
 
     def test_256_connections(self):
         with self.room() as room:
@@ -443,7 +435,7 @@ class Tests:
             finally:
                 for client in clients:
                     client.close()
-            expect(self.said(upsd), ["upsd: cannot let a client in: MAXCONN 256 is reached"], "what is told of the 257th")
+            expect(said(upsd), ["upsd: cannot let a client in: MAXCONN 256 is reached"], "what is told of the 257th")
 
     def test_want_of_descriptors(self):
         def few():
@@ -466,7 +458,7 @@ class Tests:
                 for client in clients:
                     client.close()
             # once for those that wait, and perhaps once more after the first of them was let in
-            told = self.said(upsd)
+            told = said(upsd)
             why = f"upsd: cannot let a client in: {os.strerror(errno.EMFILE)} "
             expect((len(told) in (1, 2), all(line.startswith(why) for line in told)), (True, True), f"what is told: {told}")
 

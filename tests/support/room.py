@@ -92,6 +92,12 @@ def stopped(process, send=None):
         send(signal.SIGCONT)
 
 
+def said(process):
+    """Ends a process. Returns the lines that it has written to standard error."""
+    process.kill()
+    return process.stderr.read().decode().splitlines()
+
+
 class Client:
     """A client of a server, or a server of a driver."""
 
