@@ -1,7 +1,8 @@
 #!/usr/bin/env python3
 """Runs all tests: the toolchain's gate (every proof from nothing, an edit of some crates that must fail, the tests and the
-stored runs), then all wrong bodies in rounds, and the tests that run the programs that the gate has built. It shows how much
-processor time each crate took, beside that of the last landing, and at the end repeats the lines that reported a failure.
+stored runs), then all wrong bodies in rounds, and beside them the tests that run the programs that the gate has built. It shows
+how much processor time each crate took, beside that of the last landing, and at the end repeats the lines that reported a
+failure.
 The last line is 'N passed, M failed'."""
 
 import os
@@ -9,6 +10,7 @@ import re
 import resource
 import subprocess
 import sys
+import tempfile
 import time
 
 from tests.gate import times as gate_times
@@ -55,10 +57,21 @@ class Count:
 
     def run(self, command):
         """Runs a command, shows what it prints, and adds the counts of its last line."""
-        # run as root, the toolchain runs tests as the user 'nobody', who needs access to the folders that it makes for them
-        run = subprocess.Popen(command, cwd=ROOT, stdout=subprocess.PIPE, stderr=subprocess.STDOUT, text=True, errors="replace", umask=0o022)
+        with begin(command, subprocess.PIPE) as run:
+            self.add(command, run, run.stdout)
+
+    def run_beside(self, others, command):
+        """Runs a command at the lowest priority while the others run, then shows what it printed, and adds its counts."""
+        with tempfile.TemporaryFile("w+", errors="replace") as said, begin(["nice", "-n", "19", *command], said) as run:
+            others()
+            run.wait()
+            said.seek(0)
+            self.add(command, run, said)
+
+    def add(self, command, run, said):
+        """Shows what a command says, and adds the counts of its last line."""
         last = ""
-        for line in run.stdout:
+        for line in said:
             print(line, end="", flush=True)
             if FAILURE.match(line):
                 self.failures.append(line.rstrip("\n"))
@@ -74,7 +87,21 @@ class Count:
             self.failed += int(counts[2]) or int(status != 0)
 
     def run_test(self, name, *words):
-        self.run([sys.executable, "-m", f"tests.{name}", *words])
+        self.run(test_command(name, *words))
+
+
+def begin(command, output):
+    # run as root, the toolchain runs tests as the user 'nobody', who needs access to the folders that it makes for them
+    return subprocess.Popen(command, cwd=ROOT, stdout=output, stderr=subprocess.STDOUT, text=True, errors="replace", umask=0o022)
+
+
+def test_command(name, *words):
+    return [sys.executable, "-m", f"tests.{name}", *words]
+
+
+def run_programs(count):
+    for test, programs in TESTS:
+        count.run_test(test, *[os.path.join("crates", program, "out", program) for program in programs])
 
 
 def pass_all(count):
@@ -84,9 +111,8 @@ def pass_all(count):
         count.run(["rt", "ci"])
     if count.failed == 0:
         count.run_test("gate.wrong_bodies_test")
-        count.run_test("gate.wrong_bodies")
-        for test, programs in TESTS:
-            count.run_test(test, *[os.path.join("crates", program, "out", program) for program in programs])
+        # the tests of programs mostly wait, and the rounds use the processors meanwhile
+        count.run_beside(lambda: run_programs(count), test_command("gate.wrong_bodies"))
 
 
 def main():
