@@ -32,7 +32,7 @@ UNSTEADY = re.compile(r"var/(lib/(dpkg|apt|systemd/deb-systemd-helper)|cache|log
 def package_of(path):
     """Returns the package that an installed file belongs to."""
     name = os.path.basename(path)
-    if path.startswith("share/mulgefa/rooms/"):
+    if path.startswith(("share/mulgefa/rooms/", "share/mulgefa/schedules/")):
         return "mulgefa-client"
     for of in SERVERS:
         if name in (of, f"{of}.5", f"{of}.8") or name in (f"mulgefa-{of}.service", f"mulgefa-{of}@.service"):
