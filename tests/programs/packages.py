@@ -305,7 +305,8 @@ class Tests:
 
     def test_services_follow_nut_conf(self):
         """The services that NUT's nut.conf names are enabled, and nothing else."""
-        wanted = {"none": [], "netclient": ["mulgefa-upsmon"], "standalone": ["mulgefa-upsd", "mulgefa-upsmon"], "netserver": ["mulgefa-upsd", "mulgefa-upsmon"]}
+        both = ["mulgefa-upsd", "mulgefa-upsmon"]
+        wanted = {"none": [], "netclient": ["mulgefa-upsmon"], "standalone": both, "'standalone'": both, '"netserver"  # ours': both}
         root = self.fresh("modes")
         for mode, services in wanted.items():
             os.makedirs(root.path("/etc/nut"), exist_ok=True)
