@@ -614,6 +614,14 @@ class Tests:
                 text = file.read()
             expect(("=/srv/ups\n" in text, "/etc/nut" in text), (True, False), f"{program}: another folder")
 
+    def test_units_start_again_and_wait_for_no_network(self):
+        """To systemd SIGHUP is no failure. A network may come up long after a power failure."""
+        for unit in UNITS.values():
+            with open(os.path.join(ROOT, "packaging", unit)) as file:
+                text = file.read()
+            expect(("Restart=on-failure\nRestartSec=5\n" in text, "RestartForceExitStatus=SIGHUP\n" in text), (True, True), f"{unit}: when it starts again")
+            ensure("network-online" not in text, f"{unit} waits for a network")
+
     def test_monitor_has_the_mounts_of_its_machine(self):
         """What SHUTDOWNCMD unmounts has to be unmounted for the whole machine."""
         texts = {}
