@@ -213,7 +213,7 @@ class Tests:
             room.until(STATUS, ONLINE)
 
     def test_driver_that_never_reads(self):
-        # a driver that never answers is closed after MAXAGE
+        # a driver that says nothing for MAXAGE seconds would be stale before the test is over
         with self.room(conf=b"MAXAGE 86400\n") as room, room.driver() as listener:
             upsd = room.upsd()
             with accepted(listener) as driver, room.client() as client:
