@@ -81,6 +81,7 @@ class Tests:
             self.exchange(machine)
             self.is_served_here(machine)
             self.reloads(machine)
+            self.starts_again_after_hangup(machine)
             self.client_sees_an_upgrade(machine)
             self.halts(machine)
             self.bring_back(machine)
@@ -193,6 +194,16 @@ class Tests:
             machine.do("systemctl reload mulgefa-upsd")
             machine.wait_for("upsc -l 2> /dev/null", names)
         expect(machine.do("systemctl show -p MainPID mulgefa-upsd"), before, "the process of upsd")
+
+    def starts_again_after_hangup(self, machine):
+        """To systemd SIGHUP is an ordinary end; scripts send it to have NUT's programs read their files."""
+        units = ("mulgefa-upsd", "mulgefa-upsmon", "mulgefa-dummy-ups@su700")
+        before = {unit: int(machine.do(f"systemctl show -p NRestarts --value {unit}")) for unit in units}
+        machine.do(f"systemctl kill -s HUP {' '.join(units)}")
+        for unit, count in before.items():
+            machine.wait_for(f"systemctl show -p NRestarts --value {unit}", str(count + 1))
+        machine.wait_for("upsc su700 ups.status 2> /dev/null", "OL")
+        machine.wait_for("upsc -c su700 2> /dev/null", "127.0.0.1")
 
     def client_sees_an_upgrade(self, machine):
         before = machine.do("systemctl show -p MainPID mulgefa-upsd mulgefa-upsmon mulgefa-dummy-ups@su700")
