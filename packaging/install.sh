@@ -54,7 +54,7 @@ fi
 # wants it.
 part_of() {
     case $1 in
-        share/mulgefa/rooms/*)
+        share/mulgefa/rooms/* | share/mulgefa/schedules/*)
             echo client
             return
             ;;
@@ -135,10 +135,10 @@ for example in $(files_of examples); do
     without_passwords "examples/$example" > "$filled"
     put 644 "$filled" "share/mulgefa/examples/$example"
 done
+# The passwords of rooms that are played let nobody in anywhere.
 for schedule in $(files_of examples/schedules); do
     put 644 "examples/schedules/$schedule" "share/mulgefa/schedules/$schedule"
 done
-# The passwords of a room that is played let nobody in anywhere.
 rooms=
 for room in examples/rooms/*; do
     rooms="$rooms share/mulgefa/rooms/${room##*/}"

@@ -12,7 +12,7 @@ cd "$(dirname "$0")/.."
 BIN=${BIN-bin}
 TO=${TO-dist}
 if [ -z "${SOURCE_DATE_EPOCH-}" ] && ! SOURCE_DATE_EPOCH=$(git log -1 --format=%ct); then
-    echo 'SOURCE_DATE_EPOCH is wanted, in seconds, where git has no last commit' >&2
+    echo 'SOURCE_DATE_EPOCH is missing, in seconds: git has no last commit' >&2
     exit 1
 fi
 export SOURCE_DATE_EPOCH LC_ALL=C TZ=UTC
@@ -23,7 +23,7 @@ maintainer='Mulgefa maintainers <maintainers@users.noreply.mulgefa.example>'
 architecture=$(dpkg --print-architecture 2> /dev/null || uname -m)
 server='upsd dummy-ups'
 client='upsmon upsc upsrw upscmd'
-# the player of scenes goes along where it is built
+# nutsim is included if it was built
 if [ -e "$BIN/nutsim" ]; then
     client="$client nutsim"
 fi
@@ -31,7 +31,7 @@ fi
 # needs NAME PACKAGE: a program of the system.
 needs() {
     if ! command -v "$1" > /dev/null; then
-        echo "$1 is wanted, of Debian's package $2" >&2
+        echo "$1 is missing (Debian's package $2)" >&2
         exit 1
     fi
 }

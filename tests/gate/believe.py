@@ -42,7 +42,7 @@ PROMISES = (
 
 HEAD = """# What has to be believed
 
-Who believes the definitions below believes what the clauses of these calls say. For each call the page lists, in the order in
+Whoever believes the definitions below believes what the clauses of these calls say. For each call the page lists, in the order in
 which they rest on each other, the definitions that its clauses lead to: a path such as `nut_words: Lines` stands for
 `crates/nut_words/specs/Lines.antt`. Lines are those of a definition with its comment. Words of the toolchain's own library
 (lists, numbers, options) aren't listed, and types and constants of the code are listed apart.

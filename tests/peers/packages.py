@@ -81,6 +81,7 @@ class Tests:
             self.exchange(machine)
             self.is_served_here(machine)
             self.reloads(machine)
+            self.starts_again_after_hangup(machine)
             self.client_sees_an_upgrade(machine)
             self.halts(machine)
             self.bring_back(machine)
@@ -105,11 +106,11 @@ class Tests:
         machine = Booted(folder)
         try:
             machine.wait_for("upsc copy ups.status 2> /dev/null", "OL", 90)
-            machine.do("/root/mulgefa-*/packaging/mulgefa-check -w /etc/mulgefa")
+            machine.do("/root/mulgefa-*/packaging/mulgefa-check --upsd -w /etc/mulgefa")
+            machine.do("/root/mulgefa-*/packaging/mulgefa-check --upsmon -i")
             machine.do("dpkg-deb -x ./mulgefa-server_*.deb unpacked && unpacked/usr/sbin/mulgefa-nut-drivers /var/cache/apt/archives/nut-server_*.deb")
-            for unit in ("mulgefa-upsd.service", "mulgefa-upsmon.service"):
-                os.makedirs(machine.path(f"/etc/systemd/system/{unit}.d"))
-                machine.write(f"/etc/systemd/system/{unit}.d/folder.conf", "[Service]\nEnvironment=NUT_CONFPATH=/etc/mulgefa\n", 0o644)
+            os.makedirs(machine.path("/etc/systemd/system/mulgefa-upsd.service.d"))
+            machine.write("/etc/systemd/system/mulgefa-upsd.service.d/folder.conf", "[Service]\nEnvironment=NUT_CONFPATH=/etc/mulgefa\n", 0o644)
             before = machine.read("/etc/nut/ups.conf")
             machine.do("apt-get install ./mulgefa-*.deb")
             machine.do("systemctl enable --now mulgefa-upsd mulgefa-upsmon nut-driver@su700 nut-driver@copy")
@@ -119,6 +120,8 @@ class Tests:
             ensure("2.8.0" not in self.version(machine), "this project's server answers")
             expect(machine.read("/etc/nut/ups.conf"), before, "the drivers' ups.conf")
             expect(machine.do("dpkg --verify mulgefa-nut-drivers"), "", "files that differ")
+            machine.wait_for("upsc -c su700", "127.0.0.1")
+            self.flag_is_found(machine)
             machine.do("upsrw -s ups.status=OB -u admin -p pw su700")
             machine.wait_for("upsc copy ups.status", "OB")
             machine.do("apt-get install nut-server nut-client")
@@ -128,6 +131,13 @@ class Tests:
             machine.wait_for("upsc copy ups.status 2> /dev/null", "OL", 60)
         finally:
             machine.stop()
+
+    def flag_is_found(self, machine):
+        """A script at the end of a halt asks upsmon without the environment of its unit."""
+        machine.do("echo upsmon-shutdown-file > /run/killpower")
+        expect(machine.run("env -i /sbin/upsmon -K"), (0, ""), "upsmon -K with the flag")
+        machine.do("rm /run/killpower")
+        expect(machine.run("env -i /sbin/upsmon -K"), (1, ""), "upsmon -K without it")
 
     def nut_serves(self, machine):
         machine.wait_for("upsc su700 ups.status 2> /dev/null", "OL", 90)
@@ -184,6 +194,16 @@ class Tests:
             machine.do("systemctl reload mulgefa-upsd")
             machine.wait_for("upsc -l 2> /dev/null", names)
         expect(machine.do("systemctl show -p MainPID mulgefa-upsd"), before, "the process of upsd")
+
+    def starts_again_after_hangup(self, machine):
+        """To systemd SIGHUP is an ordinary end; scripts send it to have NUT's programs read their files."""
+        units = ("mulgefa-upsd", "mulgefa-upsmon", "mulgefa-dummy-ups@su700")
+        before = {unit: int(machine.do(f"systemctl show -p NRestarts --value {unit}")) for unit in units}
+        machine.do(f"systemctl kill -s HUP {' '.join(units)}")
+        for unit, count in before.items():
+            machine.wait_for(f"systemctl show -p NRestarts --value {unit}", str(count + 1))
+        machine.wait_for("upsc su700 ups.status 2> /dev/null", "OL")
+        machine.wait_for("upsc -c su700 2> /dev/null", "127.0.0.1")
 
     def client_sees_an_upgrade(self, machine):
         before = machine.do("systemctl show -p MainPID mulgefa-upsd mulgefa-upsmon mulgefa-dummy-ups@su700")

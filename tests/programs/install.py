@@ -23,7 +23,7 @@ PAGES = ("ups.conf.5", "upsd.conf.5", "upsd.users.5", "upsmon.conf.5", "from-nut
 EXAMPLES = ("ups.conf", "upsd.conf", "upsd.users", "upsmon.conf", "su700.dev")
 ROOMS = ("primary-alone", "primary-waits", "power-failure", "cut-network", "server-restarts")
 ROOM_FILES = ("m1.conf", "m2.conf", "m3.conf", "m4.conf", "m5.conf", "room", "ups.conf", "upsd.conf", "upsd.users")
-SCHEDULES = ("README.md", "primary.conf", "secondary.conf", *(f"{room}.sched" for room in ROOMS))
+SCHEDULES = ("README.md", "primary.conf", "secondary.conf", "ups.conf", "upsd.conf", "upsd.users", *(f"{room}.sched" for room in ROOMS))
 # the settings of a unit that give it mounts of its own (systemd.exec(5)), or might
 OWN_MOUNTS = re.compile(
     r"^(?:Private\w+|Protect\w+|ProcSubset|DynamicUser|Root(?:Directory|Image)\w*|Mount\w+|Extension\w+|TemporaryFileSystem|LogNamespace|\w+Paths|\w+NamespacePath)=.*$",
@@ -359,6 +359,16 @@ class Tests:
         with open(os.path.join(folder, "upsmon.conf")) as file:
             expect(re.findall("^MONITOR.*$", file.read(), re.MULTILINE), ["MONITOR su700@localhost 1 monuser PASSWORD primary"], "a password")
 
+    def test_installed_rooms_print_what_the_page_shows(self):
+        if "nutsim" not in self.built:
+            raise Missing("no built programs were handed in")
+        prefix = self.installed("rooms")
+        with open(os.path.join(ROOT, "man", "nutsim.8")) as file:
+            shown = re.search(r"^\$ nutsim (.*)\n((?:.*\n)*?)\.EE$", file.read().replace("\\-", "-"), re.MULTILINE)
+        words = [os.path.join(self.bin, "nutsim"), *shown[1].split()]
+        done = subprocess.run(words, cwd=os.path.join(prefix, "share/mulgefa"), stdin=subprocess.DEVNULL, capture_output=True, timeout=60)
+        expect((done.returncode, done.stdout.decode(), done.stderr), (0, shown[2], b""), shown[1])
+
     def test_room_to_try(self):
         """The commands that the README shows work as pasted, on a network of their own."""
         unshare = needed("unshare", "util-linux")
@@ -603,6 +613,14 @@ class Tests:
             with open(os.path.join(prefix, "lib/systemd/system", UNITS[program])) as file:
                 text = file.read()
             expect(("=/srv/ups\n" in text, "/etc/nut" in text), (True, False), f"{program}: another folder")
+
+    def test_units_start_again_and_wait_for_no_network(self):
+        """To systemd SIGHUP is no failure. A network may come up long after a power failure."""
+        for unit in UNITS.values():
+            with open(os.path.join(ROOT, "packaging", unit)) as file:
+                text = file.read()
+            expect(("Restart=on-failure\nRestartSec=5\n" in text, "RestartForceExitStatus=SIGHUP\n" in text), (True, True), f"{unit}: when it starts again")
+            ensure("network-online" not in text, f"{unit} waits for a network")
 
     def test_monitor_has_the_mounts_of_its_machine(self):
         """What SHUTDOWNCMD unmounts has to be unmounted for the whole machine."""

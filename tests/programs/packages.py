@@ -32,7 +32,7 @@ UNSTEADY = re.compile(r"var/(lib/(dpkg|apt|systemd/deb-systemd-helper)|cache|log
 def package_of(path):
     """Returns the package that an installed file belongs to."""
     name = os.path.basename(path)
-    if path.startswith("share/mulgefa/rooms/"):
+    if path.startswith(("share/mulgefa/rooms/", "share/mulgefa/schedules/")):
         return "mulgefa-client"
     for of in SERVERS:
         if name in (of, f"{of}.5", f"{of}.8") or name in (f"mulgefa-{of}.service", f"mulgefa-{of}@.service"):
@@ -305,7 +305,8 @@ class Tests:
 
     def test_services_follow_nut_conf(self):
         """The services that NUT's nut.conf names are enabled, and nothing else."""
-        wanted = {"none": [], "netclient": ["mulgefa-upsmon"], "standalone": ["mulgefa-upsd", "mulgefa-upsmon"], "netserver": ["mulgefa-upsd", "mulgefa-upsmon"]}
+        both = ["mulgefa-upsd", "mulgefa-upsmon"]
+        wanted = {"none": [], "netclient": ["mulgefa-upsmon"], "standalone": both, "'standalone'": both, '"netserver"  # ours': both}
         root = self.fresh("modes")
         for mode, services in wanted.items():
             os.makedirs(root.path("/etc/nut"), exist_ok=True)

@@ -213,7 +213,7 @@ class Tests:
             room.until(STATUS, ONLINE)
 
     def test_driver_that_never_reads(self):
-        # a driver that never answers is closed after MAXAGE
+        # the driver says nothing more, and its data must not become stale meanwhile
         with self.room(conf=b"MAXAGE 86400\n") as room, room.driver() as listener:
             upsd = room.upsd()
             with accepted(listener) as driver, room.client() as client:
