@@ -4,7 +4,7 @@ use Rattle.std.specs.Prelude.{IsTrue, if◌then◌else◌}
 use Rattle.nut_server_spec.specs.declared.Place.{Place}
 use Rattle.nut_server_spec.specs.declared.Place.TheVariants.{Line, Report, NewUpses}
 use Rattle.nut_server_spec.specs.Content as server
-use Rattle.nut_server_spec.specs.MachineOutcome as server_outcome
+use Rattle.nut_server_spec.specs.machine.MachineOutcome as server_outcome
 use Rattle.nut_server.specs.Arrival.{event_of}
 use Rattle.nut_server.specs.declared.arrival.Arrival.{Arrival}
 use Rattle.nut_server.specs.declared.arrival.Arrival.TheVariants as arrivals

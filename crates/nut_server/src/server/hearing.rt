@@ -9,7 +9,7 @@ ghost use Rattle.nut_server_spec.specs.Command.{asked, command_in, command_of};
 ghost use Rattle.nut_server_spec.specs.Content.{Session};
 ghost use Rattle.nut_server_spec.specs.machine.Machine.{answer_in, bytes_heard, caller_of, scene_of};
 ghost use Rattle.nut_server_spec.specs.Outcome.{is_blank, line_takes, with_backslash};
-ghost use Rattle.nut_server_spec.specs.MachineOutcome.{content_lost, RunsOut};
+ghost use Rattle.nut_server_spec.specs.machine.MachineOutcome.{content_lost, RunsOut};
 ghost use Rattle.nut_server.specs.inside.Effects.{HasShortNames, answered_by};
 ghost use Rattle.nut_server.specs.inside.Lines.{line_heard_by};
 ghost use Rattle.nut_server.specs.inside.Place.{Stands};
