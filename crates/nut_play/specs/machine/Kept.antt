@@ -17,9 +17,9 @@ use Rattle.nut_monitor.specs.Monitors.{MonitorValue}
 use Rattle.nut_fleet.specs.Schedule.{Step, ServerClock, MonitorClock, Up, Driver, Down, Link, Out, Reach, Back, Land, CutServer, CutMonitor}
 use Rattle.nut_fleet.specs.World.{Setup, World, Deed, Skip, Rest, Tell, Inform, Join, no_monitor, carried, counted, moved, address_of}
 use Rattle.nut_fleet.specs.Log.{News}
-use Rattle.nut_fleet.specs.machine.Moves.{reached, sent_off, landed, put_in}
-use Rattle.nut_fleet.specs.Seen.{Ends, Fleet}
-use Rattle.nut_fleet.specs.machine.Going.{Keeps, hushed, put_on, heard_news}
+use Rattle.nut_fleet.specs.Moves.{reached, sent_off, landed, put_in}
+use Rattle.nut_fleet.specs.Seen.{Ends, Fleet, Keeps}
+use Rattle.nut_fleet.specs.machine.Going.{hushed, put_on, heard_news}
 
 -- ---- what is kept
 
