@@ -3,7 +3,7 @@
 ghost use Rattle.std.specs.Prelude.{◌≡◌, ◌<◌, ℕ, Some, Ok, Err, false, IfErr, IsTrue, OnOk, OnErr, length, slice_get};
 ghost use Rattle.nut_words.specs.Cutter.{line_of};
 ghost use Rattle.nut_words.specs.declared.words.WordFault.TheVariants.{Memory};
-ghost use Rattle.nut_server_spec.specs.Acceptance.{front, line_feeds, session_of};
+ghost use Rattle.nut_server_spec.specs.Acceptance.{line_feeds, session_of};
 ghost use Rattle.nut_server_spec.specs.Answer.{answer};
 ghost use Rattle.nut_server_spec.specs.Command.{asked, command_in, command_of};
 ghost use Rattle.nut_server_spec.specs.Content.{Session};
