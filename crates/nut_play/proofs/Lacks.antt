@@ -21,8 +21,8 @@ use Rattle.nut_fleet.specs.World.{Inform, Skip}
 use Rattle.nut_fleet.specs.Log.{News, Skipped, Noticed, Moved, turned}
 use Rattle.nut_fleet.specs.machine.Going.{heard_news}
 use Rattle.nut_play.specs.Lack.{may_allocate, is_link_piece, is_told, brings_bytes, may_lack}
-use Rattle.nut_play.specs.machine.Kept.{inform_by, told_news}
-use Rattle.nut_play.specs.Play.{told_if}
+use Rattle.nut_play.specs.machine.Next.{inform_by, told_news}
+use Rattle.nut_play.specs.machine.Play.{told_if}
 
 -- Only a piece and a reload may lack memory.
 pub server_lacks : (s : server.Content) (place : Place) (arrival : Arrival) → server_outcome.Lacks s place (event_of arrival) → may_allocate (event_of arrival) ≡ true

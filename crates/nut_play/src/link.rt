@@ -8,7 +8,8 @@ ghost use Rattle.nut_fleet.specs.World.{address_of};
 ghost use Rattle.nut_fleet.specs.Log.{logged};
 ghost use Rattle.nut_fleet.specs.machine.Going.{put_on};
 ghost use Rattle.nut_play.specs.Lack.{is_told};
-ghost use Rattle.nut_play.specs.machine.Kept.{is_played, reach_by, back_by, out_by, land_by, link_by, told_by, heard_by, told_news, reached_by, landed_by, back_put, out_put, made_by, open_by, waits_by, no_ends};
+ghost use Rattle.nut_play.specs.machine.Next.{is_played, reach_by, back_by, out_by, land_by, link_by, told_by, heard_by, told_news, reached_by, landed_by, back_put, out_put, made_by, open_by, waits_by};
+ghost use Rattle.nut_play.specs.Kept.{no_ends};
 ghost use Rattle.nut_play.specs.Steps.{logged_of};
 
 use crate::telling::{inform, is_open, tell};
