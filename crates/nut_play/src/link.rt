@@ -1,6 +1,6 @@
 //! A link with its pipes.
 
-ghost use Rattle.std.specs.Prelude.{◌≡◌, ◌++◌, ◌+◌, ◌≤◌, ◌<◌, IfOk, OnOk, OnErr, IsTrue, [], ◌∷◌, ℕ, min, map, length, take, drop, is_some, true};
+ghost use Rattle.std.specs.Prelude.{◌≡◌, ◌++◌, ◌+◌, ◌≤◌, ◌<◌, IfOk, OnOk, OnErr, IsTrue, [], min, map, length, take, is_some, true};
 ghost use Rattle.nut_server_spec.specs.Acceptance.{session_of, waiting_of};
 ghost use Rattle.nut_server_spec.specs.Event.{Took};
 ghost use Rattle.nut_server_spec.specs.machine.Machine.{advance};
