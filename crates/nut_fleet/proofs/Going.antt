@@ -27,9 +27,9 @@ use Rattle.nut_fleet.specs.Schedule.{Step, ServerClock, MonitorClock, Up, Driver
 use Rattle.nut_fleet.specs.World.{Setup, World, Deed, Skip, Tell, Inform, Join, monitor_of, seen, served, known, is_open, is_linked, to_server, to_monitor, server_waits, monitor_waits, tell, inform, carried, counted, moved, address_of, has_link, is_fit, deed, deed_of, all_taken, informed, for_monitor, after, world}
 use Rattle.nut_fleet.specs.Fleet.{IsSetup}
 use Rattle.nut_fleet.specs.Log.{Noticed, turned, news, news_of}
-use Rattle.nut_fleet.specs.machine.Moves.{reached, sent_off, landed, put_in, makes, ContentsTell}
-use Rattle.nut_fleet.specs.Seen.{Ends, Fleet, Stands, open_seen, linked_seen, tell_seen, inform_seen, deed_by}
-use Rattle.nut_fleet.specs.machine.Going.{KeepsLink, Keeps, what_counts, told_on, hushed, informed_on, with_ends, put_on, ends_reached, ends_back, ends_out, ends_landed, ends_made, moved_by, moved_on, heard_news, news_by, news_seen, FleetsGoOn}
+use Rattle.nut_fleet.specs.Moves.{reached, sent_off, landed, put_in, makes, ContentsTell}
+use Rattle.nut_fleet.specs.Seen.{Ends, Fleet, Stands, open_seen, linked_seen, tell_seen, inform_seen, deed_by, KeepsLink, Keeps}
+use Rattle.nut_fleet.specs.machine.Going.{what_counts, told_on, hushed, informed_on, with_ends, put_on, ends_reached, ends_back, ends_out, ends_landed, ends_made, moved_by, moved_on, heard_news, news_by, news_seen, FleetsGoOn}
 use Rattle.nut_fleet.proofs.Sound.{Sound, IsLawful}
 use Rattle.nut_fleet.proofs.Steps.{for-own, for-other, line-within, zero-closed, is_none-true, some-there}
 use Rattle.nut_fleet.proofs.Worlds.{sound}

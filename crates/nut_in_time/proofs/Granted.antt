@@ -20,7 +20,7 @@ use Rattle.nut_monitor_spec.specs.Query.{request}
 use Rattle.nut_fleet.specs.Schedule.{Step as Playing}
 use Rattle.nut_fleet.specs.World.{Setup, line_of, world}
 use Rattle.nut_fleet.specs.Shown.{query_line}
-use Rattle.nut_fleet.specs.machine.Exchange.{Exchange, exchanges}
+use Rattle.nut_fleet.specs.Exchange.{Exchange, exchanges}
 use Rattle.nut_fleet.specs.Fleet.{IsSpoken, IsAnswered, Exists}
 use Rattle.nut_fleet.proofs.Sound.{IsOwn, AreOwn}
 use Rattle.nut_fleet.proofs.Reading.{answer-said, reply-same}

@@ -19,7 +19,7 @@ use Rattle.nut_monitor_spec.specs.Query.{logins_in}
 use Rattle.nut_monitor_spec.specs.Trace.{Asked, Entry, gives, clock, moment_of, latest, earliest, is_any, last_in, queries, phase, begun, has_begun, is_short, ended, has_ended, is_over_at, notices_waiting, entry_of, trace}
 use Rattle.nut_fleet.specs.Schedule.{Step, IsFront}
 use Rattle.nut_fleet.specs.World.{Setup, World, Deed, Skip, Rest, Tell, Inform, Join, after, deed, has_link, line_of, monitor_of, world}
-use Rattle.nut_fleet.specs.machine.Exchange.{exchanges}
+use Rattle.nut_fleet.specs.Exchange.{exchanges}
 use Rattle.nut_fleet.specs.Fleet.{Exists, IsSetup, WasAlone, at_count}
 use Rattle.nut_fleet.specs.Shown.{logins}
 use Rattle.nut_fleet.proofs.Entries.{length-trace}

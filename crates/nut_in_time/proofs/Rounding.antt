@@ -16,7 +16,7 @@ use Rattle.nut_monitor_spec.specs.Trace as monitor
 use Rattle.nut_monitor_spec.proofs.Lists.{number-none}
 use Rattle.nut_fleet.specs.Schedule.{Step, IsFront}
 use Rattle.nut_fleet.specs.World.{Setup, monitor_of, line_of, world, informed, has_link}
-use Rattle.nut_fleet.specs.machine.Exchange.{Exchange, exchanges}
+use Rattle.nut_fleet.specs.Exchange.{Exchange, exchanges}
 use Rattle.nut_fleet.specs.Fleet.{IsSetup}
 use Rattle.nut_fleet.proofs.Entries.{entry-taken, length-trace}
 use Rattle.nut_fleet.proofs.Exchanges.{said-lines}

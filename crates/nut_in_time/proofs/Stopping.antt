@@ -19,7 +19,7 @@ use Rattle.nut_monitor_spec.specs.Query.{logins_in}
 use Rattle.nut_monitor_spec.specs.Trace.{Answer, Entry, clock, newest_answer, logins_of_answer, logins, status, critical, begun, has_begun, came, notices_waiting, trace}
 use Rattle.nut_fleet.specs.Schedule.{Step, IsFront}
 use Rattle.nut_fleet.specs.World.{Setup, has_link, informed, line_of, monitor_of, world}
-use Rattle.nut_fleet.specs.machine.Exchange.{exchanges}
+use Rattle.nut_fleet.specs.Exchange.{exchanges}
 use Rattle.nut_fleet.specs.Fleet.{Exists, IsAnswered, IsSetup}
 use Rattle.nut_fleet.specs.Shown.{query_line}
 use Rattle.nut_fleet.proofs.Entries.{entry-answer, forced-by, forced-entry, length-trace}

@@ -11,7 +11,7 @@ use Rattle.nut_monitor_spec.specs.Configuration.{Configuration, Line}
 use Rattle.nut_monitor_spec.specs.Trace.{clock, has_begun, has_ended, phase}
 use Rattle.nut_fleet.specs.Schedule.{Step, IsFront}
 use Rattle.nut_fleet.specs.World.{Setup, is_open, line_of, monitor_of, world}
-use Rattle.nut_fleet.specs.machine.Exchange.{Exchange, exchanges}
+use Rattle.nut_fleet.specs.Exchange.{Exchange, exchanges}
 use Rattle.nut_fleet.specs.Fleet.{Exists}
 use Rattle.nut_fleet.specs.Shown.{query_line}
 use Rattle.nut_in_time.specs.Pace.{Pace, FromOn, IsPolled, IsSteady, KeepsPace, Says, seen_at, shown_at}

@@ -1,6 +1,6 @@
 -- A list after one element was changed.
 use Rattle.std.proofs.Common.{◌≡◌, ◌<◌, ℕ, zero, suc, List, [], ◌∷◌, length, map, slice_get, slice_index_or, Some, refl, ap, arith}
-use Rattle.nut_play.specs.machine.Kept.{changed_at}
+use Rattle.nut_play.specs.machine.Next.{changed_at}
 
 pub get-changed : {A : Type 0} (m : ℕ) (change : A → A) (xs : List A) (x : A) → slice_get xs m ≡ Some x → slice_get (changed_at m change xs) m ≡ Some (change x)
 get-changed m change [] x is = cc

@@ -3,7 +3,8 @@ use Rattle.std.proofs.Common.{◌≡◌, ◌<◌, ℕ, length, slice_get, slice_
 use Rattle.nut_server_spec.specs.Content.{Content}
 use Rattle.nut_fleet.specs.Log.{News, Logged, logged}
 use Rattle.nut_monitor_spec.specs.Content as knowledge
-use Rattle.nut_play.specs.machine.Kept.{Seat, Kept, ends_at, links_in, known_in, known_of, link_of, changed_at}
+use Rattle.nut_play.specs.Kept.{Seat, Kept, ends_at, links_in, known_in}
+use Rattle.nut_play.specs.machine.Next.{known_of, link_of, changed_at}
 use Rattle.nut_play.proofs.Places.{changed-written, get-at}
 
 pub if-ok : {T E : Type 0} (P Q : T → Type 0) (r : Result T E) → ((x : T) → P x → Q x) → IfOk r P → IfOk r Q

@@ -9,7 +9,7 @@ use Rattle.nut_monitor_spec.specs.Acceptance.{refusal}
 use Rattle.nut_monitor_spec.specs.machine.Machine.{advance}
 use Rattle.nut_fleet.specs.World.{Inform, Skip}
 use Rattle.nut_fleet.specs.Log.{News, Logged, logged, turned, Noticed, Moved}
-use Rattle.nut_play.specs.machine.Kept.{inform_by, told_news}
+use Rattle.nut_play.specs.machine.Next.{inform_by, told_news}
 
 logged-append : (k : ℕ) (xs ys : List News) → logged k (xs ++ ys) ≡ logged k xs ++ logged k ys
 logged-append k xs ys = map-append (λ n. let l : Logged = record { step = k; news = n } in l) xs ys

@@ -4,7 +4,7 @@ use Rattle.std.specs.Prelude.{IsTrue, if◌then◌else◌}
 use Rattle.nut_server_spec.specs.declared.Place.{Place}
 use Rattle.nut_server_spec.specs.declared.Place.TheVariants.{Line, Report, NewUpses}
 use Rattle.nut_server_spec.specs.Content as server
-use Rattle.nut_server_spec.specs.MachineOutcome as server_outcome
+use Rattle.nut_server_spec.specs.machine.MachineOutcome as server_outcome
 use Rattle.nut_server.specs.Arrival.{event_of}
 use Rattle.nut_server.specs.declared.arrival.Arrival.{Arrival}
 use Rattle.nut_server.specs.declared.arrival.Arrival.TheVariants as arrivals
@@ -21,8 +21,8 @@ use Rattle.nut_fleet.specs.World.{Inform, Skip}
 use Rattle.nut_fleet.specs.Log.{News, Skipped, Noticed, Moved, turned}
 use Rattle.nut_fleet.specs.machine.Going.{heard_news}
 use Rattle.nut_play.specs.Lack.{may_allocate, is_link_piece, is_told, brings_bytes, may_lack}
-use Rattle.nut_play.specs.machine.Kept.{inform_by, told_news}
-use Rattle.nut_play.specs.Play.{told_if}
+use Rattle.nut_play.specs.machine.Next.{inform_by, told_news}
+use Rattle.nut_play.specs.machine.Play.{told_if}
 
 -- Only a piece and a reload may lack memory.
 pub server_lacks : (s : server.Content) (place : Place) (arrival : Arrival) → server_outcome.Lacks s place (event_of arrival) → may_allocate (event_of arrival) ≡ true

@@ -1,6 +1,6 @@
 -- The element at a place of a list, and changing it.
 use Rattle.std.proofs.Common.{◌≡◌, ◌<◌, ℕ, zero, suc, List, [], ◌∷◌, length, map, slice_get, slice_set, slice_index_or, Some, refl, sym, ◌∙◌, ap, arith}
-use Rattle.nut_play.specs.machine.Kept.{changed_at}
+use Rattle.nut_play.specs.machine.Next.{changed_at}
 
 -- reading an element and writing its change back changes the list there
 pub changed-written : {A : Type 0} (i : ℕ) (change : A → A) (xs : List A) (x y : A) → i < length xs → x ≡ slice_index_or xs i x → y ≡ change x → slice_set xs i y ≡ changed_at i change xs

@@ -11,10 +11,11 @@ use Rattle.nut_play.specs.declared.types.Step.{Step}
 use Rattle.nut_play.specs.declared.types.FleetFault.{FleetFault}
 use Rattle.nut_play.specs.declared.types.FleetFault.TheVariants.{BadStep, Memory, Failed}
 use Rattle.nut_play.specs.Lack.{may_lack}
-use Rattle.nut_play.specs.machine.Kept.{Kept, fits}
+use Rattle.nut_play.specs.Kept.{Kept}
+use Rattle.nut_play.specs.machine.Next.{fits}
 use Rattle.nut_play.specs.Steps.{step_of, steps_of}
-use Rattle.nut_play.specs.Play.{firsts, before_all, run, run_log, told_at, IsPlayed, IsStopped, IsLacking, IsLog, IsFault}
-use Rattle.nut_play.specs.Play as machine
+use Rattle.nut_play.specs.machine.Play.{firsts, before_all, run, run_log, told_at, IsPlayed, IsStopped, IsLacking, IsLog, IsFault}
+use Rattle.nut_play.specs.machine.Play as machine
 use Rattle.nut_play.specs.Room.{HasPlayed, WerePlayed, StopsBehind, LacksBehind, IsFaultOf}
 use Rattle.nut_play.proofs.Runs.{some-get, get-map}
 use Rattle.nut_play.proofs.Standing.{run-stands, run-tells, run-fits, same-fit, tells-on}

@@ -3,8 +3,9 @@ use Rattle.std.proofs.Common.{◌≡◌, ◌<◌, ◌≤◌, ◌++◌, ◌+◌, 
 use Rattle.nut_fleet.specs.Schedule.{Step}
 use Rattle.nut_fleet.specs.Log.{Logged, logged}
 use Rattle.nut_play.specs.Lack.{may_lack}
-use Rattle.nut_play.specs.machine.Kept.{Kept, next, fits}
-use Rattle.nut_play.specs.Play.{firsts, before_all, run, run_log, told_at, may_run_out, AreFit, IsPlayed, IsLacking}
+use Rattle.nut_play.specs.Kept.{Kept}
+use Rattle.nut_play.specs.machine.Next.{next, fits}
+use Rattle.nut_play.specs.machine.Play.{firsts, before_all, run, run_log, told_at, may_run_out, AreFit, IsPlayed, IsLacking}
 
 pub get-map : {A B : Type 0} (f : A → B) (xs : List A) (n : ℕ) (x : A) → slice_get xs n ≡ Some x → slice_get (map f xs) n ≡ Some (f x)
 get-map f [] n x is = cc

@@ -15,10 +15,12 @@ use Rattle.nut_fleet.specs.Schedule.{Step, ServerClock, MonitorClock, Up, Driver
 use Rattle.nut_fleet.specs.World.{Setup, no_monitor, monitor_of, world, nothing, is_fit, has_link, has_ups}
 use Rattle.nut_fleet.specs.Fleet.{IsMonitor, ConfigurationsAreSpoken}
 use Rattle.nut_fleet.specs.Log.{logged, log, news}
-use Rattle.nut_fleet.specs.machine.Going.{KeepsLink, FleetsGoOn}
+use Rattle.nut_fleet.specs.machine.Going.{FleetsGoOn}
+use Rattle.nut_fleet.specs.Seen.{KeepsLink}
 use Rattle.nut_fleet.proofs.Unreloaded.{as-made, no-reload}
-use Rattle.nut_play.specs.machine.Kept.{Seat, Kept, fleet_of, no_ends, ends_at, links_in, known_in, known_of, changed_at, next, fits, fits_link, fresh_seat, fresh_fleet, IsFleet, reach_seat, back_seat, out_seat, land_seat, join_seat}
-use Rattle.nut_play.specs.Play.{told_at, run, run_log, AreFit}
+use Rattle.nut_play.specs.Kept.{Seat, Kept, fleet_of, no_ends, ends_at, links_in, known_in, fresh_seat, fresh_fleet, IsFleet}
+use Rattle.nut_play.specs.machine.Next.{known_of, changed_at, next, fits, fits_link, reach_seat, back_seat, out_seat, land_seat, join_seat}
+use Rattle.nut_play.specs.machine.Play.{told_at, run, run_log, AreFit}
 use Rattle.nut_play.proofs.Changes.{map-changed, length-changed}
 use Rattle.nut_play.proofs.Stepping.{goes, same-keeps}
 

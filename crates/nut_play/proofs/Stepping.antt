@@ -10,11 +10,12 @@ use Rattle.nut_monitor_spec.specs.Content as knowledge
 use Rattle.nut_monitor_spec.specs.Acceptance as monitor_tests
 use Rattle.nut_fleet.specs.Schedule.{Step, ServerClock, MonitorClock, Up, Driver, Down, Link, Out, Reach, Back, Land, CutServer, CutMonitor}
 use Rattle.nut_fleet.specs.World.{Setup, World, Deed, Skip, Rest, Tell, Inform, Join, carried, counted, moved, address_of, for_monitor}
-use Rattle.nut_fleet.specs.Seen.{Ends, Fleet}
-use Rattle.nut_fleet.specs.machine.Going.{Keeps, KeepsLink, told_on, moved_by, moved_on, news_by, news_seen}
+use Rattle.nut_fleet.specs.Seen.{Ends, Fleet, Keeps, KeepsLink}
+use Rattle.nut_fleet.specs.machine.Going.{told_on, moved_by, moved_on, news_by, news_seen}
 use Rattle.nut_fleet.proofs.Steps.{for-own, for-other}
-use Rattle.nut_play.specs.machine.Kept.{Seat, Kept, fleet_of, ends_at, links_in, known_in, known_of, link_of, changed_at, is_played, tell_by, told_by, told_to, inform_by, heard_by, told_news, open_by, waits_by, reach_by, back_by, out_by, land_by, link_by, linked_by, reached_by, back_put, out_put, landed_by, made_by, hear_seat, reach_seat, back_seat, out_seat, land_seat, join_seat, with_seat, reach_next, back_next, join_next, next, fits, fits_link}
-use Rattle.nut_play.specs.Play.{told_if, told_at}
+use Rattle.nut_play.specs.Kept.{Seat, Kept, fleet_of, ends_at, links_in, known_in}
+use Rattle.nut_play.specs.machine.Next.{known_of, link_of, changed_at, is_played, tell_by, told_by, told_to, inform_by, heard_by, told_news, open_by, waits_by, reach_by, back_by, out_by, land_by, link_by, linked_by, reached_by, back_put, out_put, landed_by, made_by, hear_seat, reach_seat, back_seat, out_seat, land_seat, join_seat, with_seat, reach_next, back_next, join_next, next, fits, fits_link}
+use Rattle.nut_play.specs.machine.Play.{told_if, told_at}
 use Rattle.nut_play.proofs.Changes.{get-changed, get-other, index-changed, index-other}
 use Rattle.nut_play.proofs.Runs.{some-get}
 use Rattle.nut_play.proofs.Fits.{fits_within, fits_there}

@@ -3,7 +3,8 @@ use Rattle.std.proofs.Common.{◌≡◌, ◌<◌, ℕ, length, slice_set, slice_
 use Rattle.nut_server_spec.specs.Content.{Content}
 use Rattle.nut_monitor.specs.Monitors.{MonitorValue}
 use Rattle.nut_fleet.specs.Seen.{Ends}
-use Rattle.nut_play.specs.machine.Kept.{Seat, no_ends, ends_at, changed_at, reached_by, reach_by, back_put, back_by, linked_by, out_by, out_put, open_by, waits_by, land_by, landed_by, link_by, made_by, heard_monitor, reach_seat, back_seat, out_seat, land_seat, join_seat}
+use Rattle.nut_play.specs.Kept.{Seat, no_ends, ends_at}
+use Rattle.nut_play.specs.machine.Next.{changed_at, reached_by, reach_by, back_put, back_by, linked_by, out_by, out_put, open_by, waits_by, land_by, landed_by, link_by, made_by, heard_monitor, reach_seat, back_seat, out_seat, land_seat, join_seat}
 use Rattle.nut_play.proofs.Places.{changed-written, read-at}
 
 pub on-ok : {T E : Type 0} (P Q : Type 0) (r : Result T E) → (P → Q) → OnOk r P → OnOk r Q

@@ -1,6 +1,6 @@
 pub mod Steps
 pub mod Lines
 pub mod Lack
-pub mod Play
+pub mod Kept
 pub mod Room
 pub mod machine

@@ -12,7 +12,7 @@ use Rattle.nut_play.specs.declared.types.Step.{Step}
 use Rattle.nut_play.specs.declared.types.FleetFault.{FleetFault}
 use Rattle.nut_play.specs.declared.types.FleetFault.TheVariants.{BadStep, Memory, Failed}
 use Rattle.nut_play.specs.Lack.{may_lack}
-use Rattle.nut_play.specs.machine.Kept.{Kept, IsFleet}
+use Rattle.nut_play.specs.Kept.{Kept, IsFleet}
 use Rattle.nut_play.specs.Steps.{step_of, steps_of}
 
 -- what a fleet is made with

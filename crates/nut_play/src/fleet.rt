@@ -1,16 +1,16 @@
 //! The fleet.
 
-ghost use Rattle.std.specs.Prelude.{◌≡◌, ◌++◌, ◌∷◌, ◌<◌, ◌≤◌, ◌||◌, ℕ, true, false, List, [], length, map, IfOk, IfErr, Err, OnOk, OnErr, IsTrue, Some, slice_get};
+ghost use Rattle.std.specs.Prelude.{◌≡◌, ◌++◌, ◌∷◌, ◌<◌, ◌||◌, true, false, List, [], length, map, IfOk, IfErr, Err, OnOk, OnErr, IsTrue, slice_get};
 ghost use Rattle.std.specs.Option.{option_map};
-ghost use Rattle.nut_monitor_spec.specs.Configuration.{configuration_of};
 ghost use Rattle.nut_server.specs.Arrival.{event_of};
 ghost use Rattle.nut_monitor.specs.Events.{event_of as told_as};
 ghost use Rattle.nut_fleet.specs.Log.{logged};
 ghost use Rattle.nut_fleet.specs.Seen.{deed_by};
 ghost use Rattle.nut_play.specs.Lack.{may_allocate, is_link_piece, is_told, may_lack};
-ghost use Rattle.nut_play.specs.machine.Kept.{fleet_of, is_played, tell_by, inform_by, reach_by, back_by, out_by, land_by, link_by, told_by, told_news, told_to, with_seat, hear_seat, reach_seat, back_seat, out_seat, land_seat, join_seat, known_of, link_of, fits, fits_link, next, said, reach_next, back_next, join_next, links_in, fresh_seat, fresh_fleet};
+ghost use Rattle.nut_play.specs.Kept.{fleet_of, links_in, fresh_seat, fresh_fleet};
+ghost use Rattle.nut_play.specs.machine.Next.{is_played, tell_by, inform_by, reach_by, back_by, out_by, land_by, link_by, told_news, told_to, with_seat, hear_seat, out_seat, land_seat, known_of, link_of, fits, fits_link, next, said, reach_next, back_next, join_next};
 ghost use Rattle.nut_play.specs.Steps.{step_of, steps_of, logged_of};
-ghost use Rattle.nut_play.specs.Play.{told_at, IsLog, IsFault};
+ghost use Rattle.nut_play.specs.machine.Play.{told_at, IsLog, IsFault};
 ghost use Rattle.nut_play.specs.Room.{setup_of, HasPlayed, WerePlayed, IsFaultOf, RoomHolds};
 ghost use Rattle.nut_fleet.specs.World.{Setup};
 ghost use Rattle.nut_fleet.specs.Schedule as S;
@@ -40,7 +40,7 @@ pub struct Fleet {
 }
 
 impl Model for Fleet {
-    ghost use Rattle.nut_play.specs.machine.Kept as kept;
+    ghost use Rattle.nut_play.specs.Kept as kept;
 
     ghost Value = { kept.Kept };
 

@@ -1,6 +1,6 @@
 //! A link with its pipes.
 
-ghost use Rattle.std.specs.Prelude.{◌≡◌, ◌++◌, ◌+◌, ◌≤◌, ◌<◌, IfOk, OnOk, OnErr, IsTrue, [], ◌∷◌, ℕ, min, map, length, take, drop, is_some, true};
+ghost use Rattle.std.specs.Prelude.{◌≡◌, ◌++◌, ◌+◌, ◌≤◌, ◌<◌, IfOk, OnOk, OnErr, IsTrue, [], min, map, length, take, is_some, true};
 ghost use Rattle.nut_server_spec.specs.Acceptance.{session_of, waiting_of};
 ghost use Rattle.nut_server_spec.specs.Event.{Took};
 ghost use Rattle.nut_server_spec.specs.machine.Machine.{advance};
@@ -8,7 +8,8 @@ ghost use Rattle.nut_fleet.specs.World.{address_of};
 ghost use Rattle.nut_fleet.specs.Log.{logged};
 ghost use Rattle.nut_fleet.specs.machine.Going.{put_on};
 ghost use Rattle.nut_play.specs.Lack.{is_told};
-ghost use Rattle.nut_play.specs.machine.Kept.{is_played, reach_by, back_by, out_by, land_by, link_by, told_by, heard_by, told_news, reached_by, landed_by, back_put, out_put, made_by, open_by, waits_by, no_ends};
+ghost use Rattle.nut_play.specs.machine.Next.{is_played, reach_by, back_by, out_by, land_by, link_by, told_by, heard_by, told_news, reached_by, landed_by, back_put, out_put, made_by, open_by, waits_by};
+ghost use Rattle.nut_play.specs.Kept.{no_ends};
 ghost use Rattle.nut_play.specs.Steps.{logged_of};
 
 use crate::telling::{inform, is_open, tell};

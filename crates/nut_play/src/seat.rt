@@ -4,7 +4,8 @@ ghost use Rattle.std.specs.Prelude.{◌≡◌, ◌++◌, ◌<◌, ◌||◌, IfOk
 ghost use Rattle.nut_fleet.specs.Log.{logged};
 ghost use Rattle.nut_monitor.specs.Events.{event_of as told_as};
 ghost use Rattle.nut_play.specs.Lack.{is_link_piece, is_told};
-ghost use Rattle.nut_play.specs.machine.Kept.{is_played, inform_by, reach_by, back_by, out_by, land_by, link_by, told_by, told_news, ends_at, hear_seat, reach_seat, back_seat, out_seat, land_seat, join_seat, no_ends, fresh_seat};
+ghost use Rattle.nut_play.specs.machine.Next.{is_played, inform_by, reach_by, back_by, out_by, land_by, link_by, told_by, told_news, hear_seat, reach_seat, back_seat, out_seat, land_seat, join_seat};
+ghost use Rattle.nut_play.specs.Kept.{ends_at, no_ends, fresh_seat};
 ghost use Rattle.nut_play.specs.Steps.{logged_of};
 
 use crate::link::{Link, Place};
@@ -24,7 +25,7 @@ pub struct Seat {
 }
 
 impl Model for Seat {
-    ghost use Rattle.nut_play.specs.machine.Kept as kept;
+    ghost use Rattle.nut_play.specs.Kept as kept;
 
     ghost Value = { kept.Seat };
 

@@ -10,12 +10,12 @@ use Rattle.nut_server_spec.specs.declared.Refused.{Refused}
 use Rattle.nut_server_spec.specs.declared.Refused.TheVariants.{NoSuchConnection, NotConnected, PieceTooLong, Busy, TooMuchTaken, BadAddress, Full, Memory}
 use Rattle.nut_server_spec.specs.Configuration.{Configuration}
 use Rattle.nut_server_spec.specs.Event.{Event}
-use Rattle.nut_server_spec.specs.Content.{Session, Supply, Content}
+use Rattle.nut_server_spec.specs.Content.{Session, Supply, Content, down}
 use Rattle.nut_server_spec.specs.Acceptance.{Tells, refusal, session_of, bytes_refusal, took_refusal, close_refusal, asks_of}
-use Rattle.nut_server_spec.specs.machine.Machine.{without, down, update_at}
+use Rattle.nut_server_spec.specs.machine.Machine.{without, update_at}
 use Rattle.nut_server_spec.specs.laws.Laws.{IsUpTo}
 use Rattle.nut_server_spec.specs.Outcome.{IsAnswer, after}
-use Rattle.nut_server_spec.specs.MachineOutcome.{Answers, content_after}
+use Rattle.nut_server_spec.specs.machine.MachineOutcome.{Answers, content_after}
 use Rattle.nut_server_spec.proofs.Tells.{answers-told, tells-after}
 use Rattle.nut_server_spec.specs.declared.limits.TheConstants.{OPENED_MAX}
 use Rattle.nut_server.specs.declared.server.Server.TheInside.{Inside}

@@ -1,9 +1,9 @@
 -- A list whose first elements were changed in place, each by its number.
 use Rattle.std.proofs.Common.{◌≡◌, ℕ, zero, suc, ◌+◌, ◌<◌, ◌≤◌, List, [], ◌∷◌, ◌++◌, length, get_or, refl, sym, ap, ap₂, ◌∙◌, arith, add-one, map}
 use Rattle.std.proofs.Math.ListN.{set}
-use Rattle.nut_server_spec.specs.Content.{Supply}
+use Rattle.nut_server_spec.specs.Content.{Supply, unheard}
 use Rattle.nut_server_spec.specs.Numbering.{Fate, Kept, Disconnected, Cleared}
-use Rattle.nut_server_spec.specs.machine.Machine.{changed_from, fated, unheard}
+use Rattle.nut_server_spec.specs.machine.Machine.{changed_from, fated}
 
 module _ (change : ℕ → Supply → Supply) where
   -- the list with n elements changed, whose numbers begin with k

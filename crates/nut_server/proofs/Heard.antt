@@ -7,14 +7,14 @@ use Rattle.nut_words.specs.Hearing.{StopsAt, heard_all}
 use Rattle.nut_words.specs.Lines.{LineText, Text, lines_after, rest}
 use Rattle.nut_server_spec.specs.Answer.{Answer}
 use Rattle.nut_server_spec.specs.Command.{Command, command_of}
-use Rattle.nut_server_spec.specs.Content.{Session, Content}
+use Rattle.nut_server_spec.specs.Content.{Session, Content, numbering_of}
 use Rattle.nut_server_spec.specs.Effect.{target}
 use Rattle.nut_server_spec.specs.Trace.{given_then}
 use Rattle.nut_server_spec.specs.Acceptance.{front, line_feeds, session_of}
 use Rattle.nut_server_spec.specs.Event.{Close}
-use Rattle.nut_server_spec.specs.MachineOutcome.{RunsOut, content_lost}
+use Rattle.nut_server_spec.specs.machine.MachineOutcome.{RunsOut, content_lost}
 use Rattle.nut_server_spec.specs.Outcome.{line_takes, unfinished_of}
-use Rattle.nut_server_spec.specs.machine.Machine.{update, with_rest, with_sessions, answer_in, answered, act_on, acted, after_answer, without, advance, byte_heard, bytes_heard, line_heard, numbering_of}
+use Rattle.nut_server_spec.specs.machine.Machine.{update, with_rest, with_sessions, answer_in, answered, act_on, acted, after_answer, without, advance, byte_heard, bytes_heard, line_heard}
 use Rattle.nut_server_spec.proofs.Hearing.{byte_feed, byte_other, update-update, with_unfinished, with_unfinished-same}
 use Rattle.nut_server_spec.proofs.Sessions.{IsOpen, KeepsNumber, session_of-update, without-update}
 use Rattle.nut_server.specs.inside.Effects.{answered_by}

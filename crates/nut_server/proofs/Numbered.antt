@@ -3,9 +3,9 @@ use Rattle.std.proofs.Common.{◌≡◌, ℕ, ◌<◌, true, eqb, List, [], ◌�
 use Rattle.std.specs.List.{AllByRecursion}
 use Rattle.std.proofs.lemmas.Bool.{cases_Bool, eqb-true}
 use Rattle.std.proofs.lemmas.List.{length-map}
-use Rattle.nut_server_spec.specs.Content.{Content, Supply}
+use Rattle.nut_server_spec.specs.Content.{Content, Supply, numbering_of}
 use Rattle.nut_server_spec.specs.Numbering.{is_taken}
-use Rattle.nut_server_spec.specs.machine.Machine.{numbering_of, scene_of}
+use Rattle.nut_server_spec.specs.machine.Machine.{scene_of}
 use Rattle.nut_server_spec.proofs.Numbering.{number_below}
 use Rattle.nut_server.specs.inside.Decisions.{AreThere}
 

@@ -4,10 +4,10 @@ use Rattle.std.proofs.lemmas.Bool.{cases_Bool}
 use Rattle.std.proofs.lemmas.List.{length-map}
 use Rattle.nut_conf.specs.declared.limits.TheConstants.{UPSES_MAX}
 use Rattle.nut_server_spec.specs.Configuration.{Configuration}
-use Rattle.nut_server_spec.specs.Content.{Content, Session, Supply}
+use Rattle.nut_server_spec.specs.Content.{Content, Session, Supply, numbering_of, unheard}
 use Rattle.nut_server_spec.specs.Numbering.{Fate, below, fate_of, is_to_cleared, renumbered}
 use Rattle.nut_server_spec.specs.laws.Laws.{IsUpTo}
-use Rattle.nut_server_spec.specs.machine.Machine.{changed_from, fated, numbering_of, reloaded, unheard, with_supplies}
+use Rattle.nut_server_spec.specs.machine.Machine.{changed_from, fated, reloaded, with_supplies}
 use Rattle.nut_server_spec.proofs.Places.{below-length}
 use Rattle.nut_server.specs.inside.Fates.{fate_in}
 use Rattle.nut_server.specs.inside.Inside.{numbers_of}

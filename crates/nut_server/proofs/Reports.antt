@@ -5,9 +5,9 @@ use Rattle.std.specs.Option.{option_map_or}
 use Rattle.nut_words.specs.Hearing.{StopsAt}
 use Rattle.nut_words.specs.Lines.{LineText, lines_after, rest}
 use Rattle.nut_server_spec.specs.Acceptance.{front, line_feeds}
-use Rattle.nut_server_spec.specs.Content.{Supply}
-use Rattle.nut_server_spec.specs.machine.Machine.{bytes_reported, down}
-use Rattle.nut_server_spec.specs.MachineOutcome.{RunsOutOf}
+use Rattle.nut_server_spec.specs.Content.{Supply, down}
+use Rattle.nut_server_spec.specs.machine.Machine.{bytes_reported}
+use Rattle.nut_server_spec.specs.machine.MachineOutcome.{RunsOutOf}
 use Rattle.nut_server_spec.specs.Outcome.{report_takes}
 use Rattle.nut_server.specs.inside.Lines.{line_told}
 use Rattle.nut_server.proofs.Pieces.{HearsLines, stops_in}

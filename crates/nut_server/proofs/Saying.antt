@@ -6,9 +6,9 @@ use Rattle.nut_proto.specs.declared.request.Request.TheVariants as requests
 use Rattle.nut_server_spec.specs.Command.{Command, Blank, Asks}
 use Rattle.nut_server_spec.specs.Numbering.{Numbering}
 use Rattle.nut_server_spec.specs.Answer.{Answer, Silence, text_of}
-use Rattle.nut_server_spec.specs.Content.{Session, Supply, Content}
+use Rattle.nut_server_spec.specs.Content.{Session, Supply, Content, numbering_of}
 use Rattle.nut_server_spec.specs.Effect.{target}
-use Rattle.nut_server_spec.specs.machine.Machine.{act_on, update, acted, answer_in, answered, scene_of, numbering_of}
+use Rattle.nut_server_spec.specs.machine.Machine.{act_on, update, acted, answer_in, answered, scene_of}
 use Rattle.nut_server.specs.declared.effect.Effect.{Effect}
 use Rattle.nut_server.specs.inside.Effects.{affected, acting, said, number_of, given_with, Does, answered_by}
 use Rattle.nut_server.proofs.Acting.{act_idle}

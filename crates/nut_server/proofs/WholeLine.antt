@@ -7,10 +7,10 @@ use Rattle.nut_words.specs.Lines.{LineText, Text, lines, lines_after, rest, rest
 use Rattle.nut_words.proofs.StreamGrowth.{lines-append, rest-append, rest_at_line_feed}
 use Rattle.nut_server_spec.specs.Acceptance.{line_feeds, session_of}
 use Rattle.nut_server_spec.specs.Command.{command_of}
-use Rattle.nut_server_spec.specs.Content.{Session, Content}
-use Rattle.nut_server_spec.specs.machine.Machine.{answer_in, answered, bytes_heard, numbering_of}
+use Rattle.nut_server_spec.specs.Content.{Session, Content, numbering_of}
+use Rattle.nut_server_spec.specs.machine.Machine.{answer_in, answered, bytes_heard}
 use Rattle.nut_server_spec.specs.Outcome.{line_takes, unfinished_of}
-use Rattle.nut_server_spec.specs.MachineOutcome.{RunsOut}
+use Rattle.nut_server_spec.specs.machine.MachineOutcome.{RunsOut}
 use Rattle.nut_server_spec.proofs.Hearing.{with_unfinished-same}
 use Rattle.nut_server_spec.proofs.Sessions.{session_of-update}
 use Rattle.nut_server.specs.inside.Effects.{answered_by}

@@ -6,7 +6,6 @@ pub mod Entries
 pub mod Fates
 pub mod Inside
 pub mod Lines
-pub mod Login
 pub mod Place
 pub mod Rows
 pub mod Server

@@ -1,6 +1,6 @@
 //! The rights of users, and the tests of a client that uses one.
 
-ghost use Rattle.std.specs.Prelude.{◌≡◌, ◌<◌, ℕ, List, Some, MatchResult, length};
+ghost use Rattle.std.specs.Prelude.{◌≡◌, ℕ, List, Some, MatchResult};
 ghost use Rattle.nut_server_spec.specs.Answer as definitions;
 ghost use Rattle.nut_server_spec.specs.Answer.{has_right, is_primary, refused, ups_number, with_credentials, with_right};
 ghost use Rattle.nut_server_spec.specs.Configuration.{user_named};

@@ -1,11 +1,12 @@
 //! An open connection.
 
-ghost use Rattle.std.specs.Prelude.{◌≡◌, ◌≢◌, ◌≤◌, ◌++◌, ℕ, List, [], ◌∷◌, true, Some, None, All, IfSome, IsSome, OnSome, drop, length, map, option_map, OnOk, OnErr};
+ghost use Rattle.std.specs.Prelude.{◌≡◌, ◌≢◌, ◌≤◌, ◌++◌, ℕ, List, [], ◌∷◌, Some, All, IfSome, IsSome, OnSome, drop, length, option_map, OnOk, OnErr};
 ghost use Rattle.nut_words.specs.Cutter.{kept_of};
 ghost use Rattle.nut_server_spec.specs.Acceptance.{may_read, leaves};
 ghost use Rattle.nut_server_spec.specs.Answer.{is_logged_in};
+ghost use Rattle.nut_server_spec.specs.Content.{fresh};
 ghost use Rattle.nut_words.specs.Lines.{Text, lines};
-ghost use Rattle.nut_server_spec.specs.machine.Machine.{fresh, with_rest};
+ghost use Rattle.nut_server_spec.specs.machine.Machine.{with_rest};
 ghost use Rattle.nut_server.specs.inside.Effects.{affected, said};
 ghost use Rattle.nut_words.specs.Hearing.{IsRest};
 ghost use Rattle.nut_server.specs.Settling.{is_unsettled};

@@ -1,7 +1,6 @@
 //! Decides on requests: the answer to each, and what it changes.
 
-ghost use Rattle.std.specs.Prelude.{◌≡◌, length, MatchResult};
-ghost use Rattle.nut_proto.specs.declared.refusal.Refusal.TheVariants as refusals;
+ghost use Rattle.std.specs.Prelude.{◌≡◌, MatchResult};
 ghost use Rattle.nut_server_spec.specs.Answer.{accepted, refused};
 ghost use Rattle.nut_server_spec.specs.Answer as definitions;
 ghost use Rattle.nut_server_spec.specs.Command.{Asks, asked};

@@ -1,16 +1,17 @@
 //! A UPS and its driver.
 
-ghost use Rattle.std.specs.Prelude.{◌≡◌, ◌≤◌, ◌<◌, ℕ, Option, ⊤, [], ◌++◌, Some, None, IfOk, IfErr, IsTrue, OnOk, find, length, option_map, true, not, ◌==◌, ◌&&◌};
+ghost use Rattle.std.specs.Prelude.{◌≡◌, ◌≤◌, ◌<◌, ⊤, [], ◌++◌, Some, IfOk, IfErr, IsTrue, OnOk, find, length, option_map, true, not, ◌==◌, ◌&&◌};
 ghost use Rattle.std.specs.Option.{option_map_or};
 ghost use Rattle.nut_queue.specs.Front.{IsFrontPart};
 ghost use Rattle.nut_words.specs.Lines.{Text};
 ghost use Rattle.nut_server_spec.specs.Acceptance.{front, line_feeds};
+ghost use Rattle.nut_server_spec.specs.Content.{down, unheard};
 ghost use Rattle.nut_server_spec.specs.Device.{absent, fits, is_past, needs_ping, trouble};
 ghost use Rattle.nut_server_spec.specs.Reloading.{is_kept};
-ghost use Rattle.nut_server_spec.specs.machine.Machine.{up, down, drained, fated, ticked, unheard, bytes_reported};
+ghost use Rattle.nut_server_spec.specs.machine.Machine.{up, drained, fated, ticked, bytes_reported};
 ghost use Rattle.nut_server_spec.specs.Outcome.{report_takes};
 ghost use Rattle.nut_server_spec.specs.Tracking.{with_tracked};
-ghost use Rattle.nut_server_spec.specs.MachineOutcome.{RunsOutOf};
+ghost use Rattle.nut_server_spec.specs.machine.MachineOutcome.{RunsOutOf};
 ghost use Rattle.nut_server.specs.inside.Fates.{fate_is};
 ghost use Rattle.nut_server.specs.inside.Lines.{line_told};
 

@@ -1,11 +1,10 @@
 //! Answers GET (RFC 9271).
 
-ghost use Rattle.std.specs.Prelude.{◌≡◌, None, Some, MatchResult, length, map, filter};
+ghost use Rattle.std.specs.Prelude.{◌≡◌, None, Some, MatchResult, length};
 ghost use Rattle.nut_proto.specs.declared.refusal.Refusal.TheVariants as refusals;
 ghost use Rattle.nut_proto.specs.declared.reply.Reply.TheVariants as replies;
-ghost use Rattle.nut_proto.specs.declared.request.ListQuery.TheVariants as queries;
 ghost use Rattle.nut_proto.specs.Descriptions.{variable_description, command_description};
-ghost use Rattle.nut_server_spec.specs.Answer.{Line, Listing, described, guests_of, list_answer, on_command, on_data, on_device, on_ups, on_variable, rw_row, type_reply, var_row};
+ghost use Rattle.nut_server_spec.specs.Answer.{Line, described, guests_of, on_command, on_data, on_device, on_ups, on_variable, type_reply, var_row};
 ghost use Rattle.nut_server_spec.specs.Configuration.{ups_named};
 ghost use Rattle.nut_state.specs.Table.{variable};
 ghost use Rattle.nut_server.specs.inside.Answers.{outcome};

@@ -1,6 +1,6 @@
 //! The scene: what the server knows when it answers a line.
 
-ghost use Rattle.std.specs.Prelude.{◌≡◌, ◌<◌, None, Some, MatchResult, length};
+ghost use Rattle.std.specs.Prelude.{◌≡◌, None, Some, MatchResult};
 ghost use Rattle.nut_proto.specs.declared.refusal.Refusal.TheVariants as refusals;
 ghost use Rattle.nut_server_spec.specs.Answer.{ups_number, device_at, status_of};
 ghost use Rattle.nut_server_spec.specs.Device.{trouble};

@@ -1,19 +1,17 @@
 //! The server: its state, and what it can be asked.
 
-ghost use Rattle.std.specs.Prelude.{◌≡◌, ◌<◌, ◌≤◌, ℕ, List, [], Some, None, Result, Ok, Err, IfOk, IfSome, map, length};
+ghost use Rattle.std.specs.Prelude.{◌≡◌, ◌<◌, ◌≤◌, List, [], Some, Err, IfOk, IfSome, map, length};
 ghost use Rattle.nut_queue.specs.Front.{IsFrontPart};
 ghost use Rattle.nut_server_spec.specs.Configuration.{Configuration};
-ghost use Rattle.nut_server_spec.specs.Event.{Event, Moment, Open, Bytes, Took, Close, DriverUp, DriverBytes, DriverTook, DriverDown};
-ghost use Rattle.nut_server_spec.specs.Content.{content};
-ghost use Rattle.nut_server_spec.specs.Numbering.{below, ups_with};
-ghost use Rattle.nut_server_spec.specs.machine.Machine.{numbering_of, unheard};
-ghost use Rattle.nut_server_spec.specs.Acceptance.{Tells, refusal, session_of, supply_of, waiting_of, asks_of, may_read, leaves, kept, is_connected};
+ghost use Rattle.nut_server_spec.specs.Event.{Event};
+ghost use Rattle.nut_server_spec.specs.Content.{content, unheard};
+ghost use Rattle.nut_server_spec.specs.Numbering.{below};
+ghost use Rattle.nut_server_spec.specs.Acceptance.{Tells, refusal, session_of, supply_of, waiting_of, asks_of, may_read, leaves, kept, is_connected, has_login};
 ghost use Rattle.nut_server_spec.specs.laws.Laws.{HasFewConnections};
 ghost use Rattle.nut_server_spec.specs.laws.Limits.{AreWithin, IsWithin, most_waits};
 ghost use Rattle.nut_server_spec.specs.Outcome.{IsAnswer, after};
-ghost use Rattle.nut_server_spec.specs.MachineOutcome.{Answers, content_after};
+ghost use Rattle.nut_server_spec.specs.machine.MachineOutcome.{Answers, content_after};
 ghost use Rattle.nut_server.specs.Arrival.{event_of};
-ghost use Rattle.nut_server.specs.inside.Login.{has_login};
 ghost use Rattle.nut_server.specs.Settling.{IsNextUnsettled, IsNextWaiting};
 
 use crate::address::address_of;

@@ -1,11 +1,10 @@
 //! Writes answers as bytes.
 
-ghost use Rattle.std.specs.Prelude.{◌≡◌, ◌≤◌, ◌&&◌, ◌++◌, OnOk, codes, flat_map, length, map, filter};
+ghost use Rattle.std.specs.Prelude.{◌≡◌, ◌≤◌, ◌&&◌, ◌++◌, OnOk, codes, flat_map, length};
 ghost use Rattle.std.specs.Str.{bytes_eq};
 ghost use Rattle.nut_proto.specs.declared.reply.Reply.TheVariants as replies;
 ghost use Rattle.nut_proto.specs.Replies.{reply_line};
-ghost use Rattle.nut_server_spec.specs.Answer.{guests_of, rw_row, text_of, var_row};
-ghost use Rattle.nut_server_spec.specs.machine.Machine.{guest_of};
+ghost use Rattle.nut_server_spec.specs.Answer.{rw_row, text_of, var_row};
 ghost use Rattle.nut_server.specs.inside.Answers.{given, rows_of};
 ghost use Rattle.nut_server.specs.inside.Rows.{writable_text, client_text};
 

@@ -1,7 +1,7 @@
 //! The newest tracked requests to a UPS, and how they ended.
 
-ghost use Rattle.std.specs.Prelude.{◌≡◌, ◌==◌, [], Some, find, map, option_map};
-ghost use Rattle.nut_server_spec.specs.Tracking.{Tracked as TrackedValue, abandoned, all_abandoned, all_ended_by, ended_by, judged, with_tracked};
+ghost use Rattle.std.specs.Prelude.{◌≡◌, ◌==◌, [], Some, find, option_map};
+ghost use Rattle.nut_server_spec.specs.Tracking.{Tracked as TrackedValue, abandoned, all_abandoned, all_ended_by, ended_by, with_tracked};
 
 use arrayvec::ArrayVec;
 use nut_proto::TrackingStatus;

@@ -6,9 +6,9 @@ use Rattle.nut_queue.specs.Front.{IsFrontPart}
 use Rattle.nut_server_spec.specs.declared.Refused.{Refused}
 use Rattle.nut_server_spec.specs.Configuration.{Configuration}
 use Rattle.nut_server_spec.specs.Event as event
-use Rattle.nut_server_spec.specs.Content.{Supply, Content}
+use Rattle.nut_server_spec.specs.Content.{Supply, Content, down}
 use Rattle.nut_server_spec.specs.Acceptance.{session_of, waiting_in, waiting_of, supply_of, asks_in, asks_of, leaves}
-use Rattle.nut_server_spec.specs.machine.Machine.{advance, down}
+use Rattle.nut_server_spec.specs.machine.Machine.{advance}
 use Rattle.nut_server_spec.proofs.Sessions.{session_of-update_other, session_of-without, session_of-without_other, waiting_of-took}
 use Rattle.nut_server_spec.proofs.Others.{advance-other_driver, advance-driver_took, advance-driver_down}
 use Rattle.nut_io.specs.Writes.{IsWithin}

@@ -1,6 +1,6 @@
 //! A world over memory.
 
-ghost use Rattle.std.specs.Prelude.{◌≡◌, ◌+◌, ◌-◌, ◌^◌, ◌<◌, ℕ, true, false, List, [], ◌∷◌, ◌++◌, length, map, reverse, remove, slice_get, Option, Some, None, Ok, IfOk, OnOk, OnErr, is_ok, if◌then◌else◌, IfSome, vec_len, option_map};
+ghost use Rattle.std.specs.Prelude.{◌≡◌, ◌+◌, ◌-◌, ◌^◌, ◌<◌, ℕ, false, [], ◌∷◌, length, Some, None, Ok, IfOk, OnOk, OnErr, is_ok, if◌then◌else◌, IfSome, vec_len};
 ghost use Rattle.nut_io.specs.Writes.{IsWithin, late_after};
 ghost use Rattle.nut_server_loop.specs.Record.{tells, tells_next, tells_write, tells_request, MayCome, arrival_of};
 ghost use Rattle.nut_server_loop.specs.Record as entry;

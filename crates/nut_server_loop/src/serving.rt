@@ -1,6 +1,6 @@
 //! The loop that serves over a world.
 
-ghost use Rattle.std.specs.Prelude.{◌≡◌, ◌≢◌, ◌+◌, ◌-◌, ◌^◌, ◌<◌, ◌≤◌, ℕ, true, false, List, [], ◌∷◌, length, Option, Ok, IfSome, IfOk, OnOk, OnErr, is_ok, option_map, if◌then◌else◌};
+ghost use Rattle.std.specs.Prelude.{◌≡◌, ◌+◌, ◌-◌, ◌^◌, ◌<◌, true, false, List, [], length, Ok, IfSome, OnOk, OnErr, is_ok, option_map, if◌then◌else◌};
 ghost use Rattle.nut_server_spec.specs.Configuration.{Configuration};
 ghost use Rattle.nut_server_spec.specs.Content.{Content, content};
 ghost use Rattle.nut_server_spec.specs.Acceptance.{session_of, waiting_of, asks_of, leaves};

@@ -1,12 +1,11 @@
 //! A world over a reader and a writer, with one client.
 
-ghost use Rattle.std.specs.Prelude.{◌≡◌, ◌+◌, ◌-◌, ◌^◌, ◌<◌, ◌⊎◌, ℕ, true, false, List, length, None, Ok, IfOk, OnErr, is_ok, if◌then◌else◌};
+ghost use Rattle.std.specs.Prelude.{◌≡◌, ◌+◌, ◌-◌, ◌^◌, ◌<◌, ◌⊎◌, ℕ, false, length, None, Ok, IfOk, OnErr, is_ok, if◌then◌else◌};
 ghost use Rattle.std.specs.Io.KnownBytes.{IsAtEnd, Keeps};
 ghost use Rattle.nut_server_spec.specs.Acceptance.{may_read, session_of};
 ghost use Rattle.nut_io.specs.Writes.{IsWithin, Takes, late_after};
 ghost use Rattle.nut_server_loop.specs.Record.{tells_next, tells_write, MayCome};
 ghost use Rattle.nut_server_loop.specs.Streams.{IsRead, no_record};
-ghost use Rattle.nut_server_loop.specs.declared.streams.Stage.{Stage};
 ghost use Rattle.nut_server_loop.specs.declared.streams.Stage.TheVariants.{Ended};
 
 use crate::{Address, Next, World};

@@ -1,6 +1,6 @@
 //! The world as the loop sees it.
 
-ghost use Rattle.std.specs.Prelude.{◌≡◌, ◌+◌, ◌-◌, ◌^◌, ◌<◌, ℕ, Bool, true, false, List, length, Option, Some, Ok, IfOk, OnOk, OnErr, is_ok, if◌then◌else◌};
+ghost use Rattle.std.specs.Prelude.{◌≡◌, ◌+◌, ◌-◌, ◌^◌, ◌<◌, ℕ, Bool, false, List, length, Option, Ok, IfOk, OnOk, OnErr, is_ok, if◌then◌else◌};
 ghost use Rattle.nut_server_spec.specs.Content.{Content};
 ghost use Rattle.nut_io.specs.Writes.{IsWithin, late_after};
 ghost use Rattle.nut_server_loop.specs.Record.{Entry, WasClosed, DriverWasClosed, tells, tells_next, tells_write, tells_request, MayCome, NothingIsWithheld, NoRequestIsWithheld, NobodyLeaves};

@@ -6,7 +6,7 @@ use Rattle.nut_proto.specs.declared.tracking.TrackingStatus.{TrackingStatus}
 use Rattle.nut_proto.specs.declared.tracking.TrackingStatus.TheVariants.{Pending, Success, Failed, Unknown}
 use Rattle.nut_server_spec.specs.Acceptance.{IsAccepted, close_refusal, down_refusal, is_connected, session_of, supply_of}
 use Rattle.nut_server_spec.specs.Configuration.{Configuration}
-use Rattle.nut_server_spec.specs.Content.{Session, Supply, content, past, session, supply}
+use Rattle.nut_server_spec.specs.Content.{Session, Supply, content, past, session, supply, down, numbering_of}
 use Rattle.nut_server_spec.specs.Event.{Event, Close, DriverDown, Reload}
 use Rattle.nut_server_spec.specs.Numbering.{Fate, Kept, Disconnected, Cleared, Numbering, below, fate_of, is_taken, is_to_cleared}
 use Rattle.nut_server_spec.specs.Reloading.{connections_ended, drivers_ended, is_kept}
@@ -14,7 +14,7 @@ use Rattle.nut_server_spec.specs.Trace.{login, numbering, open_numbers, ups_numb
 use Rattle.nut_server_spec.specs.Tracking.{Tracked, abandoned, all_abandoned}
 use Rattle.nut_server_spec.specs.laws.Laws.{IsBelow, IsRising}
 use Rattle.nut_server_spec.specs.laws.Reloads.{ReloadIsDownsThenClosesThenItself, with_closes, with_downs}
-use Rattle.nut_server_spec.specs.machine.Machine.{down, fated, numbering_of}
+use Rattle.nut_server_spec.specs.machine.Machine.{fated}
 use Rattle.nut_server_spec.proofs.Alls.{all_filter, all_weaker}
 use Rattle.nut_server_spec.proofs.Numbering.{AreBelow, below_are}
 use Rattle.nut_server_spec.proofs.Numbers.{IsBelow-push, IsRising-filter, open_numbers_rise}

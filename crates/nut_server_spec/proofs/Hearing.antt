@@ -6,10 +6,10 @@ use Rattle.nut_words.specs.Lines.{LineText, Text, joined}
 use Rattle.nut_server_spec.specs.Command.{Command, command_of}
 use Rattle.nut_server_spec.specs.Effect.{target}
 use Rattle.nut_server_spec.specs.Answer.{Answer, Silence, answer}
-use Rattle.nut_server_spec.specs.Content.{Session, Supply, Content}
+use Rattle.nut_server_spec.specs.Content.{Session, Supply, Content, numbering_of}
 use Rattle.nut_server_spec.specs.Acceptance.{session_of}
 use Rattle.nut_server_spec.specs.Trace.{given_then}
-use Rattle.nut_server_spec.specs.machine.Machine.{numbering_of, update, update_at, with_rest, with_sessions, guest_of, caller_of, scene_of, answered, answer_in, act_on, acted, after_answer, line_heard, byte_heard, bytes_heard}
+use Rattle.nut_server_spec.specs.machine.Machine.{update, update_at, with_rest, with_sessions, guest_of, caller_of, scene_of, answered, answer_in, act_on, acted, after_answer, line_heard, byte_heard, bytes_heard}
 use Rattle.nut_server_spec.specs.laws.Laws.{numbers}
 use Rattle.nut_server_spec.proofs.Sessions.{KeepsNumber, session_of-update}
 

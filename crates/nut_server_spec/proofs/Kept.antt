@@ -8,9 +8,9 @@ use Rattle.nut_server_spec.specs.declared.Refused.TheVariants.{TooMuchTaken}
 use Rattle.nut_server_spec.specs.Configuration.{Configuration}
 use Rattle.nut_server_spec.specs.Event.{Event, Moment, Open, Bytes, Took, Close, WriteFailed, DriverUp, DriverBytes, DriverTook, DriverDown, Reload, Step, Clock, Opened, Said, Gone, Up, Reported, Drained, Down, Reloaded, input, taken, driver_input, steps, with_lines, with_reports, brought}
 use Rattle.nut_server_spec.specs.Trace.{Entry, places, numbering, opened, open_numbers, user, password, login, logged_out, tracking, due, connected, driver_due, driver_taken, driver_waits, ups_numbers, asks_at, trace}
-use Rattle.nut_server_spec.specs.Content.{Session, Supply, past, content, session, supply}
+use Rattle.nut_server_spec.specs.Content.{Session, Supply, past, content, session, supply, fresh}
 use Rattle.nut_server_spec.specs.Acceptance.{refusal, IsAccepted, session_of, supply_of, bytes_refusal, took_refusal, report_refusal, drain_refusal}
-use Rattle.nut_server_spec.specs.machine.Machine.{advance, fresh, KeepsContent}
+use Rattle.nut_server_spec.specs.machine.Machine.{advance, KeepsContent}
 use Rattle.nut_server_spec.specs.laws.Laws.{IsUpTo}
 use Rattle.nut_server_spec.specs.Numbering.{Fate, Kept, Disconnected, Cleared, fate_of, by_fate}
 use Rattle.nut_server_spec.proofs.Numbers.{numbers_up_to}

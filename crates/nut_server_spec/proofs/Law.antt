@@ -15,9 +15,9 @@ use Rattle.nut_server_spec.specs.Tracking.{with_tracked}
 use Rattle.nut_server_spec.specs.Event.{Event, Moment, Took, Close, WriteFailed, DriverUp, DriverTook, DriverDown, Said, Reported, input, taken, driver_input}
 use Rattle.nut_server_spec.specs.Answer.{Answer, text_of}
 use Rattle.nut_server_spec.specs.Trace.{Entry, configuration, numbers, numbering, places, clock, opened, open_numbers, address, user, password, login, logged_out, tracking, given, tracked, due, device, connected, forced, driver_due, driver_taken, driver_waits, ups_numbers, scene, with_request, request_for, ping, pinged_then, pinged_at}
-use Rattle.nut_server_spec.specs.Content.{Session, Supply, Content, past, content, session, supply}
+use Rattle.nut_server_spec.specs.Content.{Session, Supply, Content, past, content, session, supply, down}
 use Rattle.nut_server_spec.specs.laws.Laws.{IsBelow, IsRising}
-use Rattle.nut_server_spec.specs.machine.Machine.{advance, update, with_rest, with_sessions, with_supplies, without, answered, acted, act_on, reported_by, ticked, up, down, drained, guest_of, scene_of}
+use Rattle.nut_server_spec.specs.machine.Machine.{advance, update, with_rest, with_sessions, with_supplies, without, answered, acted, act_on, reported_by, ticked, up, drained, guest_of, scene_of}
 use Rattle.nut_server_spec.specs.Numbering.{Kept}
 use Rattle.nut_server_spec.proofs.Numbers.{open_numbers_rise}
 use Rattle.nut_server_spec.proofs.Places.{update-below, map-twice, map-same}

@@ -7,9 +7,9 @@ use Rattle.nut_words.specs.Lines.{LineText}
 use Rattle.nut_server_spec.specs.Configuration.{Configuration}
 use Rattle.nut_server_spec.specs.Event.{Event, Moment, Open, Bytes, Took, Close, WriteFailed, DriverUp, DriverBytes, DriverTook, DriverDown, Reload, Step, Said, Reported, with_lines, with_reports}
 use Rattle.nut_server_spec.specs.Trace.{configuration, connected, numbers, opened, open_numbers, trace}
-use Rattle.nut_server_spec.specs.Content.{Session, Content, past, content, session}
+use Rattle.nut_server_spec.specs.Content.{Session, Content, past, content, session, numbering_of, down, fresh}
 use Rattle.nut_server_spec.specs.Acceptance.{refusal, Tells, session_of, supply_of, bytes_refusal, took_refusal, close_refusal, waiting_of, asks_of}
-use Rattle.nut_server_spec.specs.machine.Machine.{advance, numbering_of, bytes_reported, up, down, drained, fresh}
+use Rattle.nut_server_spec.specs.machine.Machine.{advance, bytes_reported, up, drained}
 use Rattle.nut_server_spec.specs.laws.Laws.{IsUpTo, IsOther, closes, connection_of, driver_of, OthersStay, OtherDriversStay, OpenedIsFresh, ClosedStaysClosed}
 use Rattle.nut_server_spec.specs.Numbering.{fate_of, is_to_cleared}
 use Rattle.nut_server_spec.proofs.Law.{eqb_turn}

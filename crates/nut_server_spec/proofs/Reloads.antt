@@ -6,12 +6,12 @@ use Rattle.std.proofs.lemmas.List.{append-nil, append_assoc, length-map, map-app
 use Rattle.nut_words.specs.Lines.{Text, rest}
 use Rattle.nut_state.specs.Step.{table_of}
 use Rattle.nut_server_spec.specs.Configuration.{Configuration}
-use Rattle.nut_server_spec.specs.Content.{Session, Supply, content, past, session, supply}
+use Rattle.nut_server_spec.specs.Content.{Session, Supply, content, past, session, supply, unheard}
 use Rattle.nut_server_spec.specs.Event.{Event, Reload, driver_input}
 use Rattle.nut_server_spec.specs.Numbering.{Fate, Kept, Disconnected, Cleared, Numbering, below, by_fate, fate_between, fate_of, is_to_cleared, ups_with, with_numbers, renumbered}
 use Rattle.nut_server_spec.specs.Trace.{connected, driver_due, driver_taken, forced, heard_at, login, numbering, open_numbers, pinged_at, places, reports, tracked}
 use Rattle.nut_server_spec.specs.Tracking.{all_abandoned}
-use Rattle.nut_server_spec.specs.machine.Machine.{advance, changed_from, fated, unheard}
+use Rattle.nut_server_spec.specs.machine.Machine.{advance, changed_from, fated}
 use Rattle.nut_server_spec.proofs.Numbering.{no_ups_with, numbers_below}
 use Rattle.nut_server_spec.proofs.Places.{IsCount, below-length, below_counts}
 

@@ -7,9 +7,9 @@ use Rattle.std.proofs.lemmas.Bool.{cases_Bool, eqb-true, eq-eqb}
 use Rattle.nut_words.specs.Lines.{Text, joined}
 use Rattle.nut_server_spec.specs.Command.{Command, command_of}
 use Rattle.nut_server_spec.specs.Answer.{Answer}
-use Rattle.nut_server_spec.specs.Content.{Session, Content}
+use Rattle.nut_server_spec.specs.Content.{Session, Content, numbering_of}
 use Rattle.nut_server_spec.specs.Acceptance.{session_of, waiting_in, waiting_of}
-use Rattle.nut_server_spec.specs.machine.Machine.{numbering_of, update, without, with_rest, with_sessions, answered, answer_in, after_answer, line_heard, byte_heard, bytes_heard}
+use Rattle.nut_server_spec.specs.machine.Machine.{update, without, with_rest, with_sessions, answered, answer_in, after_answer, line_heard, byte_heard, bytes_heard}
 use Rattle.nut_server_spec.proofs.Law.{eqb_turn}
 use Rattle.std.specs.Option.{option_map_or}
 

@@ -7,12 +7,12 @@ use Rattle.std.proofs.lemmas.Bool.{cases_Bool, eqb-true, true≢false}
 use Rattle.std.proofs.lemmas.Slice.Eq.{bytes_eq-Decides}
 use Rattle.nut_server_spec.specs.Acceptance.{session_of, supply_of}
 use Rattle.nut_server_spec.specs.Configuration.{Configuration, Ups, ups_named}
-use Rattle.nut_server_spec.specs.Content.{Session, content, past, session, supply}
+use Rattle.nut_server_spec.specs.Content.{Session, content, past, session, supply, down}
 use Rattle.nut_server_spec.specs.Event.{Event, Reload}
 use Rattle.nut_server_spec.specs.Numbering.{Fate, Cleared, Numbering, fate_between, fate_by_driver, fate_of, is_cleared, is_to_cleared, number_of, ups_with}
 use Rattle.nut_server_spec.specs.Trace.{login, numbering, open_numbers, places}
 use Rattle.nut_server_spec.specs.laws.Reloads.{NamesAreDistinct, UpsesStay}
-use Rattle.nut_server_spec.specs.machine.Machine.{down, fated}
+use Rattle.nut_server_spec.specs.machine.Machine.{fated}
 use Rattle.nut_server_spec.proofs.Kept.{session_is}
 use Rattle.nut_server_spec.proofs.Numbering.{number_below, numbers_below}
 use Rattle.nut_server_spec.proofs.Others.{advance-other}

@@ -15,7 +15,7 @@ use Rattle.nut_server_spec.specs.Content.{Session, Supply, Content, content, sup
 use Rattle.nut_server_spec.specs.Acceptance.{refusal, IsAccepted, Tells, front, lost, lost_report, session_of, supply_of, bytes_refusal, close_refusal, report_refusal, down_refusal}
 use Rattle.nut_server_spec.specs.machine.Machine.{advance, bytes_reported, with_supplies}
 use Rattle.nut_server_spec.specs.Outcome.{IsAnswer, IsRefusal, MayLack, MayRunOut, MayRunOutOf, after, after_refusal, after_lack, line_takes, report_takes, unfinished_of, unfinished_report}
-use Rattle.nut_server_spec.specs.MachineOutcome.{Answers, Refuses, Lacks, RunsOut, RunsOutOf, supply_after, content_after, content_after_refusal, content_after_lack, content_lost, content_lost_report}
+use Rattle.nut_server_spec.specs.machine.MachineOutcome.{Answers, Refuses, Lacks, RunsOut, RunsOutOf, supply_after, content_after, content_after_refusal, content_after_lack, content_lost, content_lost_report}
 use Rattle.nut_server_spec.proofs.Kept.{keeps-content}
 use Rattle.nut_server_spec.proofs.Places.{update_at-none, below-length}
 use Rattle.nut_server_spec.proofs.Sessions.{bytes_heard-open, IsOpen}

@@ -19,9 +19,9 @@ use Rattle.nut_server_spec.specs.Answer.{Answer, Silence, Guest, text_of, answer
 use Rattle.nut_server_spec.specs.Device.{Device}
 use Rattle.nut_server_spec.specs.Effect.{target}
 use Rattle.nut_server_spec.specs.Trace.{configuration, reports, ups_numbers}
-use Rattle.nut_server_spec.specs.Content.{Session, Supply, Content, content, past, supply}
+use Rattle.nut_server_spec.specs.Content.{Session, Supply, Content, content, past, supply, numbering_of, fresh}
 use Rattle.nut_server_spec.specs.Acceptance.{IsAccepted, refusal, session_of, waiting_in, waiting_of, is_address, open_refusal, bytes_refusal}
-use Rattle.nut_server_spec.specs.machine.Machine.{advance, numbering_of, update, update_at, act_on, acted, answered, after_answer, answer_in, caller_of, scene_of, guest_of, with_rest, line_heard, byte_heard, bytes_heard, without, fresh}
+use Rattle.nut_server_spec.specs.machine.Machine.{advance, update, update_at, act_on, acted, answered, after_answer, answer_in, caller_of, scene_of, guest_of, with_rest, line_heard, byte_heard, bytes_heard, without}
 use Rattle.nut_server_spec.specs.laws.Laws.{IsOther, connection_of, closes, most_allowed}
 use Rattle.nut_server_spec.specs.laws.Limits.{IsWithin, WaitsAreBounded, most_waits, AreWithin}
 use Rattle.nut_server_spec.proofs.Alls.{all_append, all_filter, all_map}

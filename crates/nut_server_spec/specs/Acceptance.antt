@@ -1,5 +1,5 @@
 -- Which events a server refuses, in the order of its tests, and the histories without a refused event.
-use Rattle.std.specs.Prelude.{ℕ, zero, suc, ◌≡◌, ◌==◌, nat_lt, nat_le, Bool, true, false, not, ◌&&◌, if◌then◌else◌, List, [], ◌∷◌, length, find, slice_get, Option, Some, None}
+use Rattle.std.specs.Prelude.{ℕ, zero, suc, ◌≡◌, ◌==◌, nat_lt, nat_le, Bool, true, false, not, ◌&&◌, if◌then◌else◌, List, [], ◌∷◌, length, find, slice_get, Option, Some, None, is_some}
 use Rattle.std.specs.List.{list_all}
 use Rattle.nut_words.specs.Bytes.{line_feed}
 use Rattle.nut_words.specs.Spelling.{is_bare}
@@ -143,6 +143,11 @@ may_read (Some k) = (length k.waits == 0) && not k.logged_out
 abbrev pub leaves : Option Session → Bool
 leaves None = false
 leaves (Some k) = (length k.waits == 0) && k.logged_out
+
+-- whether a connection is open and its client is logged in to a UPS
+abbrev pub has_login : Option Session → Bool
+has_login None = false
+has_login (Some k) = is_some k.login
 
 -- how many bytes of an unfinished line are kept: none if the connection isn't open
 abbrev pub kept : Option Session → ℕ

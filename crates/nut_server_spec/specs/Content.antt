@@ -1,11 +1,13 @@
 -- The content of a history: what a server has to know of it. If two histories have the same content, their next events
 -- are answered alike.
-use Rattle.std.specs.Prelude.{ℕ, Bool, if◌then◌else◌, List, [], map, take, drop, Option}
+use Rattle.std.specs.Prelude.{ℕ, Bool, false, if◌then◌else◌, List, [], map, take, drop, Option, None}
 use Rattle.nut_words.specs.Lines.{LineText, Text, rest}
 use Rattle.nut_server_spec.specs.Configuration.{Configuration}
-use Rattle.nut_server_spec.specs.Device.{Device}
+use Rattle.nut_server_spec.specs.Device.{Device, absent}
 use Rattle.nut_server_spec.specs.Event.{Event, input, taken, driver_input, steps}
+use Rattle.nut_server_spec.specs.Numbering.{Numbering, with_numbers}
 use Rattle.nut_server_spec.specs.Trace.{Entry, configuration, numbers, clock, opened, open_numbers, address, user, password, login, logged_out, tracking, given, due, connected, device, ups_numbers, trace}
+use Rattle.nut_server_spec.specs.Tracking.{all_abandoned}
 
 -- An open connection: what it said of itself, its unfinished line, and the bytes that wait for it.
 pub record Session : Type 0 where
@@ -19,10 +21,32 @@ pub record Session : Type 0 where
   pub rest : LineText
   pub waits : List ℕ
 
+-- the session of a new connection
+abbrev pub fresh : ℕ → List ℕ → Session
+fresh number address = record {
+  number = number;
+  address = address;
+  user = None;
+  password = None;
+  login = None;
+  logged_out = false;
+  tracking = false;
+  rest = Text [];
+  waits = [];
+}
+
 -- A UPS: what its driver told, and the driver's unfinished line while it is connected.
 pub record Supply : Type 0 where
   pub device : Device
   pub rest : LineText
+
+-- a UPS of which nothing is known
+abbrev pub unheard : Supply
+unheard = record { device = absent; rest = Text [] }
+
+-- a UPS whose driver is disconnected
+abbrev pub down : Supply → Supply
+down d = record { device = record d.device { connected = false; waits = []; tracked = all_abandoned d.device.tracked }; rest = Text [] }
 
 -- `numbers` are those of the UPSes, in the order of the configuration. `opened` is the number of connections opened so far,
 -- `given` that of the numbers given to requests. `sessions` are the open connections, by rising number. `supplies` are
@@ -35,6 +59,10 @@ pub record Content : Type 0 where
   pub given : ℕ
   pub sessions : List Session
   pub supplies : List Supply
+
+-- the UPSes of a content and their numbers
+abbrev pub numbering_of : Content → Numbering
+numbering_of s = with_numbers s.configuration.upses s.numbers
 
 -- the past of a history: its steps, each with its answer and its requests to drivers
 abbrev pub past : Configuration → List Event → List Entry

@@ -10,7 +10,6 @@ pub mod Trace
 pub mod Content
 pub mod Acceptance
 pub mod Outcome
-pub mod MachineOutcome
 pub mod machine
 pub mod Reloading
 pub mod laws

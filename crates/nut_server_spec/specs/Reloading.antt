@@ -2,9 +2,8 @@
 use Rattle.std.specs.Prelude.{ℕ, Bool, true, false, not, ◌&&◌, List, filter, length, map}
 use Rattle.nut_server_spec.specs.Acceptance.{is_connected, supply_of}
 use Rattle.nut_server_spec.specs.Configuration.{Configuration}
-use Rattle.nut_server_spec.specs.Content.{Content}
+use Rattle.nut_server_spec.specs.Content.{Content, numbering_of}
 use Rattle.nut_server_spec.specs.Numbering.{Fate, Kept, Disconnected, Cleared, below, fate_of, is_to_cleared}
-use Rattle.nut_server_spec.specs.machine.Machine.{numbering_of}
 
 -- whether a UPS stays as it is
 abbrev pub is_kept : Fate → Bool

@@ -3,10 +3,11 @@
 #![tactic(auto)]
 
 ghost use Rattle.nut_server_spec.specs.machine.Machine.{KeepsContent};
+ghost use Rattle.nut_server_spec.specs.machine.MachineOutcome.{AnswersKeepContent};
 ghost use Rattle.nut_server_spec.specs.examples.Examples.{ConnectionExamples};
 ghost use Rattle.nut_server_spec.specs.examples.DriverExamples.{DriverExamples, EdgeExamples, TrackingExamples, UserExamples};
 ghost use Rattle.nut_server_spec.specs.examples.ReloadExamples.{ReloadEdgeExamples, ReloadExamples};
-ghost use Rattle.nut_server_spec.specs.laws.Laws.{AnswersKeepContent, BoundsHold, ClosedStaysClosed, ConnectionsAreFew, CutsAndWritesDoNotMatter, CutsDoNotMatter, DriverCutsAndWritesDoNotMatter, DriverCutsDoNotMatter, DriverSentAndWaitingIsDue, DriverSentIsReceived, LogoutIsFinal, NumbersRise, OpenedIsFresh, OtherDriversStay, OthersStay, SameStepsSameAnswers, SentAndWaitingIsDue, SentIsFrontOfDue, SentIsReceived, WaitsForOnePiece};
+ghost use Rattle.nut_server_spec.specs.laws.Laws.{BoundsHold, ClosedStaysClosed, ConnectionsAreFew, CutsAndWritesDoNotMatter, CutsDoNotMatter, DriverCutsAndWritesDoNotMatter, DriverCutsDoNotMatter, DriverSentAndWaitingIsDue, DriverSentIsReceived, LogoutIsFinal, NumbersRise, OpenedIsFresh, OtherDriversStay, OthersStay, SameStepsSameAnswers, SentAndWaitingIsDue, SentIsFrontOfDue, SentIsReceived, WaitsForOnePiece};
 ghost use Rattle.nut_server_spec.specs.laws.Limits.{AnswersAreBounded, WaitsAreBounded};
 ghost use Rattle.nut_server_spec.specs.laws.Reloads.{KeepsItsNumber, NumbersAreDistinct, ReloadIsDownsThenClosesThenItself, UpsesStay};
 ghost use Rattle.nut_server_spec.specs.laws.Tracked.{TrackingLooksBack};

@@ -1,36 +1,19 @@
 -- How a fleet that a program keeps continues with a step, and what that step tells.
-use Rattle.std.specs.Prelude.{ℕ, ◌≡◌, ◌++◌, suc, Bool, true, if◌then◌else◌, List, [], ◌∷◌, length, take, drop, map, is_some}
+use Rattle.std.specs.Prelude.{ℕ, ◌≡◌, ◌++◌, suc, Bool, true, if◌then◌else◌, List, [], ◌∷◌, length, take, drop, map}
 use Rattle.nut_server_spec.specs.Event as arrivals
-use Rattle.nut_server_spec.specs.Content as server
 use Rattle.nut_server_spec.specs.Acceptance as server_tests
 use Rattle.nut_server_spec.specs.machine.Machine as server_machine
 use Rattle.nut_monitor_spec.specs.Event as events
 use Rattle.nut_monitor_spec.specs.Content as knowledge
 use Rattle.nut_monitor_spec.specs.Acceptance as monitor_tests
 use Rattle.nut_monitor_spec.specs.machine.Machine as monitor_machine
-use Rattle.nut_monitor_spec.specs.Trace.{linked, trace}
-use Rattle.nut_monitor_spec.specs.Trace as monitor
 use Rattle.nut_fleet.specs.Schedule.{Step, Out, Reach, Back, Land}
-use Rattle.nut_fleet.specs.World.{Setup, World, Deed, Skip, Rest, Tell, Inform, Join, monitor_of, served, known, address_of, has_link, is_fit, for_monitor, world}
+use Rattle.nut_fleet.specs.World.{Setup, Deed, Skip, Rest, Tell, Inform, Join, address_of, is_fit, for_monitor, world}
 use Rattle.nut_fleet.specs.Log.{News, Skipped, Noticed, turned, news}
-use Rattle.nut_fleet.specs.machine.Moves.{reached, sent_off, landed, put_in}
-use Rattle.nut_fleet.specs.Seen.{Ends, Fleet, Stands, open_seen, linked_seen, deed_by}
+use Rattle.nut_fleet.specs.Moves.{reached, sent_off, landed, put_in}
+use Rattle.nut_fleet.specs.Seen.{Ends, Fleet, Stands, Keeps, open_seen, linked_seen, deed_by}
 
--- ---- what is kept
-
--- What a program keeps of link i of monitor m, if its connection is c and these are the events of the server and of the
--- monitor. What it keeps of a pipe to an end that is cut doesn't matter.
-pub record KeepsLink (setup : Setup) (m i c : ℕ) (h : List arrivals.Event) (told : List events.Event) (ends : Ends) : Type 0 where
-  pub connection : ends.connection ≡ c
-  pub to_server : is_some (server_tests.session_of c (server.content setup.server h).sessions) ≡ true →
-      ends.to_server ≡ drop (length (arrivals.input c h)) (monitor.sent (monitor_of setup m) i (trace (monitor_of setup m) told))
-  pub to_monitor : linked i (trace (monitor_of setup m) told) ≡ true →
-      ends.to_monitor ≡ drop (length (monitor.input i (trace (monitor_of setup m) told))) (server.sent setup.server c h)
-
-pub record Keeps (setup : Setup) (w : World) (f : Fleet) : Type 0 where
-  pub server : f.server ≡ served setup w
-  pub monitor : (m : ℕ) → f.monitor m ≡ known setup w m
-  pub link : (m i : ℕ) → has_link setup m i ≡ true → KeepsLink setup m i (w.connection m i) w.server (w.monitor m) (f.link m i)
+-- ---- what counts
 
 -- The fleet without the pipes to ends that are cut.
 abbrev pub what_counts : Fleet → Fleet

@@ -4,12 +4,12 @@ use Rattle.nut_words.specs.declared.limits.TheConstants.{CREDENTIAL_MAX}
 use Rattle.nut_proto.specs.declared.request.Request.TheVariants as requests
 use Rattle.nut_server_spec.specs.Command.{Command, Asks}
 use Rattle.nut_server_spec.specs.Answer.{Answer, Scene, numbering_in}
-use Rattle.nut_server_spec.specs.Content.{Session, Supply, Content}
+use Rattle.nut_server_spec.specs.Content.{Session, Supply, Content, numbering_of}
 use Rattle.nut_server_spec.specs.Device.{Device, absent, fits}
 use Rattle.nut_server_spec.specs.Effect.{target}
 use Rattle.nut_server_spec.specs.Trace.{given_then}
 use Rattle.nut_server_spec.specs.Tracking.{with_tracked}
-use Rattle.nut_server_spec.specs.machine.Machine.{numbering_of, acted, act_on, answered, requested, update, update_at}
+use Rattle.nut_server_spec.specs.machine.Machine.{acted, act_on, answered, requested, update, update_at}
 use Rattle.nut_server.specs.declared.effect.Effect.{Effect}
 use Rattle.nut_server.specs.declared.effect.Effect.TheVariants as effects
 

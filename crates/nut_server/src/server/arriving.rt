@@ -1,10 +1,9 @@
 //! Handles each kind of arrival, with the tests that refuse it. What the lines of clients do is in `hearing`.
 
-ghost use Rattle.std.specs.Prelude.{◌≡◌, ◌<◌, ◌≤◌, map, length, max};
+ghost use Rattle.std.specs.Prelude.{◌≡◌, map};
 ghost use Rattle.nut_server_spec.specs.Event.{Moment, Open, Bytes, Took, Close, DriverUp, DriverBytes, DriverTook, DriverDown};
-ghost use Rattle.nut_server_spec.specs.Acceptance.{line_feeds};
 ghost use Rattle.nut_server_spec.specs.machine.Machine.{advance, ticked};
-ghost use Rattle.nut_server_spec.specs.MachineOutcome.{Answers, content_after};
+ghost use Rattle.nut_server_spec.specs.machine.MachineOutcome.{Answers, content_after};
 
 use crate::address::address_of;
 use crate::connection::Connection;

@@ -2,11 +2,12 @@
 
 ghost use Rattle.std.specs.Prelude.{◌≡◌, ◌≤◌, ◌<◌, ◌-◌, ◌++◌, not, ◌&&◌, OnErr, OnOk, filter, length, map, option_map};
 ghost use Rattle.nut_server_spec.specs.Acceptance.{is_connected, supply_of};
+ghost use Rattle.nut_server_spec.specs.Content.{numbering_of, unheard};
 ghost use Rattle.nut_server_spec.specs.Event.{Reload};
-ghost use Rattle.nut_server_spec.specs.MachineOutcome.{Answers, content_after};
+ghost use Rattle.nut_server_spec.specs.machine.MachineOutcome.{Answers, content_after};
 ghost use Rattle.nut_server_spec.specs.Numbering.{below, fate_of, ups_with};
 ghost use Rattle.nut_server_spec.specs.Reloading.{connections_ended, drivers_ended, is_kept};
-ghost use Rattle.nut_server_spec.specs.machine.Machine.{changed_from, fated, numbering_of, reloaded, unheard, with_supplies};
+ghost use Rattle.nut_server_spec.specs.machine.Machine.{changed_from, fated, reloaded, with_supplies};
 ghost use Rattle.nut_server.specs.inside.Fates.{fate_in};
 
 use crate::config::Config;

@@ -1,5 +1,5 @@
 -- What holds of every history of accepted events. Each law here is the contract of a function of the crate.
-use Rattle.std.specs.Prelude.{◌≡◌, ℕ, ◌<◌, ◌≤◌, ◌==◌, ◌+◌, false, true, if◌then◌else◌, List, [], ◌∷◌, ◌++◌, length, map, max, take, Bool, Option, Some, None, Result}
+use Rattle.std.specs.Prelude.{◌≡◌, ℕ, ◌<◌, ◌≤◌, ◌==◌, ◌+◌, false, true, if◌then◌else◌, List, [], ◌∷◌, ◌++◌, length, map, max, take, Bool, Option, Some, None}
 use Rattle.nut_queue.specs.declared.limits.TheConstants.{ASKS_MAX}
 use Rattle.nut_words.specs.Quoting.{Begins}
 use Rattle.nut_words.specs.Cutter.{kept_of}
@@ -9,14 +9,10 @@ use Rattle.nut_server_spec.specs.Configuration.{Configuration}
 use Rattle.nut_server_spec.specs.Device.{Device}
 use Rattle.nut_server_spec.specs.Event.{Event, Moment, Open, Bytes, Took, Close, WriteFailed, DriverUp, DriverBytes, DriverTook, DriverDown, Reload, input, driver_input, steps}
 use Rattle.nut_server_spec.specs.Trace.{numbering, device, due, driver_due, driver_sent, logged_out}
-use Rattle.nut_server_spec.specs.Content.{Session, Supply, Content, content, past, sent, session}
-use Rattle.nut_server_spec.specs.declared.Refused.{Refused}
-use Rattle.nut_server_spec.specs.Acceptance.{IsAccepted, Tells, session_of, waiting_of, supply_of, asks_of}
-use Rattle.nut_server_spec.specs.machine.Machine.{fresh, numbering_of}
+use Rattle.nut_server_spec.specs.Content.{Session, Supply, Content, content, past, sent, session, fresh, numbering_of}
+use Rattle.nut_server_spec.specs.Acceptance.{IsAccepted, session_of, waiting_of, supply_of, asks_of}
 use Rattle.nut_server_spec.specs.Numbering.{fate_of, is_cleared, is_to_cleared}
 use Rattle.std.specs.Option.{option_map_or}
-use Rattle.nut_server_spec.specs.Outcome.{IsAnswer, after}
-use Rattle.nut_server_spec.specs.MachineOutcome.{Answers, content_after}
 use Rattle.nut_server_spec.specs.declared.limits.TheConstants.{OPENED_MAX}
 
 -- A connection's bytes lead to the same content whether they come as one piece or cut into two.
@@ -177,14 +173,7 @@ NumbersRise =
     (first : Configuration) (h : List Event) →
     IsBelow 0 (numbers (content first h)) × IsRising (numbers (content first h)) × IsUpTo (content first h).opened (numbers (content first h))
 
--- ---- answers and contents
-
--- What the machine answers to an event is what a server may answer that was told the history, and what the machine has after it
--- is the content of the history after it.
-abbrev pub AnswersKeepContent : Type 0
-AnswersKeepContent =
-    (first : Configuration) (h : List Event) (s : Content) (e : Event) (r : Result (Unit {0}) Refused) →
-    Tells first h s → Answers s e r → IsAnswer first h e r × Tells first (after r e h) (content_after r s e)
+-- ---- what stays
 
 -- the number of the connection that an event concerns, if it concerns one; an Open concerns the connection that it
 -- opens

@@ -5,9 +5,8 @@ use Rattle.std.specs.Str.{bytes_eq}
 use Rattle.nut_server_spec.specs.Configuration.{Configuration, Ups, ups_named}
 use Rattle.nut_server_spec.specs.Event.{Event, Close, DriverDown, Reload}
 use Rattle.nut_server_spec.specs.Numbering.{number_of}
-use Rattle.nut_server_spec.specs.Content.{Session, Content, content}
+use Rattle.nut_server_spec.specs.Content.{Session, Content, content, down, numbering_of, unheard}
 use Rattle.nut_server_spec.specs.Acceptance.{IsAccepted, session_of, supply_of}
-use Rattle.nut_server_spec.specs.machine.Machine.{down, numbering_of, unheard}
 use Rattle.nut_server_spec.specs.Reloading.{drivers_ended, connections_ended}
 
 -- ---- what a reload ends

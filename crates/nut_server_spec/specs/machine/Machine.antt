@@ -1,6 +1,6 @@
 -- The server as a machine over its content: how an accepted event changes the content. The machine doesn't keep the
 -- past. The law `machine_keeps_content` says that it keeps the content of every history.
-use Rattle.std.specs.Prelude.{ℕ, zero, suc, true, false, not, ◌==◌, ◌≡◌, max, if◌then◌else◌, ◌+◌, ◌-◌, List, [], ◌∷◌, ◌++◌, filter, length, map, drop, Option, Some, None}
+use Rattle.std.specs.Prelude.{ℕ, zero, suc, true, not, ◌==◌, ◌≡◌, max, if◌then◌else◌, ◌+◌, ◌-◌, List, [], ◌∷◌, ◌++◌, filter, length, map, drop, Option, Some, None}
 use Rattle.nut_words.specs.Bytes.{line_feed}
 use Rattle.nut_words.specs.Lines.{LineText, Text, TooLong, joined}
 use Rattle.nut_state.specs.Table.{Table, empty}
@@ -11,13 +11,13 @@ use Rattle.nut_server_spec.specs.Configuration.{Configuration, Ups}
 use Rattle.nut_server_spec.specs.Command.{Command, command_of}
 use Rattle.nut_server_spec.specs.Event.{Event, Moment, Open, Bytes, Took, Close, WriteFailed, DriverUp, DriverBytes, DriverTook, DriverDown, Reload}
 use Rattle.nut_server_spec.specs.Tracking.{told_in, with_tracked, all_ended_by, all_abandoned}
-use Rattle.nut_server_spec.specs.Device.{Device, absent, needs_ping}
+use Rattle.nut_server_spec.specs.Device.{Device, needs_ping}
 use Rattle.nut_server_spec.specs.Answer.{Answer, Silence, Guest, Scene, Caller, answer}
 use Rattle.nut_server_spec.specs.Effect.{user_then, password_then, login_then, logged_out_then, tracking_then, number_in, due_then, target, forced_then, request_of}
 use Rattle.nut_server_spec.specs.Trace.{given_then, is_heard, with_request}
-use Rattle.nut_server_spec.specs.Content.{Session, Supply, Content, content}
+use Rattle.nut_server_spec.specs.Content.{Session, Supply, Content, content, down, fresh, numbering_of, unheard}
 use Rattle.nut_server_spec.specs.Acceptance.{IsAccepted, session_of}
-use Rattle.nut_server_spec.specs.Numbering.{Numbering, with_numbers, Fate, below, renumbered, fate_of, by_fate, is_to_cleared}
+use Rattle.nut_server_spec.specs.Numbering.{Numbering, Fate, below, renumbered, fate_of, by_fate, is_to_cleared}
 
 -- the sessions, with the one with the number c changed
 abbrev pub update : ℕ → (Session → Session) → List Session → List Session
@@ -47,10 +47,6 @@ guest_of k = record { address = k.address; login = k.login }
 -- what the server knows of a session when it answers a line of it
 abbrev pub caller_of : Session → Caller
 caller_of k = record { user = k.user; password = k.password; login = k.login; tracking = k.tracking }
-
--- the UPSes of a content and their numbers
-abbrev pub numbering_of : Content → Numbering
-numbering_of s = with_numbers s.configuration.upses s.numbers
 
 -- what the server knows when it answers a line
 abbrev pub scene_of : Content → Scene
@@ -142,20 +138,6 @@ bytes_heard c (b ∷ bytes) s = bytes_heard c bytes (byte_heard c b s)
 abbrev pub without : ℕ → List Session → List Session
 without c sessions = filter (λ k. not (k.number == c)) sessions
 
--- the session of a new connection
-abbrev pub fresh : ℕ → List ℕ → Session
-fresh number address = record {
-  number = number;
-  address = address;
-  user = None;
-  password = None;
-  login = None;
-  logged_out = false;
-  tracking = false;
-  rest = Text [];
-  waits = [];
-}
-
 -- ---- a driver
 
 -- the table after a line of the driver
@@ -194,10 +176,6 @@ up time d = record {
   rest = Text [];
 }
 
--- a UPS whose driver is disconnected
-abbrev pub down : Supply → Supply
-down d = record { device = record d.device { connected = false; waits = []; tracked = all_abandoned d.device.tracked }; rest = Text [] }
-
 -- a UPS whose driver took n bytes
 abbrev pub drained : ℕ → Supply → Supply
 drained n d = record d { device = record d.device { waits = drop n d.device.waits } }
@@ -210,10 +188,6 @@ ticked max_age time d =
     else d
 
 -- ---- a reload
-
--- a UPS of which nothing is known
-abbrev pub unheard : Supply
-unheard = record { device = absent; rest = Text [] }
 
 -- the UPSes with the numbers from n on, each changed by its number
 abbrev pub changed_from : ℕ → (ℕ → Supply → Supply) → List Supply → List Supply

@@ -1,6 +1,6 @@
 use Rattle.std.proofs.Common.{◌≡◌, map}
 use Rattle.nut_server_spec.specs.Numbering.{below}
-use Rattle.nut_server_spec.specs.machine.Machine.{unheard}
+use Rattle.nut_server_spec.specs.Content.{unheard}
 use Rattle.nut_server.proofs.server.untold.Given as goal
 
 abbrev pub invariant-loop : goal.invariant-loop

@@ -1,5 +1,6 @@
 use Rattle.std.proofs.Common.{◌<◌, length, slice_get, subst, sym, ap, ◌∙◌}
-use Rattle.nut_play.specs.machine.Kept.{Kept, links_in, is_played, told_by, back_by, back_seat}
+use Rattle.nut_play.specs.Kept.{Kept, links_in}
+use Rattle.nut_play.specs.machine.Next.{is_played, told_by, back_by, back_seat}
 use Rattle.nut_play.specs.contracts.fleet.Fleet.{the_view}
 use Rattle.nut_play.proofs.Written.{on-ok-two}
 use Rattle.nut_play.proofs.Fleets.{if-ok, link-there, within-there, fleet-written}

@@ -1,7 +1,8 @@
 use Rattle.std.proofs.Common.{◌<◌, length, map, subst, sym, refl, ap, ◌∙◌}
 use Rattle.nut_monitor.specs.Events.{event_of}
 use Rattle.nut_play.specs.Steps.{logged_of}
-use Rattle.nut_play.specs.machine.Kept.{Kept, known_of, told_news, inform_by, hear_seat}
+use Rattle.nut_play.specs.Kept.{Kept}
+use Rattle.nut_play.specs.machine.Next.{known_of, told_news, inform_by, hear_seat}
 use Rattle.nut_play.specs.contracts.fleet.Fleet.{the_view}
 use Rattle.nut_play.specs.Lack.{is_link_piece}
 use Rattle.nut_play.proofs.Lacks.{lack-same}

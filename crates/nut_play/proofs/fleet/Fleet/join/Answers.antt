@@ -1,6 +1,7 @@
 use Rattle.std.proofs.Common.{◌<◌, false, length, slice_get, map, subst, sym, ap, ◌∙◌}
 use Rattle.nut_play.specs.Steps.{logged_of}
-use Rattle.nut_play.specs.machine.Kept.{Kept, links_in, known_of, link_of, ends_at, is_played, told_by, told_news, link_by, join_seat}
+use Rattle.nut_play.specs.Kept.{Kept, links_in, ends_at}
+use Rattle.nut_play.specs.machine.Next.{known_of, link_of, is_played, told_by, told_news, link_by, join_seat}
 use Rattle.nut_play.specs.contracts.fleet.Fleet.{the_view}
 use Rattle.nut_play.proofs.Lacks.{lack-same}
 use Rattle.nut_play.proofs.Written.{on-ok-two}

@@ -1,6 +1,7 @@
 use Rattle.std.proofs.Common.{◌<◌, length, slice_get, map, subst, sym, refl, ap, ◌∙◌}
 use Rattle.nut_play.specs.Steps.{logged_of}
-use Rattle.nut_play.specs.machine.Kept.{Kept, links_in, known_of, link_of, ends_at, is_played, told_news, land_by, land_seat}
+use Rattle.nut_play.specs.Kept.{Kept, links_in, ends_at}
+use Rattle.nut_play.specs.machine.Next.{known_of, link_of, is_played, told_news, land_by, land_seat}
 use Rattle.nut_play.specs.contracts.fleet.Fleet.{the_view}
 use Rattle.nut_play.proofs.Written.{on-ok}
 use Rattle.nut_play.proofs.Fleets.{if-ok, known-there, link-there, within-there, fleet-written, log-same}

@@ -1,7 +1,7 @@
 use Rattle.std.proofs.Common.{List, [], false, sym, subst}
 use Rattle.nut_server_spec.specs.Content.{Content, content}
 use Rattle.nut_fleet.specs.World.{nothing}
-use Rattle.nut_play.specs.machine.Kept.{Kept, Seat, IsFleet}
+use Rattle.nut_play.specs.Kept.{Kept, Seat, IsFleet}
 use Rattle.nut_play.specs.Room.{setup_of}
 use Rattle.nut_play.proofs.Standing.{fresh-stands}
 use Rattle.nut_play.proofs.fleet.Fleet.new.Goals as goal

@@ -1,9 +1,9 @@
 use Rattle.std.proofs.Common.{◌≡◌, ◌<◌, ◌+◌, ◌++◌, ℕ, suc, true, length, map, slice_get, Some, refl, sym, ap, ◌∙◌, subst, arith}
 use Rattle.std.proofs.lemmas.List.{length-map}
 use Rattle.nut_fleet.specs.Log.{logged}
-use Rattle.nut_play.specs.machine.Kept.{fits}
+use Rattle.nut_play.specs.machine.Next.{fits}
 use Rattle.nut_play.specs.Steps.{step_of, logged_of}
-use Rattle.nut_play.specs.Play.{IsPlayed, firsts, run_log, told_at}
+use Rattle.nut_play.specs.machine.Play.{IsPlayed, firsts, run_log, told_at}
 use Rattle.nut_play.proofs.Places.{get-at, read-at}
 use Rattle.nut_play.proofs.Runs.{get-map, from-ok, played-more, log-more, lacking}
 use Rattle.nut_play.proofs.Lacks.{from-err}

@@ -1,5 +1,5 @@
 use Rattle.std.proofs.Common.{◌≡◌, map}
-use Rattle.nut_play.specs.Play.{firsts, run_log, IsPlayed}
+use Rattle.nut_play.specs.machine.Play.{firsts, run_log, IsPlayed}
 use Rattle.nut_play.specs.Steps.{step_of, logged_of}
 use Rattle.nut_play.proofs.fleet.Fleet.run.Given as goal
 

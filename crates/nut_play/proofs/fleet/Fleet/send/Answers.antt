@@ -1,6 +1,7 @@
 use Rattle.std.proofs.Common.{◌<◌, length, map, subst, sym, refl, ap, ◌∙◌}
 use Rattle.nut_play.specs.Steps.{logged_of}
-use Rattle.nut_play.specs.machine.Kept.{Kept, known_of, told_news, out_by, out_seat}
+use Rattle.nut_play.specs.Kept.{Kept}
+use Rattle.nut_play.specs.machine.Next.{known_of, told_news, out_by, out_seat}
 use Rattle.nut_play.specs.contracts.fleet.Fleet.{the_view}
 use Rattle.nut_play.proofs.Written.{on-ok}
 use Rattle.nut_play.proofs.Fleets.{known-there, fleet-written, log-same}

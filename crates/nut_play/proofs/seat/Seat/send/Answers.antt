@@ -1,5 +1,5 @@
 use Rattle.std.proofs.Common.{◌<◌, length, subst, sym}
-use Rattle.nut_play.specs.machine.Kept.{Seat}
+use Rattle.nut_play.specs.Kept.{Seat}
 use Rattle.nut_play.specs.contracts.seat.Seat.{the_view}
 use Rattle.nut_play.proofs.Written.{on-ok-two, out-written}
 use Rattle.nut_play.proofs.seat.Seat.send.Goals as goal

@@ -1,7 +1,8 @@
 use Rattle.std.proofs.Common.{◌≡◌, ◌<◌, Some, ap, ◌∙◌}
 use Rattle.nut_server_spec.specs.Acceptance.{front, line_feeds}
-use Rattle.nut_server_spec.specs.MachineOutcome.{RunsOutOf}
-use Rattle.nut_server_spec.specs.machine.Machine.{bytes_reported, down}
+use Rattle.nut_server_spec.specs.machine.MachineOutcome.{RunsOutOf}
+use Rattle.nut_server_spec.specs.machine.Machine.{bytes_reported}
+use Rattle.nut_server_spec.specs.Content.{down}
 use Rattle.nut_server.specs.contracts.device.Device.{the_view}
 use Rattle.nut_server.proofs.Pieces.{heard_whole}
 use Rattle.nut_server.proofs.Reports.{hears_driver, report_stopped, with_report}

@@ -1,5 +1,6 @@
 use Rattle.std.proofs.Common.{Some, refl, ap, arith}
-use Rattle.nut_server_spec.specs.machine.Machine.{with_supplies, down}
+use Rattle.nut_server_spec.specs.machine.Machine.{with_supplies}
+use Rattle.nut_server_spec.specs.Content.{down}
 use Rattle.nut_server.specs.contracts.server.Server.{the_view}
 use Rattle.nut_server.proofs.Acting.{act_written}
 use Rattle.nut_server.proofs.server.Server.driver_down.Goals as goal

@@ -3,7 +3,7 @@ use Rattle.nut_words.specs.Hearing.{StopsAt}
 use Rattle.nut_words.specs.Lines.{Text, lines_after}
 use Rattle.nut_server_spec.specs.Acceptance.{line_feeds}
 use Rattle.nut_server_spec.specs.Content.{Content}
-use Rattle.nut_server_spec.specs.MachineOutcome.{RunsOut, content_lost}
+use Rattle.nut_server_spec.specs.machine.MachineOutcome.{RunsOut, content_lost}
 use Rattle.nut_server_spec.specs.machine.Machine.{with_rest, with_sessions, without}
 use Rattle.nut_server.specs.inside.Lines.{line_heard_by}
 use Rattle.nut_server.specs.inside.Place.{Stands}

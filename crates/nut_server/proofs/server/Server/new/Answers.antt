@@ -4,7 +4,7 @@ use Rattle.nut_server_spec.specs.laws.Laws.{IsUpTo}
 use Rattle.nut_server_spec.specs.laws.Limits.{IsWithin}
 use Rattle.nut_server_spec.specs.Numbering.{below}
 use Rattle.nut_server.specs.inside.Inside.{numbers_of}
-use Rattle.nut_server_spec.specs.machine.Machine.{unheard}
+use Rattle.nut_server_spec.specs.Content.{unheard}
 use Rattle.nut_server_spec.proofs.Places.{below-length}
 use Rattle.nut_server.proofs.Limited.{config_within}
 use Rattle.nut_server.proofs.server.Server.new.Goals as goal

@@ -2,11 +2,11 @@ use Rattle.std.proofs.Common.{◌≡◌, ◌≤◌, ◌<◌, ℕ, Bool, ◌∙�
 use Rattle.std.specs.List.{AllByRecursion}
 use Rattle.std.specs.Vec.{with_items}
 use Rattle.std.proofs.lemmas.List.{with_items_is}
-use Rattle.nut_server_spec.specs.Content.{Content, Session}
+use Rattle.nut_server_spec.specs.Content.{Content, Session, numbering_of}
 use Rattle.nut_server_spec.specs.Numbering.{Fate, fate_between, is_to_cleared, renumbered, ups_with}
 use Rattle.nut_server_spec.specs.laws.Laws.{IsUpTo}
 use Rattle.nut_server_spec.specs.laws.Limits.{IsWithin}
-use Rattle.nut_server_spec.specs.machine.Machine.{fated, numbering_of}
+use Rattle.nut_server_spec.specs.machine.Machine.{fated}
 use Rattle.nut_server_spec.proofs.Numbering.{renumbered_below}
 use Rattle.nut_server.specs.contracts.server.Server.{the_view}
 use Rattle.nut_server.specs.inside.Inside.{numbers_of}

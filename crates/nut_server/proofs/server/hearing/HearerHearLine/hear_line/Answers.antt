@@ -2,9 +2,9 @@ use Rattle.std.proofs.Common.{◌∙◌, ap, sym, refl, subst}
 use Rattle.std.specs.Prelude.{IsTrue}
 use Rattle.nut_words.specs.Cutter.{line_of}
 use Rattle.nut_server_spec.specs.Command.{command_of}
-use Rattle.nut_server_spec.specs.Content.{Content}
+use Rattle.nut_server_spec.specs.Content.{Content, numbering_of}
 use Rattle.nut_server_spec.specs.Outcome.{line_takes}
-use Rattle.nut_server_spec.specs.machine.Machine.{answer_in, answered, numbering_of}
+use Rattle.nut_server_spec.specs.machine.Machine.{answer_in, answered}
 use Rattle.nut_server.specs.inside.Lines.{command_done, with_content}
 use Rattle.nut_server.proofs.Heard.{standing, stands_updated}
 use Rattle.nut_server.proofs.Results.{err_both, on_ok}

@@ -1,59 +1,23 @@
--- What the code keeps of a fleet, and how a step changes it.
-use Rattle.std.specs.Prelude.{ℕ, zero, suc, ◌≡◌, ◌++◌, min, Bool, true, false, not, ◌&&◌, nat_lt, if◌then◌else◌, List, [], ◌∷◌, length, take, drop, map, slice_get, slice_index_or, Option, Some, None, is_some, is_none}
+-- How a step changes what the code keeps of a fleet, and what it tells.
+use Rattle.std.specs.Prelude.{ℕ, zero, suc, ◌++◌, min, Bool, true, false, not, ◌&&◌, nat_lt, if◌then◌else◌, List, [], ◌∷◌, length, take, drop, slice_get, is_some, is_none}
 use Rattle.nut_words.specs.Bytes.{line_feed}
 use Rattle.nut_words.specs.declared.limits.TheConstants.{PIECE_MAX}
-use Rattle.nut_conf.specs.declared.upsmon.UpsmonConf.{UpsmonConf}
-use Rattle.nut_server_spec.specs.Configuration.{Configuration as ServerConfiguration}
 use Rattle.nut_server_spec.specs.Event as arrivals
 use Rattle.nut_server_spec.specs.Content as server
 use Rattle.nut_server_spec.specs.Acceptance as server_tests
 use Rattle.nut_server_spec.specs.machine.Machine as server_machine
 use Rattle.nut_monitor_spec.specs.Event as events
 use Rattle.nut_monitor_spec.specs.Content as knowledge
-use Rattle.nut_monitor_spec.specs.Configuration.{Configuration, configuration_of}
 use Rattle.nut_monitor_spec.specs.Acceptance as monitor_tests
 use Rattle.nut_monitor_spec.specs.machine.Machine as monitor_machine
 use Rattle.nut_monitor.specs.Monitors.{MonitorValue}
 use Rattle.nut_fleet.specs.Schedule.{Step, ServerClock, MonitorClock, Up, Driver, Down, Link, Out, Reach, Back, Land, CutServer, CutMonitor}
-use Rattle.nut_fleet.specs.World.{Setup, World, Deed, Skip, Rest, Tell, Inform, Join, no_monitor, carried, counted, moved, address_of}
+use Rattle.nut_fleet.specs.World.{Deed, Skip, Rest, Tell, Inform, Join, carried, counted, moved, address_of}
 use Rattle.nut_fleet.specs.Log.{News}
-use Rattle.nut_fleet.specs.machine.Moves.{reached, sent_off, landed, put_in}
-use Rattle.nut_fleet.specs.Seen.{Ends, Fleet}
-use Rattle.nut_fleet.specs.machine.Going.{Keeps, hushed, put_on, heard_news}
-
--- ---- what is kept
-
--- a monitor with its links
-pub record Seat : Type 0 where
-  pub monitor : MonitorValue
-  pub links : List Ends
-
-pub record Kept : Type 0 where
-  pub server : server.Content
-  pub seats : List Seat
-  pub failed : Bool
-
-abbrev pub no_ends : Ends
-no_ends = record { connection = 0; to_server = []; to_monitor = [] }
-
-abbrev pub ends_at : List Ends → ℕ → Ends
-ends_at links i = slice_index_or links i no_ends
-
-abbrev pub known_in : Option Seat → knowledge.Content
-known_in None = knowledge.content no_monitor []
-known_in (Some seat) = seat.monitor.content
-
-abbrev pub links_in : Option Seat → List Ends
-links_in None = []
-links_in (Some seat) = seat.links
-
--- what is kept, as a fleet of the definitions
-abbrev pub fleet_of : Kept → Fleet
-fleet_of k = record {
-  server = k.server;
-  monitor = λ m. known_in (slice_get k.seats m);
-  link = λ m i. ends_at (links_in (slice_get k.seats m)) i;
-}
+use Rattle.nut_fleet.specs.Moves.{reached, sent_off, landed, put_in}
+use Rattle.nut_fleet.specs.Seen.{Ends}
+use Rattle.nut_fleet.specs.machine.Going.{hushed, put_on, heard_news}
+use Rattle.nut_play.specs.Kept.{Seat, Kept, ends_at, known_in, links_in}
 
 -- ---- what a step does, by the server and a link, by the monitor, or by both
 
@@ -259,23 +223,3 @@ fits k (Back m i n) = fits_link k m i
 fits k (Land m i n) = fits_link k m i
 fits k (CutServer m i) = fits_link k m i
 fits k (CutMonitor m i) = fits_link k m i
-
--- ---- before any step
-
-abbrev pub fresh_seat : UpsmonConf → Seat
-fresh_seat c = record {
-  monitor = record { config = c; content = knowledge.content (configuration_of c) [] };
-  links = map (λ line. no_ends) (configuration_of c).lines;
-}
-
-abbrev pub fresh_fleet : ServerConfiguration → List UpsmonConf → Kept
-fresh_fleet first monitors = record { server = server.content first []; seats = map fresh_seat monitors; failed = false }
-
--- ---- the world that it belongs to
-
--- What is kept is the fleet of this world, which hasn't failed.
-pub record IsFleet (setup : Setup) (w : World) (k : Kept) : Type 0 where
-  pub monitors : map (λ (seat : Seat). configuration_of seat.monitor.config) k.seats ≡ setup.monitors
-  pub links : map (λ (seat : Seat). length seat.links) k.seats ≡ map (λ (c : Configuration). length c.lines) setup.monitors
-  pub keeps : Keeps setup w (fleet_of k)
-  pub works : k.failed ≡ false

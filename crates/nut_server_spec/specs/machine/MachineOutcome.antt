@@ -6,10 +6,11 @@ use Rattle.nut_server_spec.specs.declared.Place.{Place}
 use Rattle.nut_server_spec.specs.declared.Place.TheVariants.{Line, Report, NewUpses}
 use Rattle.nut_server_spec.specs.declared.Refused.{Refused}
 use Rattle.nut_server_spec.specs.declared.Refused.TheVariants.{NoSuchConnection, NotConnected, PieceTooLong, Busy, TooMuchTaken, BadAddress, Full, Memory}
+use Rattle.nut_server_spec.specs.Configuration.{Configuration}
 use Rattle.nut_server_spec.specs.Event.{Event, Bytes, Close, DriverBytes, DriverDown, Reload}
 use Rattle.nut_server_spec.specs.Content.{Session, Supply, Content}
-use Rattle.nut_server_spec.specs.Acceptance.{refusal, front, session_of, supply_of}
-use Rattle.nut_server_spec.specs.Outcome.{line_takes, report_takes, unfinished_of, unfinished_report}
+use Rattle.nut_server_spec.specs.Acceptance.{Tells, refusal, front, session_of, supply_of}
+use Rattle.nut_server_spec.specs.Outcome.{IsAnswer, after, line_takes, report_takes, unfinished_of, unfinished_report}
 use Rattle.nut_server_spec.specs.machine.Machine.{advance, bytes_heard, bytes_reported}
 
 -- the session of c, and a UPS, after the first k lines that a piece completes
@@ -81,3 +82,12 @@ content_after_refusal r e s = s
 abbrev pub content_after : {U : Type 0} → Result U Refused → Content → Event → Content
 content_after (Ok u) s e = advance s e
 content_after (Err r) s e = content_after_refusal r e s
+
+-- ---- the law
+
+-- What the machine answers to an event is what a server may answer that was told the history, and what the machine has after it
+-- is the content of the history after it.
+abbrev pub AnswersKeepContent : Type 0
+AnswersKeepContent =
+    (first : Configuration) (h : List Event) (s : Content) (e : Event) (r : Result (Unit {0}) Refused) →
+    Tells first h s → Answers s e r → IsAnswer first h e r × Tells first (after r e h) (content_after r s e)

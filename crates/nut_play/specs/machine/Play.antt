@@ -7,7 +7,8 @@ use Rattle.nut_fleet.specs.Seen.{deed_by}
 use Rattle.nut_play.specs.declared.types.FleetFault.{FleetFault}
 use Rattle.nut_play.specs.declared.types.FleetFault.TheVariants.{BadStep, Memory, Failed}
 use Rattle.nut_play.specs.Lack.{may_lack}
-use Rattle.nut_play.specs.machine.Kept.{Kept, fleet_of, is_played, next, said, fits}
+use Rattle.nut_play.specs.Kept.{Kept, fleet_of}
+use Rattle.nut_play.specs.machine.Next.{is_played, next, said, fits}
 
 -- what a step tells: these news if it was played, else that it was skipped
 abbrev pub told_if : Bool → List News → List News
