@@ -35,11 +35,11 @@ from tests.support.monitored import (
     children_of,
     play,
 )
-from tests.support.room import Room, until
+from tests.support.room import Room, has_ipv6, until
 
 STATUS = b"GET VAR su700 ups.status\n"
-# how long a server may take for an answer while a UPS is on battery and while none is, in seconds
-SHORT, LONG = 5, 10
+# how long a server may take for an answer while a UPS is on battery and while none is, and for a connection, in seconds
+SHORT, LONG, PATIENCE = 5, 10, 5
 # how many hosts the dead name server is asked for, and a host that is found without it
 HOSTS = 30
 KNOWN = "ups.example"
@@ -64,6 +64,19 @@ class Moody(Upstream):
             with contextlib.suppress(OSError):
                 end.shutdown(socket.SHUT_RDWR)
         self.ends.clear()
+
+
+@contextlib.contextmanager
+def deaf(port):
+    """Has this port take no connections, as behind a firewall that drops them: nobody accepts those that fill its queue."""
+    with contextlib.ExitStack() as held:
+        held.enter_context(socket.create_server(("127.0.0.1", port), backlog=0))
+        for _ in range(4):
+            caller = held.enter_context(socket.socket())
+            caller.setblocking(False)
+            with contextlib.suppress(BlockingIOError):
+                caller.connect(("127.0.0.1", port))
+        yield
 
 
 def reports_of(watch, target):
@@ -118,6 +131,21 @@ class Tests:
         watch.until_printed(ESTABLISHED % server.target, limit + 10)
         expect(reports_of(watch, server.target)[-1], "server connected", "the last report")
         expect(watch.lines().count(LOST % server.target), 1, "how often the loss is told")
+
+    def test_call_begins_with_the_address_that_was_reached(self):
+        """Of the two addresses of `localhost`, the first one never answers."""
+        if not has_ipv6():
+            raise Missing("this machine has no IPv6")
+        with Moody(host="::1") as server, deaf(server.port):
+            target = f"su700@localhost:{server.port}"
+            with self.watch(f"MONITOR {target} 1 mon m1 primary\nPOLLFREQ 1\n") as watch:
+                until(lambda: STATUS in server.asked, "the second address is reached", 30)
+                until(lambda: "server connected" in reports_of(watch, target), "that it is reached is reported")
+                dropped = time.monotonic()
+                server.drop()
+                until(lambda: server.ends, "it is called again", 30)
+                passed = time.monotonic() - dropped
+                ensure(passed < PATIENCE, f"the first address isn't dialled before it: {passed:.1f} s")
 
     def test_server_that_stands_still(self):
         with self.room() as room:

@@ -110,8 +110,8 @@ class Upstream:
     """A server that the test plays, with a thread for each connection. It answers each line with `answer`, and keeps the
     lines."""
 
-    def __init__(self, port=0, status=b"OL"):
-        self.listener = socket.create_server(("127.0.0.1", port))
+    def __init__(self, port=0, status=b"OL", host="127.0.0.1"):
+        self.listener = socket.create_server((host, port), family=socket.AF_INET6 if ":" in host else socket.AF_INET)
         self.port = self.listener.getsockname()[1]
         self.target = f"su700@127.0.0.1:{self.port}"
         self.statuses = {b"su700": status}

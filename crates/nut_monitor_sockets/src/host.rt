@@ -90,10 +90,14 @@ impl Host {
         self.is_wanted = false;
     }
 
-    /// Notes that the host was reached: the pauses between look-ups are short again.
+    /// Notes that the host was reached at the address that was dialled last. The next call begins with it, since an
+    /// address that doesn't answer costs seconds. The pauses between look-ups are short again.
     pub fn reach(&mut self) {
         self.is_wanted = false;
         self.pause = Pause::none();
+        if self.dialled > 1 && self.dialled <= self.addresses.len() {
+            self.addresses.swap(0, self.dialled - 1);
+        }
     }
 
     /// Begins a call, in which all addresses are to be dialled.
