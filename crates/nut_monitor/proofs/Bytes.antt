@@ -18,7 +18,7 @@ use Rattle.nut_monitor_spec.specs.declared.Notice.{Notice}
 use Rattle.nut_monitor.specs.declared.answer.Scene.{Scene}
 use Rattle.nut_monitor.specs.inside.Hearing.{HearsPiece}
 use Rattle.nut_monitor.specs.inside.Sound.{is_memory, lacks_memory}
-use Rattle.nut_monitor.specs.inside.Kept.{AreLinksBounded, IsLinkBounded}
+use Rattle.nut_monitor.specs.Bounds.{AreLinksBounded, IsLinkBounded}
 use Rattle.nut_monitor.proofs.Bounded.{at_bounded, heard_bounded}
 use Rattle.nut_monitor.proofs.Links.{ran_out}
 use Rattle.nut_monitor.proofs.Steps.{bytes_accepted, heard_content, here, linked_here, out_content}
