@@ -58,7 +58,7 @@ fn tell_silences(
     watches: &mut Vec<MonitorLine>,
     notices: &mut Notices,
 )
-    requires { length notices.old + length watches.old.items ≤ 120 }
+    requires { length notices.old + length watches.old.items ≤ NOTICES_MAX }
     ensures watches { watches.new.items ≡ all_silent (configuration_of config.now) clock watches.old.items }
     ensures few { length notices.new ≤ length notices.old + length watches.old.items }
     ensures told { notices.new ≡ notices.old ++ silences_told (configuration_of config.now) clock 0 watches.old.items }
