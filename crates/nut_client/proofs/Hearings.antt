@@ -33,7 +33,7 @@ went : (v v1 : LinkValue) (p : List ℕ) (done : ℕ) (result : Result (Unit {0}
 went v v1 p done result feeds ok =
     let going = none_at v1.exchange.fault (sym ok ∙ feeds.answered) in
     elim feeds.stands [
-      | inl said ↦ (said, going)
+      | inl said ↦ (said.0, going)
       | inr out ↦ let never : None ≡ Some Memory = sym going ∙ ap (λ e. e.fault) out.0.stands.0 in absurd (cc)
     ]
 

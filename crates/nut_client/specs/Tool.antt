@@ -6,6 +6,8 @@ use Rattle.clap.specs.Words.{IsAmong, Kinds}
 use Rattle.clap.specs.declared.error.ErrorKind.{ErrorKind}
 use Rattle.clap.specs.declared.error.ErrorKind.TheVariants as kinds
 use Rattle.std.specs.Io.KnownBytes.{append_known, prepend_known}
+use Rattle.std.specs.declared.io.ErrorKind.{ErrorKind as IoErrorKind}
+use Rattle.std.specs.declared.io.ErrorKind.TheVariants as io_kinds
 use Rattle.nut_words.specs.Lines.{LineText, lines}
 use Rattle.nut_words.specs.declared.limits.TheConstants.{PIECE_MAX}
 use Rattle.nut_proto.specs.declared.request.Request.{Request}
@@ -142,6 +144,11 @@ pub record Ends (script : Script) (result : Result (List ℕ) Failure) (input le
   pub queries : WasWritten result written (run_of script heard).queries
   -- If the connection was lost, all that was read was heard, or a query was sent only in part.
   pub lost : IfErr result (λ failure. failure ≡ failures.ConnectionLost → (unheard ≡ []) ⊎ (length written < length (run_of script heard).queries))
+
+-- why the words of a command line are not available, by the kind of error with which their reading ended
+abbrev pub words_failure : IoErrorKind → Failure
+words_failure io_kinds.OutOfMemory = failures.Memory
+words_failure kind = failures.BadArguments
 
 -- what is written of a failure to standard error
 abbrev pub reason : Failure → List ℕ

@@ -4,10 +4,10 @@ ghost use Rattle.std.specs.IoError.{error_kind};
 ghost use Rattle.clap.specs.Words.{kind_of};
 ghost use Rattle.nut_client.specs.CommandLine.{CommandLine};
 ghost use Rattle.nut_client.specs.Output.{HasText, Puts, written};
-ghost use Rattle.nut_client.specs.inside.Reading.{IsRead, TellsRefusal, words_failure};
+ghost use Rattle.nut_client.specs.inside.Reading.{IsRead, TellsRefusal};
 ghost use Rattle.nut_client.specs.inside.Task.{left_of};
 ghost use Rattle.nut_client.specs.Script.{script};
-ghost use Rattle.nut_client.specs.Tool.{Ends, EndsOver, Explains, Reports, RunsAs, Tells, error_text, is_asked_for as asked_for};
+ghost use Rattle.nut_client.specs.Tool.{Ends, EndsOver, Explains, Reports, RunsAs, Tells, error_text, is_asked_for as asked_for, words_failure};
 ghost use Rattle.nut_link.specs.Link.{fresh};
 ghost use Rattle.nut_client.specs.declared.failure.Failure.TheVariants.{ConnectionLost, Memory, NoConnection};
 

@@ -20,13 +20,13 @@ use Rattle.nut_state.specs.Table.{Table, empty}
 use Rattle.nut_state.specs.Text.{is_name}
 use Rattle.nut_dummy.specs.declared.writable.Writable.{Writable}
 use Rattle.nut_dummy.specs.declared.writable.Writable.TheVariants.{ChargeLow, RuntimeLow, Sensitivity, ShutdownDelay, Id}
-use Rattle.nut_dummy.specs.machine.Dummy.{Content, told_bytes, waits_of}
+use Rattle.nut_dummy.specs.Dummy.{Content, told_bytes, waits_of}
 use Rattle.nut_dummy.specs.Dump.{Listener, table_after, after_piece, after_pieces, LeadTo, dump_messages, IsDump, OwesDump, DumpIsTheTable, DumpsWhereAsked}
 use Rattle.nut_dummy.specs.Heard.{heard_in}
 use Rattle.nut_dummy.specs.History.{driver}
 use Rattle.nut_dummy.specs.Item.{is_value}
 use Rattle.nut_dummy.specs.Table.{table_of}
-use Rattle.nut_dummy.specs.machine.Teller.{Variable, Teller, answered, asked_by, dump, dumped, dumped_all, heard, heard_all, lines_of}
+use Rattle.nut_dummy.specs.Teller.{Variable, Teller, answered, asked_by, dump, dumped, dumped_all, heard, heard_all, lines_of}
 use Rattle.nut_dummy.specs.Telling.{Message, text, value_message, limits, limits_of, variable_messages, closing_messages}
 use Rattle.nut_dummy.specs.Writable.{writable_of}
 use Rattle.nut_dummy.proofs.FilledLemmas.{followed, limiting, writable_named, changes_of, closing_changes, dump_fills}

@@ -24,7 +24,7 @@ use Rattle.nut_dummy.specs.declared.writable.Writable.TheVariants.{ChargeLow, Ru
 use Rattle.nut_dummy.specs.Command.{command_name, all_commands}
 use Rattle.nut_dummy.specs.Heard.{attribute_changes}
 use Rattle.nut_dummy.specs.Table.{with_attributes, entry, entries, table_of}
-use Rattle.nut_dummy.specs.machine.Teller.{Variable}
+use Rattle.nut_dummy.specs.Teller.{Variable}
 use Rattle.nut_dummy.specs.Writable.{all_writable, attributes, name_of, attributes_of, number_up_to, text_of, writable_of}
 use Rattle.nut_dummy.proofs.LimitLemmas.{AreSound, IsSound, IsValued, and_left}
 

@@ -1,4 +1,4 @@
--- The machine keeps what looking back over deeds says.
+-- A driver holds what looking back over deeds says.
 use Rattle.std.proofs.Common.{◌≡◌, ℕ, ◌-◌, ◌≤◌, Bool, true, false, cond, List, [], ◌∷◌, ◌++◌, Option, Some, None, length, take, drop, refl, sym, ap, subst, ◌∙◌, arith, append_assoc, max, nat_lt, codes}
 use Rattle.std.specs.Prelude.{map}
 use Rattle.std.proofs.lemmas.Bool.Decides.{nat_tests}
@@ -13,8 +13,8 @@ use Rattle.nut_dummy.specs.declared.dummy.DummyFault.TheVariants as faults
 use Rattle.nut_dummy.specs.declared.command.Command.{Command}
 use Rattle.nut_dummy.specs.Command.{variable_set, value_set, command_of}
 use Rattle.nut_dummy.specs.Script.{Script, Timeline}
-use Rattle.nut_dummy.specs.machine.Teller.{Teller, Change, Passing, Assigning, Doing, followed, dumped, untold, changed, dumped_all, commanded, answered, ended, heard_all, relinked, asked_by}
-use Rattle.nut_dummy.specs.machine.Dummy.{Content, bytes_refusal, cut_behind, moment_refusal, passed, told_bytes, took_refusal, waits_of}
+use Rattle.nut_dummy.specs.Teller.{Teller, Change, Passing, Assigning, Doing, followed, dumped, untold, changed, dumped_all, commanded, answered, ended, heard_all, relinked, asked_by}
+use Rattle.nut_dummy.specs.Dummy.{Content, bytes_refusal, cut_behind, moment_refusal, passed, told_bytes, took_refusal, waits_of}
 use Rattle.nut_dummy.specs.History.{Deed, Fresh, Changes, Fails, Dumps, Pongs, has_asked, seen, owed, told, by_command, by_ask, by_lines, Call, Linked, Moment, Bytes, Lost, Took, clock, input, count_taken, deeds, driver, step, refusal, IsAccepted, told_by, is_linked, left_by_cut, received, timelines, Stands, LooksBack}
 
 map_map : {A B C : Type 0} (f : B → C) (g : A → B) (xs : List A) → map f (map g xs) ≡ map (λ x. f (g x)) xs

@@ -29,12 +29,12 @@ use Rattle.nut_dummy.specs.declared.item.ScriptKind.TheVariants.{Dev, Seq}
 use Rattle.nut_dummy.specs.declared.writable.Writable.{Writable}
 use Rattle.nut_dummy.specs.declared.limits.TheConstants.{SCRIPT_LINE_MAX, SCRIPT_VARIABLES_MAX}
 use Rattle.nut_dummy.specs.Command.{command_of, command_variables, variable_set, value_set}
-use Rattle.nut_dummy.specs.machine.Dummy.{all_declared, beginning, begun, brought, declared}
+use Rattle.nut_dummy.specs.Dummy.{all_declared, beginning, begun, brought, declared}
 use Rattle.nut_dummy.specs.Due.{is_due, latest, newest, newest_up_to}
 use Rattle.nut_dummy.specs.History.{Call, Linked, Moment, Bytes, Lost, Took, driver}
 use Rattle.nut_dummy.specs.Item.{Item, Timer, Setting, is_skipped, is_value, item, parted, setting, timed, timer, timer_in, trimmed}
 use Rattle.nut_dummy.specs.Script.{Script, Step, Timeline, at_line, extended, has_room, no_script, read_lines, read_script, steps_of, taken_in, timeline, whole, with_line, with_step}
-use Rattle.nut_dummy.specs.machine.Teller.{Change, Passing, Assigning, Doing, Teller, Variable, answered, asked_by, changed, commanded, dumped, followed, heard, heard_all, is_assigned, relinked, untold, value_after}
+use Rattle.nut_dummy.specs.Teller.{Change, Passing, Assigning, Doing, Teller, Variable, answered, asked_by, changed, commanded, dumped, followed, heard, heard_all, is_assigned, relinked, untold, value_after}
 use Rattle.nut_dummy.specs.Writable.{attributes, fits, may_be, writable_of}
 
 -- ---- tests

@@ -4,7 +4,7 @@ use Rattle.std.specs.Prelude.{is_some, slice_set, slice_index_or, map, if◌then
 use Rattle.std.specs.List.{insert}
 use Rattle.nut_state.specs.Sorted.{put, IsFound, IsFree, IsAscending}
 use Rattle.nut_state.proofs.PutLemmas.{name-named, ascending-put}
-use Rattle.nut_dummy.specs.machine.Dummy.{declared}
+use Rattle.nut_dummy.specs.Dummy.{declared}
 use Rattle.nut_words.specs.Lines.{parts}
 use Rattle.nut_dummy.specs.Memory.{Makes}
 use Rattle.nut_dummy.specs.Script.{Step, Timeline, Script, timeline, steps_of, with_step, with_line, at_line, whole, no_script, read_lines, read_script, IsFaultOf, Fails}

@@ -10,11 +10,11 @@ use Rattle.nut_state.specs.Step.{applied}
 use Rattle.nut_state.specs.Table.{Table, empty}
 use Rattle.nut_dummy.specs.declared.item.ScriptKind.{ScriptKind}
 use Rattle.nut_dummy.specs.Command.{command_name, all_commands}
-use Rattle.nut_dummy.specs.machine.Dummy.{Content, brought, waits_of}
+use Rattle.nut_dummy.specs.Dummy.{Content, brought, waits_of}
 use Rattle.nut_dummy.specs.History.{Call, driver}
 use Rattle.nut_dummy.specs.Script.{Script, read_script}
 use Rattle.nut_dummy.specs.Table.{table_of}
-use Rattle.nut_dummy.specs.machine.Teller.{Variable, Teller, asked_by, heard, heard_all}
+use Rattle.nut_dummy.specs.Teller.{Variable, Teller, asked_by, heard, heard_all}
 use Rattle.nut_dummy.specs.Telling.{Message, variable_messages, closing_messages}
 
 -- ---- the server's end of a link

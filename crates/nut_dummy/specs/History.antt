@@ -11,8 +11,8 @@ use Rattle.nut_dummy.specs.declared.command.Command.{Command}
 use Rattle.nut_dummy.specs.Command.{variable_set, value_set, command_of, command_variables}
 use Rattle.nut_dummy.specs.Due.{at_start}
 use Rattle.nut_dummy.specs.Script.{Script, Timeline}
-use Rattle.nut_dummy.specs.machine.Teller.{Variable, Teller, Change, Passing, Assigning, Doing, value_after, is_told, is_done, says, ended, dump, asked_by}
-use Rattle.nut_dummy.specs.machine.Dummy.{Content, all_declared, beginning, linked, passed, told_bytes, cut_behind, taken, waits_of, moment_refusal, bytes_refusal, took_refusal}
+use Rattle.nut_dummy.specs.Teller.{Variable, Teller, Change, Passing, Assigning, Doing, value_after, is_told, is_done, says, ended, dump, asked_by}
+use Rattle.nut_dummy.specs.Dummy.{Content, all_declared, beginning, linked, passed, told_bytes, cut_behind, taken, waits_of, moment_refusal, bytes_refusal, took_refusal}
 
 -- ---- deeds
 

@@ -6,8 +6,9 @@ pub mod Writable
 pub mod Command
 pub mod Telling
 pub mod Table
+pub mod Teller
+pub mod Dummy
 pub mod History
 pub mod Heard
 pub mod Dump
-pub mod machine
 pub mod inside

@@ -3,7 +3,7 @@ use Rattle.std.specs.Prelude.{ℕ, true, List, [], ◌∷◌, Option, Some, None
 use Rattle.std.specs.List.{flat_map}
 use Rattle.nut_state.specs.Table.{Table, Entry}
 use Rattle.nut_dummy.specs.Command.{command_name, all_commands}
-use Rattle.nut_dummy.specs.machine.Teller.{Variable}
+use Rattle.nut_dummy.specs.Teller.{Variable}
 use Rattle.nut_dummy.specs.Writable.{Attributes, attributes_of, writable_of}
 
 -- a variable of the table, with its attributes

@@ -3,7 +3,7 @@ ghost use Rattle.std.specs.Prelude.{◌≡◌, map, IfOk, IsTrue};
 ghost use Rattle.nut_state.specs.Sorted.{IsAscending};
 ghost use Rattle.nut_state.specs.Text.{is_name};
 ghost use Rattle.nut_dummy.specs.Command.{command_variables};
-ghost use Rattle.nut_dummy.specs.machine.Dummy.{declared, all_declared, begun};
+ghost use Rattle.nut_dummy.specs.Dummy.{declared, all_declared, begun};
 
 use crate::script::Script;
 use crate::text::Name;

@@ -3,7 +3,7 @@ ghost use Rattle.std.specs.Prelude.{◌≡◌, ℕ, List, [], ◌∷◌, MatchRe
 ghost use Rattle.nut_dummy.specs.Dump.{DumpsWhereAsked};
 ghost use Rattle.nut_dummy.specs.History.{BytesStand, Call, Linked, Moment, Stands, Took};
 ghost use Rattle.nut_dummy.specs.Script.{Script as ScriptValue};
-ghost use Rattle.nut_dummy.specs.machine.Dummy.{beginning, linked, waits_of, told_bytes, cut, cut_behind, MayRunOut, Passes, Hears, Takes};
+ghost use Rattle.nut_dummy.specs.Dummy.{beginning, linked, waits_of, told_bytes, cut, cut_behind, MayRunOut, Passes, Hears, Takes};
 
 use crate::begin::into_variables;
 use crate::script::Script;
@@ -50,7 +50,7 @@ pub struct Dummy {
 impl Model for Dummy {
     ghost use Rattle.std.specs.Prelude.{◌≤◌};
     ghost use Rattle.nut_words.specs.Hearing.{IsRest};
-    ghost use Rattle.nut_dummy.specs.machine.Dummy.{Content};
+    ghost use Rattle.nut_dummy.specs.Dummy.{Content};
 
     ghost Value = { Content };
 

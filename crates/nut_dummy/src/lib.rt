@@ -10,7 +10,7 @@
 //! What a line of a script says is defined in `specs/Item.antt`, what a script means in `specs/Script.antt`, which
 //! value is due in `specs/Due.antt`, what clients may set and what commands do in `specs/Writable.antt` and
 //! `specs/Command.antt`, the lines that are told in `specs/Telling.antt`, how each call changes the driver in
-//! `specs/machine/Teller.antt` and `specs/machine/Dummy.antt`, and what a server makes of a dump in `specs/Dump.antt`.
+//! `specs/Teller.antt` and `specs/Dummy.antt`, and what a server makes of a dump in `specs/Dump.antt`.
 #![tactic(auto)]
 
 mod begin;

@@ -1,6 +1,6 @@
 //! What a driver holds and tells.
 ghost use Rattle.std.specs.Prelude.{◌≡◌, ◌<◌, [], ◌++◌, ⊤, false, length, IsTrue, OnErr, OnOk};
-ghost use Rattle.nut_dummy.specs.machine.Teller.{changed, dumped_all, answered, heard, may_take_memory, relinked, tells_more};
+ghost use Rattle.nut_dummy.specs.Teller.{changed, dumped_all, answered, heard, may_take_memory, relinked, tells_more};
 ghost use Rattle.nut_dummy.specs.inside.Changes.{change_of};
 
 use crate::command::Command;
@@ -22,7 +22,7 @@ pub struct Teller {
 }
 
 impl Model for Teller {
-    ghost use Rattle.nut_dummy.specs.machine.Teller.{Teller as TellerValue};
+    ghost use Rattle.nut_dummy.specs.Teller.{Teller as TellerValue};
 
     ghost Value = { TellerValue };
 

@@ -2,7 +2,7 @@
 ghost use Rattle.std.specs.Prelude.{◌≡◌, ◌<◌, ◌++◌, true, length, map, OnErr, OnOk};
 ghost use Rattle.std.specs.List.{flat_map, list_any};
 ghost use Rattle.nut_dummy.specs.Telling.{text, closing_messages};
-ghost use Rattle.nut_dummy.specs.machine.Teller.{says, followed, lines_of, dump, dumped, ended, is_assigned, is_done, untold};
+ghost use Rattle.nut_dummy.specs.Teller.{says, followed, lines_of, dump, dumped, ended, is_assigned, is_done, untold};
 ghost use Rattle.nut_dummy.specs.inside.Changes.{change_of};
 
 use crate::variable::{Change, Variable};

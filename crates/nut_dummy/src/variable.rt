@@ -3,9 +3,9 @@ ghost use Rattle.std.specs.Prelude.{◌≡◌, ◌<◌, ◌++◌, [], ◌∷◌,
 ghost use Rattle.nut_dummy.specs.Item.{is_value};
 ghost use Rattle.nut_dummy.specs.Due.{at_start};
 ghost use Rattle.nut_dummy.specs.Telling.{text, limits, variable_messages};
-ghost use Rattle.nut_dummy.specs.machine.Teller.{value_after, is_assigned, differ, is_told, lines_of, says, followed, dumped, untold};
+ghost use Rattle.nut_dummy.specs.Teller.{value_after, is_assigned, differ, is_told, lines_of, says, followed, dumped, untold};
 ghost use Rattle.nut_dummy.specs.inside.Changes.{change_of};
-ghost use Rattle.nut_dummy.specs.machine.Dummy.{begun};
+ghost use Rattle.nut_dummy.specs.Dummy.{begun};
 
 use crate::due::latest;
 use crate::text::{Name, Text};
@@ -47,7 +47,7 @@ pub struct Variable {
 }
 
 impl Model for Variable {
-    ghost use Rattle.nut_dummy.specs.machine.Teller.{Variable as VariableValue};
+    ghost use Rattle.nut_dummy.specs.Teller.{Variable as VariableValue};
 
     ghost Value = { VariableValue };
 
@@ -201,7 +201,7 @@ impl Variable {
     }
 
     /// Appends the lines that tell a change of it.
-    pub fn say(&self, out: &mut Vec<u8>, change: &Change<'_>) -> Result<(), AllocError>
+    pub(crate) fn say(&self, out: &mut Vec<u8>, change: &Change<'_>) -> Result<(), AllocError>
         ensures ok { OnOk result (out.new.items ≡ out.old.items ++ says (change_of change.now) self.now) }
         ensures err { OnErr result (0 < length (says (change_of change.now) self.now)) }
     {
@@ -215,7 +215,7 @@ impl Variable {
     }
 
     /// Applies a change.
-    pub fn follow(&mut self, change: &Change<'_>, asked: bool)
+    pub(crate) fn follow(&mut self, change: &Change<'_>, asked: bool)
         ensures { self.new ≡ followed asked (change_of change.now) self.old }
     {
         let told = self.told || (asked && self.is_told(change));
@@ -228,7 +228,7 @@ impl Variable {
     }
 
     /// Appends its lines in a dump.
-    pub fn dump(&self, out: &mut Vec<u8>) -> Result<(), AllocError>
+    pub(crate) fn dump(&self, out: &mut Vec<u8>) -> Result<(), AllocError>
         ensures { OnOk result (out.new.items ≡ out.old.items ++ lines_of true self.now.name self.now.value) }
     {
         match self.value() {
@@ -238,14 +238,14 @@ impl Variable {
     }
 
     /// Marks it as told if it has a value: a dump told it.
-    pub fn mark_dumped(&mut self)
+    pub(crate) fn mark_dumped(&mut self)
         ensures { self.new ≡ dumped self.old }
     {
         self.told = self.told || self.value.is_some();
     }
 
     /// Marks it as not told on this link.
-    pub fn forget_link(&mut self)
+    pub(crate) fn forget_link(&mut self)
         ensures { self.new ≡ untold self.old }
     {
         self.told = false;

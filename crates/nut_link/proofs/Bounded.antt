@@ -1,5 +1,5 @@
 -- A link never keeps more than it may.
-use Rattle.std.proofs.Common.{◌≡◌, ℕ, ◌≤◌, Bool, true, false, nat_le, nat_lt, List, [], ◌∷◌, ◌++◌, length, drop, Option, Some, None, is_some, Result, Ok, Err, if◌then◌else◌, refl, sym, subst, ◌⊎◌, inl, inr, arith, length-append, length-drop, leb-true, ltb-true, ◌&&◌}
+use Rattle.std.proofs.Common.{◌≡◌, ℕ, ◌≤◌, Bool, true, false, nat_le, nat_lt, List, [], ◌∷◌, ◌++◌, length, drop, Option, Some, None, is_some, Result, Ok, Err, if◌then◌else◌, refl, sym, subst, inl, inr, arith, length-append, length-drop, leb-true, ltb-true, ◌&&◌}
 use Rattle.std.specs.List.{list_all}
 use Rattle.std.specs.Prelude.{◌==◌}
 use Rattle.nut_words.specs.Cutter.{kept_of}
@@ -22,11 +22,12 @@ use Rattle.nut_link.specs.declared.fault.LinkFault.{LinkFault}
 use Rattle.nut_link.specs.declared.fault.LinkFault.TheVariants.{OutOfOrder, BadQuery}
 use Rattle.nut_link.specs.Asking.{Asked, is_writable, query_of}
 use Rattle.nut_link.specs.Bounds.{IsBounded, IsStageBounded, rows_in, rows_of}
-use Rattle.nut_link.specs.Hearing.{Feeds, RunsOut}
+use Rattle.nut_link.specs.Hearing.{Feeds}
 use Rattle.nut_link.specs.laws.Laws.{BoundsStay}
 use Rattle.nut_link.specs.Link.{LinkValue, asked, fed, heard, is_idle, left_of, lines_heard, link_with, moved, on_answer, on_line, on_read, or_else, progress_of, stage_after, stage_taken, stage_without, take_fault, taken, taken_out}
 use Rattle.nut_link.specs.Matching.{Progress, Listing, Complete, first, is_heading, is_line, is_numbered, is_row, next, progress}
 use Rattle.nut_words.specs.Hearing.{IsRest}
+use Rattle.nut_link.proofs.Feeding.{HearsLines}
 use Rattle.nut_link.proofs.Writable.{length_line}
 use Rattle.nut_proto.specs.declared.limits.TheConstants.{ROWS_MAX}
 use Rattle.nut_link.specs.declared.limits.TheConstants.{QUERY_MAX}
@@ -133,7 +134,7 @@ kept_masked false line h = h
 -- A piece keeps a link within its bounds, also if memory runs out in it.
 pub fed_within : (v w : LinkValue) (p : List ℕ) (done : ℕ) (result : Result (Unit {0}) LinkFault) → Feeds v p done result w → IsBounded v → IsBounded w
 fed_within v w p done result feeds h = elim feeds.stands [
-  | inl said ↦ subst IsBounded (sym said) (record {
+  | inl said ↦ subst IsBounded (sym said.0) (record {
     stage = lines_within (lines_after v.rest p) v.exchange h.stage;
     line = kept_masked (is_some (fed p v).exchange.fault) (rest_after v.rest p) (kept_unfinished v.rest (parts p) h.line);
   })
@@ -158,10 +159,10 @@ link_within cutter e is h = record {
 }
 
 -- A piece keeps an exchange within its bounds, also if memory runs out in it.
-pub heard_stage_within : (start cutter : LineText) (before after : Exchange) (p : List ℕ) (done : ℕ)
-    → (link_with cutter after ≡ fed p (link_with start before)) ⊎ RunsOut (lines_after start p) before done after → IsStageBounded before.stage → IsStageBounded after.stage
+pub heard_stage_within : (start cutter : LineText) (before after : Exchange) (p : List ℕ) (done : ℕ) → HearsLines start cutter before after p done
+    → IsStageBounded before.stage → IsStageBounded after.stage
 heard_stage_within start cutter before after p done stands h = elim stands [
-  | inl said ↦ subst (λ (v : LinkValue). IsStageBounded v.exchange.stage) (sym said) (lines_within (lines_after (link_with start before).rest p) before h)
+  | inl said ↦ subst (λ (v : LinkValue). IsStageBounded v.exchange.stage) (sym said.0) (lines_within (lines_after (link_with start before).rest p) before h)
   | inr out ↦ subst (λ (e : Exchange). IsStageBounded e.stage) (sym out.stands.0) (left_within (lines_heard out.earlier before).stage (lines_within out.earlier before h))
 ]
 

@@ -108,8 +108,10 @@ fed_over r e p fault failed =
     let same = lines_heard_failed (lines_after (link_with r e).rest p) e over in
     record {
       answered = sym (ap answer_by failed);
-      stands = inl (link_failed r (rest_after (link_with r e).rest p) e over ∙ ap (link_with (rest_after (link_with r e).rest p)) (sym same));
-      count = inl (sym (count_over (lines_after (link_with r e).rest p) e over));
+      stands = inl (
+        link_failed r (rest_after (link_with r e).rest p) e over ∙ ap (link_with (rest_after (link_with r e).rest p)) (sym same),
+        sym (count_over (lines_after (link_with r e).rest p) e over),
+      );
     }
 
 -- memory ran out at the line at which an exchange stopped
@@ -125,48 +127,48 @@ lacked ls e e' done fault at lacks = record {
   stands = lacks;
 }
 
+-- How an exchange hears the lines that a piece completes: all up to one at which it fails, unless memory runs out.
+abbrev pub HearsLines : LineText → LineText → Exchange → Exchange → List ℕ → ℕ → Type 0
+HearsLines r s e e' p done =
+    ((link_with s e' ≡ fed p (link_with r e)) × (done ≡ count_heard (lines_after r p) e)) ⊎ RunsOut (lines_after r p) e done e'
+
 -- the exchange failed at a line of the piece, or memory ran out there
 pub stopped : (r s : LineText) (e e' : Exchange) (p : List ℕ) (done : ℕ) (fault : LinkFault) → e.fault ≡ None → StopsAt heard (λ line before. (before.fault ≡ None) × Hears before line (Err fault) e') (lines_after r p) e done
-    → (link_with s e' ≡ fed p (link_with r e)) ⊎ RunsOut (lines_after r p) e done e'
+    → HearsLines r s e e' p done
 stopped r s e e' p done fault going at = elim at.stops.1.stands [
   | inl said ↦
-      inl (failed_heard r s e (lines_heard at.earlier e) e' p at.earlier at.later at.line going (heard_over (lines_heard at.earlier e) e' at.line (Err fault) fault refl at.stops.1) at.parted refl said)
+      let over = heard_over (lines_heard at.earlier e) e' at.line (Err fault) fault refl at.stops.1 in
+      inl (
+        failed_heard r s e (lines_heard at.earlier e) e' p at.earlier at.later at.line going over at.parted refl said,
+        at.count
+            ∙ sym (ap (λ ls. count_heard ls e) at.parted ∙ count_until at.earlier at.later at.line e at.stops.0 (ap (λ e. is_some e.fault) (sym said) ∙ over)),
+      )
   | inr lacks ↦ inr (lacked (lines_after r p) e e' done fault at lacks)
 ]
 
--- how many of these lines were heard
-pub counted : (ls : List LineText) (e e' : Exchange) (done : ℕ) (result : Result (Unit {0}) LinkFault) → OnOk result (done ≡ length ls) → OnOk result (e' ≡ lines_heard ls e) → OnOk result (e'.fault ≡ None)
-    → IfErr result (λ fault. StopsAt heard (λ line before. (before.fault ≡ None) × Hears before line (Err fault) e') ls e done) → (done ≡ count_heard ls e) ⊎ RunsOut ls e done e'
-counted ls e e' done (Ok u) count is goes_on at = inl (count ∙ sym (count_all ls e (ap (λ e. e.fault) (sym is) ∙ goes_on)))
-counted ls e e' done (Err fault) count is goes_on at = elim at.stops.1.stands [
-  | inl said ↦
-      let over : is_some (heard at.line (lines_heard at.earlier e)).fault ≡ true =
-      ap (λ e. is_some e.fault) (sym said) ∙ heard_over (lines_heard at.earlier e) e' at.line (Err fault) fault refl at.stops.1 in
-      inl (at.count ∙ sym (ap (λ ls. count_heard ls e) at.parted ∙ count_until at.earlier at.later at.line e at.stops.0 over))
-  | inr lacks ↦ inr (lacked ls e e' done fault at lacks)
-]
-
 -- what a piece does to an exchange that goes on
-pub piece_heard : (r s : LineText) (e e' : Exchange) (p : List ℕ) (done : ℕ) (result : Result (Unit {0}) LinkFault) → e.fault ≡ None → OnOk result (s ≡ rest_after r p) → OnOk result (e' ≡ lines_heard (lines_after r p) e)
-    → OnOk result (e'.fault ≡ None) → IfErr result (λ fault. StopsAt heard (λ line before. (before.fault ≡ None) × Hears before line (Err fault) e') (lines_after r p) e done)
-    → (result ≡ answer_by e'.fault) × ((link_with s e' ≡ fed p (link_with r e)) ⊎ RunsOut (lines_after r p) e done e')
-piece_heard r s e e' p done (Ok u) going rest_is is goes_on at = (sym (ap answer_by goes_on), inl (all_heard r s e e' p going rest_is is))
-piece_heard r s e e' p done (Err fault) going rest_is is goes_on at = (at.stops.1.answered, stopped r s e e' p done fault going at)
+pub piece_heard : (r s : LineText) (e e' : Exchange) (p : List ℕ) (done : ℕ) (result : Result (Unit {0}) LinkFault) → e.fault ≡ None → OnOk result (s ≡ rest_after r p) → OnOk result (done ≡ length (lines_after r p))
+    → OnOk result (e' ≡ lines_heard (lines_after r p) e) → OnOk result (e'.fault ≡ None)
+    → IfErr result (λ fault. StopsAt heard (λ line before. (before.fault ≡ None) × Hears before line (Err fault) e') (lines_after r p) e done)
+    → (result ≡ answer_by e'.fault) × HearsLines r s e e' p done
+piece_heard r s e e' p done (Ok u) going rest_is count is goes_on at = (
+  sym (ap answer_by goes_on),
+  inl (all_heard r s e e' p going rest_is is, count ∙ sym (count_all (lines_after r p) e (ap (λ e. e.fault) (sym is) ∙ goes_on))),
+)
+piece_heard r s e e' p done (Err fault) going rest_is count is goes_on at = (at.stops.1.answered, stopped r s e e' p done fault going at)
 
 -- What a piece does to a link follows from what it does to its exchange.
-pub fed_link : (r s : LineText) (e e' : Exchange) (p : List ℕ) (done : ℕ) (result : Result (Unit {0}) LinkFault) → e.fault ≡ None → result ≡ answer_by e'.fault
-    → (link_with s e' ≡ fed p (link_with r e)) ⊎ RunsOut (lines_after r p) e done e' → (done ≡ count_heard (lines_after r p) e) ⊎ RunsOut (lines_after r p) e done e'
+pub fed_link : (r s : LineText) (e e' : Exchange) (p : List ℕ) (done : ℕ) (result : Result (Unit {0}) LinkFault) → e.fault ≡ None → result ≡ answer_by e'.fault → HearsLines r s e e' p done
     → Feeds (link_with r e) p done result (link_with s e')
-fed_link r s e e' p done result going answered stands count = record {
+fed_link r s e e' p done result going answered stands = record {
   answered = answered;
   stands = elim stands [
-    | inl said ↦ inl said
+    | inl said ↦ inl (said.0, subst (λ r. done ≡ count_heard (lines_after r p) e) (sym (rest_going r e going)) said.1)
     | inr out ↦ inr (
       subst (λ r. RunsOut (lines_after r p) e done e') (sym (rest_going r e going)) out,
       rest_over s e' (ap (λ e. is_some e.fault) out.stands.0),
     )
   ];
-  count = subst (λ r. (done ≡ count_heard (lines_after r p) e) ⊎ RunsOut (lines_after r p) e done e') (sym (rest_going r e going)) count;
 } where
   rest_going : (r : LineText) (e : Exchange) → e.fault ≡ None → (link_with r e).rest ≡ r
   rest_going r e going = ap (λ o. if is_some o then Text [] else r) going

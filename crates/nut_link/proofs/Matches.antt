@@ -40,7 +40,7 @@ first_true b c e = ap (λ b. b || c) e
 -- if no line may allocate, memory doesn't run out
 pub without_memory : (v w : LinkValue) (p : List ℕ) (done : ℕ) (result : Result (Unit {0}) LinkFault) → Feeds v p done result w → list_any may_take_memory (lines_after v.rest p) ≡ false → w ≡ fed p v
 without_memory v w p done result feeds none = elim feeds.stands [
-  | inl said ↦ said
+  | inl said ↦ said.0
   | inr out ↦
       let here : list_any may_take_memory (out.0.line ∷ out.0.later) ≡ true = first_true (may_take_memory out.0.line) (list_any may_take_memory out.0.later) out.0.stands.1 in
       let some : list_any may_take_memory (lines_after v.rest p) ≡ true =

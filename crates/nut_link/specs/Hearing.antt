@@ -58,6 +58,6 @@ count_heard (line ∷ lines) e = if is_some (heard line e).fault then 0 else cou
 -- A link is fed a piece. `done` is how many lines it heard before the one at which it failed or memory ran out.
 pub record Feeds (before : LinkValue) (piece : List ℕ) (done : ℕ) (result : Result (Unit {0}) LinkFault) (after : LinkValue) : Type 0 where
   pub answered : result ≡ answer_by after.exchange.fault
-  pub stands : (after ≡ fed piece before) ⊎ (RunsOut (lines_after before.rest piece) before.exchange done after.exchange × (after.rest ≡ Text []))
-  pub count :
-      (done ≡ count_heard (lines_after before.rest piece) before.exchange) ⊎ RunsOut (lines_after before.rest piece) before.exchange done after.exchange
+  pub stands :
+      ((after ≡ fed piece before) × (done ≡ count_heard (lines_after before.rest piece) before.exchange))
+      ⊎ (RunsOut (lines_after before.rest piece) before.exchange done after.exchange × (after.rest ≡ Text []))

@@ -1,5 +1,5 @@
 -- The history and the content after an event, and after the oldest notice was asked for.
-use Rattle.std.proofs.Common.{◌≡◌, ℕ, Bool, refl, sym, ap, subst, ◌∙◌, List, [], ◌∷◌, length, drop, Option, Some, None, Result, Ok, arith}
+use Rattle.std.proofs.Common.{◌≡◌, ℕ, Bool, refl, sym, ap, subst, ◌∙◌, List, [], ◌∷◌, length, drop, slice_get, Option, Some, None, Result, Ok, arith}
 use Rattle.std.proofs.lemmas.Bool.{lt-ltb}
 use Rattle.nut_monitor_spec.specs.Acceptance.{Tells, is_linked, waiting_on, watch_at}
 use Rattle.nut_monitor_spec.specs.Configuration.{Configuration}
@@ -7,13 +7,12 @@ use Rattle.nut_monitor_spec.specs.Content.{Content}
 use Rattle.nut_monitor_spec.specs.Event.{Event, NoticeTaken}
 use Rattle.nut_monitor_spec.specs.Handing.{after_asking}
 use Rattle.nut_monitor_spec.specs.Outcome.{IsAnswer, after}
-use Rattle.nut_monitor_spec.specs.MachineOutcome.{content_after}
+use Rattle.nut_monitor_spec.specs.machine.MachineOutcome.{content_after}
 use Rattle.nut_monitor_spec.specs.Trace.{linked, trace, waits}
 use Rattle.nut_monitor_spec.specs.declared.MonitorFault.{MonitorFault}
 use Rattle.nut_monitor_spec.specs.declared.Notice.{Notice}
 use Rattle.nut_monitor.specs.inside.Inside.{IsOrderly}
-use Rattle.nut_monitor.specs.inside.Kept.{KeepsLittle}
-use Rattle.nut_monitor.specs.inside.Sound.{first_of}
+use Rattle.nut_monitor.specs.Bounds.{KeepsLittle}
 use Rattle.nut_monitor_spec.proofs.Answering.{answers-keep}
 use Rattle.nut_monitor_spec.proofs.Told.{links-told}
 
@@ -22,7 +21,7 @@ pub stands_after : (old new : Content) (e : Event) (r : Result (Unit {0}) Monito
 stands_after old new e r answered is configuration events told =
     subst (Tells configuration (after r e events)) (sym is) (answers-keep configuration events old e r told answered)
 
-taken_of : (old new : Content) (waiting : List Notice) (taken : Option Notice) → old.notices ≡ waiting → taken ≡ first_of waiting
+taken_of : (old new : Content) (waiting : List Notice) (taken : Option Notice) → old.notices ≡ waiting → taken ≡ slice_get waiting 0
     → new ≡ record old { notices = drop 1 waiting }
     → (configuration : Configuration) (events : List Event) → Tells configuration events old → Tells configuration (after_asking taken events) new
 taken_of old new [] None is first left configuration events told =
@@ -33,7 +32,7 @@ taken_of old new (oldest ∷ others) (Some notice) is first left configuration e
     subst (Tells configuration (NoticeTaken ∷ events)) (sym (left ∙ ap (λ x. let r : Content = record old { notices = drop 1 x } in r) (sym is)))
     (answers-keep configuration events old NoticeTaken (Ok tt) told (refl, lt-ltb 0 (length old.notices) (omega (arith, ap length is))))
 
-pub stands_taken : (s old : Content) (left : List Notice) (taken : Option Notice) → s ≡ old → taken ≡ first_of s.notices → left ≡ drop 1 s.notices
+pub stands_taken : (s old : Content) (left : List Notice) (taken : Option Notice) → s ≡ old → taken ≡ slice_get s.notices 0 → left ≡ drop 1 s.notices
     → (configuration : Configuration) (events : List Event) → Tells configuration events old → Tells configuration (after_asking taken events) (record s { notices = left })
 stands_taken s old left taken same first rest configuration events told =
     taken_of s (record s { notices = left }) s.notices taken refl first (ap (λ x. let r : Content = record s { notices = x } in r) rest)

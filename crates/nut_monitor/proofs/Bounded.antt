@@ -25,7 +25,7 @@ use Rattle.nut_monitor_spec.specs.declared.Phase.{Phase}
 use Rattle.nut_monitor_spec.specs.declared.Query.{Query}
 use Rattle.nut_monitor_spec.proofs.Writables.{query_writable}
 use Rattle.nut_monitor.specs.inside.Inside.{unwatched}
-use Rattle.nut_monitor.specs.inside.Kept.{AreLinksBounded, IsLinkBounded}
+use Rattle.nut_monitor.specs.Bounds.{AreLinksBounded, IsLinkBounded}
 
 -- ---- one link
 

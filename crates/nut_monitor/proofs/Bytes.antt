@@ -18,7 +18,7 @@ use Rattle.nut_monitor_spec.specs.declared.Notice.{Notice}
 use Rattle.nut_monitor.specs.declared.answer.Scene.{Scene}
 use Rattle.nut_monitor.specs.inside.Hearing.{HearsPiece}
 use Rattle.nut_monitor.specs.inside.Sound.{is_memory, lacks_memory}
-use Rattle.nut_monitor.specs.inside.Kept.{AreLinksBounded, IsLinkBounded}
+use Rattle.nut_monitor.specs.Bounds.{AreLinksBounded, IsLinkBounded}
 use Rattle.nut_monitor.proofs.Bounded.{at_bounded, heard_bounded}
 use Rattle.nut_monitor.proofs.Links.{ran_out}
 use Rattle.nut_monitor.proofs.Steps.{bytes_accepted, heard_content, here, linked_here, out_content}
@@ -67,7 +67,7 @@ module _ (s : Content) (i : ℕ) (p : List ℕ) (w w' : Watch) (scene : Scene) (
 
   pub bytes_done : lacks_memory r.1 ≡ false → settled (record s { notices = news; watches = slice_set s.watches i w' }) ≡ advance s (LinkBytes i p)
   bytes_done kept = elim heard.feeds.stands [
-    | inl said ↦ ap settled (heard_content s i p w w' found.0 heard.link news lt is found.1 said watch_is told_is)
+    | inl said ↦ ap settled (heard_content s i p w w' found.0 heard.link news lt is found.1 said.0 watch_is told_is)
     | inr out ↦ absurd (false≢true (sym kept ∙ not_lacking r.1 heard.link.exchange.fault heard.feeds.answered (ap (λ e. e.fault) out.0.stands.0)))
   ]
 

@@ -153,7 +153,7 @@ fine_sound last (stages.Answered outcome) h = absurd h
 
 fine_fed : (last : LastQuery) (v : LinkValue) (p : List ℕ) (done : ℕ) (r : Result (Unit {0}) LinkFault) (w : LinkValue) → IsSoundLink (Some last) v → Feeds v p done r w → Fine last.query w.exchange.stage
 fine_fed last v p done r w sound feeds = elim feeds.stands [
-  | inl said ↦ subst (λ x. Fine last.query x.exchange.stage) (sym said) (fine_lines last.query (lines_after v.rest p) v.exchange (fine_sound last v.exchange.stage sound.stage))
+  | inl said ↦ subst (λ x. Fine last.query x.exchange.stage) (sym said.0) (fine_lines last.query (lines_after v.rest p) v.exchange (fine_sound last v.exchange.stage sound.stage))
   | inr out ↦ subst (λ x. Fine last.query x.stage) (sym out.0.stands.0)
       (fine_left last.query (lines_heard out.0.earlier v.exchange).stage (fine_lines last.query out.0.earlier v.exchange (fine_sound last v.exchange.stage sound.stage)))
 ]
@@ -317,7 +317,7 @@ nm_lines (l ∷ ls) e h = nm_lines ls (heard l e) (nm_either (is_some e.fault) e
 pub ran_out : (v : LinkValue) (p : List ℕ) (done : ℕ) (r : Result (Unit {0}) LinkFault) (w : LinkValue) → v.exchange.fault ≡ None → Feeds v p done r w → w.exchange.fault ≡ Some Memory
     → RunsOut (lines_after v.rest p) v.exchange done w.exchange
 ran_out v p done r w going feeds lacks = elim feeds.stands [
-  | inl said ↦ absurd (subst NotLacking lacks (subst (λ x. NotLacking x.exchange.fault) (sym said) (nm_lines (lines_after v.rest p) v.exchange (subst NotLacking (sym going) tt))))
+  | inl said ↦ absurd (subst NotLacking lacks (subst (λ x. NotLacking x.exchange.fault) (sym said.0) (nm_lines (lines_after v.rest p) v.exchange (subst NotLacking (sym going) tt))))
   | inr out ↦ out.0
 ]
 

@@ -1,5 +1,5 @@
 -- What each event changes in a monitor's content.
-use Rattle.std.proofs.Common.{◌≡◌, ℕ, zero, suc, ◌+◌, ◌<◌, ◌≤◌, nat_lt, Bool, true, false, List, [], ◌∷◌, ◌++◌, length, map, take, refl, sym, ap, ap₂, subst, ◌∙◌, Option, Some, None, is_some, is_none, Result, Ok, Err, slice_set, slice_index_or, arith, append_assoc, append-nil, length-set, le-ltb}
+use Rattle.std.proofs.Common.{◌≡◌, ℕ, zero, suc, ◌<◌, ◌≤◌, Bool, true, false, List, [], ◌∷◌, ◌++◌, length, map, take, refl, sym, ap, ap₂, subst, ◌∙◌, Option, Some, None, is_some, is_none, slice_set, slice_index_or, arith, append_assoc, append-nil, length-set, le-ltb}
 use Rattle.std.specs.Prelude.{if◌then◌else◌, sum_by}
 use Rattle.std.proofs.lemmas.List.Sums.{sum_by-cons, sum_by-set}
 use Rattle.nut_words.specs.Lines.{LineText, lines_after}
@@ -14,18 +14,18 @@ use Rattle.nut_conf.specs.declared.upsmon.UpsmonConf.{UpsmonConf}
 use Rattle.nut_conf.specs.declared.limits.TheConstants.{MONITORS_MAX}
 use Rattle.nut_monitor_spec.specs.Acceptance.{bytes_refusal, is_linked, linked_refusal, lost_refusal, took_refusal, waits_on, watch_at}
 use Rattle.nut_monitor_spec.specs.Configuration.{Configuration, Line, configuration_of, line_of}
-use Rattle.nut_monitor_spec.specs.Content.{Watch, Content}
+use Rattle.nut_monitor_spec.specs.Content.{Watch, Content, content}
 use Rattle.nut_monitor_spec.specs.Decision.{loss_notices}
-use Rattle.nut_monitor_spec.specs.machine.Machine.{all_asked, all_silent, answer_told, asked_next, bytes_heard, given, goes_on, heard_before, known_after, link_after, link_lost, link_made, loss_told, lost, made, memory_out, piece_heard, piece_out, put, silences_heard, silences_told, told_heard, told_out, took, update, watch_answered, watch_heard, watch_out, with_watch}
+use Rattle.nut_monitor_spec.specs.machine.Machine.{all_asked, all_silent, answer_told, asked_next, bytes_heard, goes_on, heard_before, known_after, link_lost, loss_told, lost, memory_out, piece_heard, piece_out, put, told_heard, told_out, update, watch_answered, watch_heard, watch_out, with_watch}
 use Rattle.nut_monitor_spec.specs.declared.Communication.TheVariants.{Bad}
 use Rattle.nut_monitor_spec.specs.declared.Known.{Known}
 use Rattle.nut_monitor_spec.specs.declared.Notice.{Notice}
 use Rattle.nut_monitor_spec.specs.declared.Phase.{Phase}
 use Rattle.nut_monitor_spec.specs.declared.Query.{Query}
 use Rattle.nut_monitor_spec.specs.Decision.{is_bad}
-use Rattle.nut_monitor.specs.Answers.{beginning}
-use Rattle.nut_monitor.specs.inside.Inside.{IsOrderly, to_lose, to_shut, unwatched}
-use Rattle.nut_monitor.specs.inside.Kept.{AreLinksBounded, IsLinkBounded}
+use Rattle.nut_monitor.specs.inside.Inside.{IsOrderly, to_lose, unwatched}
+use Rattle.nut_monitor.specs.Bounds.{AreLinksBounded, IsLinkBounded}
+use Rattle.nut_monitor.proofs.Begun.{begins}
 use Rattle.nut_monitor.proofs.Bounded.{AreWritable, asked_bounded, set_bounded, unwatched_bounded}
 
 -- ---- one line
@@ -97,13 +97,17 @@ pub lines_length : (ms : List Monitored) → length (map line_of ms) ≡ length 
 lines_length [] = refl
 lines_length (m ∷ ms) = ap suc (lines_length ms)
 
-pub beginning_orderly : (u : UpsmonConf) (s : Content) → s ≡ beginning (configuration_of u) → IsOrderly s
-beginning_orderly u s is = subst IsOrderly (sym is) (record {
-  all = unwatched_length (map line_of u.monitors.lines.items);
-  most = omega (arith, unwatched_length (map line_of u.monitors.lines.items), lines_length u.monitors.lines.items, u.monitors.few);
-  few = omega (arith, losable (beginning (configuration_of u)).watches, unwatched_length (map line_of u.monitors.lines.items), lines_length u.monitors.lines.items, u.monitors.few);
-  links = unwatched_bounded (map line_of u.monitors.lines.items);
-})
+pub beginning_orderly : (u : UpsmonConf) (s : Content) → s ≡ content (configuration_of u) [] → IsOrderly s
+beginning_orderly u s is =
+    let lines = map line_of u.monitors.lines.items in
+    let watches = map (λ line. unwatched) lines in
+    let orderly : IsOrderly (record (content (configuration_of u) []) { watches = watches }) = record {
+      all = unwatched_length lines;
+      most = omega (arith, unwatched_length lines, lines_length u.monitors.lines.items, u.monitors.few);
+      few = omega (arith, losable watches, unwatched_length lines, lines_length u.monitors.lines.items, u.monitors.few);
+      links = unwatched_bounded lines;
+    } in
+    subst IsOrderly (ap (λ ws. let r : Content = record (content (configuration_of u) []) { watches = ws } in r) (begins (configuration_of u)) ∙ sym is) orderly
 
 pub all_unwatched : (ms : List Monitored) → map (λ line. unwatched) ms ≡ map (λ line. unwatched) (map line_of ms)
 all_unwatched [] = refl

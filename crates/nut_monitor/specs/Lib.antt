@@ -1,5 +1,5 @@
 pub mod Events
-pub mod Answers
 pub mod Texts
 pub mod Monitors
+pub mod Bounds
 pub mod inside

@@ -2,4 +2,3 @@ pub mod Hearing
 pub mod Steps
 pub mod Inside
 pub mod Sound
-pub mod Kept

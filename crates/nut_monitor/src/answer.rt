@@ -1,5 +1,5 @@
 //! What an answer changes in what is known of a UPS, and which notices it gives.
-ghost use Rattle.std.specs.Prelude.{◌≡◌, ◌+◌, ◌≤◌, ◌++◌, [], if◌then◌else◌, length};
+ghost use Rattle.std.specs.Prelude.{◌≡◌, ◌+◌, ◌<◌, ◌≤◌, ◌++◌, [], if◌then◌else◌, length};
 ghost use Rattle.nut_monitor_spec.specs.declared.Query.TheVariants as queries;
 ghost use Rattle.nut_link.specs.declared.outcome.Outcome.TheVariants as outcomes;
 ghost use Rattle.nut_monitor_spec.specs.Configuration.{configuration_of};
@@ -14,7 +14,7 @@ use crate::notices::Notices;
 use crate::time::is_over;
 use nut_conf::{Notice as Kind, Number, UpsmonConf};
 use nut_link::{Fields, Outcome};
-use nut_monitor_spec::{Communication, Known, Notice, Query, StatusFlags};
+use nut_monitor_spec::{Communication, Known, NOTICES_MAX, Notice, Query, StatusFlags};
 
 /// The line and the time at which an answer is heard.
 #[derive(Clone, Copy)]
@@ -127,7 +127,7 @@ fn with_status(config: &UpsmonConf, scene: Scene, known: Known, flags: StatusFla
 
 /// Queues COMMBAD if communication wasn't bad before, and no shutdown has begun.
 pub fn tell_disturbed(scene: Scene, known: Known, notices: &mut Notices)
-    requires { length notices.old ≤ 120 }
+    requires { length notices.old < NOTICES_MAX }
     ensures few { length notices.new ≤ length notices.old + 1 }
     ensures told { notices.new ≡ notices.old ++ (if scene.watching then loss_notices scene.line known.communication else []) }
 {

@@ -1,5 +1,5 @@
 //! A MONITOR line: its link, and what is known of its UPS.
-ghost use Rattle.std.specs.Prelude.{◌≡◌, ◌+◌, ◌≤◌, ◌++◌, [], None, Some, if◌then◌else◌, is_some, length};
+ghost use Rattle.std.specs.Prelude.{◌≡◌, ◌+◌, ◌<◌, ◌≤◌, ◌++◌, [], None, Some, if◌then◌else◌, is_some, length};
 ghost use Rattle.nut_link.specs.Link.{LinkValue, is_idle, with_exchange};
 ghost use Rattle.nut_link.specs.Asking.{query_of};
 ghost use Rattle.nut_link.specs.declared.exchange.Stage.TheVariants as stages;
@@ -19,7 +19,7 @@ use crate::query::{next_query, request};
 use crate::time::{is_over, is_past};
 use nut_conf::{Monitored, Notice as Kind, UpsmonConf};
 use nut_link::{Link, LinkFault, Outcome};
-use nut_monitor_spec::{Communication, Known, LastQuery, Phase, Query};
+use nut_monitor_spec::{Communication, Known, LastQuery, NOTICES_MAX, Phase, Query};
 use std::alloc::Global;
 use std::marker::Model;
 
@@ -107,7 +107,7 @@ fn tell_silence(
     known: Known,
     notices: &mut Notices,
 ) -> bool
-    requires { length notices.old ≤ 120 }
+    requires { length notices.old < NOTICES_MAX }
     ensures silent { result ≡ tells_silence (configuration_of config.now) clock known.polled known.silence_told }
     ensures few { length notices.new ≤ length notices.old + 1 }
     ensures told { notices.new ≡ notices.old ++ when result (told_of kinds.Nocomm line) }
@@ -181,7 +181,7 @@ impl MonitorLine {
 
     /// Drops its link, and queues COMMBAD if communication wasn't bad before.
     pub fn lose(&mut self, scene: Scene, notices: &mut Notices)
-        requires { length notices.old ≤ 120 }
+        requires { length notices.old < NOTICES_MAX }
         ensures line { self.new ≡ lost self.old }
         ensures told { notices.new ≡ notices.old ++ (if scene.watching then loss_told scene.line self.old else []) }
         ensures few { length notices.new + to_lose self.new ≤ length notices.old + to_lose self.old }
@@ -230,7 +230,7 @@ impl MonitorLine {
         line: usize,
         notices: &mut Notices,
     )
-        requires { length notices.old ≤ 120 }
+        requires { length notices.old < NOTICES_MAX }
         ensures line { self.new ≡ silent (configuration_of config.now) clock self.old }
         ensures few { length notices.new ≤ length notices.old + 1 }
         ensures told { notices.new ≡ notices.old ++ when (is_silent (configuration_of config.now) clock self.old) (told_of kinds.Nocomm line) }

@@ -1,5 +1,5 @@
 //! The monitor: one call for an event, and getters.
-ghost use Rattle.std.specs.Prelude.{◌≡◌, ◌++◌, List, Some, None, Err, IfOk, IfErr, OnOk, OnErr, [], drop, length, ◌<◌, ◌≤◌, ◌+◌, vec_capacity, vec_len};
+ghost use Rattle.std.specs.Prelude.{◌≡◌, ◌++◌, List, Some, None, Err, IfOk, IfErr, OnOk, OnErr, [], drop, length, ◌<◌, ◌≤◌, ◌+◌, slice_get, vec_capacity, vec_len};
 ghost use Rattle.nut_monitor_spec.specs.declared.MonitorFault.{MonitorFault as AnyFault};
 ghost use Rattle.nut_monitor_spec.specs.declared.MonitorFault.TheVariants as faults;
 ghost use Rattle.nut_monitor_spec.specs.Acceptance.{Tells, is_linked, refusal, waiting_on, watch_at};
@@ -8,12 +8,10 @@ ghost use Rattle.nut_monitor_spec.specs.Content.{content, phase_of};
 ghost use Rattle.nut_monitor_spec.specs.Event.{Event as Events};
 ghost use Rattle.nut_monitor_spec.specs.Handing.{after_asking};
 ghost use Rattle.nut_monitor_spec.specs.Outcome.{IsAnswer, after};
-ghost use Rattle.nut_monitor_spec.specs.MachineOutcome.{content_after};
+ghost use Rattle.nut_monitor_spec.specs.machine.MachineOutcome.{content_after};
 ghost use Rattle.nut_monitor_spec.specs.Trace.{linked as is_there, trace, waits};
-ghost use Rattle.nut_monitor.specs.Answers.{beginning};
 ghost use Rattle.nut_monitor.specs.Events.{event_of};
-ghost use Rattle.nut_monitor.specs.inside.Kept.{KeepsLittle};
-ghost use Rattle.nut_monitor.specs.inside.Sound.{first_of};
+ghost use Rattle.nut_monitor.specs.Bounds.{KeepsLittle};
 ghost use Rattle.nut_monitor.specs.Texts.{text_of};
 ghost use Rattle.nut_monitor.specs.Monitors.{last_on};
 ghost use Rattle.std.specs.Option.{option_map};
@@ -56,9 +54,8 @@ impl Monitor {
     ///
     /// `Memory` with `link: None` if that memory cannot be allocated.
     pub fn new(alloc: Global, config: UpsmonConf) -> Result<Monitor, MonitorFault>
-        // `fresh`: its content is that of the empty history. `made` says the same without a history.
-        ensures made { IfOk result (λ monitor. monitor ≡ record { config = config; content = beginning (configuration_of config) }) }
-        ensures fresh { IfOk result (λ monitor. monitor.content ≡ content (configuration_of config) []) }
+        // Its content is that of the empty history.
+        ensures made { IfOk result (λ monitor. monitor ≡ record { config = config; content = content (configuration_of config) [] }) }
         ensures fault { IfErr result (λ fault. fault ≡ faults.Memory None 0) }
     {
         match State::new(alloc, &config) {
@@ -144,14 +141,14 @@ impl Monitor {
 
     /// Returns the oldest waiting notice, if one waits.
     pub fn first_notice(&self) -> Option<Notice>
-        ensures { result ≡ first_of self.now.content.notices }
+        ensures { result ≡ slice_get self.now.content.notices 0 }
     {
         self.state.notices.first()
     }
 
     /// Removes and returns the oldest waiting notice, if one waits.
     pub fn take_notice(&mut self) -> Option<Notice>
-        ensures taken { result ≡ first_of self.old.content.notices }
+        ensures taken { result ≡ slice_get self.old.content.notices 0 }
         ensures left { self.new ≡ record { config = self.old.config; content = record self.old.content { notices = drop 1 self.old.content.notices } } }
 
         // The content is then that of the history with the notice's taking as its newest event, if there was a notice.

@@ -1,7 +1,6 @@
 //! The notices that wait.
-ghost use Rattle.std.specs.Prelude.{◌≡◌, ◌+◌, ◌<◌, ◌≤◌, ◌==◌, ◌++◌, [], IfOk, drop, length};
+ghost use Rattle.std.specs.Prelude.{◌≡◌, ◌+◌, ◌<◌, ◌≤◌, ◌==◌, ◌++◌, [], IfOk, drop, length, slice_get};
 ghost use Rattle.nut_monitor_spec.specs.Decision.{when};
-ghost use Rattle.nut_monitor.specs.inside.Sound.{first_of};
 
 use nut_monitor_spec::{NOTICES_MAX, Notice};
 use std::alloc::{AllocError, Global};
@@ -57,14 +56,14 @@ impl Notices {
 
     /// Returns the oldest notice, if one waits.
     pub fn first(&self) -> Option<Notice>
-        ensures { result ≡ first_of self.now }
+        ensures { result ≡ slice_get self.now 0 }
     {
         self.queue.front().copied()
     }
 
     /// Removes and returns the oldest notice, if one waits.
     pub fn take(&mut self) -> Option<Notice>
-        ensures taken { result ≡ first_of self.old }
+        ensures taken { result ≡ slice_get self.old 0 }
         ensures left { self.new ≡ drop 1 self.old }
     {
         self.queue.pop_front()

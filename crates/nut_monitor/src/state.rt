@@ -1,12 +1,11 @@
 //! What a monitor knows and has decided, and how events change it.
-ghost use Rattle.std.specs.Prelude.{◌≡◌, ◌≤◌, ◌<◌, ◌+◌, ◌++◌, Some, IfOk, MatchResult, is_none, length, map};
+ghost use Rattle.std.specs.Prelude.{◌≡◌, ◌≤◌, ◌<◌, ◌+◌, ◌++◌, [], Some, IfOk, MatchResult, is_none, length, map};
 ghost use Rattle.std.specs.Option.{option_map};
 ghost use Rattle.nut_monitor_spec.specs.Acceptance.{is_linked, waiting_on, watch_at};
 ghost use Rattle.nut_monitor_spec.specs.Configuration.{Configuration, configuration_of};
-ghost use Rattle.nut_monitor_spec.specs.Content.{phase_of};
+ghost use Rattle.nut_monitor_spec.specs.Content.{content, phase_of};
 ghost use Rattle.nut_monitor_spec.specs.Event as E;
 ghost use Rattle.nut_monitor_spec.specs.machine.Machine.{all_asked, all_silent, clock_set, phase_moved, settled, shutdown_judged, silences_heard, silences_told};
-ghost use Rattle.nut_monitor.specs.Answers.{beginning};
 ghost use Rattle.nut_monitor.specs.inside.Inside.{IsOrderly, unwatched};
 ghost use Rattle.nut_monitor.specs.inside.Sound.{lacks_memory};
 ghost use Rattle.nut_monitor.specs.inside.Steps.{Steps, checked_fault, content_in};
@@ -59,7 +58,7 @@ fn tell_silences(
     watches: &mut Vec<MonitorLine>,
     notices: &mut Notices,
 )
-    requires { length notices.old + length watches.old.items ≤ 120 }
+    requires { length notices.old + length watches.old.items ≤ NOTICES_MAX }
     ensures watches { watches.new.items ≡ all_silent (configuration_of config.now) clock watches.old.items }
     ensures few { length notices.new ≤ length notices.old + length watches.old.items }
     ensures told { notices.new ≡ notices.old ++ silences_told (configuration_of config.now) clock 0 watches.old.items }
@@ -84,7 +83,7 @@ fn ask_all(config: &UpsmonConf, clock: u64, phase: Phase, watches: &mut Vec<Moni
 impl State {
     /// Makes the state of a monitor that was told nothing.
     pub fn new(alloc: Global, config: &UpsmonConf) -> Result<State, AllocError>
-        ensures { IfOk result (λ s. content_in (configuration_of config.now) s ≡ beginning (configuration_of config.now)) }
+        ensures { IfOk result (λ s. content_in (configuration_of config.now) s ≡ content (configuration_of config.now) []) }
     {
         let monitors = &config.monitors;
         let watches = unlinked(alloc, monitors.lines.as_slice())?;

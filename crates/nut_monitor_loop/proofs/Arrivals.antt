@@ -9,7 +9,7 @@ use Rattle.nut_monitor_spec.specs.Event as event
 use Rattle.nut_monitor_spec.specs.Content.{Content, content}
 use Rattle.nut_monitor_spec.specs.Acceptance.{Tells}
 use Rattle.nut_monitor_spec.specs.Outcome.{IsAnswer, cut_short, after}
-use Rattle.nut_monitor_spec.specs.MachineOutcome.{content_after}
+use Rattle.nut_monitor_spec.specs.machine.MachineOutcome.{content_after}
 use Rattle.nut_monitor_spec.proofs.Answering.{answers-keep}
 use Rattle.nut_monitor.specs.declared.event.Event.{Event as Told}
 use Rattle.nut_monitor.specs.Events.{event_of}

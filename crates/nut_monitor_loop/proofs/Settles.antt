@@ -14,7 +14,7 @@ use Rattle.nut_monitor_spec.specs.Content.{Watch, Content, content, watch, link_
 use Rattle.nut_monitor_spec.specs.Acceptance.{waits_on, waiting_on, watch_at}
 use Rattle.nut_monitor_spec.specs.machine.Machine.{advance, update, took, link_took}
 use Rattle.nut_monitor_spec.specs.Outcome.{IsAnswer}
-use Rattle.nut_monitor_spec.specs.MachineOutcome.{content_after}
+use Rattle.nut_monitor_spec.specs.machine.MachineOutcome.{content_after}
 use Rattle.nut_io.specs.declared.types.Written.{Written}
 use Rattle.nut_io.specs.declared.types.Written.TheVariants.{Took}
 use Rattle.nut_io.specs.Writes.{IsWithin}

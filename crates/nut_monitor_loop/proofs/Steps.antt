@@ -9,7 +9,7 @@ use Rattle.nut_monitor_spec.specs.Content.{Content}
 use Rattle.nut_monitor_spec.specs.Acceptance.{refusal, IsAccepted, Tells}
 use Rattle.nut_monitor_spec.specs.machine.Machine.{advance}
 use Rattle.nut_monitor_spec.specs.Outcome.{IsAnswer, IsRefusal, MayLack}
-use Rattle.nut_monitor_spec.specs.MachineOutcome.{content_after}
+use Rattle.nut_monitor_spec.specs.machine.MachineOutcome.{content_after}
 use Rattle.nut_monitor_spec.proofs.Answering.{answers-keep}
 use Rattle.nut_monitor_loop.specs.Record.{Entry, tells}
 use Rattle.nut_monitor_loop.specs.Watched.{entries_of, history_of, with_event, Stands, taken, since_made, handed, Watched}

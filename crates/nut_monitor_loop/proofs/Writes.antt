@@ -1,5 +1,5 @@
 -- How a write to a link, and a notice that is handed over, continue what is watched.
-use Rattle.std.proofs.Common.{◌≡◌, ℕ, ◌<◌, ◌≤◌, true, eqb, ltb, List, [], ◌∷◌, ◌++◌, length, take, Option, Some, None, is_some, Result, Ok, if◌then◌else◌, refl, sym, ◌∙◌, ap, subst, inl, inr, arith}
+use Rattle.std.proofs.Common.{◌≡◌, ℕ, ◌<◌, ◌≤◌, true, eqb, ltb, List, [], ◌∷◌, ◌++◌, length, slice_get, take, Option, Some, None, is_some, Result, Ok, if◌then◌else◌, refl, sym, ◌∙◌, ap, subst, inl, inr, arith}
 use Rattle.std.proofs.lemmas.Bool.{cases_Bool, eqb-true, le-ltb, lt-ltb}
 use Rattle.std.proofs.lemmas.List.{length-take-le}
 use Rattle.nut_monitor_spec.specs.declared.MonitorFault.{MonitorFault}
@@ -12,9 +12,8 @@ use Rattle.nut_monitor_spec.specs.Content.{Watch, Content, content}
 use Rattle.nut_monitor_spec.specs.Acceptance.{refusal, took_refusal, lost_refusal, waits_on, waiting_on, watch_at, is_busy, IsAccepted, Accepts, Tells}
 use Rattle.nut_monitor_spec.specs.machine.Machine.{advance}
 use Rattle.nut_monitor_spec.specs.Outcome.{IsAnswer}
-use Rattle.nut_monitor_spec.specs.MachineOutcome.{content_after}
+use Rattle.nut_monitor_spec.specs.machine.MachineOutcome.{content_after}
 use Rattle.nut_monitor_spec.proofs.Answering.{answers-keep}
-use Rattle.nut_monitor.specs.inside.Sound.{first_of}
 use Rattle.nut_io.specs.Writes.{IsWithin}
 use Rattle.nut_monitor_loop.specs.Record.{Entry, TookBytes, WasLate, WriteBroke, WasTold, tells, tells_write, waiting_of}
 use Rattle.nut_io.specs.declared.types.Written.{Written}
@@ -112,15 +111,19 @@ write_broke first o o' s s' i part w r watched is more some answer moved =
 
 -- ---- notices
 
-oldest : (notices : List Notice) (notice : Notice) → first_of notices ≡ Some notice → (others : List Notice) × (notices ≡ notice ∷ others)
+oldest : (notices : List Notice) (notice : Notice) → slice_get notices 0 ≡ Some notice → (others : List Notice) × (notices ≡ notice ∷ others)
 oldest [] notice is = cc
 oldest (x ∷ others) notice is = (others, cc)
+
+pub none_waits : (notices : List Notice) → slice_get notices 0 ≡ None → notices ≡ []
+none_waits [] none = refl
+none_waits (x ∷ others) none = absurd (cc)
 
 is_waiting : (s : Content) (notice : Notice) (others : List Notice) → s.notices ≡ notice ∷ others → is_busy s ≡ true
 is_waiting s notice others is = lt-ltb 0 (length s.notices) (omega (arith, ap length is))
 
 -- the oldest notice was handed over and taken
-pub told_one : (first : Configuration) (o o' : Option (List Entry)) (s s' : Content) (notice : Notice) → Watched first o s None → o' ≡ tells (WasTold notice) o → first_of s.notices ≡ Some notice
+pub told_one : (first : Configuration) (o o' : Option (List Entry)) (s s' : Content) (notice : Notice) → Watched first o s None → o' ≡ tells (WasTold notice) o → slice_get s.notices 0 ≡ Some notice
     → s' ≡ advance s NoticeTaken → Watched first o' s' None
 told_one first o o' s s' notice watched more is moved =
     let h = history_of watched.steps in

@@ -1,10 +1,9 @@
 //! The loop over any world.
 
-ghost use Rattle.std.specs.Prelude.{◌≡◌, ◌≢◌, ◌⊎◌, ◌+◌, ◌-◌, ◌^◌, ◌<◌, ℕ, true, false, List, [], length, Option, Some, None, Ok, IfSome, IfOk, OnOk, OnErr, is_ok, option_map, if◌then◌else◌};
+ghost use Rattle.std.specs.Prelude.{◌≡◌, ◌≢◌, ◌⊎◌, ◌+◌, ◌-◌, ◌^◌, ◌<◌, ℕ, true, false, List, [], length, slice_get, Option, Some, None, Ok, IfSome, IfOk, OnOk, OnErr, is_ok, option_map, if◌then◌else◌};
 ghost use Rattle.nut_monitor_spec.specs.Configuration.{Configuration};
 ghost use Rattle.nut_monitor_spec.specs.Content.{content, phase_of};
 ghost use Rattle.nut_monitor.specs.Events.{event_of as told_as};
-ghost use Rattle.nut_monitor.specs.inside.Sound.{first_of};
 ghost use Rattle.nut_monitor_loop.specs.Record.{waiting_of, IsSettled, NothingIsWithheld, is_halted, event_given};
 ghost use Rattle.nut_monitor_loop.specs.Watched.{Watched, WatchedBefore, sender, lost_of};
 ghost use Rattle.nut_monitor_loop.specs.inside.Kept.{OnlyAt, StaysLate, KeepsLate, Less, Settles, Unbroken};
@@ -274,7 +273,7 @@ fn tell_all<W: MonWorld>(monitor: &mut Monitor, world: &mut W) -> Result<(), Fau
 fn tell<W: MonWorld>(monitor: &mut Monitor, world: &mut W, notice: Notice) -> Result<(), Fault>
     ghost first: { Configuration }
     requires few { W.fault_count world.old < 2 ^ 64 - 1 }
-    requires oldest { first_of monitor.old.content.notices ≡ Some notice }
+    requires oldest { slice_get monitor.old.content.notices 0 ≡ Some notice }
     requires watched { Watched first (W.log world.old) monitor.old.content None }
     ensures err { OnErr result ((owed : Option ℕ) × Watched first (W.log world.new) monitor.new.content owed) }
     ensures ok { OnOk result (Watched first (W.log world.new) monitor.new.content None) }

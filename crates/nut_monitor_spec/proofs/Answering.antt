@@ -13,8 +13,8 @@ use Rattle.nut_monitor_spec.specs.Content.{Content, stage_in, watch, content}
 use Rattle.nut_monitor_spec.specs.Acceptance.{Accepts, Tells, is_linked, waiting_on, waits_on}
 use Rattle.nut_monitor_spec.specs.machine.Machine.{advance}
 use Rattle.nut_monitor_spec.specs.Outcome.{IsRefusal, after}
-use Rattle.nut_monitor_spec.specs.MachineOutcome.{content_after}
-use Rattle.nut_monitor_spec.specs.laws.Laws.{AnswersKeepContent, LinkedIsMade, WaitingIsLeft, SentAndWaitingIsDue, ShutdownStays}
+use Rattle.nut_monitor_spec.specs.machine.MachineOutcome.{AnswersKeepContent, content_after}
+use Rattle.nut_monitor_spec.specs.laws.Laws.{LinkedIsMade, WaitingIsLeft, SentAndWaitingIsDue, ShutdownStays}
 use Rattle.nut_monitor_spec.proofs.Lists.{get_at, earliest-moment, number-none, number-head}
 use Rattle.nut_monitor_spec.proofs.Settled.{IsTidy}
 use Rattle.nut_monitor_spec.proofs.Kept.{all-hold, keeps-content}

@@ -7,7 +7,6 @@ pub mod Handing
 pub mod Content
 pub mod Acceptance
 pub mod Outcome
-pub mod MachineOutcome
 pub mod machine
 pub mod laws
 pub mod examples

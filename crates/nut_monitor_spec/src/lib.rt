@@ -3,7 +3,8 @@
 #![tactic(auto)]
 
 ghost use Rattle.nut_monitor_spec.specs.machine.Machine.{KeepsContent};
-ghost use Rattle.nut_monitor_spec.specs.laws.Laws.{AnswersComeInTurn, AnswersKeepContent, CutsDoNotMatter, LinkedIsMade, LinksAreBounded, LinksAreTold, LoginsFollowFsd, NoticesAreFew, NoticesComeInOrder, OthersStay, QueriesComeAlone, SentAndWaitingIsDue, ShutdownStays, WaitingIsLeft};
+ghost use Rattle.nut_monitor_spec.specs.machine.MachineOutcome.{AnswersKeepContent};
+ghost use Rattle.nut_monitor_spec.specs.laws.Laws.{AnswersComeInTurn, CutsDoNotMatter, LinkedIsMade, LinksAreBounded, LinksAreTold, LoginsFollowFsd, NoticesAreFew, NoticesComeInOrder, OthersStay, QueriesComeAlone, SentAndWaitingIsDue, ShutdownStays, WaitingIsLeft};
 ghost use Rattle.nut_monitor_spec.specs.examples.Examples.{CommunicationExamples, EdgeExamples, OrderExamples, PrimaryExamples, RefusalExamples, RoomExamples, SecondaryExamples};
 
 mod limits;

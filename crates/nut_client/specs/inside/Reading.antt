@@ -8,12 +8,10 @@ use Rattle.nut_conf.specs.Target.{target_view}
 use Rattle.nut_conf.specs.declared.target.NameFault.{NameFault}
 use Rattle.nut_conf.specs.declared.target.Target.{Target}
 use Rattle.nut_client.specs.declared.command_line.Options.{Options as Read}
-use Rattle.std.specs.declared.io.ErrorKind.{ErrorKind as IoErrorKind}
-use Rattle.std.specs.declared.io.ErrorKind.TheVariants as io_kinds
 use Rattle.nut_client.specs.declared.command_line.Refusal.{Refusal}
 use Rattle.nut_client.specs.declared.command_line.Refusal.TheVariants.{Usage, Failed}
 use Rattle.nut_client.specs.declared.failure.Failure.{Failure}
-use Rattle.nut_client.specs.declared.failure.Failure.TheVariants.{BadArguments, BadName, Memory}
+use Rattle.nut_client.specs.declared.failure.Failure.TheVariants.{BadName, Memory}
 use Rattle.nut_client.specs.CommandLine.{CommandLine, Options}
 use Rattle.nut_client.specs.Output.{Written}
 use Rattle.nut_client.specs.Tool.{Explains, Tells, is_asked_for}
@@ -47,11 +45,6 @@ abbrev pub IsRead : CommandLine → Result Read Refusal → Type 0
 IsRead line (Ok options) = line ≡ Ok (Ok (options_view options))
 IsRead line (Err (Usage error)) = (faults : _) × (line ≡ Err faults) × IsAmong (kind_of error) faults
 IsRead line (Err (Failed failure)) = (failure ≡ Memory) ⊎ (line ≡ Ok (Err failure))
-
--- why the words of a command line are not available, by the kind of error with which their reading ended
-abbrev pub words_failure : IoErrorKind → Failure
-words_failure io_kinds.OutOfMemory = Memory
-words_failure kind = BadArguments
 
 -- what is told of a refusal: clap's text for its error if memory for it can be allocated; or the failure
 abbrev pub TellsRefusal : Refusal → ℕ → Written → Written → Type 0

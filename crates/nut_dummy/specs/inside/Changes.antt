@@ -1,5 +1,5 @@
 -- The changes of the definitions that the code's changes are.
-use Rattle.nut_dummy.specs.machine.Teller as T
+use Rattle.nut_dummy.specs.Teller as T
 use Rattle.nut_dummy.specs.declared.variable.Change.{Change}
 use Rattle.nut_dummy.specs.declared.variable.Change.TheVariants as change
 

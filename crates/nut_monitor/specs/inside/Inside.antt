@@ -1,12 +1,12 @@
 -- What always holds of a monitor's content.
-use Rattle.std.specs.Prelude.{◌≡◌, ◌≤◌, ◌+◌, ℕ, Bool, true, false, not, ◌||◌, List, length, sum_by, if◌then◌else◌, Option, Some, None, is_some}
+use Rattle.std.specs.Prelude.{◌≡◌, ◌≤◌, ◌+◌, ◌*◌, ℕ, Bool, false, not, ◌||◌, length, sum_by, if◌then◌else◌, Option, None, is_some}
 use Rattle.nut_conf.specs.declared.limits.TheConstants.{MONITORS_MAX}
 use Rattle.nut_monitor_spec.specs.declared.Communication.TheVariants as communications
 use Rattle.nut_monitor_spec.specs.Content.{Watch, Content}
 use Rattle.nut_monitor_spec.specs.Configuration.{Configuration, Line}
 use Rattle.nut_monitor_spec.specs.Decision.{is_alone, is_bad, is_critical}
 use Rattle.nut_monitor_spec.specs.declared.Known.{Known}
-use Rattle.nut_monitor.specs.inside.Kept.{AreLinksBounded}
+use Rattle.nut_monitor.specs.Bounds.{AreLinksBounded}
 
 -- a line without a link, of whose UPS nothing is known
 abbrev pub unwatched : Watch
@@ -47,5 +47,6 @@ to_shut ended = if is_some ended then 0 else 1
 pub record IsOrderly (s : Content) : Type 0 where
   pub all : length s.watches ≡ length s.configuration.lines
   pub most : length s.watches ≤ MONITORS_MAX
-  pub few : length s.notices + sum_by to_lose s.watches + to_shut s.ended ≤ 65
+  -- At most one NOCOMM and one COMMBAD of each line, and SHUTDOWN.
+  pub few : length s.notices + sum_by to_lose s.watches + to_shut s.ended ≤ 2 * MONITORS_MAX + 1
   pub links : AreLinksBounded s.watches

@@ -1,5 +1,5 @@
 -- What always holds of a MONITOR line, and definitions that the clauses share.
-use Rattle.std.specs.Prelude.{◌≡◌, ℕ, Bool, true, false, not, Result, Ok, Err, ◌||◌, ◌&&◌, if◌then◌else◌, List, [], ◌∷◌, Option, Some, None, is_none, codes}
+use Rattle.std.specs.Prelude.{◌≡◌, ℕ, Bool, true, false, not, Result, Ok, Err, ◌||◌, ◌&&◌, if◌then◌else◌, List, ◌∷◌, Option, Some, None, is_none, codes}
 use Rattle.std.specs.Str.{bytes_eq}
 use Rattle.nut_link.specs.Asking.{Asked}
 use Rattle.nut_link.specs.Link.{LinkValue}
@@ -17,7 +17,6 @@ use Rattle.nut_monitor_spec.specs.Decision.{tells_replace}
 use Rattle.nut_monitor_spec.specs.declared.Communication.TheVariants as communications
 use Rattle.nut_monitor_spec.specs.declared.Known.{Known}
 use Rattle.nut_monitor_spec.specs.declared.LastQuery.{LastQuery}
-use Rattle.nut_monitor_spec.specs.declared.Notice.{Notice}
 use Rattle.nut_monitor_spec.specs.declared.Query.{Query}
 use Rattle.nut_monitor_spec.specs.declared.Query.TheVariants as queries
 use Rattle.nut_monitor_spec.specs.declared.StatusFlags.{StatusFlags}
@@ -46,11 +45,6 @@ with_flags configuration clock watching flags known = record {
   forced = known.forced;
   logins = known.logins;
 }
-
--- the first element of a list
-abbrev pub first_of : List Notice → Option Notice
-first_of [] = None
-first_of (notice ∷ others) = Some notice
 
 -- the number of logins that an answer gives is a numeral
 abbrev pub IsCount : Query → Outcome → Type 0

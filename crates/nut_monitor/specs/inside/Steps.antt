@@ -1,5 +1,5 @@
 -- What a call changes in the state of a monitor.
-use Rattle.std.specs.Prelude.{◌≡◌, Bool, true, false, not, Option, Some, None, Result, if◌then◌else◌, is_some}
+use Rattle.std.specs.Prelude.{◌≡◌, Bool, true, false, Option, Some, None, Result, if◌then◌else◌, is_some}
 use Rattle.nut_monitor_spec.specs.declared.MonitorFault.{MonitorFault}
 use Rattle.nut_monitor_spec.specs.declared.MonitorFault.TheVariants.{NoSuchLink, WrongLinkState}
 use Rattle.nut_monitor_spec.specs.Configuration.{Configuration}
@@ -7,7 +7,7 @@ use Rattle.nut_monitor_spec.specs.Content.{Watch, Content}
 use Rattle.nut_monitor_spec.specs.Event.{Event}
 use Rattle.nut_monitor.specs.declared.state.State.{State}
 use Rattle.nut_monitor_spec.specs.Outcome.{IsAnswer}
-use Rattle.nut_monitor_spec.specs.MachineOutcome.{content_after}
+use Rattle.nut_monitor_spec.specs.machine.MachineOutcome.{content_after}
 use Rattle.nut_monitor.specs.inside.Inside.{IsOrderly}
 
 -- the content of a monitor with this configuration and state

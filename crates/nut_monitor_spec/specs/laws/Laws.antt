@@ -1,34 +1,25 @@
 -- What holds of every history, in most laws of every history of accepted events. Each law is the contract of a function
 -- of the crate.
-use Rattle.std.specs.Prelude.{◌≡◌, ◌==◌, ℕ, ◌<◌, ◌≤◌, true, false, List, [], ◌∷◌, ◌++◌, length, map, ◌⊎◌, Option, None, Some, Result}
+use Rattle.std.specs.Prelude.{◌≡◌, ◌==◌, ℕ, ◌<◌, ◌≤◌, true, false, List, [], ◌∷◌, ◌++◌, length, map, ◌⊎◌, Option, None, Some}
 use Rattle.nut_conf.specs.declared.limits.TheConstants.{MONITORS_MAX}
 use Rattle.nut_words.specs.Lines.{lines_after, rest}
 use Rattle.nut_link.specs.Asking.{is_writable}
 use Rattle.nut_link.specs.Bounds.{IsBounded}
 use Rattle.nut_link.specs.Link.{LinkValue}
-use Rattle.nut_monitor_spec.specs.declared.MonitorFault.{MonitorFault}
 use Rattle.nut_monitor_spec.specs.declared.Query.{Query}
 use Rattle.nut_monitor_spec.specs.declared.Query.TheVariants.{NumLogins}
 use Rattle.nut_monitor_spec.specs.Configuration.{Line, Configuration, line_in}
 use Rattle.nut_monitor_spec.specs.Event.{Event, Moment, Linked, LinkBytes, LinkLost, LinkTook, OutOfMemory, NoticeTaken}
 use Rattle.nut_monitor_spec.specs.Query.{request}
 use Rattle.nut_monitor_spec.specs.Trace.{Asked, Entry, linked, input, queries, answers, outstanding, due, sent, waits, forced, known, query_put, trace, notices}
-use Rattle.nut_monitor_spec.specs.Content.{Watch, Content, content}
+use Rattle.nut_monitor_spec.specs.Content.{Watch, content}
 use Rattle.nut_monitor_spec.specs.Handing.{notices_handed}
-use Rattle.nut_monitor_spec.specs.Acceptance.{IsAccepted, Tells, watch_at, is_linked, waiting_on}
-use Rattle.nut_monitor_spec.specs.Outcome.{IsAnswer, after}
-use Rattle.nut_monitor_spec.specs.MachineOutcome.{content_after}
+use Rattle.nut_monitor_spec.specs.Acceptance.{IsAccepted, watch_at, is_linked, waiting_on}
 use Rattle.nut_monitor_spec.specs.declared.limits.TheConstants.{NOTICES_MAX}
 
 -- these answers belong to all queries, or to all but the newest
 abbrev pub IsInTurn : List Asked → List Asked → Type 0
 IsInTurn queries answered = (queries ≡ answered) ⊎ ((newest : Asked) × (queries ≡ newest ∷ answered))
-
--- Whatever a monitor may answer to an event, its content afterwards is the content of the history after that answer.
-abbrev pub AnswersKeepContent : Type 0
-AnswersKeepContent =
-    (configuration : Configuration) (events : List Event) (s : Content) (event : Event) (r : Result (Unit {0}) MonitorFault) →
-    Tells configuration events s → IsAnswer s event r → Tells configuration (after r event events) (content_after r s event)
 
 -- A link of a MONITOR line is up in the content exactly if it was made and not lost since.
 abbrev pub LinkedIsMade : Type 0

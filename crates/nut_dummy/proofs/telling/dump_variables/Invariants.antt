@@ -1,6 +1,6 @@
 use Rattle.std.proofs.Common.{◌≡◌, ◌++◌, true, take}
 use Rattle.std.specs.List.{flat_map}
-use Rattle.nut_dummy.specs.machine.Teller.{lines_of}
+use Rattle.nut_dummy.specs.Teller.{lines_of}
 use Rattle.nut_dummy.proofs.telling.dump_variables.Given as goal
 
 abbrev pub invariant-loop-variable : goal.invariant-loop-variable

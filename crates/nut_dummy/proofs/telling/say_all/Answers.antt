@@ -1,4 +1,4 @@
-use Rattle.nut_dummy.specs.machine.Teller.{says}
+use Rattle.nut_dummy.specs.Teller.{says}
 use Rattle.nut_dummy.specs.inside.Changes.{change_of}
 use Rattle.nut_dummy.proofs.MemoryLemmas.{on_err, one_says}
 use Rattle.nut_dummy.proofs.telling.say_all.Goals as goal

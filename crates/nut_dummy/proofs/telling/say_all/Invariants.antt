@@ -1,6 +1,6 @@
 use Rattle.std.proofs.Common.{◌≡◌, ◌++◌, take}
 use Rattle.std.specs.List.{flat_map}
-use Rattle.nut_dummy.specs.machine.Teller.{says}
+use Rattle.nut_dummy.specs.Teller.{says}
 use Rattle.nut_dummy.specs.inside.Changes.{change_of}
 use Rattle.nut_dummy.proofs.telling.say_all.Given as goal
 

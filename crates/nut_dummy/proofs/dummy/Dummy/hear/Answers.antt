@@ -1,6 +1,6 @@
 use Rattle.std.proofs.Common.{ap}
 use Rattle.nut_words.specs.Lines.{lines_after}
-use Rattle.nut_dummy.specs.machine.Dummy.{cut}
+use Rattle.nut_dummy.specs.Dummy.{cut}
 use Rattle.nut_dummy.specs.contracts.dummy.Dummy.{the_view}
 use Rattle.nut_dummy.proofs.MemoryLemmas.{err_of, runs_out}
 use Rattle.nut_dummy.proofs.dummy.Dummy.hear.Goals as goal

@@ -1,5 +1,5 @@
 use Rattle.std.proofs.Common.{◌≡◌, None, rules}
-use Rattle.nut_dummy.specs.machine.Dummy.{moment_refusal, passed}
+use Rattle.nut_dummy.specs.Dummy.{moment_refusal, passed}
 use Rattle.nut_dummy.specs.contracts.dummy.Dummy.{the_view}
 use Rattle.nut_dummy.proofs.HistoryLemmas.{moment_moves}
 use Rattle.nut_dummy.proofs.dummy.Dummy.moment.Goals as goal

@@ -1,6 +1,6 @@
 use Rattle.std.proofs.Common.{◌≡◌, ◌≤◌, None, length, arith, ap, rules, ◌∙◌}
 use Rattle.nut_dummy.specs.declared.dummy.Dummy.TheInside.{Inside}
-use Rattle.nut_dummy.specs.machine.Dummy.{Content, bytes_refusal, waits_of}
+use Rattle.nut_dummy.specs.Dummy.{Content, bytes_refusal, waits_of}
 use Rattle.nut_dummy.proofs.DumpLemmas.{dumps_where_asked}
 use Rattle.nut_dummy.proofs.HistoryLemmas.{bytes_cut, bytes_move}
 use Rattle.nut_dummy.proofs.dummy.Dummy.server_bytes.Goals as goal

@@ -1,5 +1,5 @@
 use Rattle.std.proofs.Common.{◌≡◌, ◌<◌, false, length, Some, None, IsTrue, rules, arith, codes, sym, ap, subst, ◌∙◌}
-use Rattle.nut_dummy.specs.machine.Teller.{answered, commanded, dump, ended, tells_more}
+use Rattle.nut_dummy.specs.Teller.{answered, commanded, dump, ended, tells_more}
 use Rattle.nut_dummy.proofs.MemoryLemmas.{dump_some, longer, on_err_map}
 use Rattle.nut_dummy.proofs.teller.Teller.answer.Goals as goal
 

@@ -1,5 +1,5 @@
 use Rattle.std.proofs.Common.{◌≡◌, true, rules, sym}
-use Rattle.nut_dummy.specs.machine.Teller.{is_told}
+use Rattle.nut_dummy.specs.Teller.{is_told}
 use Rattle.nut_dummy.specs.inside.Changes.{change_of}
 use Rattle.nut_dummy.proofs.MemoryLemmas.{on_err, says_some}
 use Rattle.nut_dummy.proofs.variable.Variable.say.Goals as goal

@@ -1,6 +1,6 @@
 use Rattle.std.proofs.Common.{subst}
 use Rattle.nut_monitor_spec.specs.Configuration.{configuration_of}
-use Rattle.nut_monitor.specs.inside.Kept.{KeepsLittle}
+use Rattle.nut_monitor.specs.Bounds.{KeepsLittle}
 use Rattle.nut_monitor.specs.Monitors.{MonitorValue}
 use Rattle.nut_monitor.specs.inside.Steps.{content_in}
 use Rattle.nut_monitor.proofs.Arrives.{orderly_little}

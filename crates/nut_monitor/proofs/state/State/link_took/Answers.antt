@@ -1,9 +1,9 @@
-use Rattle.std.proofs.Common.{◌≡◌, ◌≤◌, length, ◌∙◌, ap, refl, sym, subst, arith}
+use Rattle.std.proofs.Common.{◌≡◌, ◌≤◌, length, ◌∙◌, ap, sym, subst, arith}
 use Rattle.nut_monitor_spec.specs.Acceptance.{waits_on, watch_at}
 use Rattle.nut_monitor_spec.specs.Content.{Watch}
 use Rattle.nut_monitor_spec.specs.machine.Machine.{took}
 use Rattle.nut_monitor.specs.inside.Inside.{to_lose}
-use Rattle.nut_monitor.specs.inside.Kept.{IsLinkBounded}
+use Rattle.nut_monitor.specs.Bounds.{IsLinkBounded}
 use Rattle.nut_monitor.specs.inside.Steps.{content_in}
 use Rattle.nut_monitor.proofs.Bounded.{at_bounded, took_bounded}
 use Rattle.nut_monitor.proofs.Steps.{here, set_orderly, set_update, some_same, took_accepted}

@@ -1,6 +1,6 @@
 use Rattle.std.proofs.Common.{◌∙◌, ap, sym, subst, length, arith}
 use Rattle.nut_monitor_spec.specs.Configuration.{configuration_of}
-use Rattle.nut_monitor.specs.inside.Kept.{AreLinksBounded}
+use Rattle.nut_monitor.specs.Bounds.{AreLinksBounded}
 use Rattle.nut_monitor.specs.inside.Steps.{content_in}
 use Rattle.nut_monitor.proofs.Bounded.{all_silent_bounded}
 use Rattle.nut_monitor.proofs.Steps.{anew_orderly, length-all_silent}

@@ -9,7 +9,7 @@ use Rattle.nut_dummy.specs.declared.dummy.DummyFault.TheVariants as faults
 use Rattle.nut_dummy.specs.Command.{command_variables}
 use Rattle.nut_dummy.specs.Due.{at_start}
 use Rattle.nut_dummy.specs.Script.{Script, Timeline, timeline}
-use Rattle.nut_dummy.specs.machine.Teller.{Variable, Teller, Passing, changed, heard_all, may_take_memory, relinked, tells_more}
+use Rattle.nut_dummy.specs.Teller.{Variable, Teller, Passing, changed, heard_all, may_take_memory, relinked, tells_more}
 
 -- The moment of the start and the greatest so far, in seconds; the seconds of a round; whether there is a link, and its
 -- unfinished line; what is held and told.

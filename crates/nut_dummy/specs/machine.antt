@@ -1,2 +1,0 @@
-pub mod Dummy
-pub mod Teller
