@@ -1,12 +1,13 @@
 //! The requests that the server sends to a driver.
 ghost use Rattle.std.specs.Prelude.{◌≡◌, ◌++◌, length, OnOk, OnErr};
 ghost use Rattle.nut_words.specs.Out.{Fits, Exceeds};
-ghost use Rattle.nut_proto.specs.DriverAsks.{ask_line, ask_of, command_of, number_of, number_parts, set_of};
-ghost use Rattle.nut_proto.specs.Lines.{line};
+ghost use Rattle.nut_proto.specs.DriverAsks.{ask_line, ask_of, command_of, number_of, set_of};
+ghost use Rattle.nut_proto.specs.inside.Written.{written};
 
 use crate::cursor::Cursor;
 use crate::keyword::is_named;
-use crate::part::{Part, put_line, put_marked_line, quoted, text, word};
+use crate::line::Line;
+use crate::part::{Part, quoted, text, word};
 use crate::word::Word;
 use nut_words::{Out, Words};
 
@@ -62,53 +63,70 @@ impl<'a> DriverAsk<'a> {
     /// # Errors
     ///
     /// If memory cannot be allocated, or if the whole doesn't fit into a buffer of fixed size. `out` is then as it was.
-    #[tactic(auto, unfolding(crate::specs::DriverAsks::ask_line))]
     pub fn put<O: Out>(&self, out: &mut O) -> Result<(), O::Fault>
         ensures ok { OnOk result (O.held out.new ≡ O.held out.old ++ ask_line self.now) }
         ensures err { OnErr result (O.held out.new ≡ O.held out.old) }
         ensures fits { OnOk result (Fits O.most (length (O.held out.old ++ ask_line self.now))) }
         ensures full { OnErr result (Exceeds O.most (length (O.held out.old ++ ask_line self.now))) }
     {
+        self.line().put(out)
+    }
+
+    #[tactic(auto, unfolding(crate::specs::DriverAsks::ask_line, crate::specs::Lines::line))]
+    fn line(&self) -> Line<'_>
+        ensures { written result ≡ ask_line self.now }
+    {
         match self {
-            DriverAsk::Ping => put_line(out, &[text(b"PING")]),
-            DriverAsk::DumpAll => put_line(out, &[text(b"DUMPALL")]),
+            DriverAsk::Ping => Line::Bare(b"PING"),
+            DriverAsk::DumpAll => Line::Bare(b"DUMPALL"),
             DriverAsk::Set {
                 variable,
                 value,
-                number,
-            } => put_numbered(out, &[text(b"SET"), word(variable), quoted(value)], *number),
+                number: None,
+            } => Line::Two(b"SET", word(variable), quoted(value)),
+            DriverAsk::Set {
+                variable,
+                value,
+                number: Some(number),
+            } => Line::Four(
+                b"SET",
+                word(variable),
+                quoted(value),
+                text(b"TRACKING"),
+                Part::Number(*number),
+            ),
             DriverAsk::InstCmd {
                 command,
                 parameter: None,
-                number,
-            } => put_numbered(out, &[text(b"INSTCMD"), word(command)], *number),
+                number: None,
+            } => Line::One(b"INSTCMD", word(command)),
+            DriverAsk::InstCmd {
+                command,
+                parameter: None,
+                number: Some(number),
+            } => Line::Three(
+                b"INSTCMD",
+                word(command),
+                text(b"TRACKING"),
+                Part::Number(*number),
+            ),
             DriverAsk::InstCmd {
                 command,
                 parameter: Some(parameter),
-                number,
-            } => put_numbered(
-                out,
-                &[text(b"INSTCMD"), word(command), quoted(parameter)],
-                *number,
+                number: None,
+            } => Line::Two(b"INSTCMD", word(command), quoted(parameter)),
+            DriverAsk::InstCmd {
+                command,
+                parameter: Some(parameter),
+                number: Some(number),
+            } => Line::Four(
+                b"INSTCMD",
+                word(command),
+                quoted(parameter),
+                text(b"TRACKING"),
+                Part::Number(*number),
             ),
         }
-    }
-}
-
-/// Appends the line of a request of these parts, and of its number, if it has one. It fails as [`put_line`] does.
-fn put_numbered<O: Out>(
-    out: &mut O,
-    parts: &[Part<'_>],
-    number: Option<u32>,
-) -> Result<(), O::Fault>
-    ensures ok { OnOk result (O.held out.new ≡ O.held out.old ++ line (parts.now ++ number_parts number)) }
-    ensures err { OnErr result (O.held out.new ≡ O.held out.old) }
-    ensures fits { OnOk result (Fits O.most (length (O.held out.old ++ line (parts.now ++ number_parts number)))) }
-    ensures full { OnErr result (Exceeds O.most (length (O.held out.old ++ line (parts.now ++ number_parts number)))) }
-{
-    match number {
-        None => put_marked_line(out, parts, &[]),
-        Some(number) => put_marked_line(out, parts, &[text(b"TRACKING"), Part::Number(number)]),
     }
 }
 

@@ -13,6 +13,7 @@ mod examples;
 mod keyword;
 mod laws;
 mod limits;
+mod line;
 mod number;
 mod part;
 mod reading;

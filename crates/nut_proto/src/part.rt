@@ -1,8 +1,8 @@
 //! Writes the parts of a message.
 ghost use Rattle.std.specs.Prelude.{◌≡◌, ◌∷◌, [], ◌++◌, length, take, OnOk, OnErr, codes, decimal};
 ghost use Rattle.std.specs.List.{flat_map};
-ghost use Rattle.nut_words.specs.Out.{Fits, Exceeds};
-ghost use Rattle.nut_proto.specs.Lines.{part_text, line, message};
+ghost use Rattle.nut_words.specs.Out.{Exceeds};
+ghost use Rattle.nut_proto.specs.Lines.{part_text};
 
 use crate::number::{decimal, signed_decimal};
 use crate::word::Word;
@@ -81,81 +81,8 @@ fn string_of(limit: u32) -> ArrayVec<u8, 18>
     out
 }
 
-/// Appends the line of these parts.
-///
-/// # Errors
-///
-/// If memory cannot be allocated, or if the whole doesn't fit into a buffer of fixed size. `out` is then as it was.
-pub fn put_line<O: Out>(out: &mut O, parts: &[Part<'_>]) -> Result<(), O::Fault>
-    ensures ok { OnOk result (O.held out.new ≡ O.held out.old ++ line parts.now) }
-    ensures err { OnErr result (O.held out.new ≡ O.held out.old) }
-    ensures fits { OnOk result (Fits O.most (length (O.held out.old ++ line parts.now))) }
-    ensures full { OnErr result (Exceeds O.most (length (O.held out.old ++ line parts.now))) }
-{
-    put_marked_line(out, &[], parts)
-}
-
-/// Appends the line of these marks and, behind them, these parts. It fails as [`put_line`] does.
-pub fn put_marked_line<O: Out>(
-    out: &mut O,
-    marks: &[Part<'_>],
-    parts: &[Part<'_>],
-) -> Result<(), O::Fault>
-    ensures ok { OnOk result (O.held out.new ≡ O.held out.old ++ line (marks.now ++ parts.now)) }
-    ensures err { OnErr result (O.held out.new ≡ O.held out.old) }
-    ensures fits { OnOk result (Fits O.most (length (O.held out.old ++ line (marks.now ++ parts.now)))) }
-    ensures full { OnErr result (Exceeds O.most (length (O.held out.old ++ line (marks.now ++ parts.now)))) }
-{
-    let before = out.len();
-    let outcome = append_line(out, marks, parts);
-    if outcome.is_err() {
-        out.truncate(before);
-    }
-    outcome
-}
-
-#[tactic(auto, unfolding(crate::specs::Lines::line))]
-fn append_line<O: Out>(out: &mut O, marks: &[Part<'_>], parts: &[Part<'_>]) -> Result<(), O::Fault>
-    ensures ok { OnOk result (O.held out.new ≡ O.held out.old ++ line (marks.now ++ parts.now)) }
-    ensures err { OnErr result (take (length (O.held out.old)) (O.held out.new) ≡ O.held out.old) }
-    ensures fits { OnOk result (Fits O.most (length (O.held out.old ++ line (marks.now ++ parts.now)))) }
-    ensures full { OnErr result (Exceeds O.most (length (O.held out.old ++ line (marks.now ++ parts.now)))) }
-{
-    append_message(out, marks, parts)?;
-    out.push(b'\n')?;
-    Ok(())
-}
-
-fn append_message<O: Out>(
-    out: &mut O,
-    marks: &[Part<'_>],
-    parts: &[Part<'_>],
-) -> Result<(), O::Fault>
-    ensures ok { OnOk result (O.held out.new ≡ O.held out.old ++ message (marks.now ++ parts.now)) }
-    ensures err { OnErr result (take (length (O.held out.old)) (O.held out.new) ≡ O.held out.old) }
-    ensures full { OnErr result (Exceeds O.most (length (O.held out.old ++ message (marks.now ++ parts.now)))) }
-{
-    if marks.is_empty() {
-        return append_parts(out, parts);
-    }
-    append_parts(out, marks)?;
-    append_others(out, parts)?;
-    Ok(())
-}
-
-fn append_parts<O: Out>(out: &mut O, parts: &[Part<'_>]) -> Result<(), O::Fault>
-    ensures ok { OnOk result (O.held out.new ≡ O.held out.old ++ message parts.now) }
-    ensures err { OnErr result (take (length (O.held out.old)) (O.held out.new) ≡ O.held out.old) }
-    ensures full { OnErr result (Exceeds O.most (length (O.held out.old ++ message parts.now))) }
-{
-    if let [first, others @ ..] = parts {
-        first.put(out)?;
-        append_others(out, others)?;
-    }
-    Ok(())
-}
-
-fn append_others<O: Out>(out: &mut O, parts: &[Part<'_>]) -> Result<(), O::Fault>
+/// Appends the parts, each behind a space. If that fails, `out` still begins with what it held.
+pub fn append_parts<O: Out>(out: &mut O, parts: &[Part<'_>]) -> Result<(), O::Fault>
     ensures ok { OnOk result (O.held out.new ≡ O.held out.old ++ flat_map (λ part. 32 ∷ part_text part) parts.now) }
     ensures err { OnErr result (take (length (O.held out.old)) (O.held out.new) ≡ O.held out.old) }
     ensures full { OnErr result (Exceeds O.most (length (O.held out.old ++ flat_map (λ part. 32 ∷ part_text part) parts.now))) }

@@ -2,9 +2,11 @@
 ghost use Rattle.std.specs.Prelude.{◌≡◌, ◌++◌, length, OnOk, OnErr};
 ghost use Rattle.nut_words.specs.Out.{Fits, Exceeds};
 ghost use Rattle.nut_proto.specs.Lines.{line};
-ghost use Rattle.nut_proto.specs.Replies.{reply_line, version_parts, commands_parts, type_parts, kind_part};
+ghost use Rattle.nut_proto.specs.Replies.{reply_line, type_parts, kind_part};
+ghost use Rattle.nut_proto.specs.inside.Written.{written};
 
-use crate::part::{Part, put_line, quoted, text, word};
+use crate::line::Line;
+use crate::part::{Part, quoted, text, word};
 use crate::refusal::Refusal;
 use crate::tracking::{TrackingStatus, switch_word};
 use crate::word::Word;
@@ -135,176 +137,115 @@ impl Reply<'_> {
     /// # Errors
     ///
     /// If memory cannot be allocated, or if the whole doesn't fit into a buffer of fixed size. `out` is then as it was.
-    #[tactic(auto, unfolding(crate::specs::Replies::reply_line))]
     pub fn put<O: Out>(&self, out: &mut O) -> Result<(), O::Fault>
         ensures ok { OnOk result (O.held out.new ≡ O.held out.old ++ reply_line self.now) }
         ensures err { OnErr result (O.held out.new ≡ O.held out.old) }
         ensures fits { OnOk result (Fits O.most (length (O.held out.old ++ reply_line self.now))) }
         ensures full { OnErr result (Exceeds O.most (length (O.held out.old ++ reply_line self.now))) }
     {
+        self.line().put(out)
+    }
+
+    #[tactic(auto, unfolding(crate::specs::Replies::reply_line, crate::specs::Lines::line))]
+    fn line(&self) -> Line<'_>
+        ensures { written result ≡ reply_line self.now }
+    {
         match self {
-            Reply::Accepted => put_line(out, &[text(b"OK")]),
-            Reply::AcceptedAs { number } => put_line(
-                out,
-                &[text(b"OK"), text(b"TRACKING"), Part::Number(*number)],
+            Reply::Accepted => Line::Bare(b"OK"),
+            Reply::AcceptedAs { number } => Line::One(b"OK TRACKING", Part::Number(*number)),
+            Reply::FsdSet => Line::Bare(b"OK FSD-SET"),
+            Reply::Goodbye => Line::Bare(b"OK Goodbye"),
+            Reply::Refused(refusal) => Line::One(b"ERR", text(refusal.name())),
+            Reply::Version => Line::Bare(b"Network UPS Tools upsd profile 1.3"),
+            Reply::NetworkVersion => Line::Bare(b"1.3"),
+            Reply::Commands => Line::Bare(
+                b"Commands: GET LIST SET INSTCMD USERNAME PASSWORD LOGIN PRIMARY FSD LOGOUT VER NETVER HELP STARTTLS",
             ),
-            Reply::FsdSet => put_line(out, &[text(b"OK"), text(b"FSD-SET")]),
-            Reply::Goodbye => put_line(out, &[text(b"OK"), text(b"Goodbye")]),
-            Reply::Refused(refusal) => put_line(out, &[text(b"ERR"), text(refusal.name())]),
-            Reply::Version => put_version(out),
-            Reply::NetworkVersion => put_line(out, &[text(b"1.3")]),
-            Reply::Commands => put_commands(out),
-            Reply::NumLogins { ups, count } => put_line(
-                out,
-                &[text(b"NUMLOGINS"), word(ups), Part::Number(*count)],
+            Reply::NumLogins { ups, count } => Line::Two(
+                b"NUMLOGINS",
+                word(ups),
+                Part::Number(*count),
             ),
-            Reply::UpsDesc { ups, description } => put_line(
-                out,
-                &[text(b"UPSDESC"), word(ups), quoted(description)],
+            Reply::UpsDesc { ups, description } => Line::Two(
+                b"UPSDESC",
+                word(ups),
+                quoted(description),
             ),
             Reply::Type {
                 ups,
                 variable,
                 writable,
                 kind,
-            } => put_type(out, ups, variable, *writable, *kind),
+            } => type_line(ups, variable, *writable, *kind),
             Reply::Desc {
                 ups,
                 variable,
                 description,
-            } => put_line(
-                out,
-                &[
-                    text(b"DESC"),
-                    word(ups),
-                    word(variable),
-                    quoted(description),
-                ],
-            ),
+            } => Line::Three(b"DESC", word(ups), word(variable), quoted(description)),
             Reply::CmdDesc {
                 ups,
                 command,
                 description,
-            } => put_line(
-                out,
-                &[
-                    text(b"CMDDESC"),
-                    word(ups),
-                    word(command),
-                    quoted(description),
-                ],
-            ),
+            } => Line::Three(b"CMDDESC", word(ups), word(command), quoted(description)),
             Reply::Var {
                 ups,
                 variable,
                 value,
-            } => put_line(
-                out,
-                &[text(b"VAR"), word(ups), word(variable), quoted(value)],
+            } => Line::Three(b"VAR", word(ups), word(variable), quoted(value)),
+            Reply::TrackingIs { on } => Line::One(b"TRACKING", text(switch_word(*on))),
+            Reply::Tracking { number, status } => Line::Two(
+                b"TRACKING",
+                Part::Number(*number),
+                text(status.word()),
             ),
-            Reply::TrackingIs { on } => put_line(out, &[text(b"TRACKING"), text(switch_word(*on))]),
-            Reply::Tracking { number, status } => put_line(
-                out,
-                &[
-                    text(b"TRACKING"),
-                    Part::Number(*number),
-                    text(status.word()),
-                ],
-            ),
-            Reply::Ups { ups, description } => put_line(
-                out,
-                &[text(b"UPS"), word(ups), quoted(description)],
-            ),
+            Reply::Ups { ups, description } => Line::Two(b"UPS", word(ups), quoted(description)),
             Reply::Rw {
                 ups,
                 variable,
                 value,
-            } => put_line(
-                out,
-                &[text(b"RW"), word(ups), word(variable), quoted(value)],
-            ),
-            Reply::Cmd { ups, command } => put_line(out, &[text(b"CMD"), word(ups), word(command)]),
+            } => Line::Three(b"RW", word(ups), word(variable), quoted(value)),
+            Reply::Cmd { ups, command } => Line::Two(b"CMD", word(ups), word(command)),
             Reply::Enum {
                 ups,
                 variable,
                 value,
-            } => put_line(
-                out,
-                &[text(b"ENUM"), word(ups), word(variable), quoted(value)],
-            ),
+            } => Line::Three(b"ENUM", word(ups), word(variable), quoted(value)),
             Reply::Range {
                 ups,
                 variable,
                 min,
                 max,
-            } => put_line(
-                out,
-                &[
-                    text(b"RANGE"),
-                    word(ups),
-                    word(variable),
-                    Part::QuotedNumber(*min),
-                    Part::QuotedNumber(*max),
-                ],
+            } => Line::Four(
+                b"RANGE",
+                word(ups),
+                word(variable),
+                Part::QuotedNumber(*min),
+                Part::QuotedNumber(*max),
             ),
-            Reply::Client { ups, address } => put_line(
-                out,
-                &[text(b"CLIENT"), word(ups), word(address)],
-            ),
+            Reply::Client { ups, address } => Line::Two(b"CLIENT", word(ups), word(address)),
         }
     }
 }
 
 #[tactic(auto, unfolding(crate::specs::Lines::line))]
-fn put_version<O: Out>(out: &mut O) -> Result<(), O::Fault>
-    ensures ok { OnOk result (O.held out.new ≡ O.held out.old ++ line version_parts) }
-    ensures err { OnErr result (O.held out.new ≡ O.held out.old) }
-    ensures fits { OnOk result (Fits O.most (length (O.held out.old ++ line version_parts))) }
-    ensures full { OnErr result (Exceeds O.most (length (O.held out.old ++ line version_parts))) }
-{
-    out.append(b"Network UPS Tools upsd profile 1.3\n")
-}
-
-#[tactic(auto, unfolding(crate::specs::Lines::line))]
-fn put_commands<O: Out>(out: &mut O) -> Result<(), O::Fault>
-    ensures ok { OnOk result (O.held out.new ≡ O.held out.old ++ line commands_parts) }
-    ensures err { OnErr result (O.held out.new ≡ O.held out.old) }
-    ensures fits { OnOk result (Fits O.most (length (O.held out.old ++ line commands_parts))) }
-    ensures full { OnErr result (Exceeds O.most (length (O.held out.old ++ line commands_parts))) }
-{
-    out.append(
-        b"Commands: GET LIST SET INSTCMD USERNAME PASSWORD LOGIN PRIMARY FSD LOGOUT VER NETVER HELP STARTTLS\n",
-    )
-}
-
-fn put_type<'a, O: Out>(
-    out: &mut O,
+fn type_line<'a>(
     ups: &Word<'a>,
     variable: &Word<'a>,
     writable: bool,
     kind: VariableKind,
-) -> Result<(), O::Fault>
-    ensures ok { OnOk result (O.held out.new ≡ O.held out.old ++ line (type_parts ups.now variable.now writable kind)) }
-    ensures err { OnErr result (O.held out.new ≡ O.held out.old) }
-    ensures fits { OnOk result (Fits O.most (length (O.held out.old ++ line (type_parts ups.now variable.now writable kind)))) }
-    ensures full { OnErr result (Exceeds O.most (length (O.held out.old ++ line (type_parts ups.now variable.now writable kind)))) }
+) -> Line<'a>
+    ensures { written result ≡ line (type_parts ups.now variable.now writable kind) }
 {
     if writable {
-        put_line(
-            out,
-            &[
-                text(b"TYPE"),
-                word(ups),
-                word(variable),
-                text(b"RW"),
-                kind_part(kind),
-            ],
+        Line::Four(
+            b"TYPE",
+            word(ups),
+            word(variable),
+            text(b"RW"),
+            kind_part(kind),
         )
     } else {
-        put_line(
-            out,
-            &[text(b"TYPE"), word(ups), word(variable), kind_part(kind)],
-        )
+        Line::Three(b"TYPE", word(ups), word(variable), kind_part(kind))
     }
 }
 

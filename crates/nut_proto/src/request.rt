@@ -1,10 +1,11 @@
 //! The requests of a client, and how they are written.
 ghost use Rattle.std.specs.Prelude.{◌≡◌, ◌++◌, length, OnOk, OnErr};
 ghost use Rattle.nut_words.specs.Out.{Fits, Exceeds};
-ghost use Rattle.nut_proto.specs.Lines.{line};
-ghost use Rattle.nut_proto.specs.Requests.{request_line, query_parts, begin_line, end_line};
+ghost use Rattle.nut_proto.specs.Requests.{request_line, begin_line, end_line};
+ghost use Rattle.nut_proto.specs.inside.Written.{written};
 
-use crate::part::{Part, put_line, put_marked_line, quoted, text, word};
+use crate::line::Line;
+use crate::part::{Part, quoted, text, word};
 use crate::tracking::switch_word;
 use crate::word::Word;
 use nut_words::Out;
@@ -127,120 +128,97 @@ impl Request<'_> {
     /// # Errors
     ///
     /// If memory cannot be allocated, or if the whole doesn't fit into a buffer of fixed size. `out` is then as it was.
-    #[tactic(auto, unfolding(crate::specs::Requests::request_line))]
     pub fn put<O: Out>(&self, out: &mut O) -> Result<(), O::Fault>
         ensures ok { OnOk result (O.held out.new ≡ O.held out.old ++ request_line self.now) }
         ensures err { OnErr result (O.held out.new ≡ O.held out.old) }
         ensures fits { OnOk result (Fits O.most (length (O.held out.old ++ request_line self.now))) }
         ensures full { OnErr result (Exceeds O.most (length (O.held out.old ++ request_line self.now))) }
     {
+        self.line().put(out)
+    }
+
+    #[tactic(auto, unfolding(crate::specs::Requests::request_line, crate::specs::Lines::line))]
+    fn line(&self) -> Line<'_>
+        ensures { written result ≡ request_line self.now }
+    {
         match self {
-            Request::GetNumLogins { ups } => put_line(
-                out,
-                &[text(b"GET"), text(b"NUMLOGINS"), word(ups)],
+            Request::GetNumLogins { ups } => Line::One(b"GET NUMLOGINS", word(ups)),
+            Request::GetUpsDesc { ups } => Line::One(b"GET UPSDESC", word(ups)),
+            Request::GetVar { ups, variable } => Line::Two(b"GET VAR", word(ups), word(variable)),
+            Request::GetType { ups, variable } => Line::Two(b"GET TYPE", word(ups), word(variable)),
+            Request::GetDesc { ups, variable } => Line::Two(b"GET DESC", word(ups), word(variable)),
+            Request::GetCmdDesc { ups, command } => Line::Two(
+                b"GET CMDDESC",
+                word(ups),
+                word(command),
             ),
-            Request::GetUpsDesc { ups } => put_line(
-                out,
-                &[text(b"GET"), text(b"UPSDESC"), word(ups)],
-            ),
-            Request::GetVar { ups, variable } => put_line(
-                out,
-                &[text(b"GET"), text(b"VAR"), word(ups), word(variable)],
-            ),
-            Request::GetType { ups, variable } => put_line(
-                out,
-                &[text(b"GET"), text(b"TYPE"), word(ups), word(variable)],
-            ),
-            Request::GetDesc { ups, variable } => put_line(
-                out,
-                &[text(b"GET"), text(b"DESC"), word(ups), word(variable)],
-            ),
-            Request::GetCmdDesc { ups, command } => put_line(
-                out,
-                &[text(b"GET"), text(b"CMDDESC"), word(ups), word(command)],
-            ),
-            Request::GetTracking => put_line(out, &[text(b"GET"), text(b"TRACKING")]),
-            Request::GetTrackingOf { number } => put_line(
-                out,
-                &[text(b"GET"), text(b"TRACKING"), Part::Number(*number)],
-            ),
-            Request::List(query) => query.put_marked(out, &[text(b"LIST")]),
+            Request::GetTracking => Line::Bare(b"GET TRACKING"),
+            Request::GetTrackingOf { number } => Line::One(b"GET TRACKING", Part::Number(*number)),
+            Request::List(query) => query.line(),
             Request::SetVar {
                 ups,
                 variable,
                 value,
-            } => put_line(
-                out,
-                &[
-                    text(b"SET"),
-                    text(b"VAR"),
-                    word(ups),
-                    word(variable),
-                    quoted(value),
-                ],
-            ),
-            Request::SetTracking { on } => put_line(
-                out,
-                &[text(b"SET"), text(b"TRACKING"), text(switch_word(*on))],
-            ),
+            } => Line::Three(b"SET VAR", word(ups), word(variable), quoted(value)),
+            Request::SetTracking { on } => Line::One(b"SET TRACKING", text(switch_word(*on))),
             Request::InstCmd {
                 ups,
                 command,
                 parameter: None,
-            } => put_line(out, &[text(b"INSTCMD"), word(ups), word(command)]),
+            } => Line::Two(b"INSTCMD", word(ups), word(command)),
             Request::InstCmd {
                 ups,
                 command,
                 parameter: Some(parameter),
-            } => put_line(
-                out,
-                &[
-                    text(b"INSTCMD"),
-                    word(ups),
-                    word(command),
-                    quoted(parameter),
-                ],
-            ),
-            Request::Username { name } => put_line(out, &[text(b"USERNAME"), word(name)]),
-            Request::Password { password } => put_line(out, &[text(b"PASSWORD"), word(password)]),
-            Request::Login { ups } => put_line(out, &[text(b"LOGIN"), word(ups)]),
-            Request::Primary { ups } => put_line(out, &[text(b"PRIMARY"), word(ups)]),
-            Request::Fsd { ups } => put_line(out, &[text(b"FSD"), word(ups)]),
-            Request::Logout => put_line(out, &[text(b"LOGOUT")]),
-            Request::Ver => put_line(out, &[text(b"VER")]),
-            Request::NetVer => put_line(out, &[text(b"NETVER")]),
-            Request::Help => put_line(out, &[text(b"HELP")]),
-            Request::StartTls => put_line(out, &[text(b"STARTTLS")]),
+            } => Line::Three(b"INSTCMD", word(ups), word(command), quoted(parameter)),
+            Request::Username { name } => Line::One(b"USERNAME", word(name)),
+            Request::Password { password } => Line::One(b"PASSWORD", word(password)),
+            Request::Login { ups } => Line::One(b"LOGIN", word(ups)),
+            Request::Primary { ups } => Line::One(b"PRIMARY", word(ups)),
+            Request::Fsd { ups } => Line::One(b"FSD", word(ups)),
+            Request::Logout => Line::Bare(b"LOGOUT"),
+            Request::Ver => Line::Bare(b"VER"),
+            Request::NetVer => Line::Bare(b"NETVER"),
+            Request::Help => Line::Bare(b"HELP"),
+            Request::StartTls => Line::Bare(b"STARTTLS"),
         }
     }
 }
 
 impl ListQuery<'_> {
-    /// Appends the line of these marks, such as `LIST`, and behind them what is asked for. It fails as
-    /// [`Request::put`] does.
-    fn put_marked<O: Out>(&self, out: &mut O, marks: &[Part<'_>]) -> Result<(), O::Fault>
-        ensures ok { OnOk result (O.held out.new ≡ O.held out.old ++ line (marks.now ++ query_parts self.now)) }
-        ensures err { OnErr result (O.held out.new ≡ O.held out.old) }
-        ensures fits { OnOk result (Fits O.most (length (O.held out.old ++ line (marks.now ++ query_parts self.now)))) }
-        ensures full { OnErr result (Exceeds O.most (length (O.held out.old ++ line (marks.now ++ query_parts self.now)))) }
+    #[tactic(auto, unfolding(crate::specs::Requests::request_line, crate::specs::Lines::line))]
+    fn line(&self) -> Line<'_>
+        ensures { written result ≡ request_line (Request.List self.now) }
     {
         match self {
-            ListQuery::Ups => put_marked_line(out, marks, &[text(b"UPS")]),
-            ListQuery::Var { ups } => put_marked_line(out, marks, &[text(b"VAR"), word(ups)]),
-            ListQuery::Rw { ups } => put_marked_line(out, marks, &[text(b"RW"), word(ups)]),
-            ListQuery::Cmd { ups } => put_marked_line(out, marks, &[text(b"CMD"), word(ups)]),
-            ListQuery::Enum { ups, variable } => put_marked_line(
-                out,
-                marks,
-                &[text(b"ENUM"), word(ups), word(variable)],
+            ListQuery::Ups => Line::Bare(b"LIST UPS"),
+            ListQuery::Var { ups } => Line::One(b"LIST VAR", word(ups)),
+            ListQuery::Rw { ups } => Line::One(b"LIST RW", word(ups)),
+            ListQuery::Cmd { ups } => Line::One(b"LIST CMD", word(ups)),
+            ListQuery::Enum { ups, variable } => Line::Two(b"LIST ENUM", word(ups), word(variable)),
+            ListQuery::Range { ups, variable } => Line::Two(
+                b"LIST RANGE",
+                word(ups),
+                word(variable),
             ),
-            ListQuery::Range { ups, variable } => put_marked_line(
-                out,
-                marks,
-                &[text(b"RANGE"), word(ups), word(variable)],
-            ),
-            ListQuery::Client { ups } => put_marked_line(out, marks, &[text(b"CLIENT"), word(ups)]),
+            ListQuery::Client { ups } => Line::One(b"LIST CLIENT", word(ups)),
         }
+    }
+
+    /// Appends a mark and the line of the request behind it. It fails as [`Request::put`] does.
+    fn put_marked<O: Out>(&self, out: &mut O, mark: &[u8]) -> Result<(), O::Fault>
+        ensures ok { OnOk result (O.held out.new ≡ O.held out.old ++ (mark.now ++ request_line (Request.List self.now))) }
+        ensures err { OnErr result (O.held out.new ≡ O.held out.old) }
+        ensures fits { OnOk result (Fits O.most (length (O.held out.old ++ (mark.now ++ request_line (Request.List self.now))))) }
+        ensures full { OnErr result (Exceeds O.most (length (O.held out.old ++ (mark.now ++ request_line (Request.List self.now))))) }
+    {
+        let before = out.len();
+        out.append(mark)?;
+        let outcome = self.line().put(out);
+        if outcome.is_err() {
+            out.truncate(before);
+        }
+        outcome
     }
 
     /// Appends the line before the rows of the list: `BEGIN LIST` and the query.
@@ -248,14 +226,14 @@ impl ListQuery<'_> {
     /// # Errors
     ///
     /// If memory cannot be allocated, or if the whole doesn't fit into a buffer of fixed size. `out` is then as it was.
-    #[tactic(auto, unfolding(crate::specs::Requests::begin_line))]
+    #[tactic(auto, unfolding(crate::specs::Requests::begin_line, crate::specs::Requests::request_line, crate::specs::Lines::line))]
     pub fn put_begin<O: Out>(&self, out: &mut O) -> Result<(), O::Fault>
         ensures ok { OnOk result (O.held out.new ≡ O.held out.old ++ begin_line self.now) }
         ensures err { OnErr result (O.held out.new ≡ O.held out.old) }
         ensures fits { OnOk result (Fits O.most (length (O.held out.old ++ begin_line self.now))) }
         ensures full { OnErr result (Exceeds O.most (length (O.held out.old ++ begin_line self.now))) }
     {
-        self.put_marked(out, &[text(b"BEGIN"), text(b"LIST")])
+        self.put_marked(out, b"BEGIN ")
     }
 
     /// Appends the line after the rows of the list: `END LIST` and the query.
@@ -263,13 +241,13 @@ impl ListQuery<'_> {
     /// # Errors
     ///
     /// If memory cannot be allocated, or if the whole doesn't fit into a buffer of fixed size. `out` is then as it was.
-    #[tactic(auto, unfolding(crate::specs::Requests::end_line))]
+    #[tactic(auto, unfolding(crate::specs::Requests::end_line, crate::specs::Requests::request_line, crate::specs::Lines::line))]
     pub fn put_end<O: Out>(&self, out: &mut O) -> Result<(), O::Fault>
         ensures ok { OnOk result (O.held out.new ≡ O.held out.old ++ end_line self.now) }
         ensures err { OnErr result (O.held out.new ≡ O.held out.old) }
         ensures fits { OnOk result (Fits O.most (length (O.held out.old ++ end_line self.now))) }
         ensures full { OnErr result (Exceeds O.most (length (O.held out.old ++ end_line self.now))) }
     {
-        self.put_marked(out, &[text(b"END"), text(b"LIST")])
+        self.put_marked(out, b"END ")
     }
 }

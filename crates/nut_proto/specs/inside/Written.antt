@@ -1,0 +1,19 @@
+-- For private functions, nothing here has to be believed: a line that is given by the words that it begins with, which are
+-- written as they stand, and by the parts behind them.
+use Rattle.std.specs.Prelude.{ℕ, List, [], ◌∷◌, ◌++◌}
+use Rattle.std.specs.List.{flat_map}
+use Rattle.nut_proto.specs.declared.line.Line.{Line}
+use Rattle.nut_proto.specs.declared.line.Line.TheVariants.{Bare, One, Two, Three, Four}
+use Rattle.nut_proto.specs.declared.part.Part.{Part}
+use Rattle.nut_proto.specs.Lines.{part_text}
+
+-- the line of these words and, each behind a space, these parts
+abbrev pub line_from : List ℕ → List Part → List ℕ
+line_from words parts = (words ++ flat_map (λ part. 32 ∷ part_text part) parts) ++ 10 ∷ []
+
+abbrev pub written : Line → List ℕ
+written (Bare words) = line_from words.now []
+written (One words first) = line_from words.now (first ∷ [])
+written (Two words first second) = line_from words.now (first ∷ second ∷ [])
+written (Three words first second third) = line_from words.now (first ∷ second ∷ third ∷ [])
+written (Four words first second third fourth) = line_from words.now (first ∷ second ∷ third ∷ fourth ∷ [])
