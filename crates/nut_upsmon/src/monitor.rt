@@ -15,7 +15,9 @@ use clap::ArgMatches;
 use linked_list_allocator::LocalHeap;
 use nut_conf::UpsmonConf;
 use nut_poll::LossyLines;
-use nut_program::{Failure, ReloadFile, conf_folder, hold_closed_streams, read_conf, refuse_start};
+use nut_program::{
+    Failure, ReloadFile, Turn, conf_folder, hold_closed_streams, read_conf, refuse_start,
+};
 use std::alloc::{Alloc, AllocError, Global};
 use std::convert::AsStr;
 use std::env::Env;
@@ -30,6 +32,10 @@ use std::time::Clock;
 
 /// The file of the configuration folder that upsd reads. If it is there, upsd may have that folder too.
 const FILE_OF_SERVER: &str = "upsd.conf";
+
+/// upsmon answers a request after upsd has, so that the server knows the new users and UPSes when upsmon logs in again. A
+/// login that is refused isn't asked for again.
+const TURN: Turn = Turn::Second;
 
 /// The streams that upsmon writes to: standard output and standard error, line by line. A line that isn't taken at once
 /// is dropped.
@@ -278,7 +284,7 @@ where
     O: Write + AsRawFd + Copy,
     E: Write + AsRawFd + Copy,
 {
-    let file = ReloadFile::new(rt, alloc, folder.as_str(), FILE_OF_SERVER)?;
+    let file = ReloadFile::new(rt, alloc, folder.as_str(), FILE_OF_SERVER, TURN)?;
     let mut reloader = Reloader::new(alloc, folder, file, is_quiet);
     let guarded = guard_reloaded(rt, alloc, &mut reloader, streams, told);
     // dropped by a call, which keeps the proof of this function short
