@@ -20,6 +20,19 @@ from tests.support.harness import Failed, Missing, expect, processor_time, run_t
 from tests.support.room import Client, DEVICE, NOT_CONNECTED, ONLINE, Room, SOON, STATUS, VERSION, accepted, free_port, has_ipv6, said, until
 
 
+def with_hosts(path):
+    """Returns the words that run a program for which this file takes the place of /etc/hosts."""
+    owner = ["--map-root-user"] if os.geteuid() else []
+    words = ["unshare", *owner, "--mount", "sh", "-c", 'mount --bind "$0" /etc/hosts && exec "$@"', path]
+    try:
+        probe = subprocess.run([*words, "true"], stdin=subprocess.DEVNULL, capture_output=True, timeout=60)
+    except FileNotFoundError:
+        raise Missing("unshare isn't there") from None
+    if probe.returncode:
+        raise Missing(f"no namespaces here: {probe.stderr.decode().strip()}")
+    return words
+
+
 class Tests:
     def __init__(self, upsd, dummy, upsrw, upscmd, folder):
         self.programs = (upsd, dummy)
@@ -264,6 +277,44 @@ class Tests:
                     file.writelines(f"LISTEN {host} {room.port}\n" for host in hosts)
                 found = self.run(self.programs[0], "--conf", room.folder, "-s", room.folder)
                 expect(found, (1, b"", f"upsd: cannot listen on {said}:{room.port}\n".encode()), f"{hosts}")
+
+    def each_in_use(self, name, addresses, words=()):
+        """Has another program at each address of a name in turn. If it is the first, upsd ends: at the next one it would serve
+        beside that program. The others don't matter."""
+        for taken in addresses:
+            family = socket.AF_INET6 if ":" in taken else socket.AF_INET
+            with self.room() as room, socket.create_server((taken, room.port), family=family):
+                with open(room.path("upsd.conf"), "w") as file:
+                    file.write(f"LISTEN {name} {room.port}\n")
+                upsd = [*words, self.programs[0], "--conf", room.folder, "-s", room.folder]
+                if taken == addresses[0]:
+                    said = f"upsd: cannot listen on {name}:{room.port}\n".encode()
+                    expect(self.run(*upsd), (1, b"", said), f"{taken} in use, the first of {addresses}")
+                else:
+                    said = room.start(upsd).stderr.readline().decode()
+                    expect(said.startswith("upsd: listening on "), True, f"{taken} in use, of {addresses}: {said}")
+                    expect(said.split()[-1].rpartition(":")[0].strip("[]"), addresses[0], "where it listens")
+
+    def test_localhost_in_use(self):
+        found = [it[4][0] for it in socket.getaddrinfo("localhost", None, type=socket.SOCK_STREAM)]
+        self.each_in_use("localhost", list(dict.fromkeys(found)))
+
+    def test_name_of_two_addresses_in_use(self):
+        hosts = os.path.join(self.folder, "hosts")
+        with open(hosts, "w") as file:
+            file.write("127.0.0.2 twofold\n127.0.0.3 twofold\n")
+        words = with_hosts(hosts)
+        _, found, _ = self.run(*words, "getent", "ahostsv4", "twofold")
+        addresses = list(dict.fromkeys(line.split()[0] for line in found.decode().splitlines()))
+        expect(sorted(addresses), ["127.0.0.2", "127.0.0.3"], "the addresses of the name")
+        self.each_in_use("twofold", addresses, words)
+        # a listener of its own has the first address
+        with self.room() as room:
+            with open(room.path("upsd.conf"), "w") as file:
+                file.writelines(f"LISTEN {host} {room.port}\n" for host in ("twofold", addresses[0]))
+            upsd = room.start([*words, self.programs[0], "--conf", room.folder, "-s", room.folder])
+            expect(upsd.stderr.readline(), f"upsd: listening on {addresses[0]}:{room.port}\n".encode(), "where it listens")
+            expect(upsd.stderr.readline().startswith(b"upsd: UPS su700, driver at "), True, "no other listener")
 
     def test_host_that_is_not_here(self):
         with self.room(conf=b"LISTEN 192.0.2.1 3493\n") as room:

@@ -266,6 +266,32 @@ class Tests(Shimmed):
             os.mkfifo(flag)
             expect(self.key(folder, conf), (1, b"", b""), "a pipe")
 
+    def test_is_the_flag_set_in_a_file_with_a_fault(self):
+        """A fault that came into the file while upsmon was running keeps no UPS from cutting its power."""
+        with tempfile.TemporaryDirectory(dir=self.folder) as folder:
+            flag, other = (os.path.join(folder, it) for it in ("flag", "other"))
+            self.file_of(FLAG)(flag)
+            taken = "upsmon: CERTPATH isn't taken here: see from-nut(7)\n"
+            for conf, status, fault in (
+                (f"CERTPATH x\nPOWERDOWNFLAG {flag}\n", 0, f"2: UnknownDirective\n{taken}"),
+                (f"CERTPATH x\nPOWERDOWNFLAG {other}\n", 1, f"2: UnknownDirective\n{taken}"),
+                ("CERTPATH x\n", 1, f"2: UnknownDirective\n{taken}"),
+                (f'POWERDOWNFLAG "{flag}" # written otherwise\nNOTIFYCMD "x', 0, "3: Unreadable\n"),
+                # the last line counts
+                (f"POWERDOWNFLAG {other}\nPOWERDOWNFLAG {flag}\n", 0, "3: Repeated\n"),
+                (f"POWERDOWNFLAG {flag}\nPOWERDOWNFLAG {other}\n", 1, "3: Repeated\n"),
+                # but none that has a fault itself, or that is something else
+                (f"POWERDOWNFLAG {flag}\nPOWERDOWNFLAG {other} x\n", 0, "3: BadForm\n"),
+                (f"POWERDOWNFLAG {flag}\nPOWERDOWNFLAG {'x' * 257}\n", 0, "3: PastLimit\n"),
+                (f'POWERDOWNFLAG {flag}\n# POWERDOWNFLAG {other}\nNOTIFYCMD "POWERDOWNFLAG {other}"\nx\n', 0, None),
+                # a fault of the file as a whole
+                (f"POWERDOWNFLAG {flag}\nMINSUPPLIES 2\n", 0, "0: PastLimit\n"),
+            ):
+                found, out, err = self.key(folder, conf)
+                expect((found, out), (status, b""), f"{conf}, which {err!r}")
+                if fault is not None:
+                    expect(err.decode(), f"upsmon: upsmon.conf:{fault}", conf)
+
     def test_warnings(self):
         asks = "is above"
         for conf, mode, wanted in (

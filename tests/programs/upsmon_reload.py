@@ -12,7 +12,7 @@ import time
 
 from tests.support.harness import expect, Shimmed
 from tests.support.monitored import FLAG, ON_BATTERY, QUICK, SHUTDOWN, Upstream, Watch, children_of, play
-from tests.support.room import SOON, STATUS, until
+from tests.support.room import ONLINE, Room, SOON, STATUS, USERS, until
 
 OLD = 'SHUTDOWNCMD "touch FOLDER/old"\n'
 NEW = 'SHUTDOWNCMD "touch FOLDER/new"\n'
@@ -55,6 +55,7 @@ def until_asked(server, more=1):
 
 class Tests(Shimmed):
     def __init__(self, programs, folder):
+        self.programs = programs[:2]
         self.upsmon = programs[3]
         self.folder = folder
 
@@ -273,6 +274,56 @@ class Tests(Shimmed):
             until(lambda: watch.read("reload") is None, "the file is removed")
             time.sleep(1.5)
             expect(watch.lines("err").count("upsmon: reloaded: nothing changed"), 0, "further reloads")
+
+    def test_file_that_is_gone(self):
+        """Where upsd has the folder too, upsmon reads its file a look after it saw the request, even if upsd has removed that."""
+        with Upstream() as server, self.watch(line_of(server) + QUICK + OLD) as watch:
+            until_asked(server)
+            with watch.open("upsd.conf"):
+                pass
+            watch.reload(line_of(server) + QUICK + NEW)
+            # upsmon has looked once, or twice
+            time.sleep(1.5)
+            os.remove(watch.path("reload"))
+            watch.until_reloaded("SHUTDOWNCMD changed")
+            time.sleep(2.5)
+            expect(watch.lines("err").count("upsmon: reloaded: nothing changed"), 0, "further reloads")
+
+    def test_password_of_two_programs(self):
+        """upsmon logs in by its new password when upsd of the same folder knows that, whichever looks for the file first."""
+        with Room(self.programs, self.folder) as room:
+
+            def set_password(word):
+                with open(room.path("upsd.users"), "wb") as file:
+                    file.write(USERS.replace(b"password = m1", b"password = " + word))
+                with open(room.path("upsmon.conf"), "w") as file:
+                    file.write(f"MONITOR su700@{room.host}:{room.port} 1 mon {word.decode()} primary\n{QUICK}{OLD}")
+
+            def count_reports(name, report):
+                with open(room.path(name)) as file:
+                    return file.read().splitlines().count(report)
+
+            set_password(b"first")
+            with open(room.path("upsd.err"), "wb") as upsd, open(room.path("upsmon.err"), "wb") as upsmon:
+                room.dummy()
+                room.upsd(stderr=upsd)
+                begun = time.monotonic()
+                room.until(STATUS, ONLINE)
+                # each looks once a second from its start on: so either is the first to see half of all requests
+                time.sleep((begun + 0.5 - time.monotonic()) % 1)
+                room.start([self.upsmon, "--conf", room.folder], stderr=upsmon)
+            room.until(b"GET NUMLOGINS su700\n", b"NUMLOGINS su700 1\n")
+            changed = f"upsmon: reloaded: MONITOR su700@{room.host}:{room.port} changed"
+            for turn in range(1, 6):
+                time.sleep((begun + 0.2 * turn - time.monotonic()) % 1)
+                set_password(b"next%d" % turn)
+                with open(room.path("reload"), "w"):
+                    pass
+                until(lambda: count_reports("upsd.err", "upsd: reloaded: users") == turn, "upsd knows the password")
+                until(lambda: count_reports("upsmon.err", changed) == turn, "upsmon knows the password")
+                # the earlier link is gone, and the new one has been made
+                time.sleep(1.5)
+                room.until(b"GET NUMLOGINS su700\n", b"NUMLOGINS su700 1\n")
 
     def test_many(self):
         """Reloads leave neither descriptors nor processes behind."""

@@ -1,2 +1,3 @@
 pub mod Folder
+pub mod Turns
 pub mod Unknown

@@ -16,6 +16,6 @@ pub use command_line::{check_option, quiet_option};
 pub use conf_file::{ConfFile, FileFault, read_conf, read_conf_at, read_conf_if_there, read_file};
 pub use failure::{Failure, OwnFault, tell_not_reloaded};
 pub use folder::conf_folder;
-pub use reload_file::{Look, ReloadFile};
+pub use reload_file::{Look, ReloadFile, Turn};
 pub use streams::hold_closed_streams;
 pub use warning::{Readable, readable_file, warn};

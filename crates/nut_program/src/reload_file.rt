@@ -1,6 +1,7 @@
 //! The file by which an operator has a program read its files again.
 
 ghost use Rattle.std.specs.Prelude.{◌≡◌, ◌≢◌, ◌↔◌, IsTrue, IsSome};
+ghost use Rattle.nut_program.specs.Turns.{answers_now, waits_on};
 
 use std::alloc::{AllocError, Global};
 use std::os::unix::fs::MetadataExt;
@@ -22,10 +23,19 @@ struct Stamp {
     nanoseconds: i64,
 }
 
+/// When a program answers a request that another program of the folder sees, too.
+#[derive(Clone, Copy, PartialEq, Eq)]
+pub enum Turn {
+    /// At the look that sees it.
+    First,
+    /// At the next look. Each program looks once a second, so the one whose turn is first has answered by then.
+    Second,
+}
+
 /// What a look at the file finds.
 #[derive(Drop)]
 pub enum Look {
-    /// There is no new request.
+    /// There is no request to answer now.
     Nothing,
     /// The program is to read its files.
     Asked,
@@ -40,22 +50,27 @@ pub enum Look {
 /// The program removes the file and then reads the others, so that no change after a request is missed. There are two
 /// exceptions. If the program can't remove the file, for example because only root can write to the folder, each change
 /// of the file's time is one request. And if another program reads the same folder, the file is left to it for two
-/// looks, so that one file is a request to both.
+/// looks, so that one file is a request to both, and they answer it in turn.
 #[derive(Drop)]
 pub struct ReloadFile {
     path: PathBuf,
     /// A file that the folder has if another program reads it.
     beside: PathBuf,
+    /// When a request to both is answered.
+    turn: Turn,
     /// The file as it was when it was last looked at.
     seen: Option<Stamp>,
     /// For how many more looks it is left.
     looks: u8,
+    /// Whether a request that was seen at the last look is to be answered at the next one.
+    waits: bool,
     is_told: bool,
 }
 
 impl ReloadFile {
-    /// Returns the file in this folder. `beside` is the name of a file that the folder has if another program reads it.
-    /// Call it before the configuration is read: a file that is there already is no request, and goes after two looks.
+    /// Returns the file in this folder. `beside` is the name of a file that the folder has if another program reads it,
+    /// and `turn` says which of the two answers first. Call it before the configuration is read: a file that is there
+    /// already is no request, and goes after two looks.
     ///
     /// # Errors
     ///
@@ -65,6 +80,7 @@ impl ReloadFile {
         alloc: Global,
         folder: &str,
         beside: &str,
+        turn: Turn,
     ) -> Result<ReloadFile, AllocError> {
         let path = Path::new(folder).join(alloc, NAME)?;
         let beside = Path::new(folder).join(alloc, beside)?;
@@ -72,8 +88,10 @@ impl ReloadFile {
         Ok(ReloadFile {
             path,
             beside,
+            turn,
             seen,
             looks: LOOKS,
+            waits: false,
             is_told: false,
         })
     }
@@ -83,16 +101,21 @@ impl ReloadFile {
         self.path.as_path().as_str()
     }
 
-    /// Looks whether there is a request that was not there at the last look, and removes the file.
+    /// Looks whether there is a request that was not there at the last look, and removes the file. In a folder that
+    /// another program reads, too, a program whose turn is second answers it at the next look, whether or not the file is
+    /// still there then. A file that is changed in between is a new request.
     pub fn look(&mut self, files: &impl Files) -> Look {
         let found = stamp_of(files, self.path.as_path());
-        if self.is_request(found) {
+        let is_request = self.is_request(found);
+        if is_request && !self.is_shared(files) {
             return self.take(files);
         }
-        if found.is_some() && self.is_last_look() {
-            let _ = fs::remove_file(files, self.path.as_path());
+        self.leave(files, is_request, found.is_some());
+        if self.is_turn(is_request) {
+            Look::Asked
+        } else {
+            Look::Nothing
         }
-        Look::Nothing
     }
 
     /// Whether what was found is a request: a file that is not the one that was there at the last look, or has been
@@ -106,6 +129,34 @@ impl ReloadFile {
         is_new
     }
 
+    /// Whether another program reads the folder, too.
+    fn is_shared(&self, files: &impl Files) -> bool {
+        fs::metadata(files, self.beside.as_path()).is_ok()
+    }
+
+    /// Whether a request is answered at this look: one that this look is the first to see, if the turn is first, and one
+    /// that the last look was the first to see, if it is second and nothing has come since.
+    fn is_turn(&mut self, is_request: bool) -> bool
+        ensures now { result ≡ answers_now self.old.turn self.old.waits is_request }
+        ensures next { self.new.waits ≡ waits_on self.old.turn is_request }
+    {
+        let is_turn = match self.turn {
+            Turn::First => is_request,
+            Turn::Second => self.waits && !is_request,
+        };
+        self.waits = is_request && self.turn == Turn::Second;
+        is_turn
+    }
+
+    /// Leaves the file to the other program, from a request on for two looks, and then removes it.
+    fn leave(&mut self, files: &impl Files, is_request: bool, is_there: bool) {
+        if is_request {
+            self.looks = LOOKS;
+        } else if is_there && self.is_last_look() {
+            let _ = fs::remove_file(files, self.path.as_path());
+        }
+    }
+
     /// Whether the file has been left for long enough.
     fn is_last_look(&mut self) -> bool {
         let is_last = self.looks == 1;
@@ -113,13 +164,10 @@ impl ReloadFile {
         is_last
     }
 
-    /// Removes the file of a new request, or leaves it for now.
+    /// Removes the file of a request to this program alone, which is answered at once.
     fn take(&mut self, files: &impl Files) -> Look {
-        if fs::metadata(files, self.beside.as_path()).is_ok() {
-            self.looks = LOOKS;
-            return Look::Asked;
-        }
         self.looks = 0;
+        self.waits = false;
         match fs::remove_file(files, self.path.as_path()) {
             Err(error) if !self.is_told => {
                 self.is_told = true;

@@ -1,6 +1,7 @@
 //! The addresses at which clients connect.
 
 use crate::upsd_fault::UpsdFault;
+use libc::EAFNOSUPPORT;
 use mio::net::TcpListener;
 use nut_conf::UpsdConf;
 use nut_poll::text_of;
@@ -17,7 +18,7 @@ enum Reach {
     Every,
     /// Every address of IPv4: `0.0.0.0`.
     EveryOfIpv4,
-    /// An address, or the first of a host.
+    /// An address, or the first of a host that this machine has.
     One,
 }
 
@@ -107,8 +108,9 @@ fn cannot_listen(alloc: Global, host: &str, port: u16) -> Failure<UpsdFault> {
     }
 }
 
-/// Listens at the first of the host's addresses at which that is possible. Returns `None` if one of these listeners
-/// serves that address already.
+/// Listens at the first of the host's addresses that this machine has. Returns `None` if one of these listeners serves
+/// that address already. If anyone else does, that is the error: at the next address upsd would run beside another one,
+/// each with forced shutdowns and logins of its own.
 fn listen_at(
     net: &impl Net,
     host: &str,
@@ -117,15 +119,33 @@ fn listen_at(
 ) -> io::Result<Option<TcpListener>> {
     let mut last = io::Error::from(ErrorKind::NotFound);
     for address in (host, port).to_socket_addrs(net)? {
-        match TcpListener::bind(net, address) {
+        last = match TcpListener::bind(net, address) {
             Ok(listener) => return Ok(Some(listener)),
-            Err(error) => last = error,
-        }
-        if last.kind() == ErrorKind::AddrInUse && is_served(listeners, address) {
-            return Ok(None);
+            Err(error) => error,
+        };
+        if !is_elsewhere(&last) {
+            return unless_served(last, listeners, address);
         }
     }
     Err(last)
+}
+
+/// Whether it is impossible to listen at an address because this machine doesn't have it, or doesn't know addresses of
+/// its kind, as those of IPv6 where that is turned off.
+fn is_elsewhere(error: &io::Error) -> bool {
+    error.kind() == ErrorKind::AddrNotAvailable || error.raw_os_error() == Some(EAFNOSUPPORT)
+}
+
+/// Returns why it is impossible to listen at an address, unless it is in use and one of these listeners serves it.
+fn unless_served(
+    error: io::Error,
+    listeners: &[TcpListener],
+    address: SocketAddr,
+) -> io::Result<Option<TcpListener>> {
+    if error.kind() == ErrorKind::AddrInUse && is_served(listeners, address) {
+        return Ok(None);
+    }
+    Err(error)
 }
 
 /// Whether one of these listeners serves clients at this address.

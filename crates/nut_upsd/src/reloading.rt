@@ -4,7 +4,7 @@ use crate::changes::changes;
 use crate::configuration::{Settings, read_folder};
 use nut_conf::Endpoint;
 use nut_poll::{Report, Reports};
-use nut_program::{FileFault, Look, ReloadFile, tell_not_reloaded};
+use nut_program::{FileFault, Look, ReloadFile, Turn, tell_not_reloaded};
 use nut_server::{Config, Server};
 use nut_server_sockets::Reloader;
 use std::alloc::{AllocError, Global};
@@ -14,6 +14,9 @@ use std::rt::Files;
 
 /// A file that the folder has if upsmon reads it, too.
 const BESIDE: &str = "upsmon.conf";
+
+/// upsd answers a request before upsmon does, whose new logins are then by the new users.
+const TURN: Turn = Turn::First;
 
 /// The folder of the files of upsd, which reads them at its start and when the file `reload` in that folder asks for it.
 #[derive(Drop)]
@@ -48,7 +51,7 @@ impl<'r, F: Files> Reloading<'r, F> {
             files,
             alloc,
             folder,
-            file: ReloadFile::new(files, alloc, folder, BESIDE)?,
+            file: ReloadFile::new(files, alloc, folder, BESIDE, TURN)?,
             endpoints: Vec::new(alloc),
             given: None,
         })

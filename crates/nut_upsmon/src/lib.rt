@@ -6,6 +6,7 @@ mod caretaker;
 mod changes;
 mod command_line;
 mod crier;
+mod faulty_file;
 mod halt;
 mod low_runtime;
 mod monitor;

@@ -3,6 +3,7 @@
 use crate::caretaker::Caretaker;
 use crate::command_line::upsmon_command;
 use crate::crier::Crier;
+use crate::faulty_file::{flag_despite, flag_of};
 use crate::halt::{Halt, halt_heap};
 use crate::low_runtime::check_low_runtimes;
 use crate::power_down_flag::{FlagState, PowerDownFlag};
@@ -15,7 +16,9 @@ use clap::ArgMatches;
 use linked_list_allocator::LocalHeap;
 use nut_conf::UpsmonConf;
 use nut_poll::LossyLines;
-use nut_program::{Failure, ReloadFile, conf_folder, hold_closed_streams, read_conf, refuse_start};
+use nut_program::{
+    Failure, ReloadFile, Turn, conf_folder, hold_closed_streams, read_conf, refuse_start,
+};
 use std::alloc::{Alloc, AllocError, Global};
 use std::convert::AsStr;
 use std::env::Env;
@@ -30,6 +33,10 @@ use std::time::Clock;
 
 /// The file of the configuration folder that upsd reads. If it is there, upsd may have that folder too.
 const FILE_OF_SERVER: &str = "upsd.conf";
+
+/// upsmon answers a request after upsd has, so that the server knows the new users and UPSes when upsmon logs in again. A
+/// login that is refused isn't asked for again.
+const TURN: Turn = Turn::Second;
 
 /// The streams that upsmon writes to: standard output and standard error, line by line. A line that isn't taken at once
 /// is dropped.
@@ -50,9 +57,11 @@ struct Streams<O, E> {
 /// is 0 if SHUTDOWNCMD ended with 0 or there is none, else 1. A POWERDOWNFLAG that an earlier shutdown left is removed
 /// at the start.
 ///
-/// With `-K` nothing is watched: the status is 0 if POWERDOWNFLAG is set, else 1. With `--check` nothing is watched
-/// either: upsmon reads upsmon.conf, writes what a start writes of it, prints on `out` how soon this machine stops, and
-/// asks the servers whether their UPSes report LB early enough for that. The status is 0 if the file has no fault.
+/// With `-K` nothing is watched: the status is 0 if POWERDOWNFLAG is set, else 1. If the file can be read, but a line has
+/// a fault, that is written to `err`, and the last line POWERDOWNFLAG without a fault counts. With `--check` nothing is
+/// watched either: upsmon reads upsmon.conf, writes what a start writes of it, prints on `out` how soon this machine
+/// stops, and asks the servers whether their UPSes report LB early enough for that. The status is 0 if the file has no
+/// fault.
 ///
 /// When somebody makes the file `reload` in the folder, upsmon reads upsmon.conf again. If the file has a fault, the halt
 /// that it sets can't be prepared, or a shutdown has begun, upsmon says so on `err` and watches as before. A UPS that
@@ -130,7 +139,7 @@ where
     E: Write + AsRawFd + Copy,
 {
     if matches.get_flag("killpower") {
-        return look_for_flag(rt, alloc, matches);
+        return look_for_flag(rt, alloc, matches, streams.out, told);
     }
     if matches.get_flag("check") {
         check_file(rt, alloc, matches, streams.out, told)?;
@@ -141,36 +150,50 @@ where
 }
 
 /// Returns whether the flag that upsmon.conf names is set, as an exit status: 0 if it is, else 1.
-fn look_for_flag<R: Files + Env + Alloc>(
+fn look_for_flag<R, O, E>(
     rt: &R,
     alloc: Global,
     matches: &ArgMatches<'_>,
-) -> Result<u8, Failure<UpsmonFault>> {
+    out: O,
+    told: &mut LossyLines<E>,
+) -> Result<u8, Failure<UpsmonFault>>
+where
+    R: Files + Env + Alloc,
+    O: Write + AsRawFd + Copy,
+    E: Write + AsRawFd + Copy,
+{
     let folder = conf_folder(rt, alloc, matches)?;
-    look_in_folder(rt, alloc, folder.as_str())
+    look_in_folder(rt, alloc, folder.as_str(), out, told)
 }
 
-/// Returns whether the flag that upsmon.conf in this folder names is set, as an exit status.
-fn look_in_folder(
-    files: &impl Files,
+/// Returns whether the flag that upsmon.conf in this folder names is set, as an exit status. If a line of the file has a
+/// fault, that is told, and the last line that names a flag and has none counts.
+fn look_in_folder<R, O, E>(
+    files: &R,
     alloc: Global,
     folder: &str,
-) -> Result<u8, Failure<UpsmonFault>> {
-    let config: UpsmonConf = read_conf(files, alloc, folder)?;
-    flag_status(files, alloc, &config)
+    out: O,
+    told: &mut LossyLines<E>,
+) -> Result<u8, Failure<UpsmonFault>>
+where
+    R: Files,
+    O: Write + AsRawFd + Copy,
+    E: Write + AsRawFd + Copy,
+{
+    let flag = match read_conf(files, alloc, folder) {
+        Ok(config) => flag_of(alloc, config)?,
+        Err(fault) => flag_despite(files, alloc, folder, Failure::from(fault), out, told)?,
+    };
+    Ok(flag_status(files, flag))
 }
 
-/// Returns whether the flag that a configuration names is set, as an exit status.
-fn flag_status(
-    files: &impl Files,
-    alloc: Global,
-    config: &UpsmonConf,
-) -> Result<u8, Failure<UpsmonFault>> {
-    let is_set = match PowerDownFlag::of(alloc, config)? {
+/// Returns whether a flag is set, as an exit status. It is 1 if there is none.
+fn flag_status(files: &impl Files, flag: Option<PowerDownFlag>) -> u8 {
+    let is_set = match flag {
         Some(flag) => matches!(flag.state(files), Ok(FlagState::Set)),
         None => false,
     };
-    Ok(u8::from(!is_set))
+    u8::from(!is_set)
 }
 
 /// Checks upsmon.conf in the folder that a command line names.
@@ -278,7 +301,7 @@ where
     O: Write + AsRawFd + Copy,
     E: Write + AsRawFd + Copy,
 {
-    let file = ReloadFile::new(rt, alloc, folder.as_str(), FILE_OF_SERVER)?;
+    let file = ReloadFile::new(rt, alloc, folder.as_str(), FILE_OF_SERVER, TURN)?;
     let mut reloader = Reloader::new(alloc, folder, file, is_quiet);
     let guarded = guard_reloaded(rt, alloc, &mut reloader, streams, told);
     // dropped by a call, which keeps the proof of this function short

@@ -89,7 +89,7 @@ impl Reloader {
         Reports::new("upsmon", err, !self.is_quiet)
     }
 
-    /// Reads upsmon.conf if that was asked for since the last second. Returns the configuration that this monitor is to
+    /// Reads upsmon.conf if that was asked for and it is upsmon's turn. Returns the configuration that this monitor is to
     /// be replaced for now, if there is one. Why there is none though it was asked for is written to `err`.
     pub fn second<E: Write>(
         &mut self,
@@ -108,7 +108,7 @@ impl Reloader {
         self.take_waiting(monitor, err)
     }
 
-    /// Whether a reload was asked for since the last look.
+    /// Whether a reload was asked for and it is upsmon's turn to make it.
     fn is_asked<E: Write>(&mut self, files: &impl Files, err: &mut E) -> bool {
         match self.file.look(files) {
             Look::Nothing => false,
