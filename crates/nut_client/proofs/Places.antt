@@ -4,12 +4,13 @@ use Rattle.std.proofs.lemmas.Bool.{cases_Bool, cases_lt, leb-true, lt-ltb}
 use Rattle.std.specs.Prelude.{is_err, nat_le}
 use Rattle.std.proofs.lemmas.List.{length-take, length-drop}
 use Rattle.std.specs.Option.{option_map_or}
+use Rattle.nut_words.specs.Number.{digits_value, is_natural}
 use Rattle.nut_words.specs.declared.limits.TheConstants.{UPS_NAME_MAX}
 use Rattle.clap.proofs.WalkLemmas.{both}
 use Rattle.nut_conf.specs.Faults.{◌>>=◌}
 use Rattle.nut_conf.specs.Hosts.{is_host}
 use Rattle.nut_conf.specs.Target.{host, located, or_fault, parted, target}
-use Rattle.nut_conf.specs.Values.{decimal, is_numeral, name, number}
+use Rattle.nut_conf.specs.Values.{name, number}
 use Rattle.nut_conf.specs.declared.fault.FaultKind.{FaultKind}
 use Rattle.nut_conf.specs.declared.fault.FaultKind.TheVariants.{BadNumber}
 use Rattle.nut_conf.specs.declared.target.NameFault.{NameFault}
@@ -23,8 +24,8 @@ bind_fails (Err e) f bad = refl
 host_is_short : (h : List ℕ) → is_host h ≡ true → length h ≤ HOST_MAX
 host_is_short h is = leb-true _ _ (both _ _ (both _ _ is).0).1
 
-numeral_is_short : (h : List ℕ) → is_numeral h ≡ true → length h ≤ 9
-numeral_is_short h is = leb-true _ _ (both _ _ (both _ _ is).0).1
+natural_is_short : (h : List ℕ) → is_natural h ≡ true → length h ≤ 9
+natural_is_short h is = leb-true _ _ (both _ _ (both _ _ is).0).1
 
 long_host : (h : List ℕ) → HOST_MAX < length h → IsErr (host h)
 long_host h long = elim (cases_Bool (is_host h)) [
@@ -33,12 +34,12 @@ long_host h long = elim (cases_Bool (is_host h)) [
 ]
 
 number_by : Bool → List ℕ → Result ℕ FaultKind
-number_by b h = if b && nat_le 1 (decimal h) && nat_le (decimal h) 65535 then Ok (decimal h) else Err BadNumber
+number_by b h = if b && nat_le 1 (digits_value h) && nat_le (digits_value h) 65535 then Ok (digits_value h) else Err BadNumber
 
 long_number : (h : List ℕ) → 9 < length h → IsErr (number 1 65535 h)
 unfolding number_by
-long_number h long = elim (cases_Bool (is_numeral h)) [
-  | inl is ↦ absurd (omega (arith, numeral_is_short h is, long))
+long_number h long = elim (cases_Bool (is_natural h)) [
+  | inl is ↦ absurd (omega (arith, natural_is_short h is, long))
   | inr isnt ↦ ap (λ b. is_err (number_by b h)) isnt
 ]
 

@@ -1,13 +1,12 @@
 -- In a file that reads without a fault, no two sections have the same name.
-use Rattle.std.proofs.Common.{◌≡◌, ℕ, ◌+◌, ◌==◌, Bool, true, false, cond, ◌||◌, nat_lt, nat_le, List, [], ◌∷◌, ◌++◌, length, Option, None, Some, Result, Ok, Err, refl, sym, ap, ◌∙◌, subst}
-use Rattle.std.specs.List.{list_any}
+use Rattle.std.proofs.Common.{◌≡◌, ℕ, ◌+◌, ◌==◌, Bool, true, false, cond, ◌||◌, nat_lt, nat_le, List, [], ◌∷◌, ◌++◌, length, map, Option, None, Some, Result, Ok, Err, refl, sym, ap, subst}
+use Rattle.std.specs.List.{AllByRecursion, IsDistinct, list_any}
 use Rattle.std.specs.Option.{option_map_or}
+use Rattle.std.specs.Result.{result_err}
 use Rattle.std.specs.Str.{bytes_eq}
-use Rattle.std.proofs.lemmas.List.Folds.{list_any-append}
 use Rattle.std.proofs.lemmas.Slice.Eq.{bytes_eq-Decides}
 use Rattle.nut_conf.specs.Faults.{◌>>=◌}
 use Rattle.nut_conf.specs.Values.{Words, name}
-use Rattle.nut_conf.specs.Settings.{fault_of}
 use Rattle.nut_conf.specs.Files.{LineFault, words_of, unless, with_line, at_line, read_lines, read_file, lines_of}
 use Rattle.nut_conf.specs.Sections.{Section, section_name, sections, last, is_name_of, opens, sectioned_fault}
 use Rattle.nut_conf.specs.laws.Laws.{HasDistinctNames}
@@ -66,33 +65,42 @@ pub right_false : (a b : Bool) → (a || b) ≡ false → b ≡ false
 right_false true b h = absurd (cc)
 right_false false b h = h
 
+abbrev names : List Section → List (List ℕ)
+names ss = map (λ s. s.0) ss
+
+abbrev IsApartFrom : List ℕ → List ℕ → Type 0
+IsApartFrom m n = bytes_eq m n ≡ false
+
+apart-push : (m : List ℕ) (ss : List Section) (n : List ℕ) → AllByRecursion (IsApartFrom m) (names ss) → IsApartFrom m n → AllByRecursion (IsApartFrom m) (names (ss ++ (n, []) ∷ []))
+apart-push m [] n all apart = (apart, tt)
+apart-push m (s ∷ ss) n all apart = (all.0, apart-push m ss n all.1 apart)
+
 -- a new name after the others
 distinct-push : (ss : List Section) (n : List ℕ) → HasDistinctNames ss → list_any (is_name_of n) ss ≡ false → HasDistinctNames (ss ++ (n, []) ∷ [])
-distinct-push [] n all new = (refl, tt)
+unfolding IsDistinct
+distinct-push [] n all new = (tt, tt)
 distinct-push (s ∷ ss) n all new =
     let apart : bytes_eq s.0 n ≡ false = bytes_eq-swap n s.0 (left_false (bytes_eq n s.0) (list_any (is_name_of n) ss) new) in
-    (list_any-append (is_name_of s.0) ss ((n, []) ∷ []) ∙ rw (all.0, apart) refl, distinct-push ss n all.1 (right_false (bytes_eq n s.0) (list_any (is_name_of n) ss) new))
+    (apart-push s.0 ss n all.0 apart, distinct-push ss n all.1 (right_false (bytes_eq n s.0) (list_any (is_name_of n) ss) new))
 
-any-with_line_in : (n : List ℕ) (ss : List Section) (ws : Words) → list_any (is_name_of n) (with_line_in ss ws) ≡ list_any (is_name_of n) ss
-any-with_line_in n [] ws = refl
-any-with_line_in n (s ∷ []) ws = refl
-any-with_line_in n (s ∷ t ∷ ss) ws = ap (λ b. bytes_eq n s.0 || b) (any-with_line_in n (t ∷ ss) ws)
+names-with_line_in : (ss : List Section) (ws : Words) → names (with_line_in ss ws) ≡ names ss
+names-with_line_in [] ws = refl
+names-with_line_in (s ∷ []) ws = refl
+names-with_line_in (s ∷ t ∷ ss) ws = ap (λ ns. s.0 ∷ ns) (names-with_line_in (t ∷ ss) ws)
 
--- a line more in the last section
-distinct-with_line_in : (ss : List Section) (ws : Words) → HasDistinctNames ss → HasDistinctNames (with_line_in ss ws)
-distinct-with_line_in [] ws all = tt
-distinct-with_line_in (s ∷ []) ws all = (refl, tt)
-distinct-with_line_in (s ∷ t ∷ ss) ws all = (any-with_line_in s.0 (t ∷ ss) ws ∙ all.0, distinct-with_line_in (t ∷ ss) ws all.1)
+no_names : HasDistinctNames []
+unfolding IsDistinct
+no_names = tt
 
 -- a section that may begin has a new name
-new_name : (most : ℕ) (earlier : List Section) (bytes : List ℕ) → fault_of (opens most earlier bytes) ≡ None → list_any (is_name_of bytes) earlier ≡ false
+new_name : (most : ℕ) (earlier : List Section) (bytes : List ℕ) → result_err (opens most earlier bytes) ≡ None → list_any (is_name_of bytes) earlier ≡ false
 new_name most earlier bytes is = by_name (name UPS_NAME_MAX bytes) refl is where
-  by_test : (n : List ℕ) (b : Bool) → list_any (is_name_of n) earlier ≡ b → fault_of (cond b (Err Repeated) (cond (nat_le most (length earlier)) (Err PastLimit) (Ok n))) ≡ None → list_any (is_name_of n) earlier ≡ false
+  by_test : (n : List ℕ) (b : Bool) → list_any (is_name_of n) earlier ≡ b → result_err (cond b (Err Repeated) (cond (nat_le most (length earlier)) (Err PastLimit) (Ok n))) ≡ None → list_any (is_name_of n) earlier ≡ false
   by_test n true here is = absurd (cc)
   by_test n false here is = here
 
   by_name : (r : Result (List ℕ) FaultKind) → name UPS_NAME_MAX bytes ≡ r
-      → fault_of (r >>= (λ n. cond (list_any (is_name_of n) earlier) (Err Repeated) (cond (nat_le most (length earlier)) (Err PastLimit) (Ok n)))) ≡ None
+      → result_err (r >>= (λ n. cond (list_any (is_name_of n) earlier) (Err Repeated) (cond (nat_le most (length earlier)) (Err PastLimit) (Ok n)))) ≡ None
       → list_any (is_name_of bytes) earlier ≡ false
   by_name (Ok n) here is =
       subst (λ (b : List ℕ). list_any (is_name_of b) earlier ≡ false) (name-same UPS_NAME_MAX bytes n here) (by_test n (list_any (is_name_of n) earlier) refl is)
@@ -102,11 +110,11 @@ module _ (fault : List Words → Words → Option FaultKind) (most : ℕ) where
   distinct_after : (before : List Words) (ws : Words) → sectioned_fault fault most before ws ≡ None → HasDistinctNames (sections before) → HasDistinctNames (sections (before ++ ws ∷ []))
   distinct_after before ws ok all =
       elim (section_name ws) as (λ o. section_name ws ≡ o
-      → option_map_or (λ n. fault_of (opens most (sections before) n)) o (option_map_or (λ s. fault s.1 ws) (last (sections before)) (Some OutsideSection)) ≡ None
+      → option_map_or (λ n. result_err (opens most (sections before) n)) o (option_map_or (λ s. fault s.1 ws) (last (sections before)) (Some OutsideSection)) ≡ None
       → HasDistinctNames (sections (before ++ ws ∷ []))) [
-        | None ↦ λ here ok. subst HasDistinctNames (sym (sections-more before ws here)) (distinct-with_line_in (sections before) ws all)
+        | None ↦ λ here ok. subst HasDistinctNames (sym (sections-more before ws here)) (subst (IsDistinct bytes_eq) (sym (names-with_line_in (sections before) ws)) all)
         | Some n ↦ λ here ok. subst HasDistinctNames (sym (sections-opens before ws n here)) (distinct-push (sections before) n all (new_name most (sections before) n ok))
       ] refl ok
 
   pub distinct_names : (file : List ℕ) (lines : List Words) → read_file (sectioned_fault fault most) file ≡ Ok lines → HasDistinctNames (sections lines)
-  distinct_names file lines is = keeps_file (sectioned_fault fault most) (λ before. HasDistinctNames (sections before)) distinct_after file lines tt is
+  distinct_names file lines is = keeps_file (sectioned_fault fault most) (λ before. HasDistinctNames (sections before)) distinct_after file lines no_names is

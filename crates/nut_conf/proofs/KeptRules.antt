@@ -2,13 +2,13 @@
 use Rattle.std.proofs.Common.{◌≡◌, ℕ, ◌<◌, Bool, true, false, cond, List, [], ◌∷◌, ◌++◌, length, Option, None, Some, Result, Ok, Err, refl, sym, ap, ◌∙◌, subst, arith, length-append}
 use Rattle.std.specs.List.{list_any}
 use Rattle.std.specs.Option.{option_map_or}
-use Rattle.std.specs.Str.{bytes_eq}
+use Rattle.std.specs.Result.{result_err}
 use Rattle.std.proofs.lemmas.Bool.Decides.{nat_tests}
 use Rattle.std.proofs.lemmas.List.Folds.{list_any-append}
 use Rattle.std.proofs.lemmas.Slice.Eq.{bytes_eq-Decides}
 use Rattle.nut_conf.specs.Faults.{◌>>=◌}
 use Rattle.nut_conf.specs.Values.{Words, nth}
-use Rattle.nut_conf.specs.Settings.{Directive, Rule, Setting, accepts, added, directive_of, fault_of, is_full, line_fault, names, setting, settings}
+use Rattle.nut_conf.specs.Settings.{Directive, Rule, Setting, accepts, added, directive_of, is_full, line_fault, names, setting, settings}
 use Rattle.nut_conf.specs.Files.{read_file}
 use Rattle.nut_conf.specs.Sections.{Section, last, opens, section_name, sectioned_fault, sections}
 use Rattle.nut_conf.specs.laws.Laws.{AreApart, AreFew, EachKeepsRule, KeepRule}
@@ -34,10 +34,10 @@ record IsTaken (r : Rule) (earlier : List Setting) (s : Setting) : Type 0 where
   apart : list_any (r.clashes s) earlier ≡ false
   room : is_full r.most (length earlier) ≡ false
 
-taken : (r : Rule) (earlier : List Setting) (s : Setting) → fault_of (added r earlier s) ≡ None → IsTaken r earlier s
+taken : (r : Rule) (earlier : List Setting) (s : Setting) → result_err (added r earlier s) ≡ None → IsTaken r earlier s
 taken r earlier s ok = by (list_any (r.clashes s) earlier) (is_full r.most (length earlier)) refl refl ok where
   by : (a b : Bool) → list_any (r.clashes s) earlier ≡ a → is_full r.most (length earlier) ≡ b
-      → fault_of (cond a (Err Repeated) (cond b (Err PastLimit) (Ok (earlier ++ s ∷ [])))) ≡ None → IsTaken r earlier s
+      → result_err (cond a (Err Repeated) (cond b (Err PastLimit) (Ok (earlier ++ s ∷ [])))) ≡ None → IsTaken r earlier s
   by true b e f h = absurd (cc)
   by false true e f h = absurd (cc)
   by false false e f h = record { apart = e; room = f }
@@ -49,11 +49,11 @@ keep-push r earlier s k t = record { apart = apart-push r.clashes earlier s k.ap
 module _ (directives : List Directive) (d : Directive) (found : directive_of d.word directives ≡ Some d) where
   -- the fault of a line, by the directive that it names
   abbrev of_directive : List Words → Words → Option Directive → Option FaultKind
-  of_directive before ws o = option_map_or (λ e. fault_of (accepts e.rule (settings e before) ws)) o (Some UnknownDirective)
+  of_directive before ws o = option_map_or (λ e. result_err (accepts e.rule (settings e before) ws)) o (Some UnknownDirective)
 
   keep-line : (before : List Words) (ws : Words) → line_fault directives before ws ≡ None → KeepRule d.rule (settings d before) → KeepRule d.rule (settings d (before ++ ws ∷ []))
   keep-line before ws ok k = by_name (names ws d) refl where
-    by_setting : (r : Result Setting FaultKind) → setting d.rule ws ≡ r → names ws d ≡ true → fault_of (r >>= added d.rule (settings d before)) ≡ None
+    by_setting : (r : Result Setting FaultKind) → setting d.rule ws ≡ r → names ws d ≡ true → result_err (r >>= added d.rule (settings d before)) ≡ None
         → KeepRule d.rule (settings d (before ++ ws ∷ []))
     by_setting (Ok s) is here none =
         subst (KeepRule d.rule) (sym (settings-more d before ws s here is)) (keep-push d.rule (settings d before) s k (taken d.rule (settings d before) s none))
@@ -63,7 +63,7 @@ module _ (directives : List Directive) (d : Directive) (found : directive_of d.w
     by_name false here = subst (KeepRule d.rule) (sym (settings-other d before ws here)) k
     by_name true here =
         let word : nth ws 0 ≡ d.word = (bytes_eq-Decides (nth ws 0) d.word).0 here in
-        let mine : line_fault directives before ws ≡ fault_of (accepts d.rule (settings d before) ws) = ap (λ w. of_directive before ws (directive_of w directives)) word ∙ ap (of_directive before ws) found in
+        let mine : line_fault directives before ws ≡ result_err (accepts d.rule (settings d before) ws) = ap (λ w. of_directive before ws (directive_of w directives)) word ∙ ap (of_directive before ws) found in
         by_setting (setting d.rule ws) refl here (sym mine ∙ ok)
 
   pub keeps_rule : (file : List ℕ) (lines : List Words) → read_file (line_fault directives) file ≡ Ok lines → KeepRule d.rule (settings d lines)
@@ -89,7 +89,7 @@ module _ (directives : List Directive) (d : Directive) (found : directive_of d.w
     each-line : (before : List Words) (ws : Words) → sectioned_fault (line_fault directives) most before ws ≡ None → EachKeepsRule d (sections before) → EachKeepsRule d (sections (before ++ ws ∷ []))
     each-line before ws ok all =
         elim (section_name ws) as (λ o. section_name ws ≡ o
-        → option_map_or (λ n. fault_of (opens most (sections before) n)) o (option_map_or (λ s. line_fault directives s.1 ws) (last (sections before)) (Some OutsideSection)) ≡ None
+        → option_map_or (λ n. result_err (opens most (sections before) n)) o (option_map_or (λ s. line_fault directives s.1 ws) (last (sections before)) (Some OutsideSection)) ≡ None
         → EachKeepsRule d (sections (before ++ ws ∷ []))) [
           | None ↦ λ here ok. subst (EachKeepsRule d) (sym (sections-more before ws here)) (inside (sections before) ws ok all)
           | Some n ↦ λ here ok. subst (EachKeepsRule d) (sym (sections-opens before ws n here)) (opened (sections before) n all)

@@ -1,4 +1,3 @@
-pub mod Numbers
 pub mod PrintingWords
 pub mod FileLemmas
 pub mod FirstFaultLemmas

@@ -1,20 +1,20 @@
 -- Names and addresses of hosts.
 use Rattle.std.specs.Prelude.{ℕ, Bool, ◌||◌, ◌&&◌, ◌==◌, List, length, nat_le}
 use Rattle.std.specs.List.{list_all}
-use Rattle.nut_conf.specs.Values.{is_letter, is_digit}
+use Rattle.std.specs.Char.{is_ascii_alphanumeric}
 use Rattle.nut_conf.specs.declared.limits.TheConstants.{HOST_MAX}
 
--- whether the byte is a letter, a digit, `.` or `-`
+-- whether the byte is an ASCII letter or digit, `.` or `-`
 abbrev pub is_host_byte : ℕ → Bool
-is_host_byte c = is_letter c || is_digit c || (c == 46) || (c == 45)
+is_host_byte c = is_ascii_alphanumeric c || c == 46 || c == 45
 
 -- 1 to HOST_MAX of them: the name of a host that is dialled, or its address
 abbrev pub is_host : List ℕ → Bool
 is_host bytes = nat_le 1 (length bytes) && nat_le (length bytes) HOST_MAX && list_all is_host_byte bytes
 
--- whether the byte is a letter, a digit, `.`, `-` or `:`
+-- whether the byte is an ASCII letter or digit, `.`, `-` or `:`
 abbrev pub is_address_byte : ℕ → Bool
-is_address_byte c = is_letter c || is_digit c || (c == 46) || (c == 45) || (c == 58)
+is_address_byte c = is_host_byte c || c == 58
 
 -- 1 to HOST_MAX of them: the address on which a server listens
 abbrev pub is_address : List ℕ → Bool

@@ -2,11 +2,11 @@
 use Rattle.std.specs.Prelude.{◌≡◌, ℕ, ◌-◌, ◌==◌, Bool, ◌&&◌, ◌||◌, List, [], ◌∷◌, is_some, length, map, nat_le, if◌then◌else◌, slice_index, slice_range, Option, None, Some, Result, Ok, Err}
 use Rattle.std.specs.List.{list_any}
 use Rattle.std.specs.Option.{option_map_or}
+use Rattle.std.specs.Result.{result_err}
 use Rattle.std.specs.Str.{bytes_eq}
 use Rattle.nut_words.specs.declared.limits.TheConstants.{UPS_NAME_MAX}
 use Rattle.nut_conf.specs.Faults.{◌>>=◌}
 use Rattle.nut_conf.specs.Values.{Words, nth, name}
-use Rattle.nut_conf.specs.Settings.{fault_of}
 use Rattle.nut_conf.specs.declared.text.Name.{Name}
 use Rattle.nut_conf.specs.declared.fault.FaultKind.{FaultKind}
 use Rattle.nut_conf.specs.declared.fault.FaultKind.TheVariants.{OutsideSection, Repeated, PastLimit}
@@ -57,7 +57,7 @@ opens most earlier bytes =
 -- within a section.
 abbrev pub sectioned_fault : (List Words → Words → Option FaultKind) → ℕ → List Words → Words → Option FaultKind
 sectioned_fault fault most before ws =
-    option_map_or (λ n. fault_of (opens most (sections before) n)) (section_name ws)
+    option_map_or (λ n. result_err (opens most (sections before) n)) (section_name ws)
     (option_map_or (λ s. fault s.1 ws) (last (sections before)) (Some OutsideSection))
 
 -- Whether a line adds a section, or adds to a list within a section.

@@ -2,6 +2,7 @@
 use Rattle.std.specs.Prelude.{◌≡◌, ℕ, Bool, true, false, List, [], ◌∷◌, ◌++◌, length, nat_le, if◌then◌else◌, Option, None, Some, Result, Ok, Err}
 use Rattle.std.specs.List.{list_any, filter_map, find}
 use Rattle.std.specs.Option.{option_map_or}
+use Rattle.std.specs.Result.{result_err, result_ok}
 use Rattle.std.specs.Str.{bytes_eq}
 use Rattle.nut_conf.specs.Faults.{◌>>=◌, Refuses}
 use Rattle.nut_conf.specs.Values.{Words, nth, values_of, one, one_of, name, text, number}
@@ -88,28 +89,18 @@ names ws d = bytes_eq (nth ws 0) d.word
 abbrev pub directive_of : List ℕ → List Directive → Option Directive
 directive_of word directives = find (λ d. bytes_eq word d.word) directives
 
--- what was read, if there is no fault
-abbrev pub ok : {X : Type 0} → Result X FaultKind → Option X
-ok (Ok x) = Some x
-ok (Err e) = None
-
 -- what a line sets for the directive, if it does
 abbrev pub set_by : Directive → Words → Option Setting
-set_by d ws = if names ws d then ok (setting d.rule ws) else None
+set_by d ws = if names ws d then result_ok (setting d.rule ws) else None
 
 -- what these lines set for the directive, in order
 abbrev pub settings : Directive → List Words → List Setting
 settings d lines = filter_map (set_by d) lines
 
--- the fault, if there is one
-abbrev pub fault_of : {X : Type 0} → Result X FaultKind → Option FaultKind
-fault_of (Ok x) = None
-fault_of (Err e) = Some e
-
 -- The first fault of a line in a file with these directives, given the lines before it.
 abbrev pub line_fault : List Directive → List Words → Words → Option FaultKind
 line_fault directives before ws =
-    option_map_or (λ d. fault_of (accepts d.rule (settings d before) ws)) (directive_of (nth ws 0) directives) (Some UnknownDirective)
+    option_map_or (λ d. result_err (accepts d.rule (settings d before) ws)) (directive_of (nth ws 0) directives) (Some UnknownDirective)
 
 -- The call changed the settings from old to new as this line does; or it returned the fault of the line; or the line
 -- has no fault and memory could not be allocated.

@@ -4,9 +4,10 @@ use Rattle.std.specs.List.{list_all, list_any}
 use Rattle.std.specs.Char.{to_ascii_lowercase}
 use Rattle.std.specs.Str.{bytes_eq}
 use Rattle.nut_words.specs.Name.{is_name_byte}
+use Rattle.nut_words.specs.Number.{digits_value, is_natural}
 use Rattle.nut_words.specs.declared.limits.TheConstants.{NAME_MAX}
 use Rattle.nut_conf.specs.Faults.{◌>>=◌, IsNoMemory, Spares}
-use Rattle.nut_conf.specs.Values.{Words, nth, values_of, one, one_of, name, text, number, is_numeral, decimal}
+use Rattle.nut_conf.specs.Values.{Words, nth, values_of, one, one_of, name, text, number}
 use Rattle.nut_conf.specs.Hosts.{is_address}
 use Rattle.nut_conf.specs.Settings.{Text, AllCommands, name_value, text_value, number_value, word_value}
 use Rattle.nut_conf.specs.Target.{or_fault, target}
@@ -49,7 +50,7 @@ text_spares : (least most : ℕ) (bytes : List ℕ) → Spares (text least most 
 text_spares least most bytes = spares_test (nat_lt (length bytes) least || nat_lt most (length bytes)) _ _ tt tt
 
 number_spares : (least most : ℕ) (bytes : List ℕ) → Spares (number least most bytes)
-number_spares least most bytes = spares_test (is_numeral bytes && nat_le least (decimal bytes) && nat_le (decimal bytes) most) _ _ tt tt
+number_spares least most bytes = spares_test (is_natural bytes && nat_le least (digits_value bytes) && nat_le (digits_value bytes) most) _ _ tt tt
 
 word_spares : (words : Words) (bytes : List ℕ) → Spares (one_of words bytes)
 word_spares words bytes = spares_test (list_any (bytes_eq bytes) words) _ _ tt tt

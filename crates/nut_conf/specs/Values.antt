@@ -1,8 +1,9 @@
 -- How the values on a line are read: names, texts and numbers.
-use Rattle.std.specs.Prelude.{ℕ, ◌+◌, ◌-◌, ◌*◌, ◌==◌, Bool, not, ◌||◌, ◌&&◌, List, [], length, drop, fold, nat_le, nat_lt, if◌then◌else◌, slice_index_or, Result, Ok, Err, codes}
+use Rattle.std.specs.Prelude.{ℕ, ◌==◌, Bool, not, ◌||◌, ◌&&◌, List, [], length, drop, nat_le, nat_lt, if◌then◌else◌, slice_index_or, Result, Ok, Err, codes}
 use Rattle.std.specs.List.{list_all, list_any}
 use Rattle.std.specs.Str.{bytes_eq}
 use Rattle.nut_words.specs.Name.{is_name_byte}
+use Rattle.nut_words.specs.Number.{digits_value, is_natural}
 use Rattle.nut_words.specs.Spelling.{is_printing}
 use Rattle.nut_conf.specs.declared.values.Form.{Form}
 use Rattle.nut_conf.specs.declared.values.Form.TheVariants as forms
@@ -27,14 +28,6 @@ values_of forms.Assigned ws =
 abbrev pub one : Words → Result (List ℕ) FaultKind
 one vs = if length vs == 1 then Ok (nth vs 0) else Err BadForm
 
--- `0` to `9`
-abbrev pub is_digit : ℕ → Bool
-is_digit c = nat_le 48 c && nat_le c 57
-
--- `A` to `Z` and `a` to `z`
-abbrev pub is_letter : ℕ → Bool
-is_letter c = (nat_le 65 c && nat_le c 90) || (nat_le 97 c && nat_le c 122)
-
 -- the bytes as a name of at most `most` bytes, or the fault
 abbrev pub name : ℕ → List ℕ → Result (List ℕ) FaultKind
 name most bytes =
@@ -50,18 +43,10 @@ text least most bytes = if nat_lt (length bytes) least || nat_lt most (length by
 abbrev pub is_text : ℕ → ℕ → List ℕ → Bool
 is_text least most bytes = nat_le least (length bytes) && nat_le (length bytes) most && list_all is_printing bytes
 
--- the number that these digits say
-abbrev pub decimal : List ℕ → ℕ
-decimal digits = fold (λ n c. n * 10 + (c - 48)) 0 digits
-
--- whether the bytes are one to nine digits
-abbrev pub is_numeral : List ℕ → Bool
-is_numeral bytes = nat_le 1 (length bytes) && nat_le (length bytes) 9 && list_all is_digit bytes
-
 -- the number that one to nine digits say, if it is `least` to `most`; else `BadNumber`
 abbrev pub number : ℕ → ℕ → List ℕ → Result ℕ FaultKind
 number least most bytes =
-    if is_numeral bytes && nat_le least (decimal bytes) && nat_le (decimal bytes) most then Ok (decimal bytes) else Err BadNumber
+    if is_natural bytes && nat_le least (digits_value bytes) && nat_le (digits_value bytes) most then Ok (digits_value bytes) else Err BadNumber
 
 -- the bytes, if they are one of these words; else `UnknownWord`
 abbrev pub one_of : Words → List ℕ → Result (List ℕ) FaultKind

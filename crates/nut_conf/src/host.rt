@@ -23,7 +23,7 @@ pub struct Address {
 fn is_host_byte(byte: u8) -> bool
     ensures { result ≡ host_byte byte }
 {
-    matches!(byte, b'A'..=b'Z' | b'a'..=b'z' | b'0'..=b'9' | b'.' | b'-')
+    byte.is_ascii_alphanumeric() || byte == b'.' || byte == b'-'
 }
 
 fn are_host_bytes(bytes: &[u8]) -> bool
@@ -35,7 +35,7 @@ fn are_host_bytes(bytes: &[u8]) -> bool
 fn is_address_byte(byte: u8) -> bool
     ensures { result ≡ address_byte byte }
 {
-    matches!(byte, b'A'..=b'Z' | b'a'..=b'z' | b'0'..=b'9' | b'.' | b'-' | b':')
+    is_host_byte(byte) || byte == b':'
 }
 
 fn are_address_bytes(bytes: &[u8]) -> bool

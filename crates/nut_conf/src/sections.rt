@@ -37,14 +37,14 @@ fn section_name<'a>(line: &'a Line<'_>) -> Option<&'a [u8]>
 
 impl<S: Draft, const MOST: usize> Sections<S, MOST> {
     ghost use Rattle.nut_conf.specs.inside.Drafts.{Takes};
-    ghost use Rattle.nut_conf.specs.Settings.{fault_of};
+    ghost use Rattle.std.specs.Result.{result_err};
     ghost use Rattle.nut_conf.specs.Sections.{AllHold, Section, opens};
     ghost use Rattle.std.specs.Prelude.{List};
 
     /// Begins a section with this name.
     fn open(&mut self, bytes: &[u8]) -> Result<(), FaultKind>
         ensures { (earlier : List Section) → AllHold S.Holds self.old.by_name.entries earlier
-            → Takes (fault_of (opens MOST earlier bytes.now)) result (AllHold S.Holds self.new.by_name.entries (earlier ++ (bytes.now, []) ∷ [])) }
+            → Takes (result_err (opens MOST earlier bytes.now)) result (AllHold S.Holds self.new.by_name.entries (earlier ++ (bytes.now, []) ∷ [])) }
     {
         let name = Name::read(bytes)?;
         if self.by_name.contains_key(&name) {

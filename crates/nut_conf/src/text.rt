@@ -1,17 +1,17 @@
 //! Names, texts and numbers.
-ghost use Rattle.std.specs.Prelude.{◌≡◌, ◌≤◌, IsTrue, true};
+ghost use Rattle.std.specs.Prelude.{◌≡◌, ◌≤◌, IsTrue};
 ghost use Rattle.std.specs.List.{list_all};
 ghost use Rattle.nut_words.specs.Quoting.{IsPrintable};
 ghost use Rattle.nut_words.specs.Spelling.{is_printing};
 ghost use Rattle.nut_conf.specs.Faults.{Reads};
 ghost use Rattle.nut_words.specs.Name.{is_name};
-ghost use Rattle.nut_conf.specs.Values.{is_digit as digit, is_numeral as numeral, decimal as decimal_of, is_text, name, number, text as bounded_text};
+ghost use Rattle.nut_conf.specs.Values.{is_text, name, number, text as bounded_text};
 
 use crate::fault::FaultKind;
 use crate::slot::FromValues;
 use crate::values::Values;
 use arrayvec::ArrayVec;
-use nut_words::are_name_bytes;
+use nut_words::{are_name_bytes, digits_value, is_natural};
 
 /// A name of 1 to `MOST` bytes: letters, digits, `.`, `_` and `-`.
 #[derive(Debug, PartialEq, Eq, Hash, Drop)]
@@ -40,36 +40,6 @@ pub struct Number<const LEAST: u32, const MOST: u32> {
 pub struct Port {
     pub number: u16,
     pub ghost least: { 1 ≤ number },
-}
-
-fn is_digit(byte: u8) -> bool
-    ensures { result ≡ digit byte }
-{
-    matches!(byte, b'0'..=b'9')
-}
-
-fn are_digits(bytes: &[u8]) -> bool
-    ensures { result ≡ list_all digit bytes.now }
-{
-    bytes.iter().all(|byte| is_digit(*byte))
-}
-
-fn is_numeral(bytes: &[u8]) -> bool
-    ensures { result ≡ numeral bytes.now }
-{
-    1 <= bytes.len() && bytes.len() <= 9 && are_digits(bytes)
-}
-
-/// Returns the number that these digits say.
-fn decimal(digits: &[u8]) -> u32
-    requires { numeral digits.now ≡ true }
-    ensures { result ≡ decimal_of digits.now }
-{
-    let mut number = 0;
-    for digit in digits {
-        number = number * 10 + u32::from(*digit - b'0');
-    }
-    number
 }
 
 impl<const MOST: usize> Name<MOST> {
@@ -139,10 +109,10 @@ impl<const LEAST: u32, const MOST: u32> Number<LEAST, MOST> {
     pub fn read(bytes: &[u8]) -> Result<Self, FaultKind>
         ensures { Reads (λ n. n.value) result (number LEAST MOST bytes.now) }
     {
-        if !is_numeral(bytes) {
+        if !is_natural(bytes) {
             return Err(FaultKind::BadNumber);
         }
-        let value = decimal(bytes);
+        let value = digits_value(bytes);
         if LEAST <= value && value <= MOST {
             Ok(Number { value })
         } else {

@@ -7,7 +7,7 @@ use Rattle.std.specs.Result.{result_ok}
 use Rattle.std.specs.Str.{bytes_eq}
 use Rattle.nut_words.specs.Hearing.{heard_all as all_heard}
 use Rattle.nut_words.specs.Lines.{LineText, Text, TooLong}
-use Rattle.nut_words.specs.Reader.{has_backslash, spelled}
+use Rattle.nut_words.specs.Reader.{spelled, with_backslash}
 use Rattle.nut_proto.specs.declared.driver_ask.DriverAsk.{DriverAsk}
 use Rattle.nut_proto.specs.declared.driver_ask.DriverAsk.TheVariants as asks
 use Rattle.nut_proto.specs.DriverAsks.{ask_of}
@@ -145,11 +145,6 @@ heard_all lines s = all_heard heard lines s
 -- whether something is told between two tellers: more bytes wait
 abbrev pub tells_more : Teller → Teller → Bool
 tells_more before after = nat_lt (length before.waits) (length after.waits)
-
--- whether a line holds a backslash; one that is too long counts as holding none
-abbrev pub with_backslash : LineText → Bool
-with_backslash (Text line) = has_backslash line
-with_backslash TooLong = false
 
 -- Whether a line may take memory: it holds a backslash, or something is told for it.
 abbrev pub may_take_memory : LineText → Teller → Bool

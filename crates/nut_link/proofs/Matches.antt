@@ -1,16 +1,15 @@
 -- Which lines match.
-use Rattle.std.proofs.Common.{◌≡◌, ℕ, ◌<◌, ◌≤◌, ◌^◌, ◌||◌, Bool, true, false, List, [], ◌∷◌, length, None, Ok, bytes_eq, decimal, refl, sym, ap, ◌∙◌, inl, inr, Result, arith}
-use Rattle.std.specs.Prelude.{nat_le, nat_lt}
+use Rattle.std.proofs.Common.{◌≡◌, ℕ, ◌<◌, ◌||◌, Bool, true, false, List, [], ◌∷◌, length, None, Ok, bytes_eq, decimal, refl, sym, ap, ◌∙◌, inl, inr, Result, arith}
+use Rattle.std.specs.Prelude.{nat_lt}
 use Rattle.std.proofs.lemmas.Bool.{false≢true}
 use Rattle.std.proofs.lemmas.Bool.Decides.{nat_tests}
-use Rattle.std.proofs.lemmas.Fmt.{decimal_nonempty, digits_decimal, length-decimal-le}
 use Rattle.std.proofs.lemmas.List.Folds.{list_any-append}
 use Rattle.std.proofs.lemmas.Slice.Eq.{bytes_eq-Decides}
 use Rattle.std.specs.List.{list_any}
 use Rattle.nut_words.specs.Lines.{lines_after}
 use Rattle.nut_words.specs.Reader.{read}
 use Rattle.nut_proto.specs.Answers.{answer_of}
-use Rattle.nut_proto.proofs.Numbers.{model, number_back}
+use Rattle.nut_proto.proofs.Numbers.{decimal_natural, number_back}
 use Rattle.nut_proto.specs.declared.limits.TheConstants.{ROWS_MAX}
 use Rattle.nut_proto.specs.declared.reply.Reply.TheVariants as replies
 use Rattle.nut_proto.specs.declared.reply.VariableKind.{VariableKind}
@@ -20,7 +19,7 @@ use Rattle.nut_proto.specs.declared.request.ListQuery.TheVariants as queries
 use Rattle.nut_link.specs.Hearing.{Feeds, may_take_memory}
 use Rattle.nut_link.specs.laws.Laws.{Answers, OkTakesNoMemory, RepliesMatch, type_words}
 use Rattle.nut_link.specs.Link.{LinkValue, fed}
-use Rattle.nut_link.specs.Matching.{Listing, Complete, is_count, listing, next, progress}
+use Rattle.nut_link.specs.Matching.{Listing, Complete, listing, next, progress}
 use Rattle.nut_proto.specs.declared.answer.Answer.TheVariants as answers
 use Rattle.nut_proto.specs.Lines.{message_words}
 use Rattle.nut_proto.specs.Requests.{query_parts}
@@ -72,16 +71,6 @@ ends (queries.Enum ups variable) rows = rw (bytes_same ups, bytes_same variable)
 ends (queries.Range ups variable) rows = rw (bytes_same ups, bytes_same variable) refl
 ends (queries.Client ups) rows = rw (bytes_same ups) refl
 
--- the number of logins is a count
-counts : (n : ℕ) → n < 10 ^ 9 → is_count (decimal n) ≡ true
-counts n small =
-    let wide : n < 2 ^ 64 = omega arith in
-    let few : length (decimal n) ≤ 9 = length-decimal-le 9 n (omega arith) small wide in
-    let some : 0 < length (decimal n) = decimal_nonempty n wide in
-    let a : nat_lt 0 (length (decimal n)) ≡ true = grind (arith, nat_tests) in
-    let b : nat_le (length (decimal n)) 9 ≡ true = grind (arith, nat_tests) in
-    rw (a, b, digits_decimal model n wide) refl
-
 types : (ups variable : List ℕ) (writable : Bool) (kind : VariableKind) →
     Answers (requests.GetType ups variable) (replies.Type ups variable writable kind) (outcomes.Said (type_words writable kind))
 types ups variable true kind = rw (bytes_same ups, bytes_same variable) refl
@@ -93,7 +82,7 @@ has_room rows few = grind (arith, nat_tests)
 pub replies_match : RepliesMatch
 replies_match = record {
   refused = λ request refusal. refl;
-  logins = λ ups n small. rw (bytes_same ups, counts n small) refl;
+  logins = λ ups n small. rw (bytes_same ups, decimal_natural n small) refl;
   description = λ ups text. rw (bytes_same ups) refl;
   value = λ ups variable text. rw (bytes_same ups, bytes_same variable) refl;
   kind = types;

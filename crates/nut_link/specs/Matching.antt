@@ -1,8 +1,8 @@
 -- What answer a request expects, and when a line matches it (RFC 9271).
 use Rattle.std.specs.Prelude.{ℕ, ◌+◌, ◌==◌, ◌&&◌, nat_le, nat_lt, Bool, true, false, List, [], ◌∷◌, ◌++◌, length, drop, Option, Some, None, is_some, Result, Ok, Err, codes, decimal, if◌then◌else◌}
-use Rattle.std.specs.Char.{is_ascii_digit}
 use Rattle.std.specs.List.{list_all}
 use Rattle.std.specs.Str.{bytes_eq}
+use Rattle.nut_words.specs.Number.{is_natural}
 use Rattle.nut_words.specs.declared.limits.TheConstants.{LINE_MAX}
 use Rattle.nut_proto.specs.declared.answer.Answer.{Answer}
 use Rattle.nut_proto.specs.declared.answer.Answer.TheVariants as answers
@@ -66,14 +66,10 @@ begins [] words = true
 begins (first ∷ others) [] = false
 begins (first ∷ others) (word ∷ words) = bytes_eq first word && begins others words
 
--- 1 to 9 digits
-abbrev pub is_count : List ℕ → Bool
-is_count word = nat_lt 0 (length word) && nat_le (length word) 9 && list_all is_ascii_digit word
-
 -- whether the words behind the query's are as many as there have to be, and of the right kind
 abbrev pub has_more : More → List (List ℕ) → Bool
 has_more mores.One words = length words == 1
-has_more mores.Number words = length words == 1 && list_all is_count words
+has_more mores.Number words = length words == 1 && list_all is_natural words
 has_more mores.OneOrMore words = nat_le 1 (length words)
 
 -- whether the words behind OK are `TRACKING` and a number

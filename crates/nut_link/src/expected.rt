@@ -1,18 +1,18 @@
 //! The answer that a query expects.
 ghost use Rattle.std.specs.Prelude.{◌≡◌, ◌≤◌, [], IfSome, IfNone, IsTrue, drop, length};
-ghost use Rattle.std.specs.Char.{is_ascii_digit};
-ghost use Rattle.std.specs.List.{list_all, list_any};
+ghost use Rattle.std.specs.List.{list_any};
 ghost use Rattle.nut_proto.specs.Lines.{message_words};
 ghost use Rattle.nut_proto.specs.Requests.{query_parts, request_parts};
 ghost use Rattle.nut_proto.specs.declared.answer.Answer.TheVariants as answers;
 ghost use Rattle.nut_link.specs.inside.Parts.{Gives};
-ghost use Rattle.nut_link.specs.Matching.{expected, first, listing, has_more, is_count, is_line, is_long, is_numbered};
+ghost use Rattle.nut_link.specs.Matching.{expected, first, listing, has_more, is_line, is_long, is_numbered};
 
 use crate::copied::Fields;
 use crate::fault::LinkFault;
 use crate::heading::Heading;
 use crate::outcome::Outcome;
 use nut_proto::{ListQuery, Request, Rest, decimal, tracking_number};
+use nut_words::is_natural;
 use std::alloc::Global;
 
 /// How many words follow those of the query in the answer to a GET.
@@ -43,19 +43,6 @@ pub enum Expected {
     Refusal,
 }
 
-fn has_digits_alone(word: &[u8]) -> bool
-    ensures { result ≡ list_all is_ascii_digit word.now }
-{
-    word.iter().all(|byte| byte.is_ascii_digit())
-}
-
-/// Whether a word is 1 to 9 digits.
-fn is_count(word: &[u8]) -> bool
-    ensures { result ≡ is_count word.now }
-{
-    !word.is_empty() && word.len() <= 9 && has_digits_alone(word)
-}
-
 impl More {
     /// Whether the words from the place `start` on are as many as there have to be, and of the right kind.
     fn fits(self, words: &Rest<'_>, start: usize) -> bool
@@ -64,7 +51,7 @@ impl More {
         let count = words.len().saturating_sub(start);
         match self {
             More::One => count == 1,
-            More::Number => count == 1 && is_count(words.get(start)),
+            More::Number => count == 1 && is_natural(words.get(start)),
             More::OneOrMore => 1 <= count,
         }
     }

@@ -1,8 +1,9 @@
--- What lines do to a link: the answer to a query for a number is a numeral, and no line says that memory is lacking.
-use Rattle.std.proofs.Common.{◌≡◌, ℕ, ◌+◌, ◌++◌, Bool, true, false, ◌&&◌, cond, nat_le, nat_lt, List, [], ◌∷◌, length, drop, refl, sym, ap, subst, ◌∙◌, Option, Some, None, is_some, is_err, Result, Ok, Err, inl, inr, arith, le-leb, leb-true, ltb-true}
+-- What lines do to a link: the answer to a query for a number has one to nine digits, and no line says that memory is lacking.
+use Rattle.std.proofs.Common.{◌≡◌, ℕ, ◌+◌, ◌++◌, Bool, true, false, cond, nat_lt, List, [], ◌∷◌, length, drop, refl, sym, ap, subst, ◌∙◌, Option, Some, None, is_some, is_err, Result, Ok, Err, inl, inr, arith, leb-true}
 use Rattle.std.specs.Prelude.{◌==◌, if◌then◌else◌}
 use Rattle.std.specs.List.{list_all}
 use Rattle.nut_words.specs.Lines.{LineText, Text, TooLong, lines_after}
+use Rattle.nut_words.specs.Number.{is_natural}
 use Rattle.nut_proto.specs.Answers.{answer_in}
 use Rattle.nut_proto.specs.declared.answer.Answer.{Answer}
 use Rattle.nut_proto.specs.declared.answer.Answer.TheVariants as answers
@@ -10,7 +11,7 @@ use Rattle.nut_proto.specs.declared.answer.AnswerFault.{AnswerFault}
 use Rattle.nut_link.specs.Asking.{Asked}
 use Rattle.nut_link.specs.Hearing.{Feeds, RunsOut}
 use Rattle.nut_link.specs.Link.{LinkValue, answer_by, failed, fed, heard, left_of, lines_heard, moved, on_line, on_read, outcome_in, outcome_of, progress_of, stage_after, stage_without, taken_out, with_exchange}
-use Rattle.nut_link.specs.Matching.{Progress, Listing, Complete, begins, first, has_more, is_count, is_heading, is_line, is_numbered, is_row, next, progress}
+use Rattle.nut_link.specs.Matching.{Progress, Listing, Complete, begins, first, has_more, is_heading, is_line, is_numbered, is_row, next, progress}
 use Rattle.nut_link.specs.declared.exchange.Exchange.{Exchange}
 use Rattle.nut_link.specs.declared.exchange.Stage.{Stage}
 use Rattle.nut_link.specs.declared.exchange.Stage.TheVariants as stages
@@ -22,7 +23,6 @@ use Rattle.nut_link.specs.declared.fault.LinkFault.TheVariants.{NotMine, BadLine
 use Rattle.nut_link.specs.declared.outcome.Outcome.{Outcome}
 use Rattle.nut_link.specs.declared.outcome.Outcome.TheVariants as outcomes
 use Rattle.nut_proto.specs.declared.limits.TheConstants.{ROWS_MAX}
-use Rattle.nut_conf.specs.Values.{is_numeral}
 use Rattle.nut_monitor_spec.specs.declared.LastQuery.{LastQuery}
 use Rattle.nut_monitor_spec.specs.declared.Query.{Query}
 use Rattle.nut_monitor_spec.specs.declared.Query.TheVariants.{Username, Password, Login, Primary, Status, Fsd, NumLogins}
@@ -41,17 +41,9 @@ abbrev FineResult : Query → Result Stage LinkFault → Type 0
 FineResult query (Ok stage) = Fine query stage
 FineResult query (Err fault) = Unit {0}
 
-count_numeral : (w : List ℕ) → is_count w ≡ true → is_numeral w ≡ true
-count_numeral w h =
-    let sizes : (nat_lt 0 (length w) && nat_le (length w) 9) ≡ true = left_true (nat_lt 0 (length w) && nat_le (length w) 9) _ h in
-    let digits = right_true (nat_lt 0 (length w) && nat_le (length w) 9) _ h in
-    let some : nat_le 1 (length w) ≡ true = le-leb 1 (length w) (ltb-true 0 (length w) (left_true (nat_lt 0 (length w)) (nat_le (length w) 9) sizes)) in
-    let few : nat_le (length w) 9 ≡ true = right_true (nat_lt 0 (length w)) (nat_le (length w) 9) sizes in
-    rw (some, few) digits
-
-said_count : (ws : List (List ℕ)) → list_all is_count ws ≡ true → IsCount NumLogins (outcomes.Said ws)
+said_count : (ws : List (List ℕ)) → list_all is_natural ws ≡ true → IsCount NumLogins (outcomes.Said ws)
 said_count [] h = tt
-said_count (d ∷ ws) h = count_numeral d (left_true (is_count d) (list_all is_count ws) h)
+said_count (d ∷ ws) h = left_true (is_natural d) (list_all is_natural ws) h
 
 row_count : (q : Asked) (b : Bool) (ws : List (List ℕ)) → (b ≡ true → IsCount NumLogins (outcomes.Said ws))
     → FineResult NumLogins (stage_after q (if b then Ok (Complete (outcomes.Said ws)) else Err NotMine))
@@ -65,7 +57,7 @@ first_count q heading (answers.Begin words) = tt
 first_count q heading (answers.End words) = tt
 first_count q heading (answers.Row words) =
     let ws = drop (length heading) words in
-    row_count q (is_line heading mores.Number words) ws (λ e. said_count ws (right_true (length ws == 1) (list_all is_count ws) (right_true (begins heading words) (has_more mores.Number ws) e)))
+    row_count q (is_line heading mores.Number words) ws (λ e. said_count ws (right_true (length ws == 1) (list_all is_natural ws) (right_true (begins heading words) (has_more mores.Number ws) e)))
 
 fine_if : (q : Asked) (b : Bool) (r : Result Progress LinkFault) → FineResult NumLogins (stage_after q r) → FineResult NumLogins (stage_after q (if b then r else Err OutOfOrder))
 fine_if q true r h = h

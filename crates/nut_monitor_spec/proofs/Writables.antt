@@ -89,7 +89,7 @@ written : (w : List ℕ) (ws : List (List ℕ)) → IsPrintable w → AllByRecur
     → (nat_le (length (message (map Word (w ∷ ws)))) LINE_MAX && list_all is_printing (message (map Word (w ∷ ws)))) ≡ true
 written w ws h hs few = and_from _ _ (le-leb _ LINE_MAX (message_length w ws few)) (message_printing w ws h hs)
 
-name_length : (most : ℕ) (w : List ℕ) → is_name most w ≡ true → length w ≤ most
+pub name_length : (most : ℕ) (w : List ℕ) → is_name most w ≡ true → length w ≤ most
 name_length most w h = leb-true (length w) most (right_true (nat_le 1 (length w)) (nat_le (length w) most) (left_true (nat_le 1 (length w) && nat_le (length w) most) (list_all is_name_byte w) h))
 
 text_length : (least most : ℕ) (w : List ℕ) → is_text least most w ≡ true → length w ≤ most

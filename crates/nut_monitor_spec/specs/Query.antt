@@ -4,7 +4,7 @@ use Rattle.std.specs.List.{list_any, slice_split}
 use Rattle.std.specs.Str.{bytes_eq}
 use Rattle.nut_words.specs.Bytes.{blank}
 use Rattle.nut_words.specs.Lines.{LineText, Text, TooLong}
-use Rattle.nut_conf.specs.Values.{decimal}
+use Rattle.nut_words.specs.Number.{digits_value}
 use Rattle.nut_proto.specs.Answers.{answer_in}
 use Rattle.nut_proto.specs.declared.answer.Answer.{Answer}
 use Rattle.nut_proto.specs.declared.answer.AnswerFault.{AnswerFault}
@@ -69,7 +69,7 @@ is_forced query outcome = false
 
 -- how many are logged in, if this is the answer to that query and has it
 abbrev pub logins_in : Query → Outcome → Option ℕ
-logins_in NumLogins (outcomes.Said (digits ∷ more)) = Some (decimal digits)
+logins_in NumLogins (outcomes.Said (digits ∷ more)) = Some (digits_value digits)
 logins_in query outcome = None
 
 abbrev pub has : List ℕ → List (List ℕ) → Bool

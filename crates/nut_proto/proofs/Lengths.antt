@@ -14,7 +14,7 @@ use Rattle.nut_proto.specs.Replies.{reply_line}
 use Rattle.nut_proto.specs.laws.Bounds.{IsName, IsVariable, variable_rows, variable_list, RowsAreBounded, ListsAreBounded, ForcedListsAreBounded}
 
 -- the number of bytes of parts with a space before each
-abbrev width : List Part → ℕ
+abbrev pub width : List Part → ℕ
 width [] = 0
 width (part ∷ parts) = 1 + length (part_text part) + width parts
 
@@ -22,7 +22,7 @@ length-behind : (parts : List Part) → length (flat_map (λ part. 32 ∷ part_t
 length-behind [] = refl
 length-behind (part ∷ parts) = omega (arith, length-append (32 ∷ part_text part) (flat_map (λ part. 32 ∷ part_text part) parts), length-behind parts)
 
-length-line : (part : Part) (parts : List Part) → length (line (part ∷ parts)) ≡ length (part_text part) + width parts + 1
+pub length-line : (part : Part) (parts : List Part) → length (line (part ∷ parts)) ≡ length (part_text part) + width parts + 1
 unfolding line
 length-line part parts =
     let others : List ℕ = flat_map (λ part. 32 ∷ part_text part) parts in
@@ -37,14 +37,15 @@ length-escaped [] = omega arith
 length-escaped (c ∷ cs) =
     omega (arith, length-append (escaped c) (flat_map escaped cs), length-cond (c == 34 || c == 92 || c == 35) c, length-escaped cs)
 
-length-quoted : (text : List ℕ) → length (quoted text) ≤ 2 * length text + 2
+pub length-quoted : (text : List ℕ) → length (quoted text) ≤ 2 * length text + 2
 length-quoted text = omega (arith, length-append (flat_map escaped text) (34 ∷ []), length-escaped text)
 
 length-bare : (name : List ℕ) (b : Bool) → stands_bare name ≡ b → IsTrue b → length (cond b name (quoted name)) ≡ length name
 length-bare name true e h = refl
 length-bare name false e h = cc
 
-length-name : (most : ℕ) (name : List ℕ) → IsName most name → length (word_text name) ≤ most
+-- a word that is written bare
+pub length-name : (most : ℕ) (name : List ℕ) → IsName most name → length (word_text name) ≤ most
 length-name most name h = omega (arith, length-bare name (stands_bare name) refl h.0, h.1)
 
 -- the length of a row, by the length of its quoted value

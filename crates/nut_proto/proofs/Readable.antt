@@ -1,14 +1,11 @@
 -- A request that words make is within its own bounds.
-use Rattle.std.proofs.Common.{◌≡◌, ℕ, ◌+◌, ◌-◌, ◌*◌, ◌<◌, ◌≤◌, ◌==◌, ◌^◌, Bool, true, false, List, [], ◌∷◌, length, fold, inl, inr, refl, subst, Option, Some, None, Ok, IsTrue, arith}
-use Rattle.std.specs.Prelude.{nat_lt, nat_le, ◌&&◌, if◌then◌else◌}
+use Rattle.std.proofs.Common.{◌≡◌, ℕ, ◌+◌, ◌-◌, ◌*◌, ◌<◌, ◌≤◌, ◌==◌, Bool, true, false, List, [], ◌∷◌, fold, inl, inr, refl, subst, Option, Some, None, Ok, IsTrue, arith}
+use Rattle.std.specs.Prelude.{◌&&◌, if◌then◌else◌}
 use Rattle.std.specs.List.{list_all}
 use Rattle.std.specs.Char.{is_ascii_digit}
 use Rattle.std.specs.Option.{ok_or, option_map, option_or}
 use Rattle.std.proofs.lemmas.Bool.{cases_Bool}
 use Rattle.std.proofs.lemmas.Bool.Decides.{nat_tests}
-use Rattle.std.specs.Str.Parse.{digits_value as value}
-use Rattle.std.proofs.lemmas.Int.Digits.{digits_value-lt}
-use Rattle.std.proofs.Math.Nat.{pow-le-pow_right}
 use Rattle.nut_words.specs.Number.{digits_value, is_natural}
 use Rattle.nut_proto.specs.declared.request.Request.{Request}
 use Rattle.nut_proto.specs.declared.request.Request.TheVariants as requests
@@ -22,7 +19,7 @@ use Rattle.nut_proto.specs.Rules.{none, one, two, three, credential, is_credenti
 use Rattle.nut_proto.specs.Forms.{Rule, Form, about, forms, first_fit, meaning_by, meaning}
 use Rattle.nut_proto.specs.Tracking.{IsTrackingNumber, switch, tracking_number}
 use Rattle.nut_proto.specs.laws.ReadBack.{IsReadable, ReadRequestsAreReadable}
-use Rattle.nut_proto.proofs.Numbers.{model}
+use Rattle.nut_proto.proofs.Numbers.{natural_below, natural_parts}
 
 abbrev IsMade : Option Request → Type 0
 IsMade None = Unit {0}
@@ -76,31 +73,14 @@ digits_grow : (n : ℕ) (text : List ℕ) → n ≤ fold (λ m digit. 10 * m + (
 digits_grow n [] = omega arith
 digits_grow n (digit ∷ text) = omega (arith, digits_grow (10 * n + (digit - 48)) text)
 
-parts : (a b c : Bool) → (a && b && c) ≡ true → (b ≡ true) × (c ≡ true)
-parts true true true is = (refl, refl)
-parts true true false is = cc
-parts true false c is = cc
-parts false b c is = cc
-
-at_most : (n : ℕ) → nat_le n 9 ≡ true → n ≤ 9
-at_most n is = grind (arith, nat_tests)
-
 first_digit : (digit : ℕ) (rest : Bool) → (is_ascii_digit digit && rest) ≡ true → (digit == 48) ≡ false → 48 < digit
 first_digit digit rest all other = grind (arith, nat_tests)
 
 natural_within : (digit : ℕ) (digits : List ℕ) → is_natural (digit ∷ digits) ≡ true → (digit == 48) ≡ false → IsTrackingNumber (digits_value (digit ∷ digits))
 natural_within digit digits is other =
     let text : List ℕ = digit ∷ digits in
-    let are = parts (nat_lt 0 (length text)) (nat_le (length text) 9) (list_all is_ascii_digit text) is in
-    let few : length text ≤ 9 = at_most (length text) are.0 in
-    let positive : 0 < 10 = omega arith in
-    let below : value 10 text < 10 ^ length text = digits_value-lt 10 text (model.to text are.1) in
-    let same : digits_value text ≡ value 10 text = model.same text (model.to text are.1) in
     let grows : 0 + (digit - 48) ≤ digits_value text = digits_grow (0 + (digit - 48)) digits in
-    let power : 10 ^ length text ≤ 10 ^ 9 = pow-le-pow_right positive few in (
-      omega (arith, grows, first_digit digit (list_all is_ascii_digit digits) are.1 other),
-      omega (arith, below, same, power),
-    )
+    (omega (arith, grows, first_digit digit (list_all is_ascii_digit digits) (natural_parts text is).1 other), omega (arith, natural_below text is))
 
 number_within : (text : List ℕ) (n : ℕ) → tracking_number text ≡ Some n → IsTrackingNumber n
 number_within [] n is = cc

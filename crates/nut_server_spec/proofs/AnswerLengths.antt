@@ -28,6 +28,7 @@ use Rattle.nut_proto.specs.declared.driver_ask.DriverAsk.TheVariants as asks
 use Rattle.nut_proto.specs.Descriptions.{variable_description, command_description}
 use Rattle.nut_proto.specs.Replies.{reply_line}
 use Rattle.nut_proto.specs.Requests.{begin_line, end_line}
+use Rattle.nut_proto.proofs.Lengths.{length-quoted}
 use Rattle.nut_server_spec.specs.Configuration.{Ups, ups_named, number_of_ups, may_command}
 use Rattle.nut_proto.specs.Forms.{meaning}
 use Rattle.nut_proto.specs.laws.ReadBack.{IsReadable}
@@ -40,7 +41,7 @@ use Rattle.nut_server_spec.specs.Device.{Device, absent, trouble}
 use Rattle.nut_server_spec.specs.Answer.{Answer, Silence, Line, Listing, text_of, Guest, Scene, Caller, refused, ups_number, device_at, on_ups, on_data, on_device, on_variable, on_command, may_set, may_log_in, may_be_primary, may_force, shown, kind_of, is_empty, guests_of, is_logged_in, var_row, rw_row, type_reply, described, list_answer, misfit, parameter_misfit, accepted, status_of, set_answer, command_answer, once, answer_request, answer}
 use Rattle.nut_server_spec.specs.laws.Limits.{IsUpsWithin, IsWithin, longest_answer}
 use Rattle.nut_server_spec.proofs.Alls.{all_weaker, all_filter, all_places}
-use Rattle.nut_server_spec.proofs.Lengths.{length-quoted, name_within}
+use Rattle.nut_server_spec.proofs.Lengths.{name_within}
 use Rattle.nut_server_spec.proofs.ReplyLengths as L
 use Rattle.nut_server_spec.proofs.Requests.{IsNext, require-case, check-case, unless-case, with_credentials-case, with_right-case, handed_on-case}
 use Rattle.nut_server_spec.proofs.Tables.{IsShortRange, IsShortTable, variable_within, variable_named, command_named}

@@ -26,8 +26,9 @@ use Rattle.nut_proto.specs.Lines.{line, part_text}
 use Rattle.nut_proto.specs.Refusals.{refusal_name}
 use Rattle.nut_proto.specs.Replies.{reply_line, kind_part}
 use Rattle.nut_proto.specs.Requests.{begin_line, end_line}
+use Rattle.nut_proto.proofs.Lengths.{length-line, length-quoted, length-name}
 use Rattle.nut_server_spec.specs.laws.Limits.{IsTextWithin}
-use Rattle.nut_server_spec.proofs.Lengths.{length-line, length-quoted, length-word, length-name}
+use Rattle.nut_server_spec.proofs.Lengths.{length-word}
 use Rattle.nut_server_spec.specs.declared.limits.TheConstants.{ADDRESS_MAX}
 
 -- ---- lines that never vary

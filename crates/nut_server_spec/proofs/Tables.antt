@@ -1,14 +1,12 @@
 -- A table that lines have filled is within its limits.
-use Rattle.std.proofs.Common.{◌≡◌, ℕ, zero, suc, ◌+◌, ◌*◌, ◌-◌, ◌<◌, ◌≤◌, ◌^◌, Bool, true, false, List, [], ◌∷◌, ◌++◌, length, reverse, refl, sym, subst, ◌∙◌, ap, arith, inl, inr, Option, Some, None}
-use Rattle.std.specs.Prelude.{ℤ, pos, neg_ℤ, ◌&&◌, ◌==◌, if◌then◌else◌, filter, find, fold, nat_lt, nat_le, not, int_le, option_map, is_some}
-use Rattle.std.specs.Char.{is_ascii_digit}
+use Rattle.std.proofs.Common.{◌≡◌, ℕ, zero, suc, ◌<◌, ◌≤◌, ◌^◌, Bool, true, List, [], ◌∷◌, ◌++◌, length, reverse, refl, sym, subst, ◌∙◌, ap, arith, inl, inr, Option, Some, None}
+use Rattle.std.specs.Prelude.{ℤ, pos, neg_ℤ, ◌==◌, if◌then◌else◌, filter, find, not, int_le, option_map, is_some}
 use Rattle.std.specs.Int.Signed.{mag}
-use Rattle.std.specs.List.{AllByRecursion, list_all, list_any}
+use Rattle.std.specs.List.{AllByRecursion, list_any}
 use Rattle.std.specs.Option.{option_and_then, option_map_or, option_to_list}
 use Rattle.std.specs.Result.{result_ok}
 use Rattle.std.specs.Str.{bytes_eq}
 use Rattle.std.proofs.lemmas.Bool.{cases_Bool}
-use Rattle.std.proofs.lemmas.Bool.Decides.{nat_tests}
 use Rattle.nut_words.specs.Reader.{spelled}
 use Rattle.nut_words.specs.declared.limits.TheConstants.{NAME_MAX}
 use Rattle.nut_state.specs.declared.number.Range.{Range}
@@ -23,56 +21,22 @@ use Rattle.nut_state.specs.Table.{Table, Entry, variable, has_command}
 use Rattle.nut_state.specs.Text.{is_name}
 use Rattle.nut_state.proofs.PutLemmas.{All-named, name-named}
 use Rattle.nut_proto.specs.laws.Bounds.{IsName}
+use Rattle.nut_proto.proofs.Numbers.{natural_below}
 use Rattle.nut_server_spec.proofs.Alls.{all_append, all_filter, all_reverse}
 use Rattle.nut_server_spec.proofs.Lengths.{name_within}
 use Rattle.nut_state.specs.Verb.{all_verbs, says, takes, verb_of, word_of}
 
 -- ---- numbers of at most nine digits
 
-abbrev times_ten : ℕ → ℕ → ℕ
-times_ten zero b = b
-times_ten (suc n) b = times_ten n (10 * b)
-
-pub both : (a b : Bool) → (a && b) ≡ true → (a ≡ true) × (b ≡ true)
-both true b e = (refl, e)
-both false b e = absurd (cc)
-
-digits_below : (text : List ℕ) (a b : ℕ) → a < b → list_all is_ascii_digit text ≡ true → fold (λ n digit. 10 * n + (digit - 48)) a text < times_ten (length text) b
-digits_below [] a b less digits = less
-digits_below (c ∷ cs) a b less digits =
-    let parts = both (is_ascii_digit c) (list_all is_ascii_digit cs) digits in
-    let digit : c ≤ 57 = at_most c parts.0 in
-    digits_below cs (10 * a + (c - 48)) (10 * b) (omega arith) parts.1 where
-      at_most : (c : ℕ) → is_ascii_digit c ≡ true → c ≤ 57
-      at_most c e = grind (arith, nat_tests)
-
-nine : (n : ℕ) → n ≤ 9 → times_ten n 1 ≤ 10 ^ 9
-nine zero le = omega arith
-nine (suc zero) le = omega arith
-nine (suc (suc zero)) le = omega arith
-nine (suc (suc (suc zero))) le = omega arith
-nine (suc (suc (suc (suc zero)))) le = omega arith
-nine (suc (suc (suc (suc (suc zero))))) le = omega arith
-nine (suc (suc (suc (suc (suc (suc zero)))))) le = omega arith
-nine (suc (suc (suc (suc (suc (suc (suc zero))))))) le = omega arith
-nine (suc (suc (suc (suc (suc (suc (suc (suc zero)))))))) le = omega arith
-nine (suc (suc (suc (suc (suc (suc (suc (suc (suc zero))))))))) le = omega arith
-nine (suc (suc (suc (suc (suc (suc (suc (suc (suc (suc n)))))))))) le = absurd (omega arith)
-
-natural_below : (text : List ℕ) (n : ℕ) → natural text ≡ Some n → n < 10 ^ 9
-natural_below text n is =
+is_below : (text : List ℕ) (n : ℕ) → natural text ≡ Some n → n < 10 ^ 9
+is_below text n is =
     elim (cases_Bool (is_natural text)) [
       | inl e ↦
           let value : Some (digits_value text) ≡ Some n = rw e at is in
           let same : digits_value text ≡ n = cc in
-          let outer = both (nat_lt 0 (length text) && nat_le (length text) 9) (list_all is_ascii_digit text) e in
-          let inner = both (nat_lt 0 (length text)) (nat_le (length text) 9) outer.0 in
-          let short : length text ≤ 9 = at_most (length text) inner.1 in
-          omega (arith, digits_below text 0 1 (omega arith) outer.1, nine (length text) short, same)
+          omega (arith, natural_below text e, same)
       | inr e ↦ absurd (let bad : None ≡ Some n = rw e at is in cc)
-    ] where
-      at_most : (n : ℕ) → nat_le n 9 ≡ true → n ≤ 9
-      at_most n e = grind (arith, nat_tests)
+    ]
 
 mag_pos : (n : ℕ) → mag (pos n) ≤ n
 mag_pos n = omega arith
@@ -89,8 +53,8 @@ whole_below : (text : List ℕ) (z : ℤ) → whole_number text ≡ Some z → m
 whole_below [] z is = absurd (cc)
 whole_below (c ∷ cs) z is =
     elim (cases_Bool (c == 45)) [
-      | inl e ↦ by_natural (natural cs) (λ n. neg_ℤ (pos n)) z mag_neg (natural_below cs) (rw e at is)
-      | inr e ↦ by_natural (natural (c ∷ cs)) pos z mag_pos (natural_below (c ∷ cs)) (rw e at is)
+      | inl e ↦ by_natural (natural cs) (λ n. neg_ℤ (pos n)) z mag_neg (is_below cs) (rw e at is)
+      | inr e ↦ by_natural (natural (c ∷ cs)) pos z mag_pos (is_below (c ∷ cs)) (rw e at is)
     ]
 
 -- Both numbers of a range have at most nine digits.

@@ -2,7 +2,7 @@
 use Rattle.std.specs.Prelude.{◌≡◌, ℕ, ◌<◌, length, Bool, true, false, not, ◌&&◌, ◌||◌, IsTrue, List, [], ◌∷◌, slice_get, Option, Some, None, Result, Ok, Err}
 use Rattle.std.specs.Option.{option_map_or}
 use Rattle.nut_words.specs.Lines.{LineText, Text, TooLong, lines_after}
-use Rattle.nut_words.specs.Reader.{has_backslash}
+use Rattle.nut_words.specs.Reader.{has_backslash, with_backslash}
 use Rattle.nut_state.specs.Table.{Table}
 use Rattle.nut_state.specs.Step.{line_adds}
 use Rattle.nut_server_spec.specs.declared.Place.{Place}
@@ -23,11 +23,6 @@ abbrev pub is_blank : Command → Bool
 is_blank Blank = true
 is_blank (Malformed refusal) = false
 is_blank (Asks request) = false
-
--- whether a line holds a backslash; one that is too long counts as holding none
-abbrev pub with_backslash : LineText → Bool
-with_backslash (Text line) = has_backslash line
-with_backslash TooLong = false
 
 -- Whether a client's line may allocate memory: the connection is open, hasn't logged out, and the line isn't blank or
 -- holds a backslash.

@@ -2,14 +2,15 @@
 --
 -- This is a second form of the grammar in `Spelling`, one that can be computed. The law `spelled_is_meant` says that
 -- `spelled` gives what `Spells` and `HasFault` say, both ways. Who believes `Spelling` needn't believe this file,
--- except `has_backslash` and `Gives`.
-use Rattle.std.specs.Prelude.{◌≡◌, ℕ, ◌==◌, ◌||◌, ◌&&◌, nat_le, nat_lt, Bool, List, [], ◌∷◌, ◌++◌, length, Result, Ok, Err, if◌then◌else◌, slice_index}
+-- except `has_backslash`, `with_backslash` and `Gives`.
+use Rattle.std.specs.Prelude.{◌≡◌, ℕ, ◌==◌, ◌||◌, ◌&&◌, nat_le, nat_lt, Bool, false, List, [], ◌∷◌, ◌++◌, length, Result, Ok, Err, if◌then◌else◌, slice_index}
 use Rattle.std.specs.List.{list_any}
 use Rattle.nut_words.specs.Bytes.{tab, carriage_return, blank, quote, hash, equals, backslash}
 use Rattle.nut_words.specs.declared.words.WordFault.{WordFault}
 use Rattle.nut_words.specs.declared.words.WordFault.TheVariants as faults
 use Rattle.nut_words.specs.Kinds.{Kind}
 use Rattle.nut_words.specs.Kinds as kinds
+use Rattle.nut_words.specs.Lines.{LineText, Text, TooLong}
 use Rattle.nut_words.specs.declared.limits.TheConstants.{WORDS_MAX}
 
 -- the kind of a byte
@@ -126,6 +127,11 @@ spelled line = read WORDS_MAX (Between []) line
 -- whether the line holds a backslash: only such a line allocates memory when its words are read
 abbrev pub has_backslash : List ℕ → Bool
 has_backslash line = list_any (λ c. c == backslash) line
+
+-- whether a line of a stream holds a backslash; one that is too long counts as holding none
+abbrev pub with_backslash : LineText → Bool
+with_backslash (Text line) = has_backslash line
+with_backslash TooLong = false
 
 -- The call gives this answer, or it fails with `Memory`.
 abbrev pub Gives : Result (List (List ℕ)) WordFault → Result (List (List ℕ)) WordFault → Type 0

@@ -10,13 +10,15 @@ fn all_digits(text: &[u8]) -> bool
     text.iter().all(|byte| byte.is_ascii_digit())
 }
 
-fn is_natural(text: &[u8]) -> bool
+/// Whether the text is a number of one to nine decimal digits.
+pub fn is_natural(text: &[u8]) -> bool
     ensures { result ≡ is_natural text.now }
 {
     !text.is_empty() && text.len() <= 9 && all_digits(text)
 }
 
-fn digits_value(text: &[u8]) -> u32
+/// Returns the number that one to nine decimal digits say.
+pub fn digits_value(text: &[u8]) -> u32
     requires { IsTrue (is_natural text.now) }
     ensures value { result ≡ digits_value text.now }
     ensures fits { result < 1000000000 }

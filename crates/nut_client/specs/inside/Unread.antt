@@ -1,6 +1,7 @@
 -- The next part of what was read, up to its first line feed.
 use Rattle.std.specs.Prelude.{◌≡◌, ℕ, List, [], ◌∷◌, ◌++◌, ◌⊎◌}
 use Rattle.nut_words.specs.Lines.{parts}
+use Rattle.nut_words.specs.Quoting.{Begins}
 
 -- bytes without a line feed
 abbrev pub IsUnbroken : List ℕ → Type 0
@@ -12,4 +13,4 @@ IsWhole part = (text : List ℕ) × IsUnbroken text × (part ≡ text ++ 10 ∷ 
 
 -- The part begins these bytes, and has no line feed except perhaps as its last byte.
 abbrev pub IsLinePart : List ℕ → List ℕ → Type 0
-IsLinePart bytes part = ((more : List ℕ) × (bytes ≡ part ++ more)) × (IsUnbroken part ⊎ IsWhole part)
+IsLinePart bytes part = Begins part bytes × (IsUnbroken part ⊎ IsWhole part)

@@ -1,9 +1,10 @@
 -- Laws of every file: lines without words change nothing, the names of sections are distinct, and the settings of a
 -- directive keep its rule.
-use Rattle.std.specs.Prelude.{◌≡◌, ℕ, ◌≤◌, Bool, false, List, [], ◌∷◌, ◌++◌, length, Option, None, Some, Result, Ok, Err}
-use Rattle.std.specs.List.{list_any}
+use Rattle.std.specs.Prelude.{◌≡◌, ℕ, ◌≤◌, Bool, false, List, [], ◌∷◌, ◌++◌, length, map, Option, None, Some, Result, Ok, Err}
+use Rattle.std.specs.List.{IsDistinct, list_any}
+use Rattle.std.specs.Str.{bytes_eq}
 use Rattle.nut_conf.specs.Files.{LineFault, read_lines, words_of}
-use Rattle.nut_conf.specs.Sections.{Section, is_name_of}
+use Rattle.nut_conf.specs.Sections.{Section}
 use Rattle.nut_conf.specs.Settings.{Directive, Rule, Setting, settings}
 use Rattle.nut_conf.specs.declared.fault.FaultKind.{FaultKind}
 
@@ -20,8 +21,7 @@ BlankChangesNothing fault =
 
 -- No section has the name of another.
 abbrev pub HasDistinctNames : List Section → Type 0
-HasDistinctNames [] = Unit {0}
-HasDistinctNames (s ∷ ss) = (list_any (is_name_of s.0) ss ≡ false) × HasDistinctNames ss
+HasDistinctNames ss = IsDistinct bytes_eq (map (λ s. s.0) ss)
 
 -- There are at most `most` settings, if there is a limit.
 abbrev pub AreFew : Option ℕ → List Setting → Type 0

@@ -1,6 +1,7 @@
 -- What always holds of a MONITOR line, and definitions that the clauses share.
 use Rattle.std.specs.Prelude.{◌≡◌, ℕ, Bool, true, false, not, Result, Ok, Err, ◌||◌, ◌&&◌, if◌then◌else◌, List, ◌∷◌, Option, Some, None, is_none, codes}
 use Rattle.std.specs.Str.{bytes_eq}
+use Rattle.nut_words.specs.Number.{is_natural}
 use Rattle.nut_link.specs.Asking.{Asked}
 use Rattle.nut_link.specs.Link.{LinkValue}
 use Rattle.nut_link.specs.declared.exchange.Stage.{Stage}
@@ -11,7 +12,6 @@ use Rattle.nut_link.specs.declared.expected.Expected.TheVariants as expects
 use Rattle.nut_link.specs.declared.expected.More.TheVariants as mores
 use Rattle.nut_link.specs.declared.outcome.Outcome.{Outcome}
 use Rattle.nut_link.specs.declared.outcome.Outcome.TheVariants as outcomes
-use Rattle.nut_conf.specs.Values.{is_numeral}
 use Rattle.nut_monitor_spec.specs.Configuration.{Configuration}
 use Rattle.nut_monitor_spec.specs.Decision.{tells_replace}
 use Rattle.nut_monitor_spec.specs.declared.Communication.TheVariants as communications
@@ -46,9 +46,9 @@ with_flags configuration clock watching flags known = record {
   logins = known.logins;
 }
 
--- the number of logins that an answer gives is a numeral
+-- the number of logins that an answer gives is a number of one to nine digits
 abbrev pub IsCount : Query → Outcome → Type 0
-IsCount queries.NumLogins (outcomes.Said (digits ∷ more)) = is_numeral digits ≡ true
+IsCount queries.NumLogins (outcomes.Said (digits ∷ more)) = is_natural digits ≡ true
 IsCount query outcome = Unit {0}
 
 abbrev pub IsCountAfter : Option LastQuery → Option Outcome → Type 0

@@ -2,13 +2,14 @@
 
 ghost use Rattle.std.specs.Prelude.{◌≡◌, ◌<◌, ℕ, Some, Ok, Err, false, IfErr, IsTrue, OnOk, OnErr, length, slice_get};
 ghost use Rattle.nut_words.specs.Cutter.{line_of};
+ghost use Rattle.nut_words.specs.Reader.{with_backslash};
 ghost use Rattle.nut_words.specs.declared.words.WordFault.TheVariants.{Memory};
 ghost use Rattle.nut_server_spec.specs.Acceptance.{line_feeds, session_of};
 ghost use Rattle.nut_server_spec.specs.Answer.{answer};
 ghost use Rattle.nut_server_spec.specs.Command.{asked, command_in, command_of};
 ghost use Rattle.nut_server_spec.specs.Content.{Session};
 ghost use Rattle.nut_server_spec.specs.machine.Machine.{answer_in, bytes_heard, caller_of, scene_of};
-ghost use Rattle.nut_server_spec.specs.Outcome.{is_blank, line_takes, with_backslash};
+ghost use Rattle.nut_server_spec.specs.Outcome.{is_blank, line_takes};
 ghost use Rattle.nut_server_spec.specs.machine.MachineOutcome.{content_lost, RunsOut};
 ghost use Rattle.nut_server.specs.inside.Effects.{HasShortNames, answered_by};
 ghost use Rattle.nut_server.specs.inside.Lines.{line_heard_by};
