@@ -281,10 +281,14 @@ class Tests(Shimmed):
             until_asked(server)
             with watch.open("upsd.conf"):
                 pass
-            watch.reload(line_of(server) + QUICK + NEW)
-            # upsmon has looked once, or twice
-            time.sleep(1.5)
-            os.remove(watch.path("reload"))
+            for _ in range(5):
+                watch.reload(line_of(server) + QUICK + NEW)
+                # upsmon has looked once or twice by then; on a slow machine perhaps never, and is asked again
+                time.sleep(1.5)
+                os.remove(watch.path("reload"))
+                time.sleep(1.5)
+                if "upsmon: reloaded: SHUTDOWNCMD changed" in watch.lines("err"):
+                    break
             watch.until_reloaded("SHUTDOWNCMD changed")
             time.sleep(2.5)
             expect(watch.lines("err").count("upsmon: reloaded: nothing changed"), 0, "further reloads")
