@@ -112,7 +112,7 @@ def pass_all(count):
     if count.failed == 0:
         count.run_test("gate.wrong_bodies_test")
         # the tests of programs mostly wait, and the rounds use the processors meanwhile
-        count.run_beside(lambda: run_programs(count), test_command("gate.wrong_bodies"))
+        count.run_beside(lambda: run_programs(count), test_command("gate.wrong_bodies", "--after-gate"))
 
 
 def main():

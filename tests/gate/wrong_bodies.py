@@ -1,7 +1,7 @@
 #!/usr/bin/env python3
 """Tests that the prover refuses wrong bodies: many of them in one check, each in the function that it edits.
 
-usage: python3 -m tests.gate.wrong_bodies [--look | --one-by-one] [CRATE ..]
+usage: python3 -m tests.gate.wrong_bodies [--look | --one-by-one] [--after-gate] [CRATE ..]
 
 The edits are crates/NAME/wrong-bodies/*.edit, and crates/NAME/must-fail/*.edit, which the toolchain's own gate tries too.
 docs/tests.md says how to write one. A round applies edits of different functions to a copy of their crate and checks only these
@@ -10,7 +10,8 @@ check.
 
 --look only lists the edits that cannot be applied. --one-by-one also tries each edit as the toolchain's gate does, in a
 check of the whole crate, and fails if the two disagree. Both need the libraries that a crate depends on: those that the gate
-has just built are used, and missing ones are built. The last line is 'N passed, M failed'."""
+has built since the last change are used, and others are built. --after-gate takes them as they are: the gate may have taken one
+from an earlier run, with older times. The last line is 'N passed, M failed'."""
 
 import argparse
 import glob
@@ -363,6 +364,7 @@ def read_words(words):
     ways = reader.add_mutually_exclusive_group()
     ways.add_argument("--look", action="store_true", help="only list the edits that cannot be applied")
     ways.add_argument("--one-by-one", action="store_true", help="also try each edit in a check of its whole crate, and compare")
+    reader.add_argument("--after-gate", action="store_true", help="take the libraries that the toolchain's gate has just built")
     reader.add_argument("names", metavar="CRATE", nargs="*", help="a crate whose edits are tried; without one those of all crates are")
     return reader.parse_args(words)
 
@@ -377,7 +379,8 @@ def main(words):
     found = {crate: it for crate, it in found.items() if it[1]}
     passed, failed = 0, len(faults)
     if not options.look:
-        build_libraries(found)
+        if not options.after_gate:
+            build_libraries(found)
         for crate, (_, edits) in found.items():
             edits[:] = [it for it in edits if not it.fault]
         said = side_by_side(found, in_rounds)
