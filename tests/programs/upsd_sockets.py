@@ -16,21 +16,13 @@ import tempfile
 import threading
 import time
 
-from tests.support.harness import Failed, Missing, expect, processor_time, run_tests
-from tests.support.room import Client, DEVICE, NOT_CONNECTED, ONLINE, Room, SOON, STATUS, VERSION, accepted, free_port, has_ipv6, said, until
+from tests.support.harness import Failed, Missing, apart, expect, processor_time, run_tests
+from tests.support.room import Client, DEVICE, NOT_CONNECTED, ONLINE, Room, SOON, STATUS, VERSION, accepted, family_of, free_port, has_ipv6, said, until
 
 
 def with_hosts(path):
     """Returns the words that run a program for which this file takes the place of /etc/hosts."""
-    owner = ["--map-root-user"] if os.geteuid() else []
-    words = ["unshare", *owner, "--mount", "sh", "-c", 'mount --bind "$0" /etc/hosts && exec "$@"', path]
-    try:
-        probe = subprocess.run([*words, "true"], stdin=subprocess.DEVNULL, capture_output=True, timeout=60)
-    except FileNotFoundError:
-        raise Missing("unshare isn't there") from None
-    if probe.returncode:
-        raise Missing(f"no namespaces here: {probe.stderr.decode().strip()}")
-    return words
+    return apart("--mount", "sh", "-c", 'mount --bind "$0" /etc/hosts && exec "$@"', path)
 
 
 class Tests:
@@ -282,8 +274,7 @@ class Tests:
         """Has another program at each address of a name in turn. If it is the first, upsd ends: at the next one it would serve
         beside that program. The others don't matter."""
         for taken in addresses:
-            family = socket.AF_INET6 if ":" in taken else socket.AF_INET
-            with self.room() as room, socket.create_server((taken, room.port), family=family):
+            with self.room() as room, socket.create_server((taken, room.port), family=family_of(taken)):
                 with open(room.path("upsd.conf"), "w") as file:
                     file.write(f"LISTEN {name} {room.port}\n")
                 upsd = [*words, self.programs[0], "--conf", room.folder, "-s", room.folder]

@@ -17,7 +17,7 @@ import sys
 import threading
 import time
 
-from tests.support.harness import Failed, Missing, build_library, ensure, expect
+from tests.support.harness import Failed, Missing, apart, build_library, ensure, expect
 from tests.support.monitored import (
     BATTERY_LOW,
     ESTABLISHED,
@@ -294,14 +294,7 @@ class Tests:
 
     def test_dead_name_server(self):
         """This program plays the test again in a network of its own, whose name server never answers."""
-        owner = ["--map-root-user"] if os.geteuid() else []
-        command = ["unshare", *owner, "--mount", "--net"]
-        try:
-            probe = subprocess.run([*command, "true"], capture_output=True, timeout=60)
-        except FileNotFoundError:
-            raise Missing("unshare isn't there") from None
-        if probe.returncode:
-            raise Missing(f"no namespaces here: {probe.stderr.decode().strip()}")
+        command = apart("--mount", "--net")
         inside = [sys.executable, "-m", "tests.programs.upsmon_links", "--inside", self.folder, *self.programs]
         run = subprocess.run([*command, *inside], stdin=subprocess.DEVNULL, capture_output=True, timeout=120)
         if run.returncode:

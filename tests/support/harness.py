@@ -30,6 +30,19 @@ class Missing(Exception):
     """Something that a test needs isn't installed here."""
 
 
+def apart(*words):
+    """Returns the words that run a command in namespaces of its own: 'unshare' with these words behind it, as root there."""
+    owner = ["--map-root-user"] if os.geteuid() else []
+    command = ["unshare", *owner, *words]
+    try:
+        probe = subprocess.run([*command, "true"], stdin=subprocess.DEVNULL, capture_output=True, timeout=60)
+    except FileNotFoundError:
+        raise Missing("unshare isn't there") from None
+    if probe.returncode:
+        raise Missing(f"no namespaces here: {probe.stderr.decode().strip()}")
+    return command
+
+
 def needed(name, package, folders=()):
     """Returns the path of a program of one of Debian's packages, which is looked for in these folders first."""
     path = shutil.which(name, path=os.pathsep.join([*folders, os.environ.get("PATH", os.defpath)]))

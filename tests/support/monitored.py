@@ -11,7 +11,7 @@ import threading
 import time
 
 from tests.support.harness import Failed, expect, processor_time, run_tests
-from tests.support.room import SOON, stopped, until
+from tests.support.room import SOON, family_of, stopped, until
 
 FLAG = b"upsmon-shutdown-file\n"
 ON_BATTERY = "UPS %s on battery"
@@ -111,7 +111,7 @@ class Upstream:
     lines."""
 
     def __init__(self, port=0, status=b"OL", host="127.0.0.1"):
-        self.listener = socket.create_server((host, port), family=socket.AF_INET6 if ":" in host else socket.AF_INET)
+        self.listener = socket.create_server((host, port), family=family_of(host))
         self.port = self.listener.getsockname()[1]
         self.target = f"su700@127.0.0.1:{self.port}"
         self.statuses = {b"su700": status}

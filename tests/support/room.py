@@ -50,9 +50,14 @@ def has_ipv6():
         return False
 
 
+def family_of(host):
+    """Returns the family of an address that is written with colons or without."""
+    return socket.AF_INET6 if ":" in host else socket.AF_INET
+
+
 def connected(address):
     """Returns a socket that is connected to this address, or None if nobody listens, whether or not its file exists already."""
-    family = socket.AF_UNIX if isinstance(address, str) else socket.AF_INET6 if ":" in address[0] else socket.AF_INET
+    family = socket.AF_UNIX if isinstance(address, str) else family_of(address[0])
     found = socket.socket(family, socket.SOCK_STREAM)
     found.settimeout(SOON)
     try:
