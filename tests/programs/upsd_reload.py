@@ -16,7 +16,7 @@ import time
 from concurrent import futures
 
 from tests.support.harness import ensure, expect, Failed, Missing, needed, processor_time, refusal, run_tests, Shimmed
-from tests.support.room import DEVICE, NOT_CONNECTED, ONLINE, Room, SOON, STATUS, USERS, VERSION, accepted, until
+from tests.support.room import DEVICE, Lines, NOT_CONNECTED, ONLINE, Room, SOON, STATUS, USERS, VERSION, accepted, until
 
 ONE = b'[su700]\ndesc = "Server room"\n'
 TWO = ONE + b"[old]\n"
@@ -26,39 +26,6 @@ NOTHING = "upsd: reloaded: nothing changed"
 LOOKS = 2.5
 # how many allocations in turn no reload has met before the rest are taken to come after it
 UNMET = 20
-
-
-class Lines:
-    """The lines that a program writes to standard error."""
-
-    def __init__(self, process):
-        self.lines = []
-        self.place = 0
-        self.thread = threading.Thread(target=self.read, args=(process.stderr,), daemon=True)
-        self.thread.start()
-
-    def read(self, stream):
-        try:
-            for line in stream:
-                self.lines.append(line.decode().rstrip("\n"))
-        except ValueError:
-            # the stream was closed with its program
-            pass
-
-    def next(self, *beginnings):
-        """Returns the next line that begins with one of these."""
-
-        def find():
-            for at in range(self.place, len(self.lines)):
-                if self.lines[at].startswith(beginnings):
-                    self.place = at + 1
-                    return self.lines[at]
-            return None
-
-        return until(find, f"a line {beginnings}, after {self.lines}")
-
-    def count(self, beginning):
-        return sum(line.startswith(beginning) for line in self.lines)
 
 
 class Poller:

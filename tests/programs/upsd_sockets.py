@@ -17,7 +17,7 @@ import threading
 import time
 
 from tests.support.harness import Failed, Missing, apart, expect, processor_time, run_tests
-from tests.support.room import Client, DEVICE, NOT_CONNECTED, ONLINE, Room, SOON, STATUS, VERSION, accepted, family_of, free_port, has_ipv6, said, until
+from tests.support.room import Client, DEVICE, Lines, NOT_CONNECTED, ONLINE, Room, SOON, STATUS, VERSION, accepted, family_of, free_port, has_ipv6, said, until
 
 
 def with_hosts(path):
@@ -541,6 +541,27 @@ class Tests:
             expect(found[:4], lines, "notices")
             expect(len(found), 5, "a driver that is missed is told once")
             expect(found[4].startswith("upsd: UPS su700: no driver yet: "), True, "a driver that is missed")
+
+    def test_stale_data_is_told(self):
+        stale, fresh = (f"upsd: UPS su700: data is {what}" for what in ("stale", "no longer stale"))
+        with self.room(conf=b"MAXAGE 2\n") as room, room.driver() as listener:
+            lines = Lines(room.upsd())
+            with accepted(listener) as driver:
+                driver.sendall(b'SETINFO ups.status "OL"\nDATAOK\nDUMPDONE\n')
+                room.until(STATUS, ONLINE)
+                # the driver says so
+                driver.sendall(b"DATASTALE\n")
+                lines.next(stale)
+                expect(room.ask(STATUS), b"ERR DATA-STALE\n", "the status of stale data")
+                driver.sendall(b"DATAOK\n")
+                lines.next(fresh)
+                # the driver is silent
+                lines.next(stale)
+                driver.sendall(b"PONG\n")
+                lines.next(fresh)
+            lines.next("upsd: UPS su700: driver lost")
+            told = [line for line in lines.lines if ": data is " in line]
+            expect(told, [stale, fresh] * (len(told) // 2), "each change is told once")
 
     def test_quiet(self):
         with self.room() as room:

@@ -7,6 +7,7 @@ import signal
 import socket
 import subprocess
 import tempfile
+import threading
 import time
 
 from tests.support.harness import Failed, expect
@@ -152,6 +153,39 @@ class Client:
     def track(self):
         """Has the server track this client's requests from now on."""
         expect(self.ask(b"SET TRACKING ON\n"), b"OK\n", "SET TRACKING")
+
+
+class Lines:
+    """The lines that a program writes to standard error."""
+
+    def __init__(self, process):
+        self.lines = []
+        self.place = 0
+        self.thread = threading.Thread(target=self.read, args=(process.stderr,), daemon=True)
+        self.thread.start()
+
+    def read(self, stream):
+        try:
+            for line in stream:
+                self.lines.append(line.decode().rstrip("\n"))
+        except ValueError:
+            # the stream was closed with its program
+            pass
+
+    def next(self, *beginnings):
+        """Returns the next line that begins with one of these."""
+
+        def find():
+            for at in range(self.place, len(self.lines)):
+                if self.lines[at].startswith(beginnings):
+                    self.place = at + 1
+                    return self.lines[at]
+            return None
+
+        return until(find, f"a line {beginnings}, after {self.lines}")
+
+    def count(self, beginning):
+        return sum(line.startswith(beginning) for line in self.lines)
 
 
 class Room:

@@ -11,6 +11,7 @@ mod look_ups;
 mod mio_mon_world;
 mod pause;
 mod refusals;
+mod report;
 mod upstream;
 
 pub use herald::Herald;

@@ -17,7 +17,7 @@ pub use link::{Heard, Link};
 pub use lossy_lines::LossyLines;
 pub use questions::{Question, Questions};
 pub use ready::{Ready, SOCKETS_MAX, may_be_read};
-pub use reports::{Report, Reports};
+pub use reports::Reports;
 pub use rounds::Rounds;
 pub use seconds::Seconds;
 pub use text::text_of;

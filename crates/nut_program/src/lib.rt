@@ -7,6 +7,7 @@ mod conf_file;
 mod failure;
 mod folder;
 mod reload_file;
+mod reload_report;
 mod streams;
 mod unknown;
 mod warning;
@@ -17,5 +18,6 @@ pub use conf_file::{ConfFile, FileFault, read_conf, read_conf_at, read_conf_if_t
 pub use failure::{Failure, OwnFault, tell_not_reloaded};
 pub use folder::conf_folder;
 pub use reload_file::{Look, ReloadFile, Turn};
+pub use reload_report::ReloadReport;
 pub use streams::hold_closed_streams;
 pub use warning::{Readable, readable_file, warn};

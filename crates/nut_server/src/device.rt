@@ -6,7 +6,7 @@ ghost use Rattle.nut_queue.specs.Front.{IsFrontPart};
 ghost use Rattle.nut_words.specs.Lines.{Text};
 ghost use Rattle.nut_server_spec.specs.Acceptance.{front, line_feeds};
 ghost use Rattle.nut_server_spec.specs.Content.{down, unheard};
-ghost use Rattle.nut_server_spec.specs.Device.{absent, fits, is_past, needs_ping, trouble};
+ghost use Rattle.nut_server_spec.specs.Device.{absent, fits, is_past, is_stale, needs_ping, trouble};
 ghost use Rattle.nut_server_spec.specs.Reloading.{is_kept};
 ghost use Rattle.nut_server_spec.specs.machine.Machine.{up, drained, fated, ticked, bytes_reported};
 ghost use Rattle.nut_server_spec.specs.Outcome.{report_takes};
@@ -136,6 +136,14 @@ impl Device {
         time.saturating_sub(self.heard_at) > seconds
     }
 
+    /// Whether the data are stale at this time: the driver hasn't finished its dump, or its newest DATAOK or DATASTALE
+    /// isn't DATAOK, or no line was heard for more than `max_age` seconds.
+    pub fn is_stale(&self, max_age: u64, time: u64) -> bool
+        ensures { result ≡ is_stale max_age time self.now.device }
+    {
+        !self.table.dump_done() || !self.table.data_ok() || self.is_silent_for(max_age, time)
+    }
+
     /// Returns why requests about the UPS's data are refused at this time, if they are.
     pub fn trouble(&self, max_age: u64, time: u64) -> Option<Refusal>
         ensures { result ≡ trouble max_age time self.now.device }
@@ -143,7 +151,7 @@ impl Device {
         if !self.connected {
             return Some(Refusal::DriverNotConnected);
         }
-        if !self.table.dump_done() || !self.table.data_ok() || self.is_silent_for(max_age, time) {
+        if self.is_stale(max_age, time) {
             return Some(Refusal::DataStale);
         }
         None

@@ -1,8 +1,10 @@
 //! The server: its state, and what it can be asked.
 
-ghost use Rattle.std.specs.Prelude.{◌≡◌, ◌<◌, ◌≤◌, List, [], Some, Err, IfOk, IfSome, map, length};
+ghost use Rattle.std.specs.Prelude.{◌≡◌, ◌<◌, ◌≤◌, List, [], Some, Err, IfOk, IfSome, map, length, false};
+ghost use Rattle.std.specs.Option.{option_map_or};
 ghost use Rattle.nut_queue.specs.Front.{IsFrontPart};
 ghost use Rattle.nut_server_spec.specs.Configuration.{Configuration};
+ghost use Rattle.nut_server_spec.specs.Device.{is_stale};
 ghost use Rattle.nut_server_spec.specs.Event.{Event};
 ghost use Rattle.nut_server_spec.specs.Content.{content, unheard};
 ghost use Rattle.nut_server_spec.specs.Numbering.{below};
@@ -99,6 +101,14 @@ fn untold(alloc: Global, count: usize) -> Result<Vec<Device>, AllocError>
     Ok(devices)
 }
 
+/// Returns `count` UPSes whose drivers were never connected, and room for all connections.
+fn room_for(alloc: Global, count: usize) -> Result<(Vec<Device>, Connections), AllocError>
+    ensures { IfOk result (λ room. (room.0.items ≡ map (λ u. unheard) (below count)) × (room.1 ≡ [])) }
+{
+    let devices = untold(alloc, count)?;
+    Ok((devices, Connections::with_room(alloc)?))
+}
+
 impl Server {
     /// Returns a server that has been told nothing. Allocates the memory for as many connections as may be open at once
     /// and for the requests that wait for the drivers, so none is needed when a client or a driver connects.
@@ -109,22 +119,22 @@ impl Server {
     pub fn new(alloc: Global, config: Config) -> Result<Server, ServerFault>
         ensures { IfOk result (λ server. server ≡ content config []) }
     {
-        let connections = Connections::with_room(alloc)?;
         let count = config.number_of_upses();
-        let devices = untold(alloc, count)?;
-        let numbers = first_numbers(count);
-        Ok(Server {
-            config,
-            numbers,
-            clock: 0,
-            opened: 0,
-            given: 0,
-            devices,
-            connections,
-            scratch: Vec::new(alloc),
-            line: ArrayVec::new(),
-            alloc,
-        })
+        match room_for(alloc, count) {
+            Ok((devices, connections)) => Ok(Server {
+                config,
+                numbers: first_numbers(count),
+                clock: 0,
+                opened: 0,
+                given: 0,
+                devices,
+                connections,
+                scratch: Vec::new(alloc),
+                line: ArrayVec::new(),
+                alloc,
+            }),
+            Err(AllocError) => Err(ServerFault::Memory),
+        }
     }
 
     /// Takes one arrival: `arrive` with its contract in terms of the machine, for proofs that have no history at hand.
@@ -311,6 +321,17 @@ impl Server {
     {
         match self.devices.get(u) {
             Some(device) => device.is_connected(),
+            None => false,
+        }
+    }
+
+    /// Whether the data of a UPS are stale, so clients are answered DATA-STALE if its driver is connected: false if there
+    /// is no such UPS.
+    pub fn is_stale(&self, u: usize) -> bool
+        ensures { result ≡ option_map_or (λ s. is_stale self.now.configuration.max_age self.now.clock s.device) (supply_of u self.now.supplies) false }
+    {
+        match self.devices.get(u) {
+            Some(device) => device.is_stale(u64::from(self.config.max_age()), self.clock),
             None => false,
         }
     }

@@ -56,12 +56,31 @@ fn go_on<W: World>(rt: &impl Wait, server: &mut Server, world: &mut W) -> Result
 {
     let mut piece = Piece::new();
     for _ in rt.forever() {
-        settle_all(server, world)?;
-        if !turn(server, world, &mut piece)? {
+        if !settle_and_turn(server, world, &mut piece)? {
             return Ok(());
         }
     }
     unreachable!()
+}
+
+/// Settles all connections and drivers, then takes the next arrival. Returns false at the end of the world.
+fn settle_and_turn<W: World>(
+    server: &mut Server,
+    world: &mut W,
+    piece: &mut Piece,
+) -> Result<bool, Fault>
+    ghost first: { Configuration }
+    requires few { W.fault_count world.old < 2 ^ 64 - 1 }
+    requires served { Served first (W.log world.old) server.old [] }
+    ensures err { OnErr result ((owed : List Ended) × Served first (W.log world.new) server.new owed) }
+    ensures ok { OnOk result (Served first (W.log world.new) server.new []) }
+    ensures left { result ≡ Ok false → NobodyLeaves server.new }
+    ensures ended { result ≡ Ok false → W.has_ended world.new server.new }
+    ensures counted { W.fault_count world.new ≡ (if is_ok result then W.fault_count world.old else W.fault_count world.old + 1) }
+    ensures reached { W.reached world.old world.new }
+{
+    settle_all(server, world)?;
+    turn(server, world, piece)
 }
 
 /// Asks for the next arrival, tells it to the server, and closes what that ended. Returns false at the end of the

@@ -25,6 +25,8 @@ pub struct Driver {
     is_missed: bool,
     /// Whether clients wait until the driver says something.
     is_awaited: bool,
+    /// Whether the data of the UPS were stale when that was last noted since the driver was connected.
+    is_stale: bool,
 }
 
 impl Driver {
@@ -48,6 +50,7 @@ impl Driver {
             link: None,
             is_missed: false,
             is_awaited: false,
+            is_stale: false,
         })
     }
 
@@ -82,6 +85,7 @@ impl Driver {
         registry.register(&mut stream, token, both)?;
         self.link = Some(Link::new(stream));
         self.is_missed = false;
+        self.is_stale = false;
         Ok(())
     }
 
@@ -90,6 +94,16 @@ impl Driver {
         let is_first = !self.is_missed;
         self.is_missed = true;
         is_first
+    }
+
+    /// Notes whether the data of the UPS are stale, if the driver is connected. Returns whether that has changed: data
+    /// aren't stale when the driver connects.
+    pub fn note_staleness(&mut self, is_stale: bool) -> bool {
+        let has_changed = self.is_connected() && self.is_stale != is_stale;
+        if has_changed {
+            self.is_stale = is_stale;
+        }
+        has_changed
     }
 
     /// Makes clients wait until the driver says something, if it is connected.

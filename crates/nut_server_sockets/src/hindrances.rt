@@ -2,7 +2,8 @@
 
 ghost use Rattle.std.specs.Prelude.{◌≡◌, ◌↔◌, IsTrue, true, false};
 
-use nut_poll::{Report, Reports};
+use crate::report::Report;
+use nut_poll::Reports;
 use nut_server::Server;
 use nut_server_spec::OPENED_MAX;
 use std::io;

@@ -11,6 +11,7 @@ mod hindrances;
 mod keepalive;
 mod mio_world;
 mod reloader;
+mod report;
 mod sockets;
 mod source;
 mod stall;

@@ -11,13 +11,14 @@ use crate::door::{Door, Guest, concerns_one};
 use crate::drivers::Drivers;
 use crate::hindrances::Hindrances;
 use crate::reloader::Reloader;
+use crate::report::Report;
 use crate::source::Source;
 use crate::stall::Stall;
 use mio::Events;
 use mio::net::TcpListener;
 use nut_conf::LISTENERS_MAX;
 use nut_io::{Piece, Written};
-use nut_poll::{Heard, Ready, Report, Reports, Rounds, SOCKETS_MAX, may_be_read};
+use nut_poll::{Heard, Ready, Reports, Rounds, SOCKETS_MAX, may_be_read};
 use nut_server::{Config, Server};
 use nut_server_loop::{Address, Next};
 use std::alloc::Global;
@@ -380,6 +381,7 @@ impl<'r, 'e, R: Net + Clock, E: Write, L: Reloader + Drop> Sockets<'r, 'e, R, E,
         self.clients.second();
         self.hindrances.second();
         self.drivers.catch_up(server);
+        self.tell_staleness(server);
         self.sheds = true;
         self.asks = true;
         self.roll = 0;
@@ -392,11 +394,32 @@ impl<'r, 'e, R: Net + Clock, E: Write, L: Reloader + Drop> Sockets<'r, 'e, R, E,
         }
     }
 
+    /// Reports the UPSes whose data have become stale since the last second, or are no longer stale.
+    fn tell_staleness(&mut self, server: &Server) {
+        for u in 0..self.drivers.len() {
+            if let Some(driver) = self.drivers.get_mut(u) {
+                let is_stale = server.is_stale(u);
+                if driver.note_staleness(is_stale) {
+                    self.reports.tell(staleness(driver.name(), is_stale));
+                }
+            }
+        }
+    }
+
     /// Lets clients be read again, once each driver has said something.
     fn end_stall(&mut self) {
         if self.stall.is_on() && !self.drivers.are_awaited() {
             self.stall.end(&mut self.rounds.ready);
         }
+    }
+}
+
+/// Returns the report that the data of a UPS are stale, or no longer are.
+fn staleness(name: &str, is_stale: bool) -> Report<'_> {
+    if is_stale {
+        Report::Stale(name)
+    } else {
+        Report::Fresh(name)
     }
 }
 

@@ -7,6 +7,7 @@ mod configuration;
 mod daemon;
 mod listeners;
 mod reloading;
+mod report;
 mod stdio;
 mod ups_option;
 mod upsd_fault;

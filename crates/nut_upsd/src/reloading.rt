@@ -3,8 +3,8 @@
 use crate::changes::changes;
 use crate::configuration::{Settings, read_folder};
 use nut_conf::Endpoint;
-use nut_poll::{Report, Reports};
-use nut_program::{FileFault, Look, ReloadFile, Turn, tell_not_reloaded};
+use nut_poll::Reports;
+use nut_program::{FileFault, Look, ReloadFile, ReloadReport, Turn, tell_not_reloaded};
 use nut_server::{Config, Server};
 use nut_server_sockets::Reloader;
 use std::alloc::{AllocError, Global};
@@ -117,7 +117,7 @@ impl<'r, F: Files> Reloader for Reloading<'r, F> {
         match self.file.look(self.files) {
             Look::Nothing => return None,
             Look::Asked => {}
-            Look::Stuck(error) => reports.tell(Report::Stuck(self.file.path(), error)),
+            Look::Stuck(error) => reports.tell(ReloadReport::Stuck(self.file.path(), error)),
         }
         match self.read_again(server, reports.err()) {
             Ok(config) => Some(config),
@@ -135,7 +135,7 @@ impl<'r, F: Files> Reloader for Reloading<'r, F> {
             return;
         };
         if server.config().number_of_upses() == given.upses {
-            reports.tell(Report::Reloaded(given.changes.as_str()));
+            reports.tell(ReloadReport::Reloaded(given.changes.as_str()));
         } else {
             tell_not_reloaded("upsd", &FileFault::Memory, reports.err());
         }

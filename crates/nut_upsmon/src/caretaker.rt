@@ -9,8 +9,7 @@ use crate::watching::Follower;
 use nut_conf::UpsmonConf;
 use nut_monitor::{Monitor, Notice};
 use nut_monitor_sockets::Herald;
-use nut_poll::Report;
-use nut_program::{FileFault, tell_not_reloaded};
+use nut_program::{FileFault, ReloadReport, tell_not_reloaded};
 use std::alloc::AllocError;
 use std::io::Write;
 use std::mem;
@@ -105,7 +104,7 @@ where
 
     /// Reports what a configuration that is taken up changes, and what it sets.
     fn tell(&mut self, reload: &Reload) {
-        let reloaded = Report::Reloaded(reload.changes.as_str());
+        let reloaded = ReloadReport::Reloaded(reload.changes.as_str());
         self.reloader.reports(self.err).tell(reloaded);
         tell_start(reload.config(), self.reloader.is_quiet(), self.err);
     }

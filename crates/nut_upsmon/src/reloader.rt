@@ -9,8 +9,8 @@ use crate::changes::{Changes, line_of};
 use crate::warning::tell_warnings;
 use nut_conf::{Monitored, UpsmonConf};
 use nut_monitor::{Known, Monitor, Phase};
-use nut_poll::{Report, Reports, text_of};
-use nut_program::{FileFault, Look, ReloadFile, read_conf, tell_not_reloaded};
+use nut_poll::{Reports, text_of};
+use nut_program::{FileFault, Look, ReloadFile, ReloadReport, read_conf, tell_not_reloaded};
 use std::alloc::{AllocError, Global};
 use std::io::Write;
 use std::rt::Files;
@@ -115,7 +115,7 @@ impl Reloader {
             Look::Asked => true,
             Look::Stuck(error) => {
                 self.reports(err)
-                    .tell(Report::Stuck(self.file.path(), error));
+                    .tell(ReloadReport::Stuck(self.file.path(), error));
                 true
             }
         }
@@ -173,7 +173,8 @@ impl Reloader {
     /// Returns a configuration in which something has changed. If nothing has, that is told: the links stay.
     fn unless_same<E: Write>(&self, reload: Reload, err: &mut E) -> Option<Reload> {
         if reload.changes.are_none() {
-            self.reports(err).tell(Report::Reloaded("nothing changed"));
+            self.reports(err)
+                .tell(ReloadReport::Reloaded("nothing changed"));
             return None;
         }
         Some(reload)

@@ -2,7 +2,8 @@
 
 use crate::stopping::Stopping;
 use nut_conf::{Role, UpsmonConf};
-use nut_poll::{Report, Reports, text_of};
+use nut_poll::{Reports, text_of};
+use std::fmt;
 use std::io::Write;
 
 /// Reports which UPSes are watched, and how soon this machine stops, unless that is to be quiet.
@@ -17,10 +18,33 @@ pub fn tell_start<E: Write>(config: &UpsmonConf, is_quiet: bool, err: &mut E) {
 /// Reports which UPSes are watched.
 fn tell_watched<E: Write>(config: &UpsmonConf, reports: &mut Reports<'_, E>) {
     for monitored in &config.monitors.lines {
-        reports.tell(Report::Watching(
-            text_of(&monitored.written),
-            monitored.role == Role::Primary,
-            monitored.power.value,
-        ));
+        reports.tell(Watched {
+            target: text_of(&monitored.written),
+            role: monitored.role,
+            power_value: monitored.power.value,
+        });
+    }
+}
+
+/// A UPS that is watched.
+#[derive(Drop)]
+struct Watched<'a> {
+    /// Its target as in upsmon.conf.
+    target: &'a str,
+    role: Role,
+    power_value: u32,
+}
+
+impl<'a> fmt::Display for Watched<'a> {
+    fn fmt<W: fmt::Write>(&self, f: &mut fmt::Formatter<W>) -> fmt::Result {
+        let role = match self.role {
+            Role::Primary => "primary",
+            Role::Secondary => "secondary",
+        };
+        write!(
+            f,
+            "UPS {}: watched as {role}, power value {}",
+            self.target, self.power_value
+        )
     }
 }

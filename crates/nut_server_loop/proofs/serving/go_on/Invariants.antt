@@ -2,11 +2,8 @@ use Rattle.std.proofs.Common.{◌≡◌, []}
 use Rattle.nut_server_loop.specs.Served.{Served}
 use Rattle.nut_server_loop.proofs.serving.go_on.Given as goal
 
-abbrev pub ghost-settle_all : goal.ghost-settle_all
-ghost-settle_all g a = g.first
-
-abbrev pub ghost-turn : goal.ghost-turn
-ghost-turn g a = g.first
+abbrev pub ghost-settle_and_turn : goal.ghost-settle_and_turn
+ghost-settle_and_turn g a = g.first
 
 abbrev pub invariant-loop : goal.invariant-loop
 invariant-loop g l =

@@ -1,0 +1,42 @@
+//! What is reported of the servers of watched UPSes.
+
+use std::{fmt, io};
+
+/// An event at the link to a server, with the target of its MONITOR line as upsmon.conf writes it.
+#[derive(Drop)]
+pub enum Report<'a> {
+    /// The server is connected.
+    Reached(&'a str),
+    /// The server can't be reached.
+    Unreachable(&'a str, io::Error),
+    /// The server disconnected.
+    Gone(&'a str),
+    /// The server didn't answer for this many seconds, and was given up.
+    GivenUp(&'a str, u8),
+    /// The server said something that can't be read or wasn't asked for.
+    Unread(&'a str),
+    /// The server refused a query: the target, the query, and the name of the error.
+    Refused(&'a str, &'a str, &'a str),
+}
+
+impl<'a> fmt::Display for Report<'a> {
+    fn fmt<W: fmt::Write>(&self, f: &mut fmt::Formatter<W>) -> fmt::Result {
+        match self {
+            Report::Reached(target) => write!(f, "UPS {target}: server connected"),
+            Report::Unreachable(target, error) => write!(f, "UPS {target}: no server yet: {error}"),
+            Report::Gone(target) => write!(f, "UPS {target}: server lost"),
+            Report::GivenUp(target, seconds) => {
+                write!(f, "UPS {target}: server lost: no answer for {seconds} s")
+            }
+            Report::Unread(target) => {
+                write!(
+                    f,
+                    "UPS {target}: server lost: what it says is not understood"
+                )
+            }
+            Report::Refused(target, what, error) => {
+                write!(f, "UPS {target}: {what} refused: {error}")
+            }
+        }
+    }
+}

@@ -1,0 +1,21 @@
+//! What a daemon reports of a reload.
+
+use std::{fmt, io};
+
+/// An event of a reload.
+#[derive(Drop)]
+pub enum ReloadReport<'a> {
+    /// The files were read again: what that changed.
+    Reloaded(&'a str),
+    /// The file with this path, which asks for a reload, can't be removed.
+    Stuck(&'a str, io::Error),
+}
+
+impl<'a> fmt::Display for ReloadReport<'a> {
+    fn fmt<W: fmt::Write>(&self, f: &mut fmt::Formatter<W>) -> fmt::Result {
+        match self {
+            ReloadReport::Reloaded(changes) => write!(f, "reloaded: {changes}"),
+            ReloadReport::Stuck(path, error) => write!(f, "cannot remove {path}: {error}"),
+        }
+    }
+}

@@ -1,0 +1,50 @@
+//! What is reported of drivers and clients.
+
+use std::net::IpAddr;
+use std::{fmt, io};
+
+/// An event at the sockets of a server.
+#[derive(Drop)]
+pub enum Report<'a> {
+    /// The driver of a UPS is connected.
+    Connected(&'a str),
+    /// The driver of a UPS can't be reached.
+    Missed(&'a str, io::Error),
+    /// The driver of a UPS disconnected.
+    Lost(&'a str),
+    /// The data of a UPS became stale, so clients are answered DATA-STALE.
+    Stale(&'a str),
+    /// The data of a UPS is no longer stale.
+    Fresh(&'a str),
+    /// A client isn't let in, because MAXCONN, which is this, is reached.
+    Full(usize),
+    /// No client is let in until the next start, because this many were.
+    Spent(u64),
+    /// No client can be let in, for this reason.
+    ShutOut(io::Error),
+    /// A client from this address was silent for this many seconds, and its connection is closed.
+    Shed(IpAddr, u64),
+}
+
+impl<'a> fmt::Display for Report<'a> {
+    fn fmt<W: fmt::Write>(&self, f: &mut fmt::Formatter<W>) -> fmt::Result {
+        match self {
+            Report::Connected(name) => write!(f, "UPS {name}: driver connected"),
+            Report::Missed(name, error) => write!(f, "UPS {name}: no driver yet: {error}"),
+            Report::Lost(name) => write!(f, "UPS {name}: driver lost"),
+            Report::Stale(name) => write!(f, "UPS {name}: data is stale"),
+            Report::Fresh(name) => write!(f, "UPS {name}: data is no longer stale"),
+            Report::Full(most) => write!(f, "cannot let a client in: MAXCONN {most} is reached"),
+            Report::Spent(most) => {
+                write!(
+                    f,
+                    "cannot let a client in: {most} were let in since the start"
+                )
+            }
+            Report::ShutOut(error) => write!(f, "cannot let a client in: {error}"),
+            Report::Shed(address, seconds) => {
+                write!(f, "client {address} closed: silent for {seconds} s")
+            }
+        }
+    }
+}
