@@ -22,10 +22,12 @@ def toolchain():
 
 
 class Function:
-    """A function: its place in a crate, and what a check calls it."""
+    """A function: its place in a crate, and what a check calls it. It stands from `start` to `end` in its file, its name at
+    `name`, and its body from `first` on."""
 
-    def __init__(self, file, parts, first, end):
-        self.file, self.parts, self.first, self.end = file, parts, first, end
+    def __init__(self, file, parts, start, name, first, end, is_of_trait):
+        self.file, self.parts, self.is_of_trait = file, parts, is_of_trait
+        self.start, self.name, self.first, self.end = start, name, first, end
 
     @property
     def path(self):
@@ -58,15 +60,18 @@ def items_in(file, tokens):
     """Returns the functions with bodies among a file's tokens of code, and the modules of the types that it declares."""
     module = [it for it in file[len("src/") : -len(".rt")].split("/") if it not in ("lib", "main", "mod")]
     functions, types, opened, item = [], {}, [], None
+    # the end of what stands before an item
+    before = 0
     for number, (start, end, word) in enumerate(tokens):
         after = tokens[number + 1][2] if number + 1 < len(tokens) else ""
         if word in ("fn", "mod", "trait") and re.match(r"\w", after):
-            item = (word, after)
+            item = (word, after, before, tokens[number + 1][:2])
         elif word in ("struct", "enum"):
             types[after] = module + [it[1] for it, _ in opened if it]
         elif word == "impl" and item is None:
             header = [it[2] for it in tokens[number + 1 : number + 200]]
-            item = (word, impl_name(header[: header.index("{")]))
+            header = header[: header.index("{")]
+            item = ("trait" if "for" in header else word, impl_name(header))
         elif word == ";":
             item = None
         elif word == "{":
@@ -75,8 +80,13 @@ def items_in(file, tokens):
         elif word == "}":
             closed, start = opened.pop()
             if closed and closed[0] == "fn":
-                path = module + [it[1] for it, _ in opened if it] + [closed[1]]
-                functions.append(Function(file, path, start, end))
+                _, called, begun, name = closed
+                around = [it for it, _ in opened if it]
+                path = module + [it[1] for it in around] + [called]
+                is_of_trait = any(it[0] == "trait" for it in around)
+                functions.append(Function(file, path, begun, name, start, end, is_of_trait))
+        if word in ("{", "}", ";"):
+            before = end
     return functions, types
 
 

@@ -4,9 +4,11 @@
 usage: python3 -m tests.gate.wrong_bodies [--look | --one-by-one] [--after-gate] [CRATE ..]
 
 The edits are crates/NAME/wrong-bodies/*.edit, and crates/NAME/must-fail/*.edit, which the toolchain's own gate tries too.
-docs/tests.md says how to write one. A round applies edits of different functions to a copy of their crate and checks only these
-functions. All others have empty bodies and open proofs there. A control round shows that the unedited functions pass that
-check.
+docs/tests.md says how to write one. Most are tried in one check of their crate: beside each function that they edit stand a
+copy of it as it is, which has to pass, and one for each edit, which has to fail. An edit for which that is impossible, or that
+isn't refused so, is tried in a round: edits of different functions are applied to the crate, and only these functions are
+checked. The first check, or else a control round, shows that they pass without edits. All other functions have empty bodies
+and open proofs there.
 
 --look only lists the edits that cannot be applied. --one-by-one also tries each edit as the toolchain's gate does, in a
 check of the whole crate, and fails if the two disagree. Both need the libraries that a crate depends on: those that the gate
@@ -15,6 +17,7 @@ from an earlier run, with older times. The last line is 'N passed, M failed'."""
 
 import argparse
 import glob
+import itertools
 import os
 import re
 import shutil
@@ -42,6 +45,8 @@ class Edit:
         with open(path, encoding="utf-8", errors="replace") as file:
             lines = [line.rstrip("\n").partition(": ") for line in file]
         self.refused_by = next((words.strip() for key, _, words in lines if key == "refused by"), None)
+        # what was replaced in each file, in turn: where, and the lengths of the text and of the other
+        self.changes = {}
         self.edited = set() if self.fault else self.functions_at(lines, functions)
         self.wanted = {self.refused_by} if self.refused_by else self.edited
         if None in self.wanted and not self.fault:
@@ -49,19 +54,25 @@ class Edit:
 
     def functions_at(self, lines, functions):
         """Returns the functions that the texts are in, and None for a text that is in none."""
-        found, file, texts, changes = set(), None, {}, {}
+        found, file, texts = set(), None, {}
         for key, _, words in lines:
             if key == "file":
                 file = words.strip()
                 texts.setdefault(file, open_text(f"{self.crate.folder}/{file}"))
             elif key == "old":
                 old, at = words.encode(), texts[file].find(words.encode())
-                here = place_before(changes.setdefault(file, []), at)
+                here = place_before(self.changes.setdefault(file, []), at)
                 found.add(next((it.path for it in functions if it.holds(file, here)), None))
             elif key == "new":
                 texts[file] = texts[file].replace(old, words.encode())
-                changes[file].append((at, len(old), len(words.encode())))
+                self.changes[file].append((at, len(old), len(words.encode())))
         return found
+
+    def item_of(self, function):
+        """Returns the text of a function that it edits, as it makes that."""
+        text, changes = self.texts[function.file].encode(), self.changes[function.file]
+        start, end = place_after(changes, function.start), place_after(changes, function.end)
+        return text[start:end]
 
     def is_of_bodies(self):
         """Whether it edits only bodies, which no other function's proof looks into, and one of these functions has to refuse
@@ -79,6 +90,13 @@ def place_before(changes, at):
     another length."""
     for start, old, new in reversed(changes):
         at = at - new + old if at >= start + new else min(at, start)
+    return at
+
+
+def place_after(changes, at):
+    """Returns the place in an edited text of a place outside the texts that these changes replaced."""
+    for start, old, new in changes:
+        at += new - old if start < at else 0
     return at
 
 
@@ -124,21 +142,38 @@ class Report:
         return None, gone
 
 
-class Room:
-    """A copy of a crate in which all but some functions have empty bodies and open proofs."""
+class Copy:
+    """A copy of a function that stands beside it, under a name of its own."""
 
-    def __init__(self, crate, functions, shown, folder):
+    def __init__(self, function, ending, text):
+        self.of, self.parts = function, [*function.parts[:-1], f"{function.parts[-1]}_{ending}"]
+        first, end = (it - function.start for it in function.name)
+        self.text = text[:first] + self.parts[-1].encode() + text[end:]
+
+    @property
+    def path(self):
+        return "::".join(self.parts)
+
+
+class Room:
+    """A copy of a crate in which all but some functions have empty bodies and open proofs, and copies of functions beside
+    these."""
+
+    def __init__(self, crate, functions, shown, folder, copies=()):
         self.crate, self.folder, self.changed, self.seconds = crate, folder, set(), 0.0
         for part in toolchain().rtlib.PARTS:
             if os.path.isdir(f"{crate.folder}/{part}"):
                 shutil.copytree(f"{crate.folder}/{part}", f"{folder}/{part}")
         for function in [it for it in functions if it.path in shown]:
             self.begin_answers(function)
+        for copy in copies:
+            self.copy_proof(copy)
         opened = [it for it in functions if it.path not in shown and self.leave_open(it)]
         # from the end of each file backwards, so that the places before stay right
-        for function in sorted(opened, key=lambda it: it.first, reverse=True):
-            if not any(it is not function and function.holds(it.file, it.first) for it in functions):
-                self.empty(function)
+        for function in sorted(functions, key=lambda it: it.first, reverse=True):
+            holds_others = any(it is not function and function.holds(it.file, it.first) for it in functions)
+            beside = b"".join(it.text for it in copies if it.of is function)
+            self.rewrite(function, function in opened and not holds_others, beside)
 
     def proof_of(self, function):
         """Returns the folder of a function's proof; None if it shares a proof +NAME with functions that it calls and that
@@ -155,6 +190,19 @@ class Room:
             with open(f"{proof}/Answers.antt", "w", encoding="utf-8") as file:
                 file.write("-- no answers\n")
 
+    def copy_proof(self, copy):
+        """Gives a copy of a function the proof of that function, under its own name."""
+        proof, own, name = self.proof_of(copy.of), self.proof_of(copy), copy.of.parts[-1]
+        if os.path.isdir(proof):
+            shutil.copytree(proof, own)
+        path = re.escape(f"Rattle.{self.crate.name}.proofs.{'.'.join(copy.of.parts)}")
+        for file in glob.glob(f"{own}/**/*.antt", recursive=True):
+            text = open_text(file).decode()
+            text = re.sub(rf"\b{path}\b(?!-)", f"Rattle.{self.crate.name}.proofs.{'.'.join(copy.parts)}", text)
+            with open(file, "w", encoding="utf-8") as it:
+                it.write(re.sub(rf"\b{name}_spec\b", f"{copy.parts[-1]}_spec", text))
+        self.begin_answers(copy)
+
     def leave_open(self, function):
         """Leaves the proof of a function open. Returns whether that was possible."""
         proof = self.proof_of(function)
@@ -168,12 +216,14 @@ class Room:
             file.write(f"pub {name}_spec : {{M : Type 1}} → statement M\n{name}_spec = ?\n")
         return True
 
-    def empty(self, function):
-        """Empties the body of a function. Otherwise a check would translate it, and check all that it calls."""
+    def rewrite(self, function, is_emptied, beside):
+        """Puts copies beside a function, and empties its body if it is to be. A check would translate the body otherwise, and
+        check all that it calls."""
         path = f"{self.folder}/{function.file}"
         text = open_text(path)
+        body = b"{ unreachable!() }" if is_emptied else text[function.first : function.end]
         with open(path, "wb") as file:
-            file.write(text[: function.first] + b"{ unreachable!() }" + text[function.end :])
+            file.write(text[: function.first] + body + beside + text[function.end :])
 
     def apply(self, edits):
         """Applies these edits, and returns those that fit beside the others."""
@@ -206,38 +256,79 @@ class Room:
 
 
 class Rounds:
-    """The rounds of a crate, and their result for each of its edits."""
+    """The checks of a crate with edits, and their result for each edit."""
 
     def __init__(self, crate, edits, functions, folder):
         self.crate, self.edits, self.functions, self.folder = crate, edits, functions, folder
-        self.said, self.count, self.seconds = {}, 0, 0.0
+        # the paths of the functions that pass without edits, as far as the first check has shown that
+        self.passed = set()
+        self.said, self.copied, self.count, self.seconds = {}, 0, 0, 0.0
 
     def say(self, edit, refused, why):
         self.said[edit] = refused, f"{edit.name}: {why}"
 
-    def room(self, edits):
-        """Makes a room in which the functions of these edits have their bodies."""
+    def room(self, edits, copies=()):
+        """Makes a room in which the functions of these edits have their bodies, with copies of others."""
         shutil.rmtree(f"{self.folder}/room", ignore_errors=True)
         shown = {path for it in edits for path in it.wanted | it.edited}
-        return Room(self.crate, self.functions, shown, f"{self.folder}/room")
+        return Room(self.crate, self.functions, shown, f"{self.folder}/room", copies)
 
-    def check(self, room, edits):
-        """Returns the result of a check for the functions that should fail by these edits."""
-        report = room.check({path for edit in edits for path in edit.wanted}, f"{self.folder}/kept")
+    def check(self, room, edits, copies=()):
+        """Returns the result of a check for the functions that should fail by these edits, and for copies."""
+        paths = {path for edit in edits for path in edit.wanted} | {it.path for it in copies}
+        report = room.check(paths, f"{self.folder}/kept")
         self.seconds += room.seconds
         return report
 
     def run(self):
+        if self.edits:
+            self.try_copies()
         if self.edits and self.control():
             for edits in self.shared():
                 for edit in self.round(edits):
                     self.round([edit])
         return self.said
 
+    def try_copies(self):
+        """Tries the edits in copies of their functions, all in one check. Copies without edits have to pass there, and so
+        have the functions of the edits for which that is impossible. Edits that no copy refused are left for the rounds."""
+        copied = [it for it in self.edits if self.can_be_copied(it)]
+        others = [it for it in self.edits if it not in copied]
+        plain = {path: self.copy(path, "unedited") for path in sorted({path for it in copied for path in it.wanted})}
+        edited = {it: [self.copy(path, f"edited_{at}", it) for path in sorted(it.wanted)] for at, it in enumerate(copied)}
+        copies = [*plain.values(), *itertools.chain(*edited.values())]
+        report = self.check(self.room(others, copies), others, copies)
+        if not report.ended or report.unread:
+            return
+        self.passed = {path for path, it in plain.items() if report.passes(it.path)}
+        self.passed |= {path for it in others for path in it.wanted if report.passes(path)}
+        for edit, made in edited.items():
+            why = refusal(edit, report, [it.path for it in made])
+            if why and edit.wanted <= self.passed:
+                self.say(edit, True, why)
+                self.copied += 1
+        self.edits = [it for it in self.edits if it not in self.said]
+
+    def can_be_copied(self, edit):
+        """Whether copies of the functions that have to refuse an edit can stand beside these: it edits bodies, and they are
+        not of a trait or of an impl of one, not one in another, and not in a folder where functions share a proof."""
+        found = [it for it in self.functions if it.path in edit.wanted]
+        pairs = [(it, other) for it in self.functions for other in found if it is not other]
+        is_inside = any(it.holds(other.file, other.first) or other.holds(it.file, it.first) for it, other in pairs)
+        shares = any(glob.glob(f"{self.crate.folder}/proofs/{'/'.join(it.parts[:-1])}/+*") for it in found)
+        return edit.is_of_bodies() and not any(it.is_of_trait for it in found) and not is_inside and not shares
+
+    def copy(self, path, ending, edit=None):
+        """Returns a copy of a function, as an edit makes it if one is given."""
+        function = next(it for it in self.functions if it.path == path)
+        text = open_text(f"{self.crate.folder}/{function.file}")[function.start : function.end]
+        return Copy(function, ending, edit.item_of(function) if edit else text)
+
     def control(self):
-        """Whether the functions that should fail pass in a copy without edits."""
-        report = self.check(self.room(self.edits), self.edits)
-        for edit in self.edits:
+        """Whether there are functions that should fail and that pass without edits. The first check has shown that of most."""
+        unseen = [it for it in self.edits if not it.wanted <= self.passed]
+        report = self.check(self.room(unseen), unseen) if unseen else None
+        for edit in unseen:
             fallen = [it for it in sorted(edit.wanted) if not report.ended or not report.passes(it)]
             if fallen:
                 said = report.status.get(fallen[0], report.lines[-1])
@@ -267,14 +358,9 @@ class Rounds:
         for edit in applied:
             if len(applied) == 1:
                 self.say(edit, *self.judged(edit, report))
-            elif report.ended and not report.unread and self.refusal(edit, report):
-                self.say(edit, True, self.refusal(edit, report))
+            elif report.ended and not report.unread and refusal(edit, report):
+                self.say(edit, True, refusal(edit, report))
         return [it for it in edits if it not in self.said]
-
-    def refusal(self, edit, report):
-        found = [report.refusal(path, edit.is_of_bodies())[0] for path in sorted(edit.wanted)]
-        by = "" if edit.is_of_bodies() else f" by {edit.refused_by}, in a round of its own, since it edits more than a body"
-        return f"refused, as it must be{by}: {next(filter(None, found))[:160]}" if any(found) else None
 
     def judged(self, edit, report):
         """Returns the result of a round of only this edit."""
@@ -282,12 +368,19 @@ class Rounds:
         if report.unread or not report.ended:
             told = report.unread or [it for it in report.lines if "error" in it] or report.lines
             return False, f"BAD EDIT: the prover cannot read the edited text: {told[0][:200]}"
-        if self.refusal(edit, report):
-            return True, self.refusal(edit, report)
+        if refusal(edit, report):
+            return True, refusal(edit, report)
         if gone:
             return False, f"BAD EDIT: refused only because a name is gone: {gone[0][:200]}"
         said = "; ".join(f"{path}: {report.status.get(path)}" for path in sorted(edit.wanted))
         return False, f"not refused in its own function, of which the prover says: {said[:300]}"
+
+
+def refusal(edit, report, paths=None):
+    """Returns why these functions refuse an edit, which are those that have to if none are given; None if they don't."""
+    found = [report.refusal(path, edit.is_of_bodies())[0] for path in paths or sorted(edit.wanted)]
+    by = "" if edit.is_of_bodies() else f" by {edit.refused_by}, in a round of its own, since it edits more than a body"
+    return f"refused, as it must be{by}: {next(filter(None, found))[:160]}" if any(found) else None
 
 
 def edits_of(crate):
@@ -337,7 +430,7 @@ def in_rounds(crate, functions, edits, printing):
         said = rounds.run()
     with printing:
         print(*[why for _, why in said.values()], sep="\n")
-        print(f"{crate.name}: {len(edits)} edits, {rounds.count} rounds and the control round: {rounds.seconds:.0f} processor seconds", flush=True)
+        print(f"{crate.name}: {len(edits)} edits, {rounds.copied} in copies, {rounds.count} rounds: {rounds.seconds:.0f} processor seconds", flush=True)
     return {edit.path: refused for edit, (refused, _) in said.items()}
 
 

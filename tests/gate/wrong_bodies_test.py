@@ -1,7 +1,7 @@
 #!/usr/bin/env python3
-"""Tests the rounds of wrong_bodies.py on a crate of four functions that is written here: a wrong body is refused; and a
-right body is reported, a body that its contract allows, an edit that only another function refuses, and one that nothing
-follows from. The last line is 'N passed, M failed'."""
+"""Tests wrong_bodies.py on crates of four functions that are written here: a wrong body is refused; and a right body is
+reported, a body that its contract allows, an edit that only another function refuses, and one that nothing follows from. The
+last line is 'N passed, M failed'."""
 
 import os
 import sys
@@ -50,7 +50,7 @@ pub fn few(count: usize) -> usize
 """
 
 # An answer that cites a call by its name.
-ANSWER = """use Rattle.edited.proofs.as_second.Goals as goal
+ANSWER = """use Rattle.NAME.proofs.as_second.Goals as goal
 
 pub returns : goal.returns
 returns c = c.second.ensures
@@ -64,7 +64,7 @@ EDITS = {
     "wrong": ("    count + 1\nnew:     count + 2", "refused, as it must be: src/lib.rt"),
     "right": ("    next(next(count))\nnew:     1 + next(count)", f"{LET_THROUGH}second: "),
     "contract-too-weak": ("{ count } else { MOST }\nnew: { 0 } else { MOST }", f"{LET_THROUGH}few: "),
-    "wrong-beside-its-callee": ("    second(count)\nnew:     second(count) + 1", "refused, as it must be: ./proofs/as_second/Answers.antt"),
+    "wrong-beside-its-callee": ("    second(count)\nnew:     second(count) + 1", "refused, as it must be: ./proofs/as_second_edited_"),
     "unreadable": ("    count + 1\nnew:     counted + 1", "BAD EDIT: the prover cannot read"),
     "name-gone": ("    second(count)\nnew:     count + 2", "BAD EDIT: refused only because a name is gone"),
     "constant": ("const MOST: usize = 8;\nnew: const MOST: usize = 9;\nrefused by: few", "refused, as it must be by few, in a round of its own"),
@@ -73,6 +73,9 @@ EDITS = {
     "twice": ("usize\nnew: u64", "BAD EDIT: an 'old:' text is in src/lib.rt"),
 }
 
+# The edits of each crate, and how many are refused in copies: none of those that stand beside one that can't be read.
+CRATES = {"rounds": (["wrong", "right", "unreadable"], 0), "copies": ([it for it in EDITS if it != "unreadable"], 2)}
+
 
 def write(path, text):
     os.makedirs(os.path.dirname(path), exist_ok=True)
@@ -80,31 +83,39 @@ def write(path, text):
         file.write(text)
 
 
+def write_crates(root):
+    write(f"{root}/crates.txt", "".join(f"{name}:\n" for name in CRATES))
+    for name, (edits, _) in CRATES.items():
+        write(f"{root}/crates/{name}/src/lib.rt", CODE)
+        write(f"{root}/crates/{name}/proofs/as_second/Answers.antt", ANSWER.replace("NAME", name))
+        for edit in edits:
+            write(f"{root}/crates/{name}/wrong-bodies/{edit}.edit", f"file: src/lib.rt\nold: {EDITS[edit][0]}\n")
+
+
 def said_of_edits(root):
-    """Returns the messages of the rounds about each edit of the crate in this folder, by the edit's name."""
-    write(f"{root}/crates.txt", "edited:\n")
-    write(f"{root}/crates/edited/src/lib.rt", CODE)
-    write(f"{root}/crates/edited/proofs/as_second/Answers.antt", ANSWER)
-    for name, (texts, _) in EDITS.items():
-        write(f"{root}/crates/edited/wrong-bodies/{name}.edit", f"file: src/lib.rt\nold: {texts}\n")
+    """Returns the messages about each edit of the crates in this folder, by their names, and how many edits of each crate were
+    refused in copies."""
+    write_crates(root)
     os.chdir(root)
-    found, faults = wrong_bodies.look(functions.toolchain().rtlib.crates_below(root))
-    said = list(faults)
+    found, said = wrong_bodies.look(functions.toolchain().rtlib.crates_below(root))
+    copied = {}
     for crate, (bodies, edits) in found.items():
         with tempfile.TemporaryDirectory(prefix="wrong-bodies-") as folder:
             rounds = wrong_bodies.Rounds(crate, [it for it in edits if not it.fault], bodies, folder)
             said += [why for _, why in rounds.run().values()]
-        print(f"{rounds.count} rounds and the control round: {rounds.seconds:.0f} processor seconds")
-    return dict(line.partition(".edit: ")[::2] for line in said)
+        copied[crate.name] = rounds.copied
+        print(f"{crate.name}: {rounds.copied} in copies, {rounds.count} rounds: {rounds.seconds:.0f} processor seconds")
+    return dict(line.partition(".edit: ")[::2] for line in said), copied
 
 
 def main():
     with tempfile.TemporaryDirectory(prefix="edited-") as root:
-        said = said_of_edits(root)
-    failed = [name for name, (_, wanted) in EDITS.items() if not said.get(f"edited/{name}", "").startswith(wanted)]
-    for name in failed:
-        print(f"{name}: found {said.get(f'edited/{name}')!r}, wanted {EDITS[name][1]!r}")
-    print(f"{len(EDITS) - len(failed)} passed, {len(failed)} failed")
+        said, copied = said_of_edits(root)
+    wanted = {f"{name}/{edit}": EDITS[edit][1] for name, (edits, _) in CRATES.items() for edit in edits}
+    failed = [f"{it}: found {said.get(it)!r}, wanted {wanted[it]!r}" for it in wanted if not said.get(it, "").startswith(wanted[it])]
+    failed += [f"{name}: {copied[name]} edits in copies, wanted {count}" for name, (_, count) in CRATES.items() if copied[name] != count]
+    print(*failed, sep="\n", end="\n" if failed else "")
+    print(f"{len(wanted) + len(CRATES) - len(failed)} passed, {len(failed)} failed")
     return 1 if failed else 0
 
 

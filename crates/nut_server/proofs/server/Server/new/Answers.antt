@@ -13,13 +13,13 @@ use Rattle.nut_server_spec.proofs.Numbering.{below_are}
 
 pub invariant_of-result : goal.invariant_of-result
 invariant_of-result c =
-    let long : length c.in_ok-devices.devices.items ≡ c.number_of_upses-count.result =
-    ap length c.in_ok-devices.ensures ∙ length-map (below c.number_of_upses-count.result) (λ u. unheard) ∙ below-length c.number_of_upses-count.result in
+    let long : length c.in-Ok.devices.items ≡ c.number_of_upses-count.result =
+    ap length c.in-Ok.ensures.0 ∙ length-map (below c.number_of_upses-count.result) (λ u. unheard) ∙ below-length c.number_of_upses-count.result in
     record {
-      up_to = subst (λ ks. IsUpTo 0 (numbers_of ks)) (sym c.in_ok-connections.ensures) tt;
+      up_to = subst (λ ks. IsUpTo 0 (numbers_of ks)) (sym c.in-Ok.ensures.1) tt;
       few = omega arith;
-      within = omega (arith, ap (λ ks. length (numbers_of ks)) c.in_ok-connections.ensures);
+      within = omega (arith, ap (λ ks. length (numbers_of ks)) c.in-Ok.ensures.1);
       limits = subst IsWithin c.config.view_is (config_within c.config.inside.ups c.config.inside.users c.config.inside.upsd c.config.inside.descriptions);
-      placed = subst (λ m. AllByRecursion (λ n. n < m) c.first_numbers-numbers.result.items) (sym long) (subst (λ ns. AllByRecursion (λ n. n < c.number_of_upses-count.result) ns) (sym c.first_numbers-numbers.ensures) (below_are c.number_of_upses-count.result));
+      placed = subst (λ m. AllByRecursion (λ n. n < m) c.first_numbers.result.items) (sym long) (subst (λ ns. AllByRecursion (λ n. n < c.number_of_upses-count.result) ns) (sym c.first_numbers.ensures) (below_are c.number_of_upses-count.result));
       places = omega (arith, long, c.number_of_upses-count.ensures.few);
     }
