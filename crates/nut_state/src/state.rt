@@ -3,7 +3,9 @@ ghost use Rattle.std.specs.Prelude.{◌≡◌, ◌≤◌, ◌∷◌, [], List, �
 ghost use Rattle.nut_state.specs.Table.{empty, variable, has_command, value_of, flags_of, aux_of, enums_of, ranges_of};
 ghost use Rattle.nut_state.specs.Step.{after, adds, applied, line_adds};
 ghost use Rattle.nut_state.specs.Answer.{answer, answer_to};
-ghost use Rattle.nut_state.specs.Change.{set_info, del_info, add_enum, del_enum, add_range, del_range, set_aux, set_flags, add_command, del_command, asked_by, heard};
+ghost use Rattle.nut_state.specs.Change.{set_info, del_info, add_enum, del_enum, add_range, del_range, set_aux, set_flags, add_command, del_command, asked, asked_by, heard};
+ghost use Rattle.nut_state.specs.Verb.{may_add};
+ghost use Rattle.std.specs.Option.{option_map_or};
 ghost use Rattle.nut_state.specs.laws.Holds.{Holds, IsWithinLimits};
 ghost use Rattle.nut_state.specs.Sorted.{IsAscending};
 ghost use Rattle.nut_state.specs.Text.{is_name};
@@ -181,31 +183,63 @@ impl UpsState {
         }
     }
 
-    #[tactic(auto, unfolding(crate::specs::Step::after, crate::specs::Step::accepts, crate::specs::Step::changed))]
     /// Does what a line with this verb and these words asks for, if the table accepts it.
     fn follow(&mut self, verb: Verb, words: &Words) -> Result<(), AllocError>
         ensures ok { OnOk result (self.new ≡ after self.old (asked_by verb words.now)) }
         ensures err { OnErr result (self.new ≡ self.old) }
         ensures succeeds { adds self.old (asked_by verb words.now) ≡ false → IsOk result }
     {
-        let name = words.get(1);
         match verb {
-            Verb::SetInfo => self.set_info(name, words.get(2))?,
-            Verb::DelInfo => self.delete_info(name),
-            Verb::AddEnum => self.add_enum(name, words.get(2))?,
-            Verb::DelEnum => self.delete_enum(name, words.get(2)),
-            Verb::AddRange => self.add_range(name, Range::read(words.get(2), words.get(3)))?,
-            Verb::DelRange => self.delete_range(name, Range::read(words.get(2), words.get(3))),
-            Verb::SetAux => self.set_aux(name, natural(words.get(2))),
-            Verb::SetFlags => self.set_flags(name, Flags::read(words)),
-            Verb::AddCommand => self.add_command(name)?,
-            Verb::DelCommand => self.delete_command(name),
+            Verb::SetInfo => self.set_info(words.get(1), words.get(2)),
+            Verb::AddEnum => self.add_enum(words.get(1), words.get(2)),
+            Verb::AddRange => self.add_range(
+                words.get(1),
+                Range::read(words.get(2), words.get(3)),
+            ),
+            Verb::AddCommand => self.add_command(words.get(1)),
+            Verb::DelInfo
+            | Verb::DelEnum
+            | Verb::DelRange
+            | Verb::SetAux
+            | Verb::SetFlags
+            | Verb::DelCommand
+            | Verb::DumpDone
+            | Verb::DataOk
+            | Verb::DataStale
+            | Verb::Pong
+            | Verb::Tracking => {
+                self.follow_in_place(verb, words);
+                Ok(())
+            }
+        }
+    }
+
+    /// Does what a line with this verb and these words asks for, if the table accepts it, and if it is one of those
+    /// that never add to the table: nothing for the other verbs.
+    #[tactic(auto, unfolding(crate::specs::Step::after, crate::specs::Step::accepts, crate::specs::Step::changed))]
+    fn follow_in_place(&mut self, verb: Verb, words: &Words)
+        ensures { self.new ≡ (if may_add verb then self.old else after self.old (asked_by verb words.now)) }
+    {
+        match verb {
+            Verb::DelInfo => self.delete_info(words.get(1)),
+            Verb::DelEnum => self.delete_enum(words.get(1), words.get(2)),
+            Verb::DelRange => self.delete_range(
+                words.get(1),
+                Range::read(words.get(2), words.get(3)),
+            ),
+            Verb::SetAux => self.set_aux(words.get(1), natural(words.get(2))),
+            Verb::SetFlags => self.set_flags(words.get(1), Flags::read(words)),
+            Verb::DelCommand => self.delete_command(words.get(1)),
             Verb::DumpDone => self.dump_done = true,
             Verb::DataOk => self.data_ok = true,
             Verb::DataStale => self.data_ok = false,
-            Verb::Pong | Verb::Tracking => {}
+            Verb::SetInfo
+            | Verb::AddEnum
+            | Verb::AddRange
+            | Verb::AddCommand
+            | Verb::Pong
+            | Verb::Tracking => {}
         }
-        Ok(())
     }
 }
 
@@ -271,16 +305,26 @@ impl UpsState {
         // A line that allocates no memory succeeds. `Holds` says that `adds` agrees with looking back over the lines.
         ensures succeeds { has_backslash line.now ≡ false → line_adds self.old line.now ≡ false → IsOk result }
     {
-        let words = match split(self.alloc, line) {
-            Ok(words) => words,
-            Err(WordFault::Memory) => return Err(StateFault::Memory),
-            Err(_) => return Ok(Heard::Ignored),
-        };
-        let Some(verb) = Verb::of_line(&words) else {
+        match split(self.alloc, line) {
+            Ok(words) => self.hear(&words),
+            Err(WordFault::Memory) => Err(StateFault::Memory),
+            Err(_) => Ok(Heard::Ignored),
+        }
+    }
+
+    /// Changes the table as a line of these words says, as [`UpsState::apply`] does.
+    #[tactic(auto, unfolding(crate::specs::Change::asked))]
+    fn hear(&mut self, words: &Words) -> Result<Heard, StateFault>
+        ensures table { OnOk result (self.new ≡ option_map_or (after self.old) (asked words.now) self.old) }
+        ensures answer { IfOk result (λ told. told ≡ answer (asked words.now)) }
+        ensures refused { OnErr result (self.new ≡ self.old) }
+        ensures succeeds { option_map_or (adds self.old) (asked words.now) false ≡ false → IsOk result }
+    {
+        let Some(verb) = Verb::of_line(words) else {
             return Ok(Heard::Ignored);
         };
-        self.follow(verb, &words)?;
-        Ok(answer_to(verb, &words))
+        self.follow(verb, words)?;
+        Ok(answer_to(verb, words))
     }
 
     /// Returns the variable with this name, if there is one. It saves searches if more than one of the look-ups below
