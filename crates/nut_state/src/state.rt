@@ -1,7 +1,7 @@
 //! The table of one UPS.
 ghost use Rattle.std.specs.Prelude.{◌≡◌, ◌≤◌, ◌∷◌, [], List, ℕ, true, false, length, map, IsOk, OnOk, OnErr, IfOk, MatchOption, Some, None, option_map, is_some, if◌then◌else◌};
 ghost use Rattle.nut_state.specs.Table.{empty, variable, has_command, value_of, flags_of, aux_of, enums_of, ranges_of};
-ghost use Rattle.nut_state.specs.Step.{after, adds, applied, line_adds};
+ghost use Rattle.nut_state.specs.Step.{after, adds, applied, fresh, line_adds};
 ghost use Rattle.nut_state.specs.Answer.{answer, answer_to};
 ghost use Rattle.nut_state.specs.Change.{set_info, del_info, add_enum, del_enum, add_range, del_range, set_aux, set_flags, add_command, del_command, asked, asked_by, heard};
 ghost use Rattle.nut_state.specs.Verb.{may_add};
@@ -9,7 +9,8 @@ ghost use Rattle.std.specs.Option.{option_map_or};
 ghost use Rattle.nut_state.specs.laws.Holds.{Holds, IsWithinLimits};
 ghost use Rattle.nut_state.specs.Sorted.{IsAscending};
 ghost use Rattle.nut_state.specs.Text.{is_name};
-ghost use Rattle.std.specs.List.{All};
+ghost use Rattle.std.specs.List.{All, insert};
+ghost use Rattle.std.specs.Result.{is_ok};
 ghost use Rattle.nut_words.specs.Reader.{has_backslash};
 
 use crate::heard::{Heard, StateFault};
@@ -19,7 +20,7 @@ use crate::sorted::{place_of_command, place_of_variable};
 use crate::text::{Name, Text, is_name};
 use crate::variable::{Flags, Variable};
 use crate::verb::Verb;
-use nut_words::{VALUE_MAX, WordFault, Words, natural, split};
+use nut_words::{NAME_MAX, VALUE_MAX, WordFault, Words, natural, split};
 use std::alloc::{AllocError, Global};
 use std::marker::Model;
 
@@ -46,6 +47,33 @@ impl Model for UpsState {
     ghost invariant = { λ s. IsTable (record { variables = s.variables.items; commands = s.commands.items; dump_done = s.dump_done; data_ok = s.data_ok }) };
 }
 
+/// Inserts a new variable at a place, with a value and nothing else.
+fn insert_variable(
+    variables: &mut Vec<Variable>,
+    alloc: Global,
+    place: usize,
+    name: &[u8],
+    value: &[u8],
+) -> Result<(), AllocError>
+    requires place { place ≤ length variables.old.items }
+    requires name { length name.now ≤ NAME_MAX }
+    requires value { length value.now ≤ VALUE_MAX }
+    ensures { variables.new.items ≡ (if is_ok result then insert variables.old.items place (fresh name.now value.now) else variables.old.items) }
+{
+    variables.insert(place, Variable::new(alloc, name, value))?;
+    Ok(())
+}
+
+/// Inserts a command at a place.
+fn insert_command(commands: &mut Vec<Name>, place: usize, name: &[u8]) -> Result<(), AllocError>
+    requires place { place ≤ length commands.old.items }
+    requires name { length name.now ≤ NAME_MAX }
+    ensures { commands.new.items ≡ (if is_ok result then insert commands.old.items place name.now else commands.old.items) }
+{
+    commands.insert(place, Name::new(name))?;
+    Ok(())
+}
+
 /// Each function here does what one kind of line asks for, if the table accepts it. Otherwise it changes nothing.
 impl UpsState {
     /// SETINFO: gives a variable a value. Adds the variable if there is none with this name.
@@ -58,14 +86,19 @@ impl UpsState {
             return Ok(());
         }
         match place_of_variable(&self.variables, name) {
-            Ok(place) => self.variables[place].set_value(value),
-            Err(place) if self.variables.len() < VARIABLES_MAX => {
-                self.variables
-                    .insert(place, Variable::new(self.alloc, name, value))?;
+            Ok(place) => {
+                self.variables[place].set_value(value);
+                Ok(())
             }
-            Err(_) => {}
+            Err(place) if self.variables.len() < VARIABLES_MAX => insert_variable(
+                &mut self.variables,
+                self.alloc,
+                place,
+                name,
+                value,
+            ),
+            Err(_) => Ok(()),
         }
-        Ok(())
     }
 
     /// DELINFO: removes a variable, with its value, flags, aux, enum values and ranges.
@@ -168,10 +201,10 @@ impl UpsState {
         if !is_name(name) || self.commands.len() >= COMMANDS_MAX {
             return Ok(());
         }
-        if let Err(place) = place_of_command(&self.commands, name) {
-            self.commands.insert(place, Name::new(name))?;
+        match place_of_command(&self.commands, name) {
+            Ok(_) => Ok(()),
+            Err(place) => insert_command(&mut self.commands, place, name),
         }
-        Ok(())
     }
 
     /// DELCMD: removes a command.
