@@ -278,6 +278,17 @@ empty_holds = record {
   goes_on = follows_alike empty [] nothing_is_table nothing;
 }
 
+-- A table without variables and commands, and with neither mark, is the empty one.
+module _ (variables : List Entry) (commands : List (List ℕ)) (no_variable : variables ≡ []) (no_command : commands ≡ []) where
+  pub emptied : record { variables = variables; commands = commands; dump_done = false; data_ok = false } ≡ empty
+  emptied = rw (no_variable, no_command) refl
+
+  pub emptied_is_table : IsTable (record { variables = variables; commands = commands; dump_done = false; data_ok = false })
+  emptied_is_table = subst IsTable (sym emptied) nothing_is_table
+
+  pub emptied_holds : Holds (record { variables = variables; commands = commands; dump_done = false; data_ok = false }) []
+  emptied_holds = subst (λ t. Holds t []) (sym emptied) empty_holds
+
 -- one more line
 module _ (t : Table) (line : List ℕ) (lines : List (List ℕ)) (h : Holds t lines) where
   judged : (change : Change) (b : Bool) → accepts t change ≡ b

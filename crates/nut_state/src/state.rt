@@ -225,10 +225,7 @@ impl UpsState {
         match verb {
             Verb::SetInfo => self.set_info(words.get(1), words.get(2)),
             Verb::AddEnum => self.add_enum(words.get(1), words.get(2)),
-            Verb::AddRange => self.add_range(
-                words.get(1),
-                Range::read(words.get(2), words.get(3)),
-            ),
+            Verb::AddRange => self.add_range(words.get(1), Range::read(words.get(2), words.get(3))),
             Verb::AddCommand => self.add_command(words.get(1)),
             Verb::DelInfo
             | Verb::DelEnum
@@ -291,7 +288,6 @@ fn answer_to(verb: Verb, words: &Words) -> Heard
 
 impl UpsState {
     /// Returns an empty table. Allocates no memory.
-    #[tactic(auto, using(crate::proofs::HistoryLemmas::empty_holds))]
     pub fn new(alloc: Global) -> UpsState
         ensures table { result ≡ empty }
         ensures looks_back { Holds result [] }
@@ -306,15 +302,13 @@ impl UpsState {
     }
 
     /// Empties the table, as when a driver connects anew. Allocates no memory.
-    #[tactic(auto, using(crate::proofs::HistoryLemmas::empty_holds))]
     pub fn clear(&mut self)
         ensures table { self.new ≡ empty }
         ensures looks_back { Holds self.new [] }
     {
         self.variables.clear();
         self.commands.clear();
-        self.dump_done = false;
-        self.data_ok = false;
+        (self.dump_done, self.data_ok) = (false, false);
     }
 
     /// Changes the table as a line of the driver says. The line comes without its line feed.
