@@ -1,13 +1,12 @@
-use Rattle.std.proofs.Common.{◌≡◌, true, length, sym, subst, ◌∙◌, inl, inr, arith}
+use Rattle.std.proofs.Common.{◌≡◌, true, length, sym, ◌∙◌, inl, inr, arith}
 use Rattle.std.specs.Prelude.{nat_lt}
 use Rattle.nut_state.specs.Sorted.{IsFound, IsFree}
-use Rattle.nut_state.specs.laws.Holds.{IsTable}
 use Rattle.nut_state.specs.contracts.state.UpsState.{the_view}
 use Rattle.nut_state.specs.declared.limits.TheConstants.{COMMANDS_MAX}
 use Rattle.nut_state.specs.Text.{is_name}
-use Rattle.nut_state.specs.Step.{after, adds}
+use Rattle.nut_state.specs.Step.{adds}
 use Rattle.nut_state.specs.Change.{add_command}
-use Rattle.nut_state.proofs.TableLemmas.{IsTable-after, lt_true, lt_false}
+use Rattle.nut_state.proofs.TableLemmas.{lt_true, lt_false}
 use Rattle.nut_state.proofs.ChangeLemmas.{itself, and_false, add_command_tried, add_command_keeps, add_command_adds, add_command_listed, add_command_refused}
 use Rattle.nut_state.proofs.state.UpsState.add_command.Goals as goal
 use Rattle.nut_state.proofs.state.UpsState.add_command.Goals.{then-not-is_name-via-then-not-is_name, then-not-is_name-via-else-not-is_name+then-len-ge-COMMANDS_MAX}
