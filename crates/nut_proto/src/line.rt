@@ -69,6 +69,5 @@ fn append_line<O: Out>(out: &mut O, words: &[u8], parts: &[Part<'_>]) -> Result<
 {
     out.append(words)?;
     append_parts(out, parts)?;
-    out.push(b'\n')?;
-    Ok(())
+    out.push(b'\n')
 }
