@@ -2,7 +2,7 @@
 ghost use Rattle.std.specs.Prelude.{◌≡◌, ◌++◌, length, OnOk, OnErr};
 ghost use Rattle.nut_words.specs.Out.{Fits, Exceeds};
 ghost use Rattle.nut_proto.specs.Requests.{request_line, begin_line, end_line};
-ghost use Rattle.nut_proto.specs.inside.Written.{written};
+ghost use Rattle.nut_proto.specs.inside.Written.{Puts, written};
 
 use crate::line::Line;
 use crate::part::{Part, quoted, text, word};
@@ -207,10 +207,7 @@ impl ListQuery<'_> {
 
     /// Appends a mark and the line of the request behind it. It fails as [`Request::put`] does.
     fn put_marked<O: Out>(&self, out: &mut O, mark: &[u8]) -> Result<(), O::Fault>
-        ensures ok { OnOk result (O.held out.new ≡ O.held out.old ++ (mark.now ++ request_line (Request.List self.now))) }
-        ensures err { OnErr result (O.held out.new ≡ O.held out.old) }
-        ensures fits { OnOk result (Fits O.most (length (O.held out.old ++ (mark.now ++ request_line (Request.List self.now))))) }
-        ensures full { OnErr result (Exceeds O.most (length (O.held out.old ++ (mark.now ++ request_line (Request.List self.now))))) }
+        ensures { Puts O.most (O.held out.old) (O.held out.new) (mark.now ++ request_line (Request.List self.now)) result }
     {
         let before = out.len();
         out.append(mark)?;
