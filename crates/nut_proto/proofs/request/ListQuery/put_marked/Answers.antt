@@ -1,8 +1,7 @@
-use Rattle.std.proofs.Common.{◌≡◌, refl, sym, ◌∙◌}
+use Rattle.std.proofs.Common.{refl, sym, ◌∙◌}
 use Rattle.nut_proto.specs.declared.request.Request.TheVariants.{List as Asks}
-use Rattle.nut_proto.specs.inside.Written.{Puts}
 use Rattle.nut_proto.specs.Requests.{request_line}
-use Rattle.nut_proto.proofs.Room.{exceeds_longer, no_room_for_mark, nothing_put, put_behind_mark, put_no_mark}
+use Rattle.nut_proto.proofs.Room.{no_room_for_mark, nothing_put, put_behind_mark, put_no_mark}
 use Rattle.nut_proto.proofs.request.ListQuery.put_marked.Goals as goal
 
 pub returns-in_err-append : goal.returns-in_err-append
