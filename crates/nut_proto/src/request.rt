@@ -1,7 +1,8 @@
 //! The requests of a client, and how they are written.
 ghost use Rattle.std.specs.Prelude.{◌≡◌, ◌++◌, length, OnOk, OnErr};
 ghost use Rattle.nut_words.specs.Out.{Fits, Exceeds};
-ghost use Rattle.nut_proto.specs.Requests.{request_line, begin_line, end_line};
+ghost use Rattle.nut_proto.specs.Lines.{line};
+ghost use Rattle.nut_proto.specs.Requests.{request_line, request_parts, begin_line, end_line};
 ghost use Rattle.nut_proto.specs.inside.Written.{Puts, written};
 
 use crate::line::Line;
@@ -159,7 +160,7 @@ impl Request<'_> {
                 ups,
                 variable,
                 value,
-            } => Line::Three(b"SET VAR", word(ups), word(variable), quoted(value)),
+            } => set_line(ups, variable, value),
             Request::SetTracking { on } => Line::One(b"SET TRACKING", text(switch_word(*on))),
             Request::InstCmd {
                 ups,
@@ -183,6 +184,14 @@ impl Request<'_> {
             Request::StartTls => Line::Bare(b"STARTTLS"),
         }
     }
+}
+
+/// Returns the line of a request to set a variable.
+#[tactic(auto, unfolding(crate::specs::Lines::line))]
+fn set_line<'a>(ups: &Word<'a>, variable: &Word<'a>, value: &Word<'a>) -> Line<'a>
+    ensures { written result ≡ line (request_parts (Request.SetVar ups.now variable.now value.now)) }
+{
+    Line::Three(b"SET VAR", word(ups), word(variable), quoted(value))
 }
 
 impl ListQuery<'_> {
