@@ -1,5 +1,5 @@
 //! The answer that a query expects.
-ghost use Rattle.std.specs.Prelude.{◌≡◌, ◌≤◌, [], IfSome, IfNone, IsTrue, drop, length};
+ghost use Rattle.std.specs.Prelude.{◌≡◌, ◌≤◌, [], MatchOption, IsTrue, drop, length};
 ghost use Rattle.std.specs.List.{list_any};
 ghost use Rattle.nut_words.specs.Quoting.{texts};
 ghost use Rattle.nut_proto.specs.Lines.{message_words};
@@ -138,8 +138,7 @@ impl Expected {
 
 /// What a request expects, unless a word of it that an answer repeats is longer than a line may be. Takes no memory.
 pub(crate) fn expected_of(request: &Request<'_>) -> Option<Expected>
-    ensures some { IfSome result (λ e. e ≡ expected request.now) }
-    ensures none { IfNone result (IsTrue (list_any is_long (drop 1 (message_words (request_parts request.now))))) }
+    ensures { MatchOption result (IsTrue (list_any is_long (drop 1 (message_words (request_parts request.now))))) (λ e. e ≡ expected request.now) }
 {
     match request {
         Request::GetNumLogins { ups } => line(&[b"NUMLOGINS", ups.as_bytes()], More::Number),
@@ -181,16 +180,14 @@ pub(crate) fn expected_of(request: &Request<'_>) -> Option<Expected>
 /// nothing.
 fn line(words: &[&[u8]], more: More) -> Option<Expected>
     requires { length words.now ≤ 3 }
-    ensures some { IfSome result (λ e. e ≡ Expected.Line (texts words.now) more) }
-    ensures none { IfNone result (IsTrue (list_any is_long (texts words.now))) }
+    ensures { MatchOption result (IsTrue (list_any is_long (texts words.now))) (λ e. e ≡ Expected.Line (texts words.now) more) }
 {
     Some(Expected::Line(Heading::copy(words)?, more))
 }
 
 /// Returns what a LIST expects. `None` only if a word of it is longer than a line may be. It allocates nothing.
 fn listing_of(query: &ListQuery<'_>) -> Option<Expected>
-    ensures some { IfSome result (λ e. e ≡ listing query.now) }
-    ensures none { IfNone result (IsTrue (list_any is_long (message_words (query_parts query.now)))) }
+    ensures { MatchOption result (IsTrue (list_any is_long (message_words (query_parts query.now)))) (λ e. e ≡ listing query.now) }
 {
     match query {
         ListQuery::Ups => list(&[b"UPS"], 2),
@@ -211,8 +208,7 @@ fn listing_of(query: &ListQuery<'_>) -> Option<Expected>
 /// line may be. It allocates nothing.
 fn list(words: &[&[u8]], count: u8) -> Option<Expected>
     requires { length words.now ≤ 3 }
-    ensures some { IfSome result (λ e. e ≡ Expected.Listing (texts words.now) count) }
-    ensures none { IfNone result (IsTrue (list_any is_long (texts words.now))) }
+    ensures { MatchOption result (IsTrue (list_any is_long (texts words.now))) (λ e. e ≡ Expected.Listing (texts words.now) count) }
 {
     Some(Expected::Listing(Heading::copy(words)?, count))
 }
