@@ -28,6 +28,11 @@ pub at_an_error : {T E P : Type 0} (r : Result T E) → P → OnErr r P
 at_an_error (Ok x) p = tt
 at_an_error (Err e) p = p
 
+-- commands, of which an insertion that lacked memory left all as they were
+pub commands_kept : {T E : Type 0} (r : Result T E) (t : Table) (xs ys : List (List ℕ)) → xs ≡ (if is_ok r then ys else t.commands) → OnErr r (record t { commands = xs } ≡ t)
+commands_kept (Ok x) t xs ys to = tt
+commands_kept (Err e) t xs ys to = ap (λ cs. record t { commands = cs }) to
+
 -- ---- the variable is v, at place i
 
 module _ (t : Table) (name : List ℕ) (i : ℕ) (v : Entry) (f : IsFound name_of name t.variables i) (at : v ≡ slice_index_or t.variables i v) where

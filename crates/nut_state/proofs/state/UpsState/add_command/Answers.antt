@@ -7,7 +7,7 @@ use Rattle.nut_state.specs.Text.{is_name}
 use Rattle.nut_state.specs.Step.{adds}
 use Rattle.nut_state.specs.Change.{add_command}
 use Rattle.nut_state.proofs.TableLemmas.{lt_true, lt_false}
-use Rattle.nut_state.proofs.ChangeLemmas.{itself, and_false, add_command_tried, add_command_keeps, add_command_adds, add_command_listed, add_command_refused}
+use Rattle.nut_state.proofs.ChangeLemmas.{itself, commands_kept, and_false, add_command_tried, add_command_keeps, add_command_adds, add_command_listed, add_command_refused}
 use Rattle.nut_state.proofs.state.UpsState.add_command.Goals as goal
 use Rattle.nut_state.proofs.state.UpsState.add_command.Goals.{then-not-is_name-via-then-not-is_name, then-not-is_name-via-else-not-is_name+then-len-ge-COMMANDS_MAX}
 
@@ -47,3 +47,7 @@ returns-in-Err-clause-succeeds c =
     add_command_adds (the_view c.self.inside) c.args.name.now c.in-Err.place none (sym c.is_name.ensures ∙ c.if-not-is_name.false)
     (lt_true _ _ (omega (arith, c.if-len-ge-COMMANDS_MAX.false, c.len.ensures))) in
     rw (← c.self.view_is) (λ same. cc (sym grows ∙ same))
+
+pub returns-in-Err-clause-err : goal.returns-in-Err-clause-err
+returns-in-Err-clause-err c =
+    rw (← c.self.view_is) (commands_kept c.insert_command.result (the_view c.self.inside) c.insert_command.new.commands.items _ c.insert_command.ensures)
