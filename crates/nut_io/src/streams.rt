@@ -1,7 +1,8 @@
 //! Reads and writes of one piece.
 
 ghost use Rattle.std.specs.Prelude.{◌≡◌, ◌≢◌, ◌≤◌, length, Ok, IfOk, IfErr, OnErr};
-ghost use Rattle.std.specs.Io.KnownBytes.{Consumes, IsAtEnd, Keeps, WriteAppends};
+ghost use Rattle.std.specs.Io.KnownBytes.{Consumes, IsAtEnd, Keeps, ReadConsumes, WriteAppends};
+ghost use Rattle.std.specs.Io.{ReadsAtMost};
 ghost use Rattle.std.specs.IoError.{error_kind};
 
 use crate::Piece;
@@ -22,13 +23,32 @@ pub fn read_piece<R: Read>(input: &mut R, piece: &mut Piece) -> io::Result<usize
     ensures err { OnErr result (Keeps (R.remaining input.old) (R.remaining input.new)) }
     ensures retried { IfErr result (λ e. error_kind e ≢ ErrorKind.Interrupted) }
 {
+    make_room(piece);
+    let n = read_some(input, piece.as_mut_slice())?;
+    piece.truncate(n);
+    Ok(n)
+}
+
+/// Makes the piece as long as a piece can be.
+fn make_room(piece: &mut Piece)
+    ensures { length piece.new.items ≡ PIECE_MAX }
+{
     *piece = Piece::from([0; PIECE_MAX]);
+}
+
+/// Reads once into the room, and returns how many bytes came. A read that is interrupted is tried again.
+///
+/// # Errors
+///
+/// The error of the reader, which then gave no byte.
+fn read_some<R: Read>(input: &mut R, room: &mut [u8]) -> io::Result<usize>
+    ensures bound { ReadsAtMost result room.new }
+    ensures bytes { ReadConsumes (R.remaining input.old) (R.remaining input.new) result room.new }
+    ensures retried { IfErr result (λ e. error_kind e ≢ ErrorKind.Interrupted) }
+{
     for _ in 0..u64::MAX {
-        match input.read(piece.as_mut_slice()) {
-            Ok(n) => {
-                piece.truncate(n);
-                return Ok(n);
-            }
+        match input.read(room) {
+            Ok(len) => return Ok(len),
             Err(e) if e.kind() == ErrorKind::Interrupted => {}
             Err(e) => return Err(e),
         }

@@ -66,10 +66,17 @@ impl Stage {
             return Err(LinkFault::BadLine);
         };
         match read_answer(alloc, text) {
-            Ok(answer) => self.hear_answer(alloc, &answer),
+            Ok(answer) => self.hear_out(alloc, answer),
             Err(AnswerFault::Memory) => Err(LinkFault::Memory),
             Err(AnswerFault::Unreadable | AnswerFault::Empty) => Err(LinkFault::BadLine),
         }
+    }
+
+    /// Takes in an answer, and drops it.
+    fn hear_out(&mut self, alloc: Global, answer: Answer<'_>) -> Result<(), LinkFault>
+        ensures { Moves (on_answer self.old answer.entry) (keeps_words answer.entry) self.old result self.new }
+    {
+        self.hear_answer(alloc, &answer)
     }
 }
 

@@ -1,6 +1,7 @@
 //! The answer that a query expects.
-ghost use Rattle.std.specs.Prelude.{◌≡◌, ◌≤◌, [], IfSome, IfNone, IsTrue, drop, length};
+ghost use Rattle.std.specs.Prelude.{◌≡◌, ◌≤◌, [], MatchOption, IsTrue, drop, length};
 ghost use Rattle.std.specs.List.{list_any};
+ghost use Rattle.nut_words.specs.Quoting.{texts};
 ghost use Rattle.nut_proto.specs.Lines.{message_words};
 ghost use Rattle.nut_proto.specs.Requests.{query_parts, request_parts};
 ghost use Rattle.nut_proto.specs.declared.answer.Answer.TheVariants as answers;
@@ -137,75 +138,77 @@ impl Expected {
 
 /// What a request expects, unless a word of it that an answer repeats is longer than a line may be. Takes no memory.
 pub(crate) fn expected_of(request: &Request<'_>) -> Option<Expected>
-    ensures some { IfSome result (λ e. e ≡ expected request.now) }
-    ensures none { IfNone result (IsTrue (list_any is_long (drop 1 (message_words (request_parts request.now))))) }
+    ensures { MatchOption result (IsTrue (list_any is_long (drop 1 (message_words (request_parts request.now))))) (λ e. e ≡ expected request.now) }
 {
-    Some(match request {
-        Request::GetNumLogins { ups } => Expected::Line(
-            Heading::copy(&[b"NUMLOGINS", ups.as_bytes()])?,
-            More::Number,
-        ),
-        Request::GetUpsDesc { ups } => Expected::Line(
-            Heading::copy(&[b"UPSDESC", ups.as_bytes()])?,
-            More::One,
-        ),
-        Request::GetVar { ups, variable } => Expected::Line(
-            Heading::copy(&[b"VAR", ups.as_bytes(), variable.as_bytes()])?,
-            More::One,
-        ),
-        Request::GetType { ups, variable } => Expected::Line(
-            Heading::copy(&[b"TYPE", ups.as_bytes(), variable.as_bytes()])?,
-            More::OneOrMore,
-        ),
-        Request::GetDesc { ups, variable } => Expected::Line(
-            Heading::copy(&[b"DESC", ups.as_bytes(), variable.as_bytes()])?,
-            More::One,
-        ),
-        Request::GetCmdDesc { ups, command } => Expected::Line(
-            Heading::copy(&[b"CMDDESC", ups.as_bytes(), command.as_bytes()])?,
-            More::One,
-        ),
-        Request::GetTracking => Expected::Line(Heading::copy(&[b"TRACKING"])?, More::One),
-        Request::GetTrackingOf { number } => Expected::Line(
-            Heading::copy(&[b"TRACKING", decimal(*number).as_slice()])?,
-            More::One,
-        ),
-        Request::List(query) => listing_of(query)?,
-        Request::SetVar { .. } | Request::InstCmd { .. } => Expected::NumberedSuccess,
+    match request {
+        Request::GetNumLogins { ups } => line(&[b"NUMLOGINS", ups.as_bytes()], More::Number),
+        Request::GetUpsDesc { ups } => line(&[b"UPSDESC", ups.as_bytes()], More::One),
+        Request::GetVar { ups, variable } => {
+            line(&[b"VAR", ups.as_bytes(), variable.as_bytes()], More::One)
+        }
+        Request::GetType { ups, variable } => {
+            line(
+                &[b"TYPE", ups.as_bytes(), variable.as_bytes()],
+                More::OneOrMore,
+            )
+        }
+        Request::GetDesc { ups, variable } => {
+            line(&[b"DESC", ups.as_bytes(), variable.as_bytes()], More::One)
+        }
+        Request::GetCmdDesc { ups, command } => {
+            line(&[b"CMDDESC", ups.as_bytes(), command.as_bytes()], More::One)
+        }
+        Request::GetTracking => line(&[b"TRACKING"], More::One),
+        Request::GetTrackingOf { number } => {
+            line(&[b"TRACKING", decimal(*number).as_slice()], More::One)
+        }
+        Request::List(query) => listing_of(query),
+        Request::SetVar { .. } | Request::InstCmd { .. } => Some(Expected::NumberedSuccess),
         Request::SetTracking { .. }
         | Request::Username { .. }
         | Request::Password { .. }
         | Request::Login { .. }
         | Request::Primary { .. }
         | Request::Fsd { .. }
-        | Request::Logout => Expected::Success,
-        Request::Ver | Request::NetVer | Request::Help => Expected::AnyLine,
-        Request::StartTls => Expected::Refusal,
-    })
+        | Request::Logout => Some(Expected::Success),
+        Request::Ver | Request::NetVer | Request::Help => Some(Expected::AnyLine),
+        Request::StartTls => Some(Expected::Refusal),
+    }
+}
+
+/// Expects a line that begins with these words. `None` only if one of them is longer than a line may be. It allocates
+/// nothing.
+fn line(words: &[&[u8]], more: More) -> Option<Expected>
+    requires { length words.now ≤ 3 }
+    ensures { MatchOption result (IsTrue (list_any is_long (texts words.now))) (λ e. e ≡ Expected.Line (texts words.now) more) }
+{
+    Some(Expected::Line(Heading::copy(words)?, more))
 }
 
 /// Returns what a LIST expects. `None` only if a word of it is longer than a line may be. It allocates nothing.
 fn listing_of(query: &ListQuery<'_>) -> Option<Expected>
-    ensures some { IfSome result (λ e. e ≡ listing query.now) }
-    ensures none { IfNone result (IsTrue (list_any is_long (message_words (query_parts query.now)))) }
+    ensures { MatchOption result (IsTrue (list_any is_long (message_words (query_parts query.now)))) (λ e. e ≡ listing query.now) }
 {
-    let heading = match query {
-        ListQuery::Ups => Heading::copy(&[b"UPS"])?,
-        ListQuery::Var { ups } => Heading::copy(&[b"VAR", ups.as_bytes()])?,
-        ListQuery::Rw { ups } => Heading::copy(&[b"RW", ups.as_bytes()])?,
-        ListQuery::Cmd { ups } => Heading::copy(&[b"CMD", ups.as_bytes()])?,
+    match query {
+        ListQuery::Ups => list(&[b"UPS"], 2),
+        ListQuery::Var { ups } => list(&[b"VAR", ups.as_bytes()], 2),
+        ListQuery::Rw { ups } => list(&[b"RW", ups.as_bytes()], 2),
+        ListQuery::Cmd { ups } => list(&[b"CMD", ups.as_bytes()], 1),
         ListQuery::Enum { ups, variable } => {
-            Heading::copy(&[b"ENUM", ups.as_bytes(), variable.as_bytes()])?
+            list(&[b"ENUM", ups.as_bytes(), variable.as_bytes()], 1)
         }
         ListQuery::Range { ups, variable } => {
-            Heading::copy(&[b"RANGE", ups.as_bytes(), variable.as_bytes()])?
+            list(&[b"RANGE", ups.as_bytes(), variable.as_bytes()], 2)
         }
-        ListQuery::Client { ups } => Heading::copy(&[b"CLIENT", ups.as_bytes()])?,
-    };
-    let count = match query {
-        ListQuery::Ups | ListQuery::Var { .. } | ListQuery::Rw { .. } | ListQuery::Range { .. } =>
-            2,
-        ListQuery::Cmd { .. } | ListQuery::Enum { .. } | ListQuery::Client { .. } => 1,
-    };
-    Some(Expected::Listing(heading, count))
+        ListQuery::Client { ups } => list(&[b"CLIENT", ups.as_bytes()], 1),
+    }
+}
+
+/// Expects a list of these words, with rows of `count` further ones. `None` only if one of the words is longer than a
+/// line may be. It allocates nothing.
+fn list(words: &[&[u8]], count: u8) -> Option<Expected>
+    requires { length words.now ≤ 3 }
+    ensures { MatchOption result (IsTrue (list_any is_long (texts words.now))) (λ e. e ≡ Expected.Listing (texts words.now) count) }
+{
+    Some(Expected::Listing(Heading::copy(words)?, count))
 }

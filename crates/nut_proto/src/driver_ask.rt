@@ -1,7 +1,8 @@
 //! The requests that the server sends to a driver.
 ghost use Rattle.std.specs.Prelude.{◌≡◌, ◌++◌, length, OnOk, OnErr};
+ghost use Rattle.nut_proto.specs.Lines.{line};
 ghost use Rattle.nut_words.specs.Out.{Fits, Exceeds};
-ghost use Rattle.nut_proto.specs.DriverAsks.{ask_line, ask_of, command_of, number_of, set_of};
+ghost use Rattle.nut_proto.specs.DriverAsks.{ask_line, ask_of, ask_parts, command_of, number_of, set_of};
 ghost use Rattle.nut_proto.specs.inside.Written.{written};
 
 use crate::cursor::Cursor;
@@ -57,7 +58,9 @@ impl<'a> DriverAsk<'a> {
         }
         None
     }
+}
 
+impl DriverAsk<'_> {
     /// Appends the line with its line feed.
     ///
     /// # Errors
@@ -82,51 +85,78 @@ impl<'a> DriverAsk<'a> {
             DriverAsk::Set {
                 variable,
                 value,
-                number: None,
-            } => Line::Two(b"SET", word(variable), quoted(value)),
-            DriverAsk::Set {
-                variable,
-                value,
-                number: Some(number),
-            } => Line::Four(
-                b"SET",
-                word(variable),
-                quoted(value),
-                text(b"TRACKING"),
-                Part::Number(*number),
-            ),
+                number,
+            } => set_line(variable, value, *number),
             DriverAsk::InstCmd {
                 command,
-                parameter: None,
-                number: None,
-            } => Line::One(b"INSTCMD", word(command)),
-            DriverAsk::InstCmd {
-                command,
-                parameter: None,
-                number: Some(number),
-            } => Line::Three(
-                b"INSTCMD",
-                word(command),
-                text(b"TRACKING"),
-                Part::Number(*number),
-            ),
-            DriverAsk::InstCmd {
-                command,
-                parameter: Some(parameter),
-                number: None,
-            } => Line::Two(b"INSTCMD", word(command), quoted(parameter)),
-            DriverAsk::InstCmd {
-                command,
-                parameter: Some(parameter),
-                number: Some(number),
-            } => Line::Four(
-                b"INSTCMD",
-                word(command),
-                quoted(parameter),
-                text(b"TRACKING"),
-                Part::Number(*number),
-            ),
+                parameter,
+                number,
+            } => command_line(command, parameter, *number),
         }
+    }
+}
+
+/// Returns the line of a request to set a variable.
+#[tactic(auto, unfolding(crate::specs::Lines::line))]
+fn set_line<'a>(variable: &Word<'a>, value: &Word<'a>, number: Option<u32>) -> Line<'a>
+    ensures { written result ≡ line (ask_parts (DriverAsk.Set variable.now value.now number)) }
+{
+    match number {
+        None => Line::Two(b"SET", word(variable), quoted(value)),
+        Some(number) => Line::Four(
+            b"SET",
+            word(variable),
+            quoted(value),
+            text(b"TRACKING"),
+            Part::Number(number),
+        ),
+    }
+}
+
+/// Returns the line of a request to run a command.
+fn command_line<'a>(
+    command: &Word<'a>,
+    parameter: &Option<Word<'a>>,
+    number: Option<u32>,
+) -> Line<'a>
+    ensures { written result ≡ line (ask_parts (DriverAsk.InstCmd command.now parameter.now number)) }
+{
+    match parameter {
+        None => plain_command_line(command, number),
+        Some(parameter) => command_line_with(command, parameter, number),
+    }
+}
+
+/// Returns the line of a request to run a command that has no parameter.
+#[tactic(auto, unfolding(crate::specs::Lines::line))]
+fn plain_command_line<'a>(command: &Word<'a>, number: Option<u32>) -> Line<'a>
+    ensures { written result ≡ line (ask_parts (DriverAsk.InstCmd command.now None number)) }
+{
+    match number {
+        None => Line::One(b"INSTCMD", word(command)),
+        Some(number) => Line::Three(
+            b"INSTCMD",
+            word(command),
+            text(b"TRACKING"),
+            Part::Number(number),
+        ),
+    }
+}
+
+/// Returns the line of a request to run a command with a parameter.
+#[tactic(auto, unfolding(crate::specs::Lines::line))]
+fn command_line_with<'a>(command: &Word<'a>, parameter: &Word<'a>, number: Option<u32>) -> Line<'a>
+    ensures { written result ≡ line (ask_parts (DriverAsk.InstCmd command.now (Some parameter.now) number)) }
+{
+    match number {
+        None => Line::Two(b"INSTCMD", word(command), quoted(parameter)),
+        Some(number) => Line::Four(
+            b"INSTCMD",
+            word(command),
+            quoted(parameter),
+            text(b"TRACKING"),
+            Part::Number(number),
+        ),
     }
 }
 

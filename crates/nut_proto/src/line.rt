@@ -1,7 +1,7 @@
 //! Writes lines.
-ghost use Rattle.std.specs.Prelude.{◌≡◌, ◌++◌, length, take, OnOk, OnErr};
+ghost use Rattle.std.specs.Prelude.{◌≡◌, ◌∷◌, [], ◌++◌, length, take, OnOk, OnErr};
 ghost use Rattle.nut_words.specs.Out.{Fits, Exceeds};
-ghost use Rattle.nut_proto.specs.inside.Written.{line_from, written};
+ghost use Rattle.nut_proto.specs.inside.Written.{Puts, line_from, written};
 
 use crate::part::{Part, append_parts};
 use nut_words::Out;
@@ -24,34 +24,67 @@ impl Line<'_> {
     ///
     /// If memory cannot be allocated, or if the whole doesn't fit into a buffer of fixed size. `out` is then as it was.
     pub fn put<O: Out>(self, out: &mut O) -> Result<(), O::Fault>
-        ensures ok { OnOk result (O.held out.new ≡ O.held out.old ++ written self.entry) }
-        ensures err { OnErr result (O.held out.new ≡ O.held out.old) }
-        ensures fits { OnOk result (Fits O.most (length (O.held out.old ++ written self.entry))) }
-        ensures full { OnErr result (Exceeds O.most (length (O.held out.old ++ written self.entry))) }
+        ensures { Puts O.most (O.held out.old) (O.held out.new) (written self.entry) result }
     {
         match self {
             Line::Bare(words) => put_line(out, words, &[]),
-            Line::One(words, first) => put_line(out, words, &[first]),
-            Line::Two(words, first, second) => put_line(out, words, &[first, second]),
-            Line::Three(words, first, second, third) => put_line(
-                out,
-                words,
-                &[first, second, third],
-            ),
-            Line::Four(words, first, second, third, fourth) => put_line(
-                out,
-                words,
-                &[first, second, third, fourth],
+            Line::One(words, first) => put_one(out, words, first),
+            Line::Two(words, first, second) => put_two(out, words, first, second),
+            Line::Three(words, first, second, third) => put_three(out, words, first, second, third),
+            Line::Four(words, first, second, third, fourth) => put_four(
+                out, words, first, second, third, fourth,
             ),
         }
     }
 }
 
+// A function for each number of parts: a match whose arms make arrays is dear to prove.
+
+fn put_one<O: Out>(out: &mut O, words: &[u8], first: Part<'_>) -> Result<(), O::Fault>
+    ensures { Puts O.most (O.held out.old) (O.held out.new) (line_from words.now (first.entry ∷ [])) result }
+{
+    put_line(out, words, &[first])
+}
+
+fn put_two<O: Out>(
+    out: &mut O,
+    words: &[u8],
+    first: Part<'_>,
+    second: Part<'_>,
+) -> Result<(), O::Fault>
+    ensures { Puts O.most (O.held out.old) (O.held out.new) (line_from words.now (first.entry ∷ second.entry ∷ [])) result }
+{
+    put_line(out, words, &[first, second])
+}
+
+fn put_three<O: Out>(
+    out: &mut O,
+    words: &[u8],
+    first: Part<'_>,
+    second: Part<'_>,
+    third: Part<'_>,
+) -> Result<(), O::Fault>
+    ensures { Puts O.most (O.held out.old) (O.held out.new) (line_from words.now (first.entry ∷ second.entry ∷ third.entry ∷ [])) result }
+{
+    put_line(out, words, &[first, second, third])
+}
+
+fn put_four<O: Out>(
+    out: &mut O,
+    words: &[u8],
+    first: Part<'_>,
+    second: Part<'_>,
+    third: Part<'_>,
+    fourth: Part<'_>,
+) -> Result<(), O::Fault>
+    ensures { Puts O.most (O.held out.old) (O.held out.new) (line_from words.now (first.entry ∷ second.entry ∷ third.entry ∷ fourth.entry ∷ [])) result }
+{
+    put_line(out, words, &[first, second, third, fourth])
+}
+
+/// Appends the line of these words and parts, or nothing.
 fn put_line<O: Out>(out: &mut O, words: &[u8], parts: &[Part<'_>]) -> Result<(), O::Fault>
-    ensures ok { OnOk result (O.held out.new ≡ O.held out.old ++ line_from words.now parts.now) }
-    ensures err { OnErr result (O.held out.new ≡ O.held out.old) }
-    ensures fits { OnOk result (Fits O.most (length (O.held out.old ++ line_from words.now parts.now))) }
-    ensures full { OnErr result (Exceeds O.most (length (O.held out.old ++ line_from words.now parts.now))) }
+    ensures { Puts O.most (O.held out.old) (O.held out.new) (line_from words.now parts.now) result }
 {
     let before = out.len();
     let outcome = append_line(out, words, parts);
@@ -69,6 +102,5 @@ fn append_line<O: Out>(out: &mut O, words: &[u8], parts: &[Part<'_>]) -> Result<
 {
     out.append(words)?;
     append_parts(out, parts)?;
-    out.push(b'\n')?;
-    Ok(())
+    out.push(b'\n')
 }

@@ -3,6 +3,7 @@ ghost use Rattle.std.specs.Prelude.{◌≡◌, ◌∷◌, [], ◌++◌, length, 
 ghost use Rattle.std.specs.List.{flat_map};
 ghost use Rattle.nut_words.specs.Out.{Exceeds};
 ghost use Rattle.nut_proto.specs.Lines.{part_text};
+ghost use Rattle.nut_proto.specs.inside.Written.{Puts};
 
 use crate::number::{decimal, signed_decimal};
 use crate::word::Word;
@@ -47,9 +48,7 @@ pub fn quoted<'a>(word: &Word<'a>) -> Part<'a>
 
 impl Part<'_> {
     fn put<O: Out>(&self, out: &mut O) -> Result<(), O::Fault>
-        ensures ok { OnOk result (O.held out.new ≡ O.held out.old ++ part_text self.now) }
-        ensures err { OnErr result (O.held out.new ≡ O.held out.old) }
-        ensures full { OnErr result (Exceeds O.most (length (O.held out.old ++ part_text self.now))) }
+        ensures { Puts O.most (O.held out.old) (O.held out.new) (part_text self.now) result }
     {
         match self {
             Part::Word(word) => put_word(out, word.as_bytes()),

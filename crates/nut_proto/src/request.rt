@@ -1,8 +1,9 @@
 //! The requests of a client, and how they are written.
 ghost use Rattle.std.specs.Prelude.{◌≡◌, ◌++◌, length, OnOk, OnErr};
 ghost use Rattle.nut_words.specs.Out.{Fits, Exceeds};
-ghost use Rattle.nut_proto.specs.Requests.{request_line, begin_line, end_line};
-ghost use Rattle.nut_proto.specs.inside.Written.{written};
+ghost use Rattle.nut_proto.specs.Lines.{line};
+ghost use Rattle.nut_proto.specs.Requests.{request_line, request_parts, begin_line, end_line};
+ghost use Rattle.nut_proto.specs.inside.Written.{Puts, written};
 
 use crate::line::Line;
 use crate::part::{Part, quoted, text, word};
@@ -159,7 +160,7 @@ impl Request<'_> {
                 ups,
                 variable,
                 value,
-            } => Line::Three(b"SET VAR", word(ups), word(variable), quoted(value)),
+            } => set_line(ups, variable, value),
             Request::SetTracking { on } => Line::One(b"SET TRACKING", text(switch_word(*on))),
             Request::InstCmd {
                 ups,
@@ -185,6 +186,14 @@ impl Request<'_> {
     }
 }
 
+/// Returns the line of a request to set a variable.
+#[tactic(auto, unfolding(crate::specs::Lines::line))]
+fn set_line<'a>(ups: &Word<'a>, variable: &Word<'a>, value: &Word<'a>) -> Line<'a>
+    ensures { written result ≡ line (request_parts (Request.SetVar ups.now variable.now value.now)) }
+{
+    Line::Three(b"SET VAR", word(ups), word(variable), quoted(value))
+}
+
 impl ListQuery<'_> {
     #[tactic(auto, unfolding(crate::specs::Requests::request_line, crate::specs::Lines::line))]
     fn line(&self) -> Line<'_>
@@ -207,10 +216,7 @@ impl ListQuery<'_> {
 
     /// Appends a mark and the line of the request behind it. It fails as [`Request::put`] does.
     fn put_marked<O: Out>(&self, out: &mut O, mark: &[u8]) -> Result<(), O::Fault>
-        ensures ok { OnOk result (O.held out.new ≡ O.held out.old ++ (mark.now ++ request_line (Request.List self.now))) }
-        ensures err { OnErr result (O.held out.new ≡ O.held out.old) }
-        ensures fits { OnOk result (Fits O.most (length (O.held out.old ++ (mark.now ++ request_line (Request.List self.now))))) }
-        ensures full { OnErr result (Exceeds O.most (length (O.held out.old ++ (mark.now ++ request_line (Request.List self.now))))) }
+        ensures { Puts O.most (O.held out.old) (O.held out.new) (mark.now ++ request_line (Request.List self.now)) result }
     {
         let before = out.len();
         out.append(mark)?;

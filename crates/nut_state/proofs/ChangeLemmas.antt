@@ -1,7 +1,8 @@
 -- What each change does, if a search by name has found its variable or command, and if it has found none.
-use Rattle.std.proofs.Common.{◌≡◌, ℕ, zero, suc, List, [], ◌∷◌, ◌++◌, Bool, true, false, not, ◌&&◌, Some, None, length, refl, sym, ap, ◌∙◌, arith, inl, inr, ◌⊎◌}
-use Rattle.std.specs.Prelude.{filter, is_some, nat_lt, nat_le, unwrap_or, slice_set, slice_index_or}
+use Rattle.std.proofs.Common.{◌≡◌, ℕ, zero, suc, List, [], ◌∷◌, ◌++◌, Bool, true, false, not, ◌&&◌, Some, None, Ok, Err, Result, length, refl, sym, ap, subst, ◌∙◌, arith, inl, inr, ◌⊎◌}
+use Rattle.std.specs.Prelude.{if◌then◌else◌, filter, is_some, nat_lt, nat_le, unwrap_or, slice_set, slice_index_or}
 use Rattle.std.specs.List.{insert, remove, list_any}
+use Rattle.std.specs.Result.{OnOk, OnErr, is_ok}
 use Rattle.std.specs.Str.{bytes_eq}
 use Rattle.nut_words.specs.declared.limits.TheConstants.{VALUE_MAX}
 use Rattle.nut_state.specs.declared.limits.TheConstants.{VARIABLES_MAX, COMMANDS_MAX}
@@ -13,13 +14,24 @@ use Rattle.nut_state.specs.Table.{Table, Entry, variable}
 use Rattle.nut_state.specs.Step.{fresh, with_value, without_enum, without_range, with_variable, revised, accepts, changed, after, adds}
 use Rattle.nut_state.specs.Attribute.{same_range, takes_enum, takes_range, lists_enum, lists_range}
 use Rattle.nut_state.specs.Change.{Change, set_info, del_info, add_enum, del_enum, add_range, del_range, set_aux, set_flags, add_command, del_command}
-use Rattle.nut_state.proofs.TableLemmas.{after_accepted, after_refused}
+use Rattle.nut_state.specs.laws.Holds.{IsTable}
+use Rattle.nut_state.proofs.TableLemmas.{IsTable-after, after_accepted, after_refused}
 
 abbrev pub name_of : Entry → List ℕ
 name_of v = v.name
 
 abbrev pub itself : List ℕ → List ℕ
 itself command = command
+
+-- what holds anyway holds after an error
+pub at_an_error : {T E P : Type 0} (r : Result T E) → P → OnErr r P
+at_an_error (Ok x) p = tt
+at_an_error (Err e) p = p
+
+-- commands, of which an insertion that lacked memory left all as they were
+pub commands_kept : {T E : Type 0} (r : Result T E) (t : Table) (xs ys : List (List ℕ)) → xs ≡ (if is_ok r then ys else t.commands) → OnErr r (record t { commands = xs } ≡ t)
+commands_kept (Ok x) t xs ys to = tt
+commands_kept (Err e) t xs ys to = ap (λ cs. record t { commands = cs }) to
 
 -- ---- the variable is v, at place i
 
@@ -39,6 +51,11 @@ module _ (t : Table) (name : List ℕ) (i : ℕ) (v : Entry) (f : IsFound name_o
   same_set [] k e = refl
   same_set (x ∷ xs) zero e = ap (λ y. y ∷ xs) e
   same_set (x ∷ xs) (suc k) e = ap (λ ys. x ∷ ys) (same_set xs k e)
+
+  -- a variable that is put back as it was
+  pub put_back : (new : Entry) → new ≡ v → record t { variables = slice_set t.variables i new } ≡ t
+  put_back new to =
+      ap (λ w. record t { variables = slice_set t.variables i w }) to ∙ ap (λ vs. record t { variables = vs }) (same_set t.variables i at)
 
   untouched : (change : Change) (new : Entry) → accepts t change ≡ false → new ≡ v → record t { variables = slice_set t.variables i new } ≡ after t change
   untouched change new denied to =
@@ -205,6 +222,17 @@ module _ (t : Table) (name value : List ℕ) (i : ℕ) (f : IsFree name_of name 
       ∙ ap (λ o. with_variable t name (Some (with_value value (unwrap_or o (fresh name value))))) (sym f.is)
       ∙ sym (after_accepted t (set_info name value) accepted)
 
+  -- an insertion that may lack memory
+  pub set_info_tried : {T E : Type 0} (r : Result T E) (xs : List Entry) → xs ≡ (if is_ok r then insert t.variables i (fresh name value) else t.variables)
+      → OnOk r (record t { variables = xs } ≡ after t (set_info name value))
+  set_info_tried (Ok x) xs to = set_info_added xs to
+  set_info_tried (Err e) xs to = tt
+
+  pub set_info_keeps : {T E : Type 0} (r : Result T E) (xs : List Entry) → xs ≡ (if is_ok r then insert t.variables i (fresh name value) else t.variables)
+      → IsTable t → IsTable (record t { variables = xs })
+  set_info_keeps (Ok x) xs to h = subst IsTable (sym (set_info_added xs to)) (IsTable-after t (set_info name value) h)
+  set_info_keeps (Err e) xs to h = subst (λ vs. IsTable (record t { variables = vs })) (sym to) h
+
 -- ---- commands
 
 pub add_command_refused : (t : Table) (name : List ℕ) → (is_name name && nat_lt (length t.commands) COMMANDS_MAX) ≡ false → t ≡ after t (add_command name)
@@ -230,6 +258,17 @@ module _ (t : Table) (name : List ℕ) (i : ℕ) (f : IsFree itself name t.comma
   unfolding changed
   add_command_added xs to =
       ap (λ cs. record t { commands = cs }) (to ∙ sym (f.inserted name)) ∙ sym (after_accepted t (add_command name) command_accepted)
+
+  -- an insertion that may lack memory
+  pub add_command_tried : {T E : Type 0} (r : Result T E) (xs : List (List ℕ)) → xs ≡ (if is_ok r then insert t.commands i name else t.commands)
+      → OnOk r (record t { commands = xs } ≡ after t (add_command name))
+  add_command_tried (Ok x) xs to = add_command_added xs to
+  add_command_tried (Err e) xs to = tt
+
+  pub add_command_keeps : {T E : Type 0} (r : Result T E) (xs : List (List ℕ)) → xs ≡ (if is_ok r then insert t.commands i name else t.commands)
+      → IsTable t → IsTable (record t { commands = xs })
+  add_command_keeps (Ok x) xs to h = subst IsTable (sym (add_command_added xs to)) (IsTable-after t (add_command name) h)
+  add_command_keeps (Err e) xs to h = subst (λ cs. IsTable (record t { commands = cs })) (sym to) h
 
 pub del_command_found : (t : Table) (name : List ℕ) (i : ℕ) (xs : List (List ℕ)) → IsFound itself name t.commands i → xs ≡ remove t.commands i
     → record t { commands = xs } ≡ after t (del_command name)

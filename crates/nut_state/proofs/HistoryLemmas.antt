@@ -14,7 +14,7 @@ use Rattle.nut_state.specs.Change.{Change, set_info, del_info, add_enum, del_enu
 use Rattle.nut_state.specs.laws.Holds.{FollowsAlike, Holds, IsTable, IsWithinLimits, LooksBack}
 use Rattle.nut_state.specs.LookBack.{deletes, value_set, flags_set, aux_set, enum_added, removes_enum, range_added, removes_range, command_set, dumps, data_set, latest, standing, era, is_there, is_command, variable_count, command_count, is_accepted, adds_to, accepted_after, accepted}
 use Rattle.nut_state.specs.Sorted.{named}
-use Rattle.nut_state.specs.Step.{accepts, adds, changed, after, applied, table_of, fresh, with_value, with_variable, revised}
+use Rattle.nut_state.specs.Step.{accepts, adds, changed, after, applied, line_adds, table_of, fresh, with_value, with_variable, revised}
 use Rattle.nut_state.specs.Table.{Table, Entry, empty, variable, has_command, value_of, flags_of, aux_of, enums_of, ranges_of}
 use Rattle.nut_state.specs.Text.{is_name}
 use Rattle.nut_state.proofs.EffectLemmas.{effects, gone, rest_effects}
@@ -278,6 +278,17 @@ empty_holds = record {
   goes_on = follows_alike empty [] nothing_is_table nothing;
 }
 
+-- A table without variables and commands, and with neither mark, is the empty one.
+module _ (variables : List Entry) (commands : List (List ℕ)) (no_variable : variables ≡ []) (no_command : commands ≡ []) where
+  pub emptied : record { variables = variables; commands = commands; dump_done = false; data_ok = false } ≡ empty
+  emptied = rw (no_variable, no_command) refl
+
+  pub emptied_is_table : IsTable (record { variables = variables; commands = commands; dump_done = false; data_ok = false })
+  emptied_is_table = subst IsTable (sym emptied) nothing_is_table
+
+  pub emptied_holds : Holds (record { variables = variables; commands = commands; dump_done = false; data_ok = false }) []
+  emptied_holds = subst (λ t. Holds t []) (sym emptied) empty_holds
+
 -- one more line
 module _ (t : Table) (line : List ℕ) (lines : List (List ℕ)) (h : Holds t lines) where
   judged : (change : Change) (b : Bool) → accepts t change ≡ b
@@ -308,11 +319,25 @@ pub every_table : (lines : List (List ℕ)) → Holds (table_of lines) lines
 every_table [] = empty_holds
 every_table (line ∷ earlier) = applied_holds (table_of earlier) line earlier (every_table earlier)
 
+-- A line asks for what its words ask for.
+pub heard_words : (line : List ℕ) (words : List (List ℕ)) → spelled line ≡ Ok words → heard line ≡ asked words
+unfolding heard
+heard_words line words reads = ap (λ r. option_and_then asked (result_ok r)) reads
+
+-- The table after a line is the table after its words.
+pub applied_words : (t : Table) (line : List ℕ) (words : List (List ℕ)) → spelled line ≡ Ok words
+    → option_map_or (after t) (asked words) t ≡ applied t line
+unfolding applied
+applied_words t line words reads = ap (λ o. option_map_or (after t) o t) (sym (heard_words line words reads))
+
+-- A line may add to the table if its words may.
+pub line_adds_words : (t : Table) (line : List ℕ) (words : List (List ℕ)) → spelled line ≡ Ok words
+    → option_map_or (adds t) (asked words) false ≡ line_adds t line
+unfolding line_adds
+line_adds_words t line words reads = ap (λ o. option_map_or (adds t) o false) (sym (heard_words line words reads))
+
 -- A table that did what a line asks for holds what the lines and this one say.
-pub followed_holds : (t new : Table) (line : List ℕ) (words : List (List ℕ)) (change : Change) → spelled line ≡ Ok words → asked words ≡ Some change
-    → new ≡ after t change → (lines : List (List ℕ)) → Holds t lines → Holds new (line ∷ lines)
-unfolding heard applied
-followed_holds t new line words change reads asks follows lines h =
-    let asked_so : heard line ≡ Some change = ap (λ r. option_and_then asked (result_ok r)) reads ∙ asks in
-    let moves : applied t line ≡ after t change = ap (λ o. option_map_or (after t) o t) asked_so in
-    subst (λ u. Holds u (line ∷ lines)) (moves ∙ sym follows) (applied_holds t line lines h)
+pub followed_holds : (t new : Table) (line : List ℕ) (words : List (List ℕ)) → spelled line ≡ Ok words
+    → new ≡ option_map_or (after t) (asked words) t → (lines : List (List ℕ)) → Holds t lines → Holds new (line ∷ lines)
+followed_holds t new line words reads follows lines h =
+    subst (λ u. Holds u (line ∷ lines)) (sym (follows ∙ applied_words t line words reads)) (applied_holds t line lines h)

@@ -1,13 +1,16 @@
 //! The table of one UPS.
 ghost use Rattle.std.specs.Prelude.{◌≡◌, ◌≤◌, ◌∷◌, [], List, ℕ, true, false, length, map, IsOk, OnOk, OnErr, IfOk, MatchOption, Some, None, option_map, is_some, if◌then◌else◌};
 ghost use Rattle.nut_state.specs.Table.{empty, variable, has_command, value_of, flags_of, aux_of, enums_of, ranges_of};
-ghost use Rattle.nut_state.specs.Step.{after, adds, applied, line_adds};
+ghost use Rattle.nut_state.specs.Step.{after, adds, applied, fresh, line_adds};
 ghost use Rattle.nut_state.specs.Answer.{answer, answer_to};
-ghost use Rattle.nut_state.specs.Change.{set_info, del_info, add_enum, del_enum, add_range, del_range, set_aux, set_flags, add_command, del_command, asked_by, heard};
+ghost use Rattle.nut_state.specs.Change.{set_info, del_info, add_enum, del_enum, add_range, del_range, set_aux, set_flags, add_command, del_command, asked, asked_by, heard};
+ghost use Rattle.nut_state.specs.Verb.{may_add};
+ghost use Rattle.std.specs.Option.{option_map_or};
 ghost use Rattle.nut_state.specs.laws.Holds.{Holds, IsWithinLimits};
 ghost use Rattle.nut_state.specs.Sorted.{IsAscending};
 ghost use Rattle.nut_state.specs.Text.{is_name};
-ghost use Rattle.std.specs.List.{All};
+ghost use Rattle.std.specs.List.{All, insert};
+ghost use Rattle.std.specs.Result.{is_ok};
 ghost use Rattle.nut_words.specs.Reader.{has_backslash};
 
 use crate::heard::{Heard, StateFault};
@@ -17,7 +20,7 @@ use crate::sorted::{place_of_command, place_of_variable};
 use crate::text::{Name, Text, is_name};
 use crate::variable::{Flags, Variable};
 use crate::verb::Verb;
-use nut_words::{VALUE_MAX, WordFault, Words, natural, split};
+use nut_words::{NAME_MAX, VALUE_MAX, WordFault, Words, natural, split};
 use std::alloc::{AllocError, Global};
 use std::marker::Model;
 
@@ -44,6 +47,33 @@ impl Model for UpsState {
     ghost invariant = { λ s. IsTable (record { variables = s.variables.items; commands = s.commands.items; dump_done = s.dump_done; data_ok = s.data_ok }) };
 }
 
+/// Inserts a new variable at a place, with a value and nothing else.
+fn insert_variable(
+    variables: &mut Vec<Variable>,
+    alloc: Global,
+    place: usize,
+    name: &[u8],
+    value: &[u8],
+) -> Result<(), AllocError>
+    requires place { place ≤ length variables.old.items }
+    requires name { length name.now ≤ NAME_MAX }
+    requires value { length value.now ≤ VALUE_MAX }
+    ensures { variables.new.items ≡ (if is_ok result then insert variables.old.items place (fresh name.now value.now) else variables.old.items) }
+{
+    variables.insert(place, Variable::new(alloc, name, value))?;
+    Ok(())
+}
+
+/// Inserts a command at a place.
+fn insert_command(commands: &mut Vec<Name>, place: usize, name: &[u8]) -> Result<(), AllocError>
+    requires place { place ≤ length commands.old.items }
+    requires name { length name.now ≤ NAME_MAX }
+    ensures { commands.new.items ≡ (if is_ok result then insert commands.old.items place name.now else commands.old.items) }
+{
+    commands.insert(place, Name::new(name))?;
+    Ok(())
+}
+
 /// Each function here does what one kind of line asks for, if the table accepts it. Otherwise it changes nothing.
 impl UpsState {
     /// SETINFO: gives a variable a value. Adds the variable if there is none with this name.
@@ -56,14 +86,19 @@ impl UpsState {
             return Ok(());
         }
         match place_of_variable(&self.variables, name) {
-            Ok(place) => self.variables[place].set_value(value),
-            Err(place) if self.variables.len() < VARIABLES_MAX => {
-                self.variables
-                    .insert(place, Variable::new(self.alloc, name, value))?;
+            Ok(place) => {
+                self.variables[place].set_value(value);
+                Ok(())
             }
-            Err(_) => {}
+            Err(place) if self.variables.len() < VARIABLES_MAX => insert_variable(
+                &mut self.variables,
+                self.alloc,
+                place,
+                name,
+                value,
+            ),
+            Err(_) => Ok(()),
         }
-        Ok(())
     }
 
     /// DELINFO: removes a variable, with its value, flags, aux, enum values and ranges.
@@ -166,10 +201,10 @@ impl UpsState {
         if !is_name(name) || self.commands.len() >= COMMANDS_MAX {
             return Ok(());
         }
-        if let Err(place) = place_of_command(&self.commands, name) {
-            self.commands.insert(place, Name::new(name))?;
+        match place_of_command(&self.commands, name) {
+            Ok(_) => Ok(()),
+            Err(place) => insert_command(&mut self.commands, place, name),
         }
-        Ok(())
     }
 
     /// DELCMD: removes a command.
@@ -181,31 +216,60 @@ impl UpsState {
         }
     }
 
-    #[tactic(auto, unfolding(crate::specs::Step::after, crate::specs::Step::accepts, crate::specs::Step::changed))]
     /// Does what a line with this verb and these words asks for, if the table accepts it.
     fn follow(&mut self, verb: Verb, words: &Words) -> Result<(), AllocError>
         ensures ok { OnOk result (self.new ≡ after self.old (asked_by verb words.now)) }
         ensures err { OnErr result (self.new ≡ self.old) }
         ensures succeeds { adds self.old (asked_by verb words.now) ≡ false → IsOk result }
     {
-        let name = words.get(1);
         match verb {
-            Verb::SetInfo => self.set_info(name, words.get(2))?,
-            Verb::DelInfo => self.delete_info(name),
-            Verb::AddEnum => self.add_enum(name, words.get(2))?,
-            Verb::DelEnum => self.delete_enum(name, words.get(2)),
-            Verb::AddRange => self.add_range(name, Range::read(words.get(2), words.get(3)))?,
-            Verb::DelRange => self.delete_range(name, Range::read(words.get(2), words.get(3))),
-            Verb::SetAux => self.set_aux(name, natural(words.get(2))),
-            Verb::SetFlags => self.set_flags(name, Flags::read(words)),
-            Verb::AddCommand => self.add_command(name)?,
-            Verb::DelCommand => self.delete_command(name),
+            Verb::SetInfo => self.set_info(words.get(1), words.get(2)),
+            Verb::AddEnum => self.add_enum(words.get(1), words.get(2)),
+            Verb::AddRange => self.add_range(words.get(1), Range::read(words.get(2), words.get(3))),
+            Verb::AddCommand => self.add_command(words.get(1)),
+            Verb::DelInfo
+            | Verb::DelEnum
+            | Verb::DelRange
+            | Verb::SetAux
+            | Verb::SetFlags
+            | Verb::DelCommand
+            | Verb::DumpDone
+            | Verb::DataOk
+            | Verb::DataStale
+            | Verb::Pong
+            | Verb::Tracking => {
+                self.follow_in_place(verb, words);
+                Ok(())
+            }
+        }
+    }
+
+    /// Does what a line with this verb and these words asks for, if the table accepts it, and if it is one of those
+    /// that never add to the table: nothing for the other verbs.
+    #[tactic(auto, unfolding(crate::specs::Step::after, crate::specs::Step::accepts, crate::specs::Step::changed))]
+    fn follow_in_place(&mut self, verb: Verb, words: &Words)
+        ensures { self.new ≡ (if may_add verb then self.old else after self.old (asked_by verb words.now)) }
+    {
+        match verb {
+            Verb::DelInfo => self.delete_info(words.get(1)),
+            Verb::DelEnum => self.delete_enum(words.get(1), words.get(2)),
+            Verb::DelRange => self.delete_range(
+                words.get(1),
+                Range::read(words.get(2), words.get(3)),
+            ),
+            Verb::SetAux => self.set_aux(words.get(1), natural(words.get(2))),
+            Verb::SetFlags => self.set_flags(words.get(1), Flags::read(words)),
+            Verb::DelCommand => self.delete_command(words.get(1)),
             Verb::DumpDone => self.dump_done = true,
             Verb::DataOk => self.data_ok = true,
             Verb::DataStale => self.data_ok = false,
-            Verb::Pong | Verb::Tracking => {}
+            Verb::SetInfo
+            | Verb::AddEnum
+            | Verb::AddRange
+            | Verb::AddCommand
+            | Verb::Pong
+            | Verb::Tracking => {}
         }
-        Ok(())
     }
 }
 
@@ -224,7 +288,6 @@ fn answer_to(verb: Verb, words: &Words) -> Heard
 
 impl UpsState {
     /// Returns an empty table. Allocates no memory.
-    #[tactic(auto, using(crate::proofs::HistoryLemmas::empty_holds))]
     pub fn new(alloc: Global) -> UpsState
         ensures table { result ≡ empty }
         ensures looks_back { Holds result [] }
@@ -239,15 +302,13 @@ impl UpsState {
     }
 
     /// Empties the table, as when a driver connects anew. Allocates no memory.
-    #[tactic(auto, using(crate::proofs::HistoryLemmas::empty_holds))]
     pub fn clear(&mut self)
         ensures table { self.new ≡ empty }
         ensures looks_back { Holds self.new [] }
     {
         self.variables.clear();
         self.commands.clear();
-        self.dump_done = false;
-        self.data_ok = false;
+        (self.dump_done, self.data_ok) = (false, false);
     }
 
     /// Changes the table as a line of the driver says. The line comes without its line feed.
@@ -271,16 +332,26 @@ impl UpsState {
         // A line that allocates no memory succeeds. `Holds` says that `adds` agrees with looking back over the lines.
         ensures succeeds { has_backslash line.now ≡ false → line_adds self.old line.now ≡ false → IsOk result }
     {
-        let words = match split(self.alloc, line) {
-            Ok(words) => words,
-            Err(WordFault::Memory) => return Err(StateFault::Memory),
-            Err(_) => return Ok(Heard::Ignored),
-        };
-        let Some(verb) = Verb::of_line(&words) else {
+        match split(self.alloc, line) {
+            Ok(words) => self.hear(&words),
+            Err(WordFault::Memory) => Err(StateFault::Memory),
+            Err(_) => Ok(Heard::Ignored),
+        }
+    }
+
+    /// Changes the table as a line of these words says, as [`UpsState::apply`] does.
+    #[tactic(auto, unfolding(crate::specs::Change::asked))]
+    fn hear(&mut self, words: &Words) -> Result<Heard, StateFault>
+        ensures table { OnOk result (self.new ≡ option_map_or (after self.old) (asked words.now) self.old) }
+        ensures answer { IfOk result (λ told. told ≡ answer (asked words.now)) }
+        ensures refused { OnErr result (self.new ≡ self.old) }
+        ensures succeeds { option_map_or (adds self.old) (asked words.now) false ≡ false → IsOk result }
+    {
+        let Some(verb) = Verb::of_line(words) else {
             return Ok(Heard::Ignored);
         };
-        self.follow(verb, &words)?;
-        Ok(answer_to(verb, &words))
+        self.follow(verb, words)?;
+        Ok(answer_to(verb, words))
     }
 
     /// Returns the variable with this name, if there is one. It saves searches if more than one of the look-ups below

@@ -1,7 +1,8 @@
 -- For private functions, nothing here has to be believed: a line that is given by the words that it begins with, which are
 -- written as they stand, and by the parts behind them.
-use Rattle.std.specs.Prelude.{ℕ, List, [], ◌∷◌, ◌++◌}
+use Rattle.std.specs.Prelude.{◌≡◌, ℕ, List, [], ◌∷◌, ◌++◌, Option, Result, OnOk, OnErr, length}
 use Rattle.std.specs.List.{flat_map}
+use Rattle.nut_words.specs.Out.{Fits, Exceeds}
 use Rattle.nut_proto.specs.declared.line.Line.{Line}
 use Rattle.nut_proto.specs.declared.line.Line.TheVariants.{Bare, One, Two, Three, Four}
 use Rattle.nut_proto.specs.declared.part.Part.{Part}
@@ -17,3 +18,10 @@ written (One words first) = line_from words.now (first ∷ [])
 written (Two words first second) = line_from words.now (first ∷ second ∷ [])
 written (Three words first second third) = line_from words.now (first ∷ second ∷ third ∷ [])
 written (Four words first second third fourth) = line_from words.now (first ∷ second ∷ third ∷ fourth ∷ [])
+
+-- A text was appended to a buffer that can hold at most so many bytes, or nothing was; as a buffer's own `append` does.
+pub record Puts {T E : Type 0} (most : Option ℕ) (before after text : List ℕ) (result : Result T E) : Type 0 where
+  pub ok : OnOk result (after ≡ before ++ text)
+  pub err : OnErr result (after ≡ before)
+  pub fits : OnOk result (Fits most (length (before ++ text)))
+  pub full : OnErr result (Exceeds most (length (before ++ text)))

@@ -5,7 +5,7 @@ use Rattle.nut_link.proofs.Writable.{line_is, unwritable_line, unwritable_word, 
 use Rattle.nut_link.proofs.query.Query.new.Goals as goal
 
 pub returns-in_default-clause-exact : goal.returns-in_default-clause-exact
-returns-in_default-clause-exact c = unwritable_word c.args.request.now c.in_default.ensures.none
+returns-in_default-clause-exact c = unwritable_word c.args.request.now c.in_default.ensures
 
 pub returns-then-is_err-clause-exact : goal.returns-then-is_err-clause-exact
 returns-then-is_err-clause-exact c =

@@ -1,14 +1,13 @@
-use Rattle.std.proofs.Common.{◌≡◌, true, length, sym, subst, ◌∙◌, inl, inr, arith}
+use Rattle.std.proofs.Common.{◌≡◌, true, length, sym, ◌∙◌, inl, inr, arith}
 use Rattle.std.specs.Prelude.{nat_lt}
 use Rattle.nut_state.specs.Sorted.{IsFound, IsFree}
-use Rattle.nut_state.specs.laws.Holds.{IsTable}
 use Rattle.nut_state.specs.contracts.state.UpsState.{the_view}
 use Rattle.nut_state.specs.declared.limits.TheConstants.{COMMANDS_MAX}
 use Rattle.nut_state.specs.Text.{is_name}
-use Rattle.nut_state.specs.Step.{after, adds}
+use Rattle.nut_state.specs.Step.{adds}
 use Rattle.nut_state.specs.Change.{add_command}
-use Rattle.nut_state.proofs.TableLemmas.{IsTable-after, lt_true, lt_false}
-use Rattle.nut_state.proofs.ChangeLemmas.{itself, and_false, add_command_added, add_command_adds, add_command_listed, add_command_refused}
+use Rattle.nut_state.proofs.TableLemmas.{lt_true, lt_false}
+use Rattle.nut_state.proofs.ChangeLemmas.{itself, commands_kept, and_false, add_command_tried, add_command_keeps, add_command_adds, add_command_listed, add_command_refused}
 use Rattle.nut_state.proofs.state.UpsState.add_command.Goals as goal
 use Rattle.nut_state.proofs.state.UpsState.add_command.Goals.{then-not-is_name-via-then-not-is_name, then-not-is_name-via-else-not-is_name+then-len-ge-COMMANDS_MAX}
 
@@ -22,29 +21,33 @@ returns-then-not-is_name-clause-ok c =
           (inr (lt_false _ _ (omega (arith, w.if-len-ge-COMMANDS_MAX.true, w.len.ensures))))
     ]))
 
-pub returns-in_err-insert-clause-succeeds : goal.returns-in_err-insert-clause-succeeds
-returns-in_err-insert-clause-succeeds c =
-    let free : IsFree itself c.args.name.now c.self.inside.commands.items c.in-Err.place = rw c.deref.ensures.value at c.in-Err.ensures in
-    let grows : adds (the_view c.self.inside) (add_command c.args.name.now) ≡ true =
-    add_command_adds (the_view c.self.inside) c.args.name.now c.in-Err.place free (sym c.is_name.ensures ∙ c.if-not-is_name.false)
-    (lt_true _ _ (omega (arith, c.if-len-ge-COMMANDS_MAX.false, c.len.ensures))) in
-    rw (← c.self.view_is) (λ none. cc (sym grows ∙ none))
-
-added : (c : goal.In_ok-insert)
-    → record (the_view c.self.inside) { commands = c.insert.new.self.items } ≡ after (the_view c.self.inside) (add_command c.args.name.now)
-added c =
-    let free : IsFree itself c.args.name.now c.self.inside.commands.items c.in-Err.place = rw c.deref.ensures.value at c.in-Err.ensures in
-    add_command_added (the_view c.self.inside) c.args.name.now c.in-Err.place free (sym c.is_name.ensures ∙ c.if-not-is_name.false)
-    (lt_true _ _ (omega (arith, c.if-len-ge-COMMANDS_MAX.false, c.len.ensures))) c.insert.new.self.items (rw (← c.new.ensures) c.in_ok-insert.ensures.items)
-
 pub invariant_of-self : goal.invariant_of-self
 invariant_of-self c =
-    subst IsTable (sym (added c)) (IsTable-after (the_view c.self.inside) (add_command c.args.name.now) c.self.invariant)
+    let none : IsFree itself c.args.name.now c.self.inside.commands.items c.in-Err.place = rw c.deref.ensures.value at c.in-Err.ensures in
+    add_command_keeps (the_view c.self.inside) c.args.name.now c.in-Err.place none (sym c.is_name.ensures ∙ c.if-not-is_name.false)
+    (lt_true _ _ (omega (arith, c.if-len-ge-COMMANDS_MAX.false, c.len.ensures)))
+    c.insert_command.result c.insert_command.new.commands.items c.insert_command.ensures c.self.invariant
 
-pub returns-in_ok-insert-clause-ok : goal.returns-in_ok-insert-clause-ok
-returns-in_ok-insert-clause-ok c = rw (← c.self.view_is) (added c)
+pub returns-in-Ok-clause-ok : goal.returns-in-Ok-clause-ok
+returns-in-Ok-clause-ok c =
+    let found : IsFound itself c.args.name.now c.self.inside.commands.items c.in-Ok.field-0 = rw c.deref.ensures.value at c.in-Ok.ensures in
+    rw (← c.self.view_is) (add_command_listed (the_view c.self.inside) c.args.name.now c.in-Ok.field-0 found)
 
-pub returns-in_default-clause-ok : goal.returns-in_default-clause-ok
-returns-in_default-clause-ok c =
-    let found : IsFound itself c.args.name.now c.self.inside.commands.items c.in_default.field-0 = rw c.deref.ensures.value at c.in_default.ensures in
-    rw (← c.self.view_is) (add_command_listed (the_view c.self.inside) c.args.name.now c.in_default.field-0 found)
+pub returns-in-Err-clause-ok : goal.returns-in-Err-clause-ok
+returns-in-Err-clause-ok c =
+    let none : IsFree itself c.args.name.now c.self.inside.commands.items c.in-Err.place = rw c.deref.ensures.value at c.in-Err.ensures in
+    rw (← c.self.view_is) (add_command_tried (the_view c.self.inside) c.args.name.now c.in-Err.place none (sym c.is_name.ensures ∙ c.if-not-is_name.false)
+    (lt_true _ _ (omega (arith, c.if-len-ge-COMMANDS_MAX.false, c.len.ensures)))
+    c.insert_command.result c.insert_command.new.commands.items c.insert_command.ensures)
+
+pub returns-in-Err-clause-succeeds : goal.returns-in-Err-clause-succeeds
+returns-in-Err-clause-succeeds c =
+    let none : IsFree itself c.args.name.now c.self.inside.commands.items c.in-Err.place = rw c.deref.ensures.value at c.in-Err.ensures in
+    let grows : adds (the_view c.self.inside) (add_command c.args.name.now) ≡ true =
+    add_command_adds (the_view c.self.inside) c.args.name.now c.in-Err.place none (sym c.is_name.ensures ∙ c.if-not-is_name.false)
+    (lt_true _ _ (omega (arith, c.if-len-ge-COMMANDS_MAX.false, c.len.ensures))) in
+    rw (← c.self.view_is) (λ same. cc (sym grows ∙ same))
+
+pub returns-in-Err-clause-err : goal.returns-in-Err-clause-err
+returns-in-Err-clause-err c =
+    rw (← c.self.view_is) (commands_kept c.insert_command.result (the_view c.self.inside) c.insert_command.new.commands.items _ c.insert_command.ensures)

@@ -8,7 +8,7 @@ use Rattle.nut_state.specs.Text.{is_name}
 use Rattle.nut_state.specs.Step.{after, adds}
 use Rattle.nut_state.specs.Change.{set_info}
 use Rattle.nut_state.proofs.TableLemmas.{IsTable-after, le_true, le_false, lt_true, lt_false}
-use Rattle.nut_state.proofs.ChangeLemmas.{name_of, and_false, set_info_found, set_info_added, set_info_adds, set_info_full, set_info_refused}
+use Rattle.nut_state.proofs.ChangeLemmas.{name_of, and_false, set_info_found, set_info_tried, set_info_keeps, set_info_adds, set_info_full, set_info_refused}
 use Rattle.nut_state.proofs.state.UpsState.set_info.Goals as goal
 
 pub returns-then-not-is_name-clause-ok : goal.returns-then-not-is_name-clause-ok
@@ -34,31 +34,30 @@ invariant_of-self c =
 pub returns-in-Ok-clause-ok : goal.returns-in-Ok-clause-ok
 returns-in-Ok-clause-ok c = rw (← c.self.view_is) (edited c)
 
-pub returns-in_err-insert-in-Err-clause-succeeds : goal.returns-in_err-insert-in-Err-clause-succeeds
-returns-in_err-insert-in-Err-clause-succeeds c =
-    let free : IsFree name_of c.args.name.now c.self.inside.variables.items c.in-Err.place = rw c.deref.ensures.value at c.in-Err.ensures in
-    let grows : adds (the_view c.self.inside) (set_info c.args.name.now c.args.value.now) ≡ true =
-    set_info_adds (the_view c.self.inside) c.args.name.now c.args.value.now c.in-Err.place free (sym c.is_name.ensures ∙ c.if-not-is_name.false)
-    (le_true _ _ c.if-value-gt-VALUE_MAX.false) (lt_true _ _ (omega (arith, c.if-len-lt-VARIABLES_MAX.true, c.len.ensures))) in
-    rw (← c.self.view_is) (λ none. cc (sym grows ∙ none))
-
-added : (c : goal.In_ok-insert-in-Err)
-    → record (the_view c.self.inside) { variables = c.insert.new.self.items } ≡ after (the_view c.self.inside) (set_info c.args.name.now c.args.value.now)
-added c =
-    let free : IsFree name_of c.args.name.now c.self.inside.variables.items c.in-Err.place = rw c.deref.ensures.value at c.in-Err.ensures in
-    set_info_added (the_view c.self.inside) c.args.name.now c.args.value.now c.in-Err.place free (sym c.is_name.ensures ∙ c.if-not-is_name.false)
-    (le_true _ _ c.if-value-gt-VALUE_MAX.false) (lt_true _ _ (omega (arith, c.if-len-lt-VARIABLES_MAX.true, c.len.ensures)))
-    c.insert.new.self.items (rw (← c.new.ensures) c.in_ok-insert-in-Err.ensures.items)
-
 pub invariant_of-self-then-len-lt-VARIABLES_MAX : goal.invariant_of-self-then-len-lt-VARIABLES_MAX
 invariant_of-self-then-len-lt-VARIABLES_MAX c =
-    subst IsTable (sym (added c)) (IsTable-after (the_view c.self.inside) (set_info c.args.name.now c.args.value.now) c.self.invariant)
+    let none : IsFree name_of c.args.name.now c.self.inside.variables.items c.in-Err.place = rw c.deref.ensures.value at c.in-Err.ensures in
+    set_info_keeps (the_view c.self.inside) c.args.name.now c.args.value.now c.in-Err.place none (sym c.is_name.ensures ∙ c.if-not-is_name.false)
+    (le_true _ _ c.if-value-gt-VALUE_MAX.false) (lt_true _ _ (omega (arith, c.if-len-lt-VARIABLES_MAX.true, c.len.ensures)))
+    c.insert_variable.result c.insert_variable.new.variables.items c.insert_variable.ensures c.self.invariant
 
-pub returns-in_ok-insert-in-Err-clause-ok : goal.returns-in_ok-insert-in-Err-clause-ok
-returns-in_ok-insert-in-Err-clause-ok c = rw (← c.self.view_is) (added c)
+pub returns-in-Err-clause-ok : goal.returns-in-Err-clause-ok
+returns-in-Err-clause-ok c =
+    let none : IsFree name_of c.args.name.now c.self.inside.variables.items c.in-Err.place = rw c.deref.ensures.value at c.in-Err.ensures in
+    rw (← c.self.view_is) (set_info_tried (the_view c.self.inside) c.args.name.now c.args.value.now c.in-Err.place none (sym c.is_name.ensures ∙ c.if-not-is_name.false)
+    (le_true _ _ c.if-value-gt-VALUE_MAX.false) (lt_true _ _ (omega (arith, c.if-len-lt-VARIABLES_MAX.true, c.len.ensures)))
+    c.insert_variable.result c.insert_variable.new.variables.items c.insert_variable.ensures)
 
-pub returns-else-len-lt-VARIABLES_MAX-clause-ok : goal.returns-else-len-lt-VARIABLES_MAX-clause-ok
-returns-else-len-lt-VARIABLES_MAX-clause-ok c =
-    let free : IsFree name_of c.args.name.now c.self.inside.variables.items c.in-Err.place = rw c.deref.ensures.value at c.in-Err.ensures in
-    rw (← c.self.view_is) (set_info_full (the_view c.self.inside) c.args.name.now c.args.value.now free.is
+pub returns-in-Err-clause-succeeds : goal.returns-in-Err-clause-succeeds
+returns-in-Err-clause-succeeds c =
+    let none : IsFree name_of c.args.name.now c.self.inside.variables.items c.in-Err.place = rw c.deref.ensures.value at c.in-Err.ensures in
+    let grows : adds (the_view c.self.inside) (set_info c.args.name.now c.args.value.now) ≡ true =
+    set_info_adds (the_view c.self.inside) c.args.name.now c.args.value.now c.in-Err.place none (sym c.is_name.ensures ∙ c.if-not-is_name.false)
+    (le_true _ _ c.if-value-gt-VALUE_MAX.false) (lt_true _ _ (omega (arith, c.if-len-lt-VARIABLES_MAX.true, c.len.ensures))) in
+    rw (← c.self.view_is) (λ same. cc (sym grows ∙ same))
+
+pub returns-in-Err-2-clause-ok : goal.returns-in-Err-2-clause-ok
+returns-in-Err-2-clause-ok c =
+    let none : IsFree name_of c.args.name.now c.self.inside.variables.items c.in-Err-2.field-0 = rw c.deref.ensures.value at c.in-Err-2.ensures in
+    rw (← c.self.view_is) (set_info_full (the_view c.self.inside) c.args.name.now c.args.value.now none.is
     (lt_false _ _ (omega (arith, c.if-len-lt-VARIABLES_MAX.false, c.len.ensures))))
