@@ -11,7 +11,7 @@ use crate::fault::FaultKind;
 use crate::slot::FromValues;
 use crate::values::Values;
 use arrayvec::ArrayVec;
-use nut_words::{are_name_bytes, digits_value, is_natural};
+use nut_words::{are_name_bytes, natural};
 
 /// A name of 1 to `MOST` bytes: letters, digits, `.`, `_` and `-`.
 #[derive(Debug, PartialEq, Eq, Hash, Drop)]
@@ -109,10 +109,9 @@ impl<const LEAST: u32, const MOST: u32> Number<LEAST, MOST> {
     pub fn read(bytes: &[u8]) -> Result<Self, FaultKind>
         ensures { Reads (λ n. n.value) result (number LEAST MOST bytes.now) }
     {
-        if !is_natural(bytes) {
+        let Some(value) = natural(bytes) else {
             return Err(FaultKind::BadNumber);
-        }
-        let value = digits_value(bytes);
+        };
         if LEAST <= value && value <= MOST {
             Ok(Number { value })
         } else {

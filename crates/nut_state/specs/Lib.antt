@@ -9,3 +9,4 @@ pub mod Table
 pub mod Text
 pub mod Verb
 pub mod laws
+pub mod inside

@@ -4,7 +4,7 @@ ghost use Rattle.nut_state.specs.Table.{empty, variable, has_command, value_of, 
 ghost use Rattle.nut_state.specs.Step.{after, adds, applied, fresh, line_adds};
 ghost use Rattle.nut_state.specs.Answer.{answer, answer_to};
 ghost use Rattle.nut_state.specs.Change.{set_info, del_info, add_enum, del_enum, add_range, del_range, set_aux, set_flags, add_command, del_command, asked, asked_by, heard};
-ghost use Rattle.nut_state.specs.Verb.{may_add};
+ghost use Rattle.nut_state.specs.inside.Adding.{may_add};
 ghost use Rattle.std.specs.Option.{option_map_or};
 ghost use Rattle.nut_state.specs.laws.Holds.{Holds, IsWithinLimits};
 ghost use Rattle.nut_state.specs.Sorted.{IsAscending};

@@ -18,7 +18,7 @@ pub fn is_natural(text: &[u8]) -> bool
 }
 
 /// Returns the number that one to nine decimal digits say.
-pub fn digits_value(text: &[u8]) -> u32
+fn digits_value(text: &[u8]) -> u32
     requires { IsTrue (is_natural text.now) }
     ensures value { result ≡ digits_value text.now }
     ensures fits { result < 1000000000 }
