@@ -1,5 +1,5 @@
 //! What a line of a script says.
-ghost use Rattle.std.specs.Prelude.{◌≡◌, ◌==◌, Err, IsTrue};
+ghost use Rattle.std.specs.Prelude.{◌≡◌, ◌==◌, Err, Ok, IsTrue};
 ghost use Rattle.std.specs.List.{list_all, position};
 ghost use Rattle.nut_words.specs.Spelling.{is_comment};
 ghost use Rattle.nut_words.specs.Reader.{has_backslash, spelled};
@@ -12,7 +12,7 @@ use crate::fault::ScriptFaultKind;
 use crate::limits::{SCRIPT_LINE_MAX, TIMER_MAX};
 use crate::text::{Name, Text};
 use crate::trim::{skip_blanks, trim};
-use nut_words::{NAME_MAX, VALUE_MAX, WordFault, are_name_bytes, are_printing, natural, split};
+use nut_words::{NAME_MAX, VALUE_MAX, WordFault, Words, are_name_bytes, are_printing, natural, split};
 use std::alloc::Global;
 
 /// How a script is told (NUT manual page dummy-ups(8)).
@@ -83,11 +83,18 @@ fn read_timer(alloc: Global, kind: ScriptKind, line: &[u8]) -> Result<Item, Scri
     ensures item { Gives item_of result (timed kind (spelled line.now)) }
     ensures memory { result ≡ Err ScriptFaultKind.Memory → IsTrue (has_backslash line.now) }
 {
-    let words = match split(alloc, line) {
-        Ok(words) => words,
-        Err(WordFault::Memory) => return Err(ScriptFaultKind::Memory),
-        Err(_) => return Err(ScriptFaultKind::BadLine),
-    };
+    match split(alloc, line) {
+        Ok(words) => timer_of(kind, &words),
+        Err(WordFault::Memory) => Err(ScriptFaultKind::Memory),
+        Err(_) => Err(ScriptFaultKind::BadLine),
+    }
+}
+
+/// Returns the timer that the words of a line spell.
+fn timer_of(kind: ScriptKind, words: &Words<'_>) -> Result<Item, ScriptFaultKind>
+    ensures item { Gives item_of result (timed kind (Ok words.now)) }
+    ensures memory { result ≡ Err ScriptFaultKind.Memory → ⊥ }
+{
     if words.len() != 2 || words.get(0) != b"TIMER".as_slice() {
         return Err(ScriptFaultKind::BadLine);
     }
