@@ -12,7 +12,9 @@ use crate::fault::ScriptFaultKind;
 use crate::limits::{SCRIPT_LINE_MAX, TIMER_MAX};
 use crate::text::{Name, Text};
 use crate::trim::{skip_blanks, trim};
-use nut_words::{NAME_MAX, VALUE_MAX, WordFault, Words, are_name_bytes, are_printing, natural, split};
+use nut_words::{
+    NAME_MAX, VALUE_MAX, WordFault, Words, are_name_bytes, are_printing, natural, split,
+};
 use std::alloc::Global;
 
 /// How a script is told (NUT manual page dummy-ups(8)).

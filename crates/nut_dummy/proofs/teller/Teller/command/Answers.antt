@@ -1,4 +1,4 @@
-use Rattle.std.proofs.Common.{◌<◌, None, false, length, IsTrue, sym, ap, subst, ◌∙◌}
+use Rattle.std.proofs.Common.{◌<◌, false, length, IsTrue, sym, subst, ◌∙◌}
 use Rattle.nut_dummy.specs.Teller.{commanded, ended, tells_more}
 use Rattle.nut_dummy.proofs.MemoryLemmas.{longer, on_err_map}
 use Rattle.nut_dummy.proofs.teller.Teller.command.Goals as goal
