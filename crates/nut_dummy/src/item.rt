@@ -1,5 +1,5 @@
 //! What a line of a script says.
-ghost use Rattle.std.specs.Prelude.{◌≡◌, ◌==◌, Err, Ok, IsTrue};
+ghost use Rattle.std.specs.Prelude.{◌≡◌, ◌≤◌, ◌==◌, Err, Ok, IsTrue, length};
 ghost use Rattle.std.specs.List.{list_all, position};
 ghost use Rattle.nut_words.specs.Spelling.{is_comment};
 ghost use Rattle.nut_words.specs.Reader.{has_backslash, spelled};
@@ -131,6 +131,15 @@ pub fn read_item(alloc: Global, kind: ScriptKind, line: &[u8]) -> Result<Item, S
     if line.len() > SCRIPT_LINE_MAX {
         return Err(ScriptFaultKind::PastLimit);
     }
+    read_short(alloc, kind, line)
+}
+
+/// Reads a line that isn't to be skipped and isn't too long.
+fn read_short(alloc: Global, kind: ScriptKind, line: &[u8]) -> Result<Item, ScriptFaultKind>
+    requires { length line.now ≤ SCRIPT_LINE_MAX }
+    ensures item { Gives item_of result (item kind line.now) }
+    ensures memory { result ≡ Err ScriptFaultKind.Memory → IsEscaped line.now }
+{
     if !has_line_bytes(line) {
         return Err(ScriptFaultKind::BadLine);
     }
