@@ -1,7 +1,9 @@
 //! What a line of a script says.
-ghost use Rattle.std.specs.Prelude.{◌≡◌, ◌≤◌, ◌==◌, Err, Ok, IsTrue, length};
+ghost use Rattle.std.specs.Prelude.{◌≡◌, ◌≤◌, ◌==◌, not, nat_lt, if◌then◌else◌, Err, Ok, IsTrue, length};
+ghost use Rattle.nut_state.specs.Text.{is_name};
+ghost use Rattle.nut_dummy.specs.Item as said;
 ghost use Rattle.std.specs.List.{list_all, position};
-ghost use Rattle.nut_words.specs.Spelling.{is_comment};
+ghost use Rattle.nut_words.specs.Spelling.{is_comment, is_printing};
 ghost use Rattle.nut_words.specs.Reader.{has_backslash, spelled};
 ghost use Rattle.nut_dummy.specs.Item.{is_skipped, timer, timed, setting, item};
 ghost use Rattle.nut_dummy.specs.Memory.{IsEscaped};
@@ -114,6 +116,16 @@ fn read_setting(name: &[u8], value: &[u8]) -> Result<Item, ScriptFaultKind>
     if name.len() > NAME_MAX {
         return Err(ScriptFaultKind::PastLimit);
     }
+    with_value(name, value)
+}
+
+/// Reads the value of a setting with this name.
+fn with_value(name: &[u8], value: &[u8]) -> Result<Item, ScriptFaultKind>
+    requires { IsTrue (is_name name.now) }
+    ensures item { Gives item_of result (if not (list_all is_printing value.now) then Err ScriptFaultKind.BadLine else
+        if nat_lt VALUE_MAX (length value.now) then Err ScriptFaultKind.PastLimit else Ok (said.Setting name.now value.now)) }
+    ensures memory { result ≡ Err ScriptFaultKind.Memory → ⊥ }
+{
     if !are_printing(value) {
         return Err(ScriptFaultKind::BadLine);
     }
