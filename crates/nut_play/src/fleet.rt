@@ -64,18 +64,14 @@ impl Fleet {
         ensures world { IfOk result (λ fleet. HasPlayed (setup_of config monitors.items) [] fleet) }
         ensures fault { IfErr result (λ fault. fault ≡ Memory 0) }
     {
-        let Ok(server) = Server::new(alloc, config) else {
-            return Err(FleetFault::Memory(0));
-        };
-        let Ok(seats) = seats_of(alloc, monitors) else {
-            return Err(FleetFault::Memory(0));
-        };
-        Ok(Fleet {
-            server,
-            seats,
-            failed: false,
-            alloc,
-        })
+        match Server::new(alloc, config) {
+            Ok(server) => with_server(alloc, server, monitors),
+            Err(_) => {
+                // dropped by a call, which keeps the proof of this function short
+                drop(monitors);
+                Err(FleetFault::Memory(0))
+            }
+        }
     }
 
     /// Returns the configuration that a monitor was made with; `None` if there is no such monitor.
@@ -378,6 +374,37 @@ impl Fleet {
         configurations_are_spoken();
         rooms_hold();
         self.run(schedule)
+    }
+}
+
+/// Makes a fleet of this server and of these monitors, which were told nothing.
+fn with_server(
+    alloc: Global,
+    server: Server,
+    monitors: Vec<UpsmonConf>,
+) -> Result<Fleet, FleetFault>
+    ensures made { IfOk result (λ fleet. fleet ≡ record { server = server; seats = map fresh_seat monitors.items; failed = false }) }
+    ensures fault { IfErr result (λ fault. fault ≡ Memory 0) }
+{
+    match seats_of(alloc, monitors) {
+        Ok(seats) => Ok(with_seats(alloc, server, seats)),
+        Err(Lack) => {
+            // dropped by a call, which keeps the proof of this function short
+            drop(server);
+            Err(FleetFault::Memory(0))
+        }
+    }
+}
+
+/// Returns the fleet of this server and these seats, which hasn't failed.
+fn with_seats(alloc: Global, server: Server, seats: Vec<Seat>) -> Fleet
+    ensures { result ≡ record { server = server; seats = seats.items; failed = false } }
+{
+    Fleet {
+        server,
+        seats,
+        failed: false,
+        alloc,
     }
 }
 
