@@ -1,9 +1,10 @@
 //! The dummy driver.
-ghost use Rattle.std.specs.Prelude.{◌≡◌, ℕ, List, [], ◌∷◌, MatchResult, IfOk, OnOk, IfErr, length};
+ghost use Rattle.std.specs.Prelude.{◌≡◌, ℕ, List, [], ◌∷◌, MatchResult, IfOk, OnOk, OnErr, IfErr, IsTrue, length};
 ghost use Rattle.nut_dummy.specs.Dump.{DumpsWhereAsked};
 ghost use Rattle.nut_dummy.specs.History.{BytesStand, Call, Linked, Moment, Stands, Took};
 ghost use Rattle.nut_dummy.specs.Script.{Script as ScriptValue};
-ghost use Rattle.nut_dummy.specs.Dummy.{beginning, linked, waits_of, told_bytes, cut, cut_behind, MayRunOut, Passes, Hears, Takes};
+ghost use Rattle.nut_dummy.specs.Dummy.{beginning, linked, passed, waits_of, told_bytes, cut, cut_behind, MayRunOut, Passes, Hears, Takes};
+ghost use Rattle.nut_dummy.specs.Teller.{tells_more};
 
 use crate::begin::into_variables;
 use crate::script::Script;
@@ -120,15 +121,25 @@ impl Dummy {
         if self.teller.outbox.len() > 0 {
             return Err(DummyFault::Busy);
         }
+        if self.pass(t).is_err() {
+            return Err(DummyFault::Memory(0));
+        }
+        Ok(())
+    }
+
+    /// Sets the clock to a moment, unless it is past, and tells what became due. Nothing changes if memory cannot be
+    /// allocated, which comes only if something is to be told.
+    fn pass(&mut self, t: u64) -> Result<(), AllocError>
+        ensures ok { OnOk result (self.new ≡ passed t self.old) }
+        ensures err { OnErr result ((self.new ≡ self.old) × IsTrue (tells_more self.old.teller (passed t self.old).teller)) }
+    {
         let clock = self.clock.max(t);
         let change = Change::Passing {
             round: self.round,
             after: u128::from(self.clock - self.start),
             until: u128::from(clock - self.start),
         };
-        if self.teller.change(&change, None).is_err() {
-            return Err(DummyFault::Memory(0));
-        }
+        self.teller.change(&change, None)?;
         self.clock = clock;
         Ok(())
     }

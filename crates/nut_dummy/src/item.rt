@@ -1,7 +1,9 @@
 //! What a line of a script says.
-ghost use Rattle.std.specs.Prelude.{◌≡◌, ◌==◌, Err, IsTrue};
+ghost use Rattle.std.specs.Prelude.{◌≡◌, ◌≤◌, ◌==◌, not, nat_lt, if◌then◌else◌, Err, Ok, IsTrue, length};
+ghost use Rattle.nut_state.specs.Text.{is_name};
+ghost use Rattle.nut_dummy.specs.Item as said;
 ghost use Rattle.std.specs.List.{list_all, position};
-ghost use Rattle.nut_words.specs.Spelling.{is_comment};
+ghost use Rattle.nut_words.specs.Spelling.{is_comment, is_printing};
 ghost use Rattle.nut_words.specs.Reader.{has_backslash, spelled};
 ghost use Rattle.nut_dummy.specs.Item.{is_skipped, timer, timed, setting, item};
 ghost use Rattle.nut_dummy.specs.Memory.{IsEscaped};
@@ -12,7 +14,9 @@ use crate::fault::ScriptFaultKind;
 use crate::limits::{SCRIPT_LINE_MAX, TIMER_MAX};
 use crate::text::{Name, Text};
 use crate::trim::{skip_blanks, trim};
-use nut_words::{NAME_MAX, VALUE_MAX, WordFault, are_name_bytes, are_printing, natural, split};
+use nut_words::{
+    NAME_MAX, VALUE_MAX, WordFault, Words, are_name_bytes, are_printing, natural, split,
+};
 use std::alloc::Global;
 
 /// How a script is told (NUT manual page dummy-ups(8)).
@@ -83,11 +87,18 @@ fn read_timer(alloc: Global, kind: ScriptKind, line: &[u8]) -> Result<Item, Scri
     ensures item { Gives item_of result (timed kind (spelled line.now)) }
     ensures memory { result ≡ Err ScriptFaultKind.Memory → IsTrue (has_backslash line.now) }
 {
-    let words = match split(alloc, line) {
-        Ok(words) => words,
-        Err(WordFault::Memory) => return Err(ScriptFaultKind::Memory),
-        Err(_) => return Err(ScriptFaultKind::BadLine),
-    };
+    match split(alloc, line) {
+        Ok(words) => timer_of(kind, &words),
+        Err(WordFault::Memory) => Err(ScriptFaultKind::Memory),
+        Err(_) => Err(ScriptFaultKind::BadLine),
+    }
+}
+
+/// Returns the timer that the words of a line spell.
+fn timer_of(kind: ScriptKind, words: &Words<'_>) -> Result<Item, ScriptFaultKind>
+    ensures item { Gives item_of result (timed kind (Ok words.now)) }
+    ensures memory { result ≡ Err ScriptFaultKind.Memory → ⊥ }
+{
     if words.len() != 2 || words.get(0) != b"TIMER".as_slice() {
         return Err(ScriptFaultKind::BadLine);
     }
@@ -105,6 +116,16 @@ fn read_setting(name: &[u8], value: &[u8]) -> Result<Item, ScriptFaultKind>
     if name.len() > NAME_MAX {
         return Err(ScriptFaultKind::PastLimit);
     }
+    with_value(name, value)
+}
+
+/// Reads the value of a setting with this name.
+fn with_value(name: &[u8], value: &[u8]) -> Result<Item, ScriptFaultKind>
+    requires { IsTrue (is_name name.now) }
+    ensures item { Gives item_of result (if not (list_all is_printing value.now) then Err ScriptFaultKind.BadLine else
+        if nat_lt VALUE_MAX (length value.now) then Err ScriptFaultKind.PastLimit else Ok (said.Setting name.now value.now)) }
+    ensures memory { result ≡ Err ScriptFaultKind.Memory → ⊥ }
+{
     if !are_printing(value) {
         return Err(ScriptFaultKind::BadLine);
     }
@@ -122,6 +143,15 @@ pub fn read_item(alloc: Global, kind: ScriptKind, line: &[u8]) -> Result<Item, S
     if line.len() > SCRIPT_LINE_MAX {
         return Err(ScriptFaultKind::PastLimit);
     }
+    read_short(alloc, kind, line)
+}
+
+/// Reads a line that isn't to be skipped and isn't too long.
+fn read_short(alloc: Global, kind: ScriptKind, line: &[u8]) -> Result<Item, ScriptFaultKind>
+    requires { length line.now ≤ SCRIPT_LINE_MAX }
+    ensures item { Gives item_of result (item kind line.now) }
+    ensures memory { result ≡ Err ScriptFaultKind.Memory → IsEscaped line.now }
+{
     if !has_line_bytes(line) {
         return Err(ScriptFaultKind::BadLine);
     }

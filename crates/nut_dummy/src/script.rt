@@ -1,9 +1,11 @@
 //! Scripts: the values that a dummy driver tells, and when.
-ghost use Rattle.std.specs.Prelude.{◌≡◌, ◌+◌, ◌<◌, ◌≤◌, ◌^◌, ◌||◌, List, ℕ, length, map, is_some, nat_lt, if◌then◌else◌, IfErr, IfOk, IsTrue, Ok, Err};
+ghost use Rattle.std.specs.Prelude.{◌≡◌, ◌⊎◌, ◌+◌, ◌<◌, ◌≤◌, ◌^◌, ◌||◌, [], ◌∷◌, length, map, is_some, nat_lt, if◌then◌else◌, IfErr, OnErr, OnOk, IsTrue, Ok, Err};
+ghost use Rattle.std.specs.List.{insert};
 ghost use Rattle.nut_state.specs.Sorted.{IsAscending};
 ghost use Rattle.nut_dummy.specs.Item as said;
-ghost use Rattle.nut_dummy.specs.Memory.{MayRunOut, MayTake};
-ghost use Rattle.nut_dummy.specs.Script.{has_room, read_script, no_script, timeline, with_step, taken_in, with_line, whole, Means, Fails, Gives};
+ghost use Rattle.nut_dummy.specs.Item.{item};
+ghost use Rattle.nut_dummy.specs.Memory.{grows, IsEscaped, MayRunOut, MayTake};
+ghost use Rattle.nut_dummy.specs.Script.{has_room, read_script, no_script, timeline, with_step, taken_in, with_line, whole, IsFaultOf, Means, Fails, Gives};
 ghost use Rattle.nut_dummy.specs.inside.Read.{item_of};
 
 use crate::fault::{ScriptFault, ScriptFaultKind};
@@ -37,33 +39,49 @@ impl Model for Script {
     ghost invariant = { λ s. IsAscending (map (λ t. t.name) s.variables.items) };
 }
 
-/// Returns the variables with one more value for this one.
-fn with_step(
+/// Inserts a variable that gets one value.
+fn insert_step(
     alloc: Global,
-    mut variables: Vec<Timeline>,
+    variables: &mut Vec<Timeline>,
+    place: usize,
     name: Name,
     step: Step,
-) -> Result<Vec<Timeline>, ScriptFaultKind>
-    requires { IsAscending (map (λ t. t.name) variables.items) }
-    ensures step { Gives (λ v. v.items) result (if is_some (timeline name variables.items) || nat_lt (length variables.items) SCRIPT_VARIABLES_MAX
-        then Ok (with_step name step variables.items) else Err ScriptFaultKind.PastLimit) }
-    ensures ascending { IfOk result (λ v. IsAscending (map (λ t. t.name) v.items)) }
-    ensures memory { result ≡ Err ScriptFaultKind.Memory
-        → IsTrue (is_some (timeline name variables.items) || nat_lt (length variables.items) SCRIPT_VARIABLES_MAX) }
+) -> Result<(), AllocError>
+    requires { place ≤ length variables.old.items }
+    ensures ok { OnOk result (variables.new.items ≡ insert variables.old.items place (record { name = name; steps = step ∷ [] })) }
+    ensures err { OnErr result (variables.new.items ≡ variables.old.items) }
 {
-    match place_of(&variables, name.as_bytes()) {
+    let mut timeline = Timeline::new(alloc, name);
+    timeline.add(step)?;
+    variables.insert(place, timeline)?;
+    Ok(())
+}
+
+/// Adds one more value for this variable.
+fn add_step(
+    alloc: Global,
+    variables: &mut Vec<Timeline>,
+    name: Name,
+    step: Step,
+) -> Result<(), ScriptFaultKind>
+    requires { IsAscending (map (λ t. t.name) variables.old.items) }
+    ensures step { Gives (λ u. variables.new.items) result (if is_some (timeline name variables.old.items) || nat_lt (length variables.old.items) SCRIPT_VARIABLES_MAX
+        then Ok (with_step name step variables.old.items) else Err ScriptFaultKind.PastLimit) }
+    ensures ascending { IsAscending (map (λ t. t.name) variables.new.items) }
+    ensures memory { result ≡ Err ScriptFaultKind.Memory
+        → IsTrue (is_some (timeline name variables.old.items) || nat_lt (length variables.old.items) SCRIPT_VARIABLES_MAX) }
+{
+    match place_of(variables, name.as_bytes()) {
         Ok(place) => {
             variables[place].add(step)?;
-            Ok(variables)
+            Ok(())
         }
         Err(place) => {
             if variables.len() >= SCRIPT_VARIABLES_MAX {
                 return Err(ScriptFaultKind::PastLimit);
             }
-            let mut timeline = Timeline::new(alloc, name);
-            timeline.add(step)?;
-            variables.insert(place, timeline)?;
-            Ok(variables)
+            insert_step(alloc, variables, place, name, step)?;
+            Ok(())
         }
     }
 }
@@ -97,57 +115,82 @@ impl Script {
         variables
     }
 
-    /// Returns the script with one more value.
-    fn with_setting(self, name: Name, value: Text) -> Result<Script, ScriptFaultKind>
-        ensures setting { Gives (λ s. s) result (taken_in self (Ok (said.Setting name value))) }
-        ensures memory { result ≡ Err ScriptFaultKind.Memory → IsTrue (has_room self (said.Setting name value)) }
+    /// Adds one more value.
+    fn add_setting(&mut self, name: Name, value: Text) -> Result<(), ScriptFaultKind>
+        ensures setting { Gives (λ u. self.new) result (taken_in self.old (Ok (said.Setting name value))) }
+        ensures memory { result ≡ Err ScriptFaultKind.Memory → IsTrue (has_room self.old (said.Setting name value)) }
     {
-        let Script {
-            alloc,
-            variables,
-            count,
-            round,
-        } = self;
-        if count >= STEPS_MAX {
+        if self.count >= STEPS_MAX {
             return Err(ScriptFaultKind::PastLimit);
         }
-        let variables = with_step(alloc, variables, name, Step::new(round, value))?;
-        Ok(Script {
-            alloc,
-            variables,
-            count: count + 1,
-            round,
-        })
+        let step = Step::new(self.round, value);
+        add_step(self.alloc, &mut self.variables, name, step)?;
+        self.count += 1;
+        Ok(())
     }
 
-    /// Returns the script with one more timer.
-    fn with_timer(self, seconds: u32) -> Script
-        requires { self.round < 2 ^ 120 }
-        ensures { Ok result ≡ taken_in self (Ok (said.Timer seconds)) }
+    /// Adds one more timer.
+    fn add_timer(&mut self, seconds: u32)
+        requires { self.old.round < 2 ^ 120 }
+        ensures { Ok self.new ≡ taken_in self.old (Ok (said.Timer seconds)) }
     {
-        let round = self.round + u128::from(seconds);
-        Script { round, ..self }
+        self.round += u128::from(seconds);
     }
 
-    /// Returns the script with one more line.
-    fn with_line(self, kind: ScriptKind, line: &[u8]) -> Result<Script, ScriptFaultKind>
-        requires { self.round < 2 ^ 120 }
-        ensures line { Gives (λ s. s) result (with_line kind self line.now) }
-        ensures round { IfOk result (λ s. s.round ≤ self.round + TIMER_MAX) }
-        ensures memory { result ≡ Err ScriptFaultKind.Memory → MayTake kind self line.now }
+    /// Adds what a line says, which isn't to be skipped.
+    fn take_in(&mut self, kind: ScriptKind, line: &[u8]) -> Result<(), ScriptFaultKind>
+        requires { self.old.round < 2 ^ 120 }
+        ensures line { Gives (λ u. self.new) result (taken_in self.old (item kind line.now)) }
+        ensures round { OnOk result (self.new.round ≤ self.old.round + TIMER_MAX) }
+        ensures memory { result ≡ Err ScriptFaultKind.Memory → IsEscaped line.now ⊎ IsTrue (grows self.old (item kind line.now)) }
+    {
+        match read_item(self.alloc, kind, line)? {
+            Item::Timer(seconds) => {
+                self.add_timer(seconds);
+                Ok(())
+            }
+            Item::Setting(name, value) => self.add_setting(name, value),
+        }
+    }
+
+    /// Adds one more line.
+    fn add_line(&mut self, kind: ScriptKind, line: &[u8]) -> Result<(), ScriptFaultKind>
+        requires { self.old.round < 2 ^ 120 }
+        ensures line { Gives (λ u. self.new) result (with_line kind self.old line.now) }
+        ensures round { OnOk result (self.new.round ≤ self.old.round + TIMER_MAX) }
+        ensures memory { result ≡ Err ScriptFaultKind.Memory → MayTake kind self.old line.now }
     {
         if is_skipped(line) {
-            return Ok(self);
+            return Ok(());
         }
-        match read_item(self.alloc, kind, line)? {
-            Item::Timer(seconds) => Ok(self.with_timer(seconds)),
-            Item::Setting(name, value) => self.with_setting(name, value),
+        self.take_in(kind, line)
+    }
+
+    /// Adds the lines of a text, up to the first faulty one.
+    fn add_lines(&mut self, kind: ScriptKind, bytes: &[u8]) -> Result<(), ScriptFault>
+        requires { self.old ≡ no_script }
+        ensures lines { OnOk result (read_script kind bytes.now ≡ whole kind self.new) }
+        ensures fault { IfErr result (λ fault. IsFaultOf fault.line fault.kind (read_script kind bytes.now)) }
+        ensures memory { IfErr result (λ fault. fault.kind ≡ ScriptFaultKind.Memory → MayRunOut kind bytes.now fault.line) }
+    {
+        let mut rest = Some(bytes);
+        let mut number = 0usize;
+        while let Some(text) = rest {
+            let (line, behind) = cut(b'\n', text);
+            rest = behind;
+            number += 1;
+            match self.add_line(kind, line) {
+                Ok(()) => {}
+                Err(kind) => return Err(ScriptFault { line: number, kind }),
+            }
         }
+        Ok(())
     }
 
     /// Refuses a script that is repeated but has no timer.
-    fn check_round(self, kind: ScriptKind) -> Result<Script, ScriptFault>
-        ensures whole { Means result (whole kind self) }
+    fn check_round(&self, kind: ScriptKind) -> Result<(), ScriptFault>
+        ensures whole { OnOk result (whole kind self.now ≡ Ok self.now) }
+        ensures fault { IfErr result (λ fault. IsFaultOf fault.line fault.kind (whole kind self.now)) }
         ensures memory { IfErr result (λ fault. fault.kind ≡ ScriptFaultKind.Memory → ⊥) }
     {
         if kind == ScriptKind::Seq && self.round == 0 {
@@ -156,7 +199,20 @@ impl Script {
                 kind: ScriptFaultKind::NoTimer,
             });
         }
-        Ok(self)
+        Ok(())
+    }
+
+    /// Adds the lines of a whole text, and refuses it if it is repeated but has no timer.
+    fn add_all(&mut self, kind: ScriptKind, bytes: &[u8]) -> Result<(), ScriptFault>
+        requires { self.old ≡ no_script }
+        ensures script { OnOk result (read_script kind bytes.now ≡ Ok self.new) }
+        ensures fault { IfErr result (λ fault. IsFaultOf fault.line fault.kind (read_script kind bytes.now)) }
+        ensures memory { IfErr result (λ fault. fault.kind ≡ ScriptFaultKind.Memory → MayRunOut kind bytes.now fault.line) }
+    {
+        match self.add_lines(kind, bytes) {
+            Ok(()) => self.check_round(kind),
+            Err(fault) => Err(fault),
+        }
     }
 
     /// Reads a script (NUT manual page dummy-ups(8)).
@@ -179,17 +235,13 @@ impl Script {
         ensures memory { IfErr result (λ fault. fault.kind ≡ ScriptFaultKind.Memory → MayRunOut kind bytes.now fault.line) }
     {
         let mut script = Script::new(alloc);
-        let mut rest = Some(bytes);
-        let mut number = 0usize;
-        while let Some(text) = rest {
-            let (line, behind) = cut(b'\n', text);
-            rest = behind;
-            number += 1;
-            script = match script.with_line(kind, line) {
-                Ok(script) => script,
-                Err(kind) => return Err(ScriptFault { line: number, kind }),
-            };
+        match script.add_all(kind, bytes) {
+            Ok(()) => Ok(script),
+            Err(fault) => {
+                // dropped by a call, which keeps the proof of this function short
+                drop(script);
+                Err(fault)
+            }
         }
-        script.check_round(kind)
     }
 }

@@ -1,6 +1,8 @@
 //! What a driver holds and tells.
-ghost use Rattle.std.specs.Prelude.{◌≡◌, ◌<◌, [], ◌++◌, ⊤, false, length, IsTrue, OnErr, OnOk};
-ghost use Rattle.nut_dummy.specs.Teller.{changed, dumped_all, answered, heard, may_take_memory, relinked, tells_more};
+ghost use Rattle.std.specs.Prelude.{◌≡◌, ◌<◌, [], ◌++◌, Some, ⊤, false, if◌then◌else◌, length, IsTrue, OnErr, OnOk};
+ghost use Rattle.std.specs.List.{flat_map};
+ghost use Rattle.nut_dummy.specs.Command.{command_of};
+ghost use Rattle.nut_dummy.specs.Teller.{changed, commanded, dumped_all, answered, ended, heard, is_done, may_take_memory, relinked, says, tells_more};
 ghost use Rattle.nut_dummy.specs.inside.Changes.{change_of};
 
 use crate::command::Command;
@@ -41,6 +43,56 @@ fn queue(outbox: &mut Outbox, bytes: &[u8]) -> Result<(), AllocError>
     }
 }
 
+/// Appends the lines that tell a change, if DUMPALL was asked.
+fn put_lines(
+    out: &mut Vec<u8>,
+    asked: bool,
+    variables: &[Variable],
+    change: &Change<'_>,
+) -> Result<(), AllocError>
+    ensures ok { OnOk result (out.new.items ≡ out.old.items ++ (if asked then flat_map (says (change_of change.now)) variables.now else [])) }
+    ensures err { OnErr result (0 < length (if asked then flat_map (says (change_of change.now)) variables.now else [])) }
+{
+    if asked {
+        say_all(out, variables, change)
+    } else {
+        Ok(())
+    }
+}
+
+/// Appends the line that tells how the request with this number ended, if it has a number.
+fn put_end(
+    out: &mut Vec<u8>,
+    variables: &[Variable],
+    change: &Change<'_>,
+    number: Option<u32>,
+) -> Result<(), AllocError>
+    ensures ok { OnOk result (out.new.items ≡ out.old.items ++ ended number (is_done (change_of change.now) variables.now)) }
+    ensures err { OnErr result (0 < length (ended number (is_done (change_of change.now) variables.now))) }
+{
+    let done = is_done(change, variables);
+    out.extend_from_slice(ended(number, done).as_slice())?;
+    Ok(())
+}
+
+/// Makes the lines that tell a change, and how the request with this number ended.
+fn make_lines(
+    out: &mut Vec<u8>,
+    asked: bool,
+    variables: &[Variable],
+    change: &Change<'_>,
+    number: Option<u32>,
+) -> Result<(), AllocError>
+    ensures ok { OnOk result (out.new.items
+        ≡ (if asked then flat_map (says (change_of change.now)) variables.now else []) ++ ended number (is_done (change_of change.now) variables.now)) }
+    ensures err { OnErr result (0 < length
+        ((if asked then flat_map (says (change_of change.now)) variables.now else []) ++ ended number (is_done (change_of change.now) variables.now))) }
+{
+    out.clear();
+    put_lines(out, asked, variables, change)?;
+    put_end(out, variables, change, number)
+}
+
 impl Teller {
     /// Makes a teller without a link.
     pub fn new(alloc: Global, variables: Vec<Variable>) -> Teller
@@ -67,13 +119,13 @@ impl Teller {
         ensures ok { OnOk result (self.new ≡ changed number (change_of change.now) self.old) }
         ensures err { OnErr result ((self.new ≡ self.old) × IsTrue (tells_more self.old (changed number (change_of change.now) self.old))) }
     {
-        self.scratch.clear();
-        if self.asked {
-            say_all(&mut self.scratch, &self.variables, change)?;
-        }
-        let done = is_done(change, &self.variables);
-        self.scratch
-            .extend_from_slice(ended(number, done).as_slice())?;
+        make_lines(
+            &mut self.scratch,
+            self.asked,
+            &self.variables,
+            change,
+            number,
+        )?;
         queue(&mut self.outbox, self.scratch.as_slice())?;
         follow_all(&mut self.variables, change, self.asked);
         Ok(())
@@ -99,37 +151,51 @@ impl Teller {
     {
         match ask {
             None => Ok(()),
-            Some(DriverAsk::Ping) => self.outbox.push(b"PONG\n"),
-            Some(DriverAsk::DumpAll) => self.dump(),
-            Some(
-                DriverAsk::Set {
-                    variable,
-                    value,
-                    number,
-                },
-            ) => self.change(
+            Some(ask) => self.obey(ask),
+        }
+    }
+
+    /// Does what the server asked. It takes no memory unless something is told.
+    fn obey(&mut self, ask: DriverAsk<'_>) -> Result<(), AllocError>
+        ensures ok { OnOk result (self.new ≡ answered (Some ask.entry) self.old) }
+        ensures err { OnErr result ((self.new ≡ self.old) × IsTrue (tells_more self.old (answered (Some ask.entry) self.old))) }
+    {
+        match ask {
+            DriverAsk::Ping => self.outbox.push(b"PONG\n"),
+            DriverAsk::DumpAll => self.dump(),
+            DriverAsk::Set {
+                variable,
+                value,
+                number,
+            } => self.change(
                 &Change::Assigning {
                     name: variable.as_bytes(),
                     value: value.as_bytes(),
                 },
                 number,
             ),
-            Some(
-                DriverAsk::InstCmd {
-                    command,
-                    number,
-                    ..
+            DriverAsk::InstCmd {
+                command,
+                number,
+                ..
+            } => self.command(command.as_bytes(), number),
+        }
+    }
+
+    /// Does an instant command, if the driver knows it. It takes no memory unless something is told.
+    fn command(&mut self, name: &[u8], number: Option<u32>) -> Result<(), AllocError>
+        ensures ok { OnOk result (self.new ≡ commanded number (command_of name.now) self.old) }
+        ensures err { OnErr result ((self.new ≡ self.old) × IsTrue (tells_more self.old (commanded number (command_of name.now) self.old))) }
+    {
+        match Command::of(name) {
+            Some(command) => self.change(
+                &Change::Doing {
+                    name: command.variable(),
+                    value: command.value(),
                 },
-            ) => match Command::of(command.as_bytes()) {
-                Some(command) => self.change(
-                    &Change::Doing {
-                        name: command.variable(),
-                        value: command.value(),
-                    },
-                    number,
-                ),
-                None => queue(&mut self.outbox, ended(number, false).as_slice()),
-            },
+                number,
+            ),
+            None => queue(&mut self.outbox, ended(number, false).as_slice()),
         }
     }
 

@@ -1,11 +1,13 @@
 -- The result of a run of steps.
-use Rattle.std.proofs.Common.{◌≡◌, ◌<◌, ◌≤◌, ◌++◌, ◌+◌, ◌&&◌, ℕ, zero, suc, Bool, true, List, [], ◌∷◌, length, map, slice_get, Some, Result, Ok, Err, OnOk, is_err, false, refl, sym, ◌∙◌, ap, subst, arith}
+use Rattle.std.proofs.Common.{◌≡◌, ◌<◌, ◌≤◌, ◌++◌, ◌+◌, ◌&&◌, ℕ, zero, suc, Bool, true, List, [], ◌∷◌, length, map, slice_get, Some, Result, Ok, Err, OnOk, is_err, false, not, refl, sym, ◌∙◌, ap, subst, arith}
 use Rattle.nut_fleet.specs.Schedule.{Step}
 use Rattle.nut_fleet.specs.Log.{Logged, logged}
 use Rattle.nut_play.specs.Lack.{may_lack}
 use Rattle.nut_play.specs.Kept.{Kept}
 use Rattle.nut_play.specs.machine.Next.{next, fits}
-use Rattle.nut_play.specs.machine.Play.{firsts, before_all, run, run_log, told_at, may_run_out, AreFit, IsPlayed, IsLacking}
+use Rattle.nut_play.specs.machine.Play.{firsts, before_all, run, run_log, told_at, is_bad, may_run_out, AreFit, IsPlayed, IsLacking, IsFault, IsFaultAt}
+use Rattle.nut_play.specs.declared.types.FleetFault.{FleetFault}
+use Rattle.nut_play.specs.declared.types.FleetFault.TheVariants.{BadStep, Memory, Failed}
 
 pub get-map : {A B : Type 0} (f : A → B) (xs : List A) (n : ℕ) (x : A) → slice_get xs n ≡ Some x → slice_get (map f xs) n ≡ Some (f x)
 get-map f [] n x is = cc
@@ -54,3 +56,18 @@ lacking k steps n at last x is number within played ok lack = record {
   played = played;
   lacks = ap (may_run_out last) is ∙ both (fits last x) (may_lack x (told_at last x)) ok lack;
 }
+
+-- A fault of the next step is one of the call.
+module _ (k : Kept) (steps : List Step) (n at : ℕ) (last new : Kept) (x : Step) (is : slice_get steps n ≡ Some x) (number : at ≡ n + 1) (within : n < length steps) (played : IsPlayed k steps n last) where
+  pub stopped : (fault : FleetFault) → IsFaultAt last x at fault new → IsFault k steps fault new
+  stopped (BadStep m) why = (
+    n,
+    record {
+      number = why.0 ∙ number;
+      within = within;
+      played = record { fit = played.fit; fleet = why.2 ∙ played.fleet };
+      bad = ap (is_bad new) is ∙ ap (λ y. not (fits y x)) why.2 ∙ ap not why.1;
+    },
+  )
+  stopped (Memory m) why = (why.3, n, last, lacking k steps n m last x is (why.0 ∙ number) within played why.1 why.2)
+  stopped Failed why = why

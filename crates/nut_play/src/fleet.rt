@@ -1,6 +1,8 @@
 //! The fleet.
 
 ghost use Rattle.std.specs.Prelude.{◌≡◌, ◌++◌, ◌∷◌, ◌<◌, ◌||◌, true, false, List, [], length, map, IfOk, IfErr, Err, OnOk, OnErr, IsTrue, slice_get};
+ghost use Rattle.nut_server_spec.specs.Event as arrivals;
+ghost use Rattle.nut_monitor_spec.specs.Event as events;
 ghost use Rattle.std.specs.Option.{option_map};
 ghost use Rattle.nut_server.specs.Arrival.{event_of};
 ghost use Rattle.nut_monitor.specs.Events.{event_of as told_as};
@@ -10,7 +12,7 @@ ghost use Rattle.nut_play.specs.Lack.{may_allocate, is_link_piece, is_told, may_
 ghost use Rattle.nut_play.specs.Kept.{fleet_of, links_in, fresh_seat, fresh_fleet};
 ghost use Rattle.nut_play.specs.machine.Next.{is_played, tell_by, inform_by, reach_by, back_by, out_by, land_by, link_by, told_news, told_to, with_seat, hear_seat, out_seat, land_seat, known_of, link_of, fits, fits_link, next, said, reach_next, back_next, join_next};
 ghost use Rattle.nut_play.specs.Steps.{step_of, steps_of, logged_of};
-ghost use Rattle.nut_play.specs.machine.Play.{told_at, IsLog, IsFault};
+ghost use Rattle.nut_play.specs.machine.Play.{told_at, IsLog, IsFault, IsFaultAt};
 ghost use Rattle.nut_play.specs.Room.{setup_of, HasPlayed, WerePlayed, IsFaultOf, RoomHolds};
 ghost use Rattle.nut_fleet.specs.World.{Setup};
 ghost use Rattle.nut_fleet.specs.Schedule as S;
@@ -62,18 +64,14 @@ impl Fleet {
         ensures world { IfOk result (λ fleet. HasPlayed (setup_of config monitors.items) [] fleet) }
         ensures fault { IfErr result (λ fault. fault ≡ Memory 0) }
     {
-        let Ok(server) = Server::new(alloc, config) else {
-            return Err(FleetFault::Memory(0));
-        };
-        let Ok(seats) = seats_of(alloc, monitors) else {
-            return Err(FleetFault::Memory(0));
-        };
-        Ok(Fleet {
-            server,
-            seats,
-            failed: false,
-            alloc,
-        })
+        match Server::new(alloc, config) {
+            Ok(server) => with_server(alloc, server, monitors),
+            Err(_) => {
+                // dropped by a call, which keeps the proof of this function short
+                drop(monitors);
+                Err(FleetFault::Memory(0))
+            }
+        }
     }
 
     /// Returns the configuration that a monitor was made with; `None` if there is no such monitor.
@@ -182,6 +180,55 @@ impl Fleet {
         seat.links[i].connection
     }
 
+    /// Shows the server this time on its clock. Returns whether the step was played.
+    fn show_clock(&mut self, t: u64) -> Result<bool, Lack>
+        ensures played { IfOk result (λ played. played ≡ is_played (tell_by self.old.server (arrivals.Moment t))) }
+        ensures fleet { OnOk result (self.new ≡ told_to self.old (arrivals.Moment t)) }
+        ensures lack { OnErr result (IsTrue (may_allocate (arrivals.Moment t))) }
+    {
+        self.serve(Arrival::Moment(t))
+    }
+
+    /// Connects the driver of a UPS. Returns whether the step was played.
+    fn connect(&mut self, u: usize) -> Result<bool, Lack>
+        ensures played { IfOk result (λ played. played ≡ is_played (tell_by self.old.server (arrivals.DriverUp u))) }
+        ensures fleet { OnOk result (self.new ≡ told_to self.old (arrivals.DriverUp u)) }
+        ensures lack { OnErr result (IsTrue (may_allocate (arrivals.DriverUp u))) }
+    {
+        self.serve(Arrival::DriverUp(u))
+    }
+
+    /// Tells the server a line of the driver of a UPS. Returns whether the step was played.
+    fn say(&mut self, u: usize, line: &[u8]) -> Result<bool, Lack>
+        requires fit { length line.now < PIECE_MAX }
+        ensures played { IfOk result (λ played. played ≡ is_played (tell_by self.old.server (arrivals.DriverBytes u (line.now ++ 10 ∷ [])))) }
+        ensures fleet { OnOk result (self.new ≡ told_to self.old (arrivals.DriverBytes u (line.now ++ 10 ∷ []))) }
+    {
+        let piece = with_feed(line);
+        self.serve(Arrival::DriverBytes(u, piece.as_slice()))
+    }
+
+    /// Disconnects the driver of a UPS. Returns whether the step was played.
+    fn disconnect(&mut self, u: usize) -> Result<bool, Lack>
+        ensures played { IfOk result (λ played. played ≡ is_played (tell_by self.old.server (arrivals.DriverDown u))) }
+        ensures fleet { OnOk result (self.new ≡ told_to self.old (arrivals.DriverDown u)) }
+        ensures lack { OnErr result (IsTrue (may_allocate (arrivals.DriverDown u))) }
+    {
+        self.serve(Arrival::DriverDown(u))
+    }
+
+    /// Cuts the server's end of a link. Returns whether the step was played.
+    fn cut(&mut self, m: usize, i: usize) -> Result<bool, Lack>
+        requires within { m < length self.old.seats }
+        requires there { i < length (links_in (slice_get self.old.seats m)) }
+        ensures played { IfOk result (λ played. played ≡ is_played (tell_by self.old.server (arrivals.Close (link_of self.old m i).connection))) }
+        ensures fleet { OnOk result (self.new ≡ told_to self.old (arrivals.Close (link_of self.old m i).connection)) }
+        ensures lack { OnErr result (IsTrue (may_allocate (arrivals.Close (link_of self.old m i).connection))) }
+    {
+        let c = self.connection(m, i);
+        self.serve(Arrival::Close(c))
+    }
+
     /// Plays one step, and logs what its monitor tells. Returns whether the step was played; if not, it is skipped.
     #[tactic(auto, using(crate::proofs::Fits::fits_line, crate::proofs::Fits::fits_within, crate::proofs::Fits::fits_there, crate::proofs::Fits::fits_watched))]
     fn step(&mut self, step: &Step, k: usize, log: &mut Vec<Logged>) -> Result<bool, Lack>
@@ -192,23 +239,17 @@ impl Fleet {
         ensures lack { OnErr result (IsTrue (may_lack (step_of step.now) (said self.old (step_of step.now)))) }
     {
         match step {
-            Step::ServerClock(t) => self.serve(Arrival::Moment(*t)),
+            Step::ServerClock(t) => self.show_clock(*t),
             Step::MonitorClock(m, t) => self.hear(*m, Event::Moment(*t), k, log),
-            Step::Up(u) => self.serve(Arrival::DriverUp(*u)),
-            Step::Driver(u, line) => {
-                let piece = with_feed(line.as_slice());
-                self.serve(Arrival::DriverBytes(*u, piece.as_slice()))
-            }
-            Step::Down(u) => self.serve(Arrival::DriverDown(*u)),
+            Step::Up(u) => self.connect(*u),
+            Step::Driver(u, line) => self.say(*u, line.as_slice()),
+            Step::Down(u) => self.disconnect(*u),
             Step::Link(m, i) => self.join(place(*m, *i, k), log),
             Step::Out(m, i, n) => self.send(place(*m, *i, k), *n, log),
             Step::Reach(m, i, n) => self.reach(*m, *i, *n),
             Step::Back(m, i, n) => self.back(*m, *i, *n),
             Step::Land(m, i, n) => self.land(place(*m, *i, k), *n, log),
-            Step::CutServer(m, i) => {
-                let c = self.connection(*m, *i);
-                self.serve(Arrival::Close(c))
-            }
+            Step::CutServer(m, i) => self.cut(*m, *i),
             Step::CutMonitor(m, i) => self.hear(*m, Event::LinkLost(*i), k, log),
         }
     }
@@ -257,6 +298,38 @@ impl Fleet {
         note(log, k, News::Skipped)
     }
 
+    /// Plays the next step of a call, which has this number there, if it fits.
+    fn play_next(&mut self, step: &Step, at: usize, log: &mut FleetLog) -> Result<(), FleetFault>
+        ensures fit { OnOk result (fits self.old (step_of step.now) ≡ true) }
+        ensures fleet { OnOk result (self.new ≡ next self.old (step_of step.now)) }
+        ensures log { OnOk result (map logged_of log.new.items ≡ map logged_of log.old.items ++ logged at (told_at self.old (step_of step.now))) }
+        ensures fault { IfErr result (λ fault. IsFaultAt self.old (step_of step.now) at fault self.new) }
+    {
+        if !self.is_fit(step) {
+            return Err(FleetFault::BadStep(at));
+        }
+        if self.play_one(step, at, log).is_err() {
+            self.failed = true;
+            return Err(FleetFault::Memory(at));
+        }
+        Ok(())
+    }
+
+    /// Plays the steps of a call in order, up to the first that doesn't fit, and logs what they tell.
+    fn play_all(&mut self, schedule: &[Step], log: &mut FleetLog) -> Result<(), FleetFault>
+        requires { log.old.items ≡ [] }
+        ensures played { OnOk result (IsLog self.old (map step_of schedule.now) (map logged_of log.new.items) self.new) }
+        ensures fault { IfErr result (λ fault. IsFault self.old (map step_of schedule.now) fault self.new) }
+    {
+        for k in 0..schedule.len() {
+            match self.play_next(&schedule[k], k + 1, log) {
+                Ok(()) => {}
+                Err(fault) => return Err(fault),
+            }
+        }
+        Ok(())
+    }
+
     /// Plays the steps in order, up to the first that doesn't fit.
     fn run(&mut self, schedule: &[Step]) -> Result<FleetLog, FleetFault>
         ensures failed { self.old.failed ≡ true → (result ≡ Err Failed) × (self.new ≡ self.old) }
@@ -267,16 +340,14 @@ impl Fleet {
             return Err(FleetFault::Failed);
         }
         let mut log = Vec::new(self.alloc);
-        for k in 0..schedule.len() {
-            if !self.is_fit(&schedule[k]) {
-                return Err(FleetFault::BadStep(k + 1));
-            }
-            if self.play_one(&schedule[k], k + 1, &mut log).is_err() {
-                self.failed = true;
-                return Err(FleetFault::Memory(k + 1));
+        match self.play_all(schedule, &mut log) {
+            Ok(()) => Ok(log),
+            Err(fault) => {
+                // dropped by a call, which keeps the proof of this function short
+                drop(log);
+                Err(fault)
             }
         }
-        Ok(log)
     }
 
     /// Plays the steps in order. Returns what they told; there the steps of this call are numbered from 1.
@@ -303,6 +374,37 @@ impl Fleet {
         configurations_are_spoken();
         rooms_hold();
         self.run(schedule)
+    }
+}
+
+/// Makes a fleet of this server and of these monitors, which were told nothing.
+fn with_server(
+    alloc: Global,
+    server: Server,
+    monitors: Vec<UpsmonConf>,
+) -> Result<Fleet, FleetFault>
+    ensures made { IfOk result (λ fleet. fleet ≡ record { server = server; seats = map fresh_seat monitors.items; failed = false }) }
+    ensures fault { IfErr result (λ fault. fault ≡ Memory 0) }
+{
+    match seats_of(alloc, monitors) {
+        Ok(seats) => Ok(with_seats(alloc, server, seats)),
+        Err(Lack) => {
+            // dropped by a call, which keeps the proof of this function short
+            drop(server);
+            Err(FleetFault::Memory(0))
+        }
+    }
+}
+
+/// Returns the fleet of this server and these seats, which hasn't failed.
+fn with_seats(alloc: Global, server: Server, seats: Vec<Seat>) -> Fleet
+    ensures { result ≡ record { server = server; seats = seats.items; failed = false } }
+{
+    Fleet {
+        server,
+        seats,
+        failed: false,
+        alloc,
     }
 }
 

@@ -3,7 +3,7 @@
 ghost use Rattle.std.specs.Prelude.{◌≡◌, Err, IsTrue};
 ghost use Rattle.nut_words.specs.Number.{natural};
 ghost use Rattle.nut_play.specs.declared.reading.StepFault.{StepFault};
-ghost use Rattle.nut_play.specs.Lines.{Gives, form, is_of_driver, meant, one_number, said, said_by_driver, takes_memory, three_numbers, two_numbers};
+ghost use Rattle.nut_play.specs.Lines.{Gives, form, is_of_driver, meant, one, one_form, one_number, said, said_by_driver, takes_memory, three, three_form, three_numbers, two, two_form, two_numbers};
 ghost use Rattle.nut_play.specs.Steps.{step_of};
 
 use crate::limits::STEP_LINE_MAX;
@@ -23,6 +23,73 @@ pub enum StepFault {
     /// Memory could not be allocated.
     #[error("out of memory")]
     Memory,
+}
+
+/// A verb with one number behind it.
+#[derive(Clone, Copy)]
+enum OneNumber {
+    Server,
+    Up,
+    Down,
+}
+
+/// A verb with two numbers behind it.
+#[derive(Clone, Copy)]
+enum TwoNumbers {
+    Monitor,
+    Link,
+    CutServer,
+    CutMonitor,
+}
+
+/// A verb with three numbers behind it.
+#[derive(Clone, Copy)]
+enum ThreeNumbers {
+    Out,
+    Reach,
+    Back,
+    Land,
+}
+
+impl OneNumber {
+    /// Returns the step of this verb with this number.
+    fn step(self, number: usize) -> Step
+        ensures { step_of result ≡ one_form self number }
+    {
+        match self {
+            OneNumber::Server => Step::ServerClock(number as u64),
+            OneNumber::Up => Step::Up(number),
+            OneNumber::Down => Step::Down(number),
+        }
+    }
+}
+
+impl TwoNumbers {
+    /// Returns the step of this verb with these numbers.
+    fn step(self, m: usize, i: usize) -> Step
+        ensures { step_of result ≡ two_form self m i }
+    {
+        match self {
+            TwoNumbers::Monitor => Step::MonitorClock(m, i as u64),
+            TwoNumbers::Link => Step::Link(m, i),
+            TwoNumbers::CutServer => Step::CutServer(m, i),
+            TwoNumbers::CutMonitor => Step::CutMonitor(m, i),
+        }
+    }
+}
+
+impl ThreeNumbers {
+    /// Returns the step of this verb with these numbers.
+    fn step(self, m: usize, i: usize, n: usize) -> Step
+        ensures { step_of result ≡ three_form self m i n }
+    {
+        match self {
+            ThreeNumbers::Out => Step::Out(m, i, n),
+            ThreeNumbers::Reach => Step::Reach(m, i, n),
+            ThreeNumbers::Back => Step::Back(m, i, n),
+            ThreeNumbers::Land => Step::Land(m, i, n),
+        }
+    }
 }
 
 /// Reads a line of a schedule, without its line feed, as a step. Words and comments are those of the configuration
@@ -78,42 +145,51 @@ fn form(alloc: Global, verb: Verb, words: &Words<'_>) -> Result<Step, StepFault>
     ensures memory { result ≡ Err StepFault.Memory → IsTrue (is_of_driver (form verb words.now)) }
 {
     match verb {
-        Verb::Server => Ok(Step::ServerClock(one_number(words)? as u64)),
-        Verb::Monitor => {
-            let (m, t) = two_numbers(words)?;
-            Ok(Step::MonitorClock(m, t as u64))
-        }
-        Verb::Up => Ok(Step::Up(one_number(words)?)),
+        Verb::Server => with_one(OneNumber::Server, words),
+        Verb::Monitor => with_two(TwoNumbers::Monitor, words),
+        Verb::Up => with_one(OneNumber::Up, words),
         Verb::Driver => said_by_driver(alloc, words),
-        Verb::Down => Ok(Step::Down(one_number(words)?)),
-        Verb::Link => {
-            let (m, i) = two_numbers(words)?;
-            Ok(Step::Link(m, i))
-        }
-        Verb::Out => {
-            let (m, i, n) = three_numbers(words)?;
-            Ok(Step::Out(m, i, n))
-        }
-        Verb::Reach => {
-            let (m, i, n) = three_numbers(words)?;
-            Ok(Step::Reach(m, i, n))
-        }
-        Verb::Back => {
-            let (m, i, n) = three_numbers(words)?;
-            Ok(Step::Back(m, i, n))
-        }
-        Verb::Land => {
-            let (m, i, n) = three_numbers(words)?;
-            Ok(Step::Land(m, i, n))
-        }
-        Verb::CutServer => {
-            let (m, i) = two_numbers(words)?;
-            Ok(Step::CutServer(m, i))
-        }
-        Verb::CutMonitor => {
-            let (m, i) = two_numbers(words)?;
-            Ok(Step::CutMonitor(m, i))
-        }
+        Verb::Down => with_one(OneNumber::Down, words),
+        Verb::Link => with_two(TwoNumbers::Link, words),
+        Verb::Out => with_three(ThreeNumbers::Out, words),
+        Verb::Reach => with_three(ThreeNumbers::Reach, words),
+        Verb::Back => with_three(ThreeNumbers::Back, words),
+        Verb::Land => with_three(ThreeNumbers::Land, words),
+        Verb::CutServer => with_two(TwoNumbers::CutServer, words),
+        Verb::CutMonitor => with_two(TwoNumbers::CutMonitor, words),
+    }
+}
+
+/// Returns the step of a verb with one number.
+fn with_one(verb: OneNumber, words: &Words<'_>) -> Result<Step, StepFault>
+    ensures step { Gives step_of (one (one_form verb) words.now) result }
+    ensures memory { result ≡ Err StepFault.Memory → ⊥ }
+{
+    match one_number(words) {
+        Ok(number) => Ok(verb.step(number)),
+        Err(fault) => Err(fault),
+    }
+}
+
+/// Returns the step of a verb with two numbers.
+fn with_two(verb: TwoNumbers, words: &Words<'_>) -> Result<Step, StepFault>
+    ensures step { Gives step_of (two (two_form verb) words.now) result }
+    ensures memory { result ≡ Err StepFault.Memory → ⊥ }
+{
+    match two_numbers(words) {
+        Ok((m, i)) => Ok(verb.step(m, i)),
+        Err(fault) => Err(fault),
+    }
+}
+
+/// Returns the step of a verb with three numbers.
+fn with_three(verb: ThreeNumbers, words: &Words<'_>) -> Result<Step, StepFault>
+    ensures step { Gives step_of (three (three_form verb) words.now) result }
+    ensures memory { result ≡ Err StepFault.Memory → ⊥ }
+{
+    match three_numbers(words) {
+        Ok((m, i, n)) => Ok(verb.step(m, i, n)),
+        Err(fault) => Err(fault),
     }
 }
 

@@ -1,5 +1,7 @@
 //! Moves bytes between a server and the driver of its first UPS.
 
+use crate::failure::Failure;
+use crate::played::{Played, wrote};
 use nut_dummy::{Dummy, DummyFault};
 use nut_server::{Arrival, Refused, Server};
 use std::io;
@@ -66,20 +68,36 @@ fn carry_piece(server: &mut Server, dummy: &mut Dummy, size: usize) -> Carried {
     }
 }
 
+/// Moves pieces until none waits or one is refused. Returns what happened to the last.
+fn carry_all(server: &mut Server, dummy: &mut Dummy, size: usize) -> Carried {
+    for _ in 0..PIECES_MAX {
+        match carry_piece(server, dummy, size) {
+            Carried::Piece => {}
+            carried => return carried,
+        }
+    }
+    Carried::Piece
+}
+
 /// Moves pieces until none waits or one is refused, and writes which it was.
 pub fn carry<W: Write>(
     server: &mut Server,
     dummy: &mut Dummy,
     size: usize,
     out: &mut W,
-) -> io::Result<()> {
-    for _ in 0..PIECES_MAX {
-        match carry_piece(server, dummy, size) {
-            Carried::Piece => {}
-            Carried::Nothing => return write!(out, "ok"),
-            Carried::RefusedBy(refused) => return write!(out, "server {refused:?}"),
-            Carried::RefusedByDriver(fault) => return write!(out, "driver {fault:?}"),
-        }
+) -> Result<Played, Failure> {
+    wrote(
+        show_carried(carry_all(server, dummy, size), out),
+        Played::Step,
+    )
+}
+
+/// Writes what happened to the last piece.
+fn show_carried<W: Write>(carried: Carried, out: &mut W) -> io::Result<()> {
+    match carried {
+        Carried::Piece => out.write_all(b"pieces without end"),
+        Carried::Nothing => out.write_all(b"ok"),
+        Carried::RefusedBy(refused) => write!(out, "server {refused:?}"),
+        Carried::RefusedByDriver(fault) => write!(out, "driver {fault:?}"),
     }
-    write!(out, "pieces without end")
 }

@@ -14,9 +14,9 @@
 //! A call is answered by `ok` or its fault, and then by how many bytes wait.
 
 use crate::failure::Failure;
-use crate::played::Played;
+use crate::played::{Played, show_ok, wrote};
 use crate::text::{decode, parted, put, shown};
-use nut_dummy::{Dummy, DummyFault, Script, ScriptFaultKind, ScriptKind};
+use nut_dummy::{Dummy, DummyFault, Script, ScriptFault, ScriptFaultKind, ScriptKind, Variable};
 use std::alloc::Global;
 use std::io::Write;
 use std::{io, mem};
@@ -31,15 +31,14 @@ pub fn play<W: Write>(
 ) -> Result<Played, Failure> {
     let (verb, rest) = parted(text);
     decode(rest, piece)?;
-    let played = match verb {
-        "dev" => begin(alloc, ScriptKind::Dev, piece, dummy, out)?,
-        "seq" => begin(alloc, ScriptKind::Seq, piece, dummy, out)?,
+    match verb {
+        "dev" => begin(alloc, ScriptKind::Dev, piece, dummy, out),
+        "seq" => begin(alloc, ScriptKind::Seq, piece, dummy, out),
         _ => match dummy.as_mut() {
-            Some(dummy) => play_on(dummy, verb, rest, piece, out)?,
-            None => Played::Nothing,
+            Some(dummy) => play_on(dummy, verb, rest, piece, out),
+            None => Ok(Played::Nothing),
         },
-    };
-    Ok(played)
+    }
 }
 
 /// Replaces the driver by a new one, or writes why none was made.
@@ -49,14 +48,16 @@ fn begin<W: Write>(
     script: &[u8],
     dummy: &mut Option<Dummy>,
     out: &mut W,
-) -> io::Result<Played> {
+) -> Result<Played, Failure> {
     match Script::read(alloc, kind, script) {
         Ok(script) => put_driver(Dummy::new(alloc, script, 0), dummy, out),
-        Err(fault) => {
-            write!(out, "{fault}")?;
-            Ok(Played::with_lack(fault.kind == ScriptFaultKind::Memory))
-        }
+        Err(fault) => show_script_fault(fault, out),
     }
+}
+
+fn show_script_fault<W: Write>(fault: ScriptFault, out: &mut W) -> Result<Played, Failure> {
+    let is_lack = fault.kind == ScriptFaultKind::Memory;
+    wrote(write!(out, "{fault}"), Played::with_lack(is_lack))
 }
 
 /// Replaces the driver by the new one, or writes why there is none.
@@ -64,26 +65,28 @@ fn put_driver<W: Write>(
     made: Result<Dummy, DummyFault>,
     dummy: &mut Option<Dummy>,
     out: &mut W,
-) -> io::Result<Played> {
+) -> Result<Played, Failure> {
     match made {
         Ok(made) => {
             put_in(made, dummy);
-            write!(out, "ok")?;
-            Ok(Played::Step)
+            show_ok(out)
         }
-        Err(fault) => {
-            write!(out, "{fault:?}")?;
-            Ok(Played::with_lack(matches!(fault, DummyFault::Memory(_))))
-        }
+        Err(fault) => show_fault(fault, out),
     }
 }
 
-fn put_in(made: Dummy, dummy: &mut Option<Dummy>) {
-    close(mem::replace(dummy, Some(made)));
+fn show_fault<W: Write>(fault: DummyFault, out: &mut W) -> Result<Played, Failure> {
+    wrote(write!(out, "{fault:?}"), played_with(fault))
 }
 
-/// Drops a driver.
-pub fn close(_dummy: Option<Dummy>) {}
+/// Returns what happened at a line that a driver answers by a fault.
+fn played_with(fault: DummyFault) -> Played {
+    Played::with_lack(matches!(fault, DummyFault::Memory(_)))
+}
+
+fn put_in(made: Dummy, dummy: &mut Option<Dummy>) {
+    drop(mem::replace(dummy, Some(made)));
+}
 
 /// Plays a step on a driver that was made.
 fn play_on<W: Write>(
@@ -92,10 +95,10 @@ fn play_on<W: Write>(
     rest: &str,
     piece: &[u8],
     out: &mut W,
-) -> io::Result<Played> {
+) -> Result<Played, Failure> {
     match verb {
-        "take" => take(dummy, out),
-        "table" => show_table(dummy, out),
+        "take" => wrote(take(dummy, out), Played::Step),
+        "table" => wrote(show_table(dummy, out), Played::Step),
         _ => match call(dummy, verb, rest, piece) {
             Some(answer) => show_answer(answer, dummy.waits(), out),
             None => Ok(Played::Nothing),
@@ -126,16 +129,15 @@ fn show_answer<W: Write>(
     answer: Result<(), DummyFault>,
     waits: usize,
     out: &mut W,
-) -> io::Result<Played> {
+) -> Result<Played, Failure> {
     match answer {
-        Ok(()) => write!(out, "ok waits={waits}")?,
-        Err(fault) => write!(out, "{fault:?} waits={waits}")?,
+        Ok(()) => wrote(write!(out, "ok waits={waits}"), Played::Step),
+        Err(fault) => wrote(write!(out, "{fault:?} waits={waits}"), played_with(fault)),
     }
-    Ok(Played::with_lack(matches!(answer, Err(DummyFault::Memory(_)))))
 }
 
 /// Takes and writes all bytes that wait.
-fn take<W: Write>(dummy: &mut Dummy, out: &mut W) -> io::Result<Played> {
+fn take<W: Write>(dummy: &mut Dummy, out: &mut W) -> io::Result<()> {
     for _ in 0..dummy.waits() {
         let told = dummy.waiting();
         put(told, out)?;
@@ -144,16 +146,21 @@ fn take<W: Write>(dummy: &mut Dummy, out: &mut W) -> io::Result<Played> {
             break;
         }
     }
-    Ok(Played::Step)
+    Ok(())
 }
 
 /// Writes the name and the value of each variable that has a value.
-fn show_table<W: Write>(dummy: &Dummy, out: &mut W) -> io::Result<Played> {
-    write!(out, "=")?;
+fn show_table<W: Write>(dummy: &Dummy, out: &mut W) -> io::Result<()> {
+    out.write_all(b"=")?;
     for variable in dummy.table() {
-        if let Some(value) = variable.value() {
-            write!(out, " {} \"{}\"", shown(variable.name()), shown(value))?;
-        }
+        show_variable(variable, out)?;
     }
-    Ok(Played::Step)
+    Ok(())
+}
+
+fn show_variable<W: Write>(variable: &Variable, out: &mut W) -> io::Result<()> {
+    match variable.value() {
+        Some(value) => write!(out, " {} \"{}\"", shown(variable.name()), shown(value)),
+        None => Ok(()),
+    }
 }

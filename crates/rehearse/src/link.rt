@@ -12,11 +12,12 @@
 //! A call is answered by `ok` or its fault, and then by how many bytes wait.
 
 use crate::failure::Failure;
-use crate::played::Played;
+use crate::played::{Played, wrote};
 use crate::text::{decode, parted, put, shown};
+use crate::words::show_word;
 use nut_link::{Fields, Link, LinkFault, Outcome, Rows};
 use nut_proto::read;
-use nut_words::split;
+use nut_words::{Words, split};
 use std::alloc::Global;
 use std::io::Write;
 use std::{io, mem};
@@ -32,16 +33,13 @@ pub fn play<W: Write>(
     let (verb, rest) = parted(text);
     decode(rest, piece)?;
     match verb {
-        "take" => take(link, out)?,
-        "answer" => answer(link, out)?,
-        _ => {
-            return Ok(match call(alloc, link, verb, rest, piece) {
-                Some(answer) => show_answer(answer, link.waiting().len(), out)?,
-                None => Played::Nothing,
-            });
-        }
+        "take" => wrote(take(link, out), Played::Step),
+        "answer" => wrote(answer(link, out), Played::Step),
+        _ => match call(alloc, link, verb, rest, piece) {
+            Some(answer) => show_answer(answer, link.waiting().len(), out),
+            None => Ok(Played::Nothing),
+        },
     }
-    Ok(Played::Step)
 }
 
 /// Takes and writes what waits of the query.
@@ -57,12 +55,17 @@ fn show_answer<W: Write>(
     answer: Result<(), LinkFault>,
     waits: usize,
     out: &mut W,
-) -> io::Result<Played> {
+) -> Result<Played, Failure> {
     match answer {
-        Ok(()) => write!(out, "ok waits={waits}")?,
-        Err(fault) => write!(out, "{fault:?} waits={waits}")?,
+        Ok(()) => wrote(write!(out, "ok waits={waits}"), Played::Step),
+        Err(fault) => {
+            let is_lack = fault == LinkFault::Memory;
+            wrote(
+                write!(out, "{fault:?} waits={waits}"),
+                Played::with_lack(is_lack),
+            )
+        }
     }
-    Ok(Played::with_lack(answer == Err(LinkFault::Memory)))
 }
 
 /// Makes the call that a verb names; `None` if it names none.
@@ -75,7 +78,7 @@ fn call(
 ) -> Option<Result<(), LinkFault>> {
     match verb {
         "new" => {
-            close(mem::replace(link, Link::new(alloc)));
+            drop(mem::replace(link, Link::new(alloc)));
             Some(Ok(()))
         }
         "ask" => ask(alloc, link, piece),
@@ -85,13 +88,16 @@ fn call(
     }
 }
 
-/// Drops a link.
-pub fn close(_link: Link) {}
-
 /// Asks the request that a line spells; `None` if it spells none.
 fn ask(alloc: Global, link: &mut Link, line: &[u8]) -> Option<Result<(), LinkFault>> {
-    let words = split(alloc, line).ok()?;
-    match read(&words) {
+    match split(alloc, line) {
+        Ok(words) => ask_words(link, &words),
+        Err(_) => None,
+    }
+}
+
+fn ask_words(link: &mut Link, words: &Words<'_>) -> Option<Result<(), LinkFault>> {
+    match read(words) {
         Ok(request) => Some(link.ask(&request)),
         Err(_) => None,
     }
@@ -100,35 +106,44 @@ fn ask(alloc: Global, link: &mut Link, line: &[u8]) -> Option<Result<(), LinkFau
 /// Takes out and writes the answer.
 fn answer<W: Write>(link: &mut Link, out: &mut W) -> io::Result<()> {
     let outcome = link.answer();
-    show_outcome(&outcome, out)
+    let shown = show_outcome(&outcome, out);
+    // dropped by a call, which keeps the proof of this function short
+    drop(outcome);
+    shown
 }
 
 fn show_outcome<W: Write>(outcome: &Option<Outcome>, out: &mut W) -> io::Result<()> {
     match outcome {
-        None => write!(out, "none"),
-        Some(Outcome::Done) => write!(out, "done"),
-        Some(Outcome::Said(fields)) => {
-            write!(out, "said ")?;
-            show_fields(fields, out)
-        }
+        None => out.write_all(b"none"),
+        Some(Outcome::Done) => out.write_all(b"done"),
+        Some(Outcome::Said(fields)) => show_said(fields, out),
         Some(Outcome::List(rows)) => show_rows(rows, out),
         Some(Outcome::Refused(name)) => write!(out, "refused {}", shown(name.as_bytes())),
     }
 }
 
+fn show_said<W: Write>(fields: &Fields, out: &mut W) -> io::Result<()> {
+    out.write_all(b"said ")?;
+    show_fields(fields, out)
+}
+
 fn show_rows<W: Write>(rows: &Rows, out: &mut W) -> io::Result<()> {
-    write!(out, "list ")?;
+    out.write_all(b"list ")?;
     for row in rows.as_slice() {
-        show_fields(row, out)?;
-        write!(out, ";")?;
+        show_row(row, out)?;
     }
     Ok(())
+}
+
+fn show_row<W: Write>(row: &Fields, out: &mut W) -> io::Result<()> {
+    show_fields(row, out)?;
+    out.write_all(b";")
 }
 
 /// Writes the words, each followed by `|`.
 fn show_fields<W: Write>(fields: &Fields, out: &mut W) -> io::Result<()> {
     for word in fields.as_slice() {
-        write!(out, "{}|", shown(word.as_bytes()))?;
+        show_word(word.as_bytes(), out)?;
     }
     Ok(())
 }

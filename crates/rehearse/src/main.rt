@@ -92,7 +92,8 @@ fn play<R: BufRead, W: Write>(
     let mut stage = Stage::new(alloc);
     let mut line = String::new(alloc);
     let played = play_lines(rt, &mut stage, input, &mut line, out);
-    stage.close();
+    // dropped by a call, which keeps the proof of this function short
+    drop(stage);
     played
 }
 

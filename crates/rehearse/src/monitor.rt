@@ -15,10 +15,10 @@
 //! An event is answered by `ok` or its fault, then by the phase, and for each link by whether it is up and how many
 //! bytes wait for its server.
 
-use crate::failure::Failure;
-use crate::played::Played;
+use crate::failure::{Failure, sent};
+use crate::played::{Played, show_file_fault, show_ok, wrote};
 use crate::text::{decode, parted, put, shown};
-use nut_conf::{FaultKind, read_upsmon};
+use nut_conf::read_upsmon;
 use nut_monitor::{Event, Monitor, MonitorFault, Notice};
 use std::alloc::Global;
 use std::io::Write;
@@ -35,7 +35,7 @@ pub fn play<W: Write>(
     let (verb, rest) = parted(text);
     if verb == "new" {
         decode(rest, piece)?;
-        return Ok(begin(alloc, piece, monitor, out)?);
+        return begin(alloc, piece, monitor, out);
     }
     match monitor.as_mut() {
         Some(monitor) => play_on(monitor, verb, rest, piece, out),
@@ -52,7 +52,7 @@ fn play_on<W: Write>(
     out: &mut W,
 ) -> Result<Played, Failure> {
     match verb {
-        "waits" => Ok(show_waiting(monitor, rest, out)?),
+        "waits" => show_waiting(monitor, rest, out),
         "show" => show_all(monitor, out),
         "notice" => take_notice(monitor, piece, out),
         _ => tell(monitor, verb, rest, piece, out),
@@ -65,13 +65,10 @@ fn begin<W: Write>(
     file: &[u8],
     monitor: &mut Option<Monitor>,
     out: &mut W,
-) -> io::Result<Played> {
+) -> Result<Played, Failure> {
     match read_upsmon(alloc, file) {
         Ok(config) => put_monitor(Monitor::new(alloc, config), monitor, out),
-        Err(fault) => {
-            write!(out, "{fault}")?;
-            Ok(Played::with_lack(fault.kind == FaultKind::Memory))
-        }
+        Err(fault) => show_file_fault(fault, out),
     }
 }
 
@@ -80,18 +77,18 @@ fn put_monitor<W: Write>(
     made: Result<Monitor, MonitorFault>,
     monitor: &mut Option<Monitor>,
     out: &mut W,
-) -> io::Result<Played> {
+) -> Result<Played, Failure> {
     match made {
         Ok(made) => {
             put_in(made, monitor);
-            write!(out, "ok")?;
-            Ok(Played::Step)
+            show_ok(out)
         }
-        Err(fault) => {
-            write!(out, "{fault:?}")?;
-            Ok(Played::with_lack(is_lack(fault)))
-        }
+        Err(fault) => wrote(show_fault(fault, out), Played::with_lack(is_lack(fault))),
     }
+}
+
+fn show_fault<W: Write>(fault: MonitorFault, out: &mut W) -> io::Result<()> {
+    write!(out, "{fault:?}")
 }
 
 fn is_lack(fault: MonitorFault) -> bool {
@@ -99,11 +96,8 @@ fn is_lack(fault: MonitorFault) -> bool {
 }
 
 fn put_in(made: Monitor, monitor: &mut Option<Monitor>) {
-    close(mem::replace(monitor, Some(made)));
+    drop(mem::replace(monitor, Some(made)));
 }
-
-/// Drops a monitor.
-pub fn close(_monitor: Option<Monitor>) {}
 
 /// Tells the monitor an event, and writes its answer and then its state.
 fn tell<W: Write>(
@@ -115,36 +109,75 @@ fn tell<W: Write>(
 ) -> Result<Played, Failure> {
     let (number, more) = parted(rest);
     decode(more, piece)?;
-    let Some(event) = event_of(verb, number, more, piece) else {
-        return Ok(Played::Nothing);
-    };
-    let answer = monitor.arrive(event);
-    match answer {
-        Ok(()) => write!(out, "ok")?,
-        Err(fault) => write!(out, "{fault:?}")?,
+    match event_of(verb, number, more, piece) {
+        Some(event) => show_answer(monitor.arrive(event), monitor, out),
+        None => Ok(Played::Nothing),
     }
-    show(monitor, out)?;
-    Ok(Played::with_lack(matches!(answer, Err(fault) if is_lack(fault))))
+}
+
+/// Writes the answer of an event, and then the monitor's state.
+fn show_answer<W: Write>(
+    answer: Result<(), MonitorFault>,
+    monitor: &Monitor,
+    out: &mut W,
+) -> Result<Played, Failure> {
+    match answer {
+        Ok(()) => show_all(monitor, out),
+        Err(fault) => {
+            let played = Played::with_lack(is_lack(fault));
+            wrote(show_fault_and_state(fault, monitor, out), played)
+        }
+    }
+}
+
+fn show_fault_and_state<W: Write>(
+    fault: MonitorFault,
+    monitor: &Monitor,
+    out: &mut W,
+) -> io::Result<()> {
+    show_fault(fault, out)?;
+    show(monitor, out)
 }
 
 /// Returns the event that a verb tells, if it tells one.
 fn event_of<'a>(verb: &str, number: &str, more: &str, piece: &'a [u8]) -> Option<Event<'a>> {
-    let event = match verb {
-        "moment" => Event::Moment(number.parse().ok()?),
-        "linked" => Event::Linked(number.parse().ok()?),
-        "bytes" => Event::LinkBytes(number.parse().ok()?, piece),
-        "took" => Event::LinkTook(number.parse().ok()?, more.parse().ok()?),
-        "lost" => Event::LinkLost(number.parse().ok()?),
-        _ => return None,
-    };
-    Some(event)
+    match verb {
+        "moment" => moment_of(number),
+        _ => event_on_link(verb, number.parse().ok()?, more, piece),
+    }
 }
 
-/// Writes the monitor's state, as the answer of a step.
+fn moment_of<'a>(seconds: &str) -> Option<Event<'a>> {
+    match seconds.parse() {
+        Ok(t) => Some(Event::Moment(t)),
+        Err(_) => None,
+    }
+}
+
+/// Returns the event on a link that a verb tells, if it tells one.
+fn event_on_link<'a>(verb: &str, i: usize, more: &str, piece: &'a [u8]) -> Option<Event<'a>> {
+    match verb {
+        "linked" => Some(Event::Linked(i)),
+        "bytes" => Some(Event::LinkBytes(i, piece)),
+        "took" => took_on_link(i, more),
+        "lost" => Some(Event::LinkLost(i)),
+        _ => None,
+    }
+}
+
+fn took_on_link<'a>(i: usize, number: &str) -> Option<Event<'a>> {
+    match number.parse() {
+        Ok(n) => Some(Event::LinkTook(i, n)),
+        Err(_) => None,
+    }
+}
+
+/// Writes that a step was done, and then the monitor's state.
 fn show_all<W: Write>(monitor: &Monitor, out: &mut W) -> Result<Played, Failure> {
-    write!(out, "ok")?;
-    show(monitor, out)?;
-    Ok(Played::Step)
+    match out.write_all(b"ok") {
+        Ok(()) => wrote(show(monitor, out), Played::Step),
+        Err(error) => Err(Failure::from(error)),
+    }
 }
 
 /// Writes the monitor's phase and links.
@@ -152,19 +185,21 @@ fn show<W: Write>(monitor: &Monitor, out: &mut W) -> io::Result<()> {
     let phase = monitor.phase();
     write!(out, " {phase:?}")?;
     for i in 0..monitor.lines() {
-        let (linked, waits) = (monitor.linked(i), monitor.waiting(i).len());
-        write!(out, " {linked}:{waits}")?;
+        show_link(monitor, i, out)?;
     }
     Ok(())
 }
 
+/// Writes whether a link is up, and how many bytes wait for its server.
+fn show_link<W: Write>(monitor: &Monitor, i: usize, out: &mut W) -> io::Result<()> {
+    let (linked, waits) = (monitor.linked(i), monitor.waiting(i).len());
+    write!(out, " {linked}:{waits}")
+}
+
 /// Writes what waits for the server of a link.
-fn show_waiting<W: Write>(monitor: &Monitor, link: &str, out: &mut W) -> io::Result<Played> {
+fn show_waiting<W: Write>(monitor: &Monitor, link: &str, out: &mut W) -> Result<Played, Failure> {
     match link.parse() {
-        Ok(i) => {
-            put(monitor.waiting(i), out)?;
-            Ok(Played::Step)
-        }
+        Ok(i) => wrote(put(monitor.waiting(i), out), Played::Step),
         Err(_) => Ok(Played::Nothing),
     }
 }
@@ -176,10 +211,12 @@ fn take_notice<W: Write>(
     out: &mut W,
 ) -> Result<Played, Failure> {
     match monitor.take_notice() {
-        Some(notice) => show_notice(monitor, notice, text, out)?,
-        None => write!(out, "none")?,
+        Some(notice) => match show_notice(monitor, notice, text, out) {
+            Ok(()) => Ok(Played::Step),
+            Err(failure) => Err(failure),
+        },
+        None => wrote(out.write_all(b"none"), Played::Step),
     }
-    Ok(Played::Step)
 }
 
 /// Writes a notice's type, its line and its text, which is put into `text` for that.
@@ -191,10 +228,13 @@ pub fn show_notice<W: Write>(
 ) -> Result<(), Failure> {
     text.clear();
     monitor.notice_text(notice, text)?;
-    let (kind, text) = (notice.kind, shown(text.as_slice()));
+    sent(show_parts(notice, text.as_slice(), out))
+}
+
+fn show_parts<W: Write>(notice: Notice, text: &[u8], out: &mut W) -> io::Result<()> {
+    let (kind, text) = (notice.kind, shown(text));
     match notice.line {
-        Some(line) => write!(out, "{kind:?} {line} {text}")?,
-        None => write!(out, "{kind:?} - {text}")?,
+        Some(line) => write!(out, "{kind:?} {line} {text}"),
+        None => write!(out, "{kind:?} - {text}"),
     }
-    Ok(())
 }

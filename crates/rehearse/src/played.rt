@@ -1,4 +1,9 @@
-//! What happened at a line.
+//! What happened at a line, and answers that several engines give.
+
+use crate::failure::Failure;
+use nut_conf::{ConfFault, FaultKind};
+use std::io;
+use std::io::Write;
 
 /// What happened at a line of a script.
 #[derive(Clone, Copy, PartialEq, Eq)]
@@ -16,4 +21,23 @@ impl Played {
     pub fn with_lack(is_lack: bool) -> Self {
         if is_lack { Played::Lack } else { Played::Step }
     }
+}
+
+/// Returns what happened at a line, if its answer was written. A call of this keeps the proofs of its callers short.
+pub fn wrote(written: io::Result<()>, played: Played) -> Result<Played, Failure> {
+    match written {
+        Ok(()) => Ok(played),
+        Err(error) => Err(Failure::from(error)),
+    }
+}
+
+/// Writes that a step was done.
+pub fn show_ok<W: Write>(out: &mut W) -> Result<Played, Failure> {
+    wrote(out.write_all(b"ok"), Played::Step)
+}
+
+/// Writes why the text of a configuration file sets nothing.
+pub fn show_file_fault<W: Write>(fault: ConfFault, out: &mut W) -> Result<Played, Failure> {
+    let is_lack = fault.kind == FaultKind::Memory;
+    wrote(write!(out, "{fault}"), Played::with_lack(is_lack))
 }

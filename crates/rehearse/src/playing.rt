@@ -1,33 +1,59 @@
-//! Plays a step of a schedule on a server.
+//! Plays a step on a server.
 
 ghost use Rattle.std.specs.Prelude.{◌≤◌, IfOk};
 
-use crate::server::{Peer, Step};
+use crate::server::{Asked, Peer};
 use crate::text::{put, shown};
-use nut_server::{Arrival, Config, Server};
+use nut_server::{Arrival, Config, Ended, Refused, Server};
 use std::io;
 use std::io::Write;
 
-/// Plays a step, and writes the answer.
-pub fn play<W: Write>(step: Step<'_>, server: &mut Server, out: &mut W) -> io::Result<()> {
-    match step {
-        Step::Tell(arrival) => tell(arrival, server, out),
-        Step::Take(peer, most) => take(peer, most, server, out),
-        Step::Next(least) => match server.next_unsettled(least) {
-            Some(c) => write!(out, "connection {c}"),
-            None => write!(out, "none"),
-        },
-        Step::NextDriver(least) => match server.next_driver_waiting(least) {
-            Some(u) => write!(out, "driver {u}"),
-            None => write!(out, "none"),
-        },
+/// Does what a step asks, and writes the answer.
+pub fn answer<W: Write>(asked: Asked, server: &mut Server, out: &mut W) -> io::Result<()> {
+    match asked {
+        Asked::Take(peer, most) => take(peer, most, server, out),
+        Asked::Next(least) => show_next(server.next_unsettled(least), out),
+        Asked::NextDriver(least) => show_next_driver(server.next_driver_waiting(least), out),
+    }
+}
+
+/// Writes which connection is next, if one is.
+fn show_next<W: Write>(next: Option<u64>, out: &mut W) -> io::Result<()> {
+    match next {
+        Some(c) => write!(out, "connection {c}"),
+        None => out.write_all(b"none"),
+    }
+}
+
+/// Writes the driver of which UPS is next, if one is.
+fn show_next_driver<W: Write>(next: Option<usize>, out: &mut W) -> io::Result<()> {
+    match next {
+        Some(u) => write!(out, "driver {u}"),
+        None => out.write_all(b"none"),
     }
 }
 
 /// Puts a configuration in force, and writes the answer, the server's state of each UPS, and what the reload ends.
 pub fn reload<W: Write>(config: Box<Config>, server: &mut Server, out: &mut W) -> io::Result<()> {
     let ended = server.ended_by(&config);
+    let told = tell_reload(config, &ended, server, out);
+    // dropped by a call, which keeps the proof of this function short
+    drop(ended);
+    told
+}
+
+fn tell_reload<W: Write>(
+    config: Box<Config>,
+    ended: &Ended,
+    server: &mut Server,
+    out: &mut W,
+) -> io::Result<()> {
     tell(Arrival::Reload(config), server, out)?;
+    show_ended(ended, out)
+}
+
+/// Writes what a reload ends.
+fn show_ended<W: Write>(ended: &Ended, out: &mut W) -> io::Result<()> {
     let (drivers, connections) = (ended.drivers.as_slice(), ended.connections.as_slice());
     write!(out, "; drivers {drivers:?} connections {connections:?}")
 }
@@ -58,36 +84,58 @@ fn origin_of(arrival: &Arrival<'_>) -> Origin {
 }
 
 /// Tells the server an arrival, and writes its answer and then what waits at the place that the arrival came from.
-fn tell<W: Write>(arrival: Arrival<'_>, server: &mut Server, out: &mut W) -> io::Result<()> {
+pub fn tell<W: Write>(arrival: Arrival<'_>, server: &mut Server, out: &mut W) -> io::Result<()> {
     let origin = origin_of(&arrival);
-    match server.arrive(arrival) {
-        Ok(()) => write!(out, "ok")?,
-        Err(refused) => write!(out, "{refused:?}")?,
+    show_answer(server.arrive(arrival), out)?;
+    show_origin(origin, server, out)
+}
+
+fn show_answer<W: Write>(answer: Result<(), Refused>, out: &mut W) -> io::Result<()> {
+    match answer {
+        Ok(()) => out.write_all(b"ok"),
+        Err(refused) => write!(out, "{refused:?}"),
     }
+}
+
+/// Writes what waits at a place.
+fn show_origin<W: Write>(origin: Origin, server: &Server, out: &mut W) -> io::Result<()> {
     match origin {
         Origin::Clock => show_waits(server, out),
-        Origin::Door => write!(out, " opened={}", server.opened()),
+        Origin::Door => show_opened(server.opened(), out),
         Origin::Connection(c) => show_connection(c, server, out),
         Origin::Driver(u) => show_driver(u, server, out),
         Origin::Files => show_upses(server, out),
     }
 }
 
+fn show_opened<W: Write>(opened: u64, out: &mut W) -> io::Result<()> {
+    write!(out, " opened={opened}")
+}
+
 /// Writes how many bytes wait for the driver of each UPS.
 fn show_waits<W: Write>(server: &Server, out: &mut W) -> io::Result<()> {
     for u in 0..server.number_of_places() {
-        write!(out, " {}", server.waits_for_driver(u))?;
+        show_count(server.waits_for_driver(u), out)?;
     }
     Ok(())
+}
+
+fn show_count<W: Write>(waits: usize, out: &mut W) -> io::Result<()> {
+    write!(out, " {waits}")
 }
 
 /// Writes the name of each UPS, and the server's state of its driver.
 fn show_upses<W: Write>(server: &Server, out: &mut W) -> io::Result<()> {
     for u in 0..server.number_of_places() {
-        write!(out, "; {}", shown(server.ups_name(u).unwrap_or(b"-")))?;
-        show_driver(u, server, out)?;
+        show_ups(u, server, out)?;
     }
     Ok(())
+}
+
+/// Writes the name of a UPS, and the server's state of its driver.
+fn show_ups<W: Write>(u: usize, server: &Server, out: &mut W) -> io::Result<()> {
+    write!(out, "; {}", shown(server.ups_name(u).unwrap_or(b"-")))?;
+    show_driver(u, server, out)
 }
 
 /// Writes the server's state of a connection.

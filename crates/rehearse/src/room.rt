@@ -11,12 +11,14 @@
 //! its fault.
 
 use crate::failure::Failure;
-use crate::played::Played;
+use crate::played::{Played, show_file_fault, show_ok, wrote};
 use crate::server::read_config;
 use crate::stage::Texts;
 use crate::text::{decode, parted, shown};
-use nut_conf::{FaultKind, UpsmonConf, read_upsmon};
+use nut_conf::{UpsmonConf, read_upsmon};
+use nut_monitor::{Notice, Phase};
 use nut_play::{Fleet, FleetFault, FleetLog, Logged, News, Step, StepFault, read_step};
+use nut_server::Config;
 use std::alloc::Global;
 use std::io::Write;
 use std::{io, mem};
@@ -39,18 +41,6 @@ impl Rooms {
         }
     }
 
-    /// Drops the room, and what was gathered for the next one.
-    pub fn close(self) {
-        let Rooms {
-            fleet,
-            monitors,
-            schedule,
-        } = self;
-        close(fleet);
-        let_go(monitors);
-        end(schedule);
-    }
-
     /// Plays a step of a script, and writes the answer.
     pub fn play<W: Write>(
         &mut self,
@@ -63,10 +53,10 @@ impl Rooms {
         let (verb, rest) = parted(text);
         decode(rest, piece)?;
         match verb {
-            "monitor" => Ok(self.add_monitor(alloc, piece, out)?),
+            "monitor" => self.add_monitor(alloc, piece, out),
             "new" => self.begin(alloc, texts, out),
-            "step" => Ok(self.add_step(alloc, piece, out)?),
-            "play" => Ok(self.call(alloc, out)?),
+            "step" => self.add_step(alloc, piece, out),
+            "play" => self.call(alloc, out),
             _ => Ok(Played::Nothing),
         }
     }
@@ -77,13 +67,10 @@ impl Rooms {
         alloc: Global,
         file: &[u8],
         out: &mut W,
-    ) -> io::Result<Played> {
+    ) -> Result<Played, Failure> {
         match read_upsmon(alloc, file) {
             Ok(config) => show_growth(push_monitor(&mut self.monitors, config), out),
-            Err(fault) => {
-                write!(out, "{fault}")?;
-                Ok(Played::with_lack(fault.kind == FaultKind::Memory))
-            }
+            Err(fault) => show_file_fault(fault, out),
         }
     }
 
@@ -94,9 +81,21 @@ impl Rooms {
         texts: &Texts,
         out: &mut W,
     ) -> Result<Played, Failure> {
+        match read_config(alloc, texts) {
+            Ok(config) => self.begin_with(alloc, config, out),
+            Err(fault) => Err(Failure::from(fault)),
+        }
+    }
+
+    /// Replaces the room by a new one with this server.
+    fn begin_with<W: Write>(
+        &mut self,
+        alloc: Global,
+        config: Config,
+        out: &mut W,
+    ) -> Result<Played, Failure> {
         let monitors = mem::replace(&mut self.monitors, Vec::new(alloc));
-        let made = fresh_fleet(alloc, texts, monitors)?;
-        Ok(self.put_made(made, out)?)
+        self.put_made(Fleet::new(alloc, config, monitors), out)
     }
 
     /// Replaces the room by the new one, or writes why there is none.
@@ -104,19 +103,18 @@ impl Rooms {
         &mut self,
         made: Result<Fleet, FleetFault>,
         out: &mut W,
-    ) -> io::Result<Played> {
+    ) -> Result<Played, Failure> {
         match made {
             Ok(fleet) => {
                 self.put_fleet(fleet);
-                write!(out, "ok")?;
-                Ok(Played::Step)
+                show_ok(out)
             }
             Err(fault) => show_fault(fault, out),
         }
     }
 
     fn put_fleet(&mut self, fleet: Fleet) {
-        close(mem::replace(&mut self.fleet, Some(fleet)));
+        drop(mem::replace(&mut self.fleet, Some(fleet)));
     }
 
     /// Adds a step to the next call.
@@ -125,42 +123,28 @@ impl Rooms {
         alloc: Global,
         line: &[u8],
         out: &mut W,
-    ) -> io::Result<Played> {
+    ) -> Result<Played, Failure> {
         match read_step(alloc, line) {
             Ok(step) => show_growth(push_step(&mut self.schedule, step), out),
-            Err(fault) => {
-                write!(out, "{fault:?}")?;
-                Ok(Played::with_lack(fault == StepFault::Memory))
-            }
+            Err(fault) => show_step_fault(fault, out),
         }
     }
 
     /// Plays the steps of a call, and writes what they tell.
-    fn call<W: Write>(&mut self, alloc: Global, out: &mut W) -> io::Result<Played> {
+    fn call<W: Write>(&mut self, alloc: Global, out: &mut W) -> Result<Played, Failure> {
         let schedule = mem::replace(&mut self.schedule, Vec::new(alloc));
+        let played = self.play_steps(schedule.as_slice(), out);
+        // dropped by a call, which keeps the proof of this function short
+        drop(schedule);
+        played
+    }
+
+    /// Plays these steps in one call, and writes what they tell.
+    fn play_steps<W: Write>(&mut self, schedule: &[Step], out: &mut W) -> Result<Played, Failure> {
         match &mut self.fleet {
-            Some(fleet) => show_call(fleet.play(schedule.as_slice()), out),
+            Some(fleet) => show_call(fleet.play(schedule), out),
             None => Ok(Played::Nothing),
         }
-    }
-}
-
-/// Drops a room.
-fn close(_fleet: Option<Fleet>) {}
-
-fn let_go(_monitors: Vec<UpsmonConf>) {}
-
-fn end(_schedule: Vec<Step>) {}
-
-/// Makes a room with the texts of the server's files and the configurations of its monitors.
-fn fresh_fleet(
-    alloc: Global,
-    texts: &Texts,
-    monitors: Vec<UpsmonConf>,
-) -> Result<Result<Fleet, FleetFault>, Failure> {
-    match read_config(alloc, texts) {
-        Ok(config) => Ok(Fleet::new(alloc, config, monitors)),
-        Err(fault) => Err(Failure::from(fault)),
     }
 }
 
@@ -173,44 +157,68 @@ fn push_step(schedule: &mut Vec<Step>, step: Step) -> bool {
 }
 
 /// Writes whether memory for one more thing could be allocated.
-fn show_growth<W: Write>(has_grown: bool, out: &mut W) -> io::Result<Played> {
-    write!(out, "{}", if has_grown { "ok" } else { "Memory" })?;
-    Ok(Played::with_lack(!has_grown))
+fn show_growth<W: Write>(has_grown: bool, out: &mut W) -> Result<Played, Failure> {
+    let answer: &[u8] = if has_grown { b"ok" } else { b"Memory" };
+    wrote(out.write_all(answer), Played::with_lack(!has_grown))
 }
 
-fn show_fault<W: Write>(fault: FleetFault, out: &mut W) -> io::Result<Played> {
-    write!(out, "{fault:?}")?;
-    Ok(Played::with_lack(matches!(fault, FleetFault::Memory(_))))
+fn show_step_fault<W: Write>(fault: StepFault, out: &mut W) -> Result<Played, Failure> {
+    let is_lack = fault == StepFault::Memory;
+    wrote(write!(out, "{fault:?}"), Played::with_lack(is_lack))
 }
 
-fn show_call<W: Write>(told: Result<FleetLog, FleetFault>, out: &mut W) -> io::Result<Played> {
+fn show_fault<W: Write>(fault: FleetFault, out: &mut W) -> Result<Played, Failure> {
+    let is_lack = matches!(fault, FleetFault::Memory(_));
+    wrote(write!(out, "{fault:?}"), Played::with_lack(is_lack))
+}
+
+fn show_call<W: Write>(told: Result<FleetLog, FleetFault>, out: &mut W) -> Result<Played, Failure> {
     match told {
-        Ok(log) => show_log(log.as_slice(), out),
+        Ok(log) => wrote(show_log(log.as_slice(), out), Played::Step),
         Err(fault) => show_fault(fault, out),
     }
 }
 
 /// Writes what the steps of a call told.
-fn show_log<W: Write>(log: &[Logged], out: &mut W) -> io::Result<Played> {
+fn show_log<W: Write>(log: &[Logged], out: &mut W) -> io::Result<()> {
     for logged in log {
         show_news(logged, out)?;
     }
-    write!(out, "ok")?;
-    Ok(Played::Step)
+    out.write_all(b"ok")
 }
 
 /// Writes something that a step told.
 fn show_news<W: Write>(logged: &Logged, out: &mut W) -> io::Result<()> {
-    let step = logged.step;
     match logged.news {
-        News::Skipped => writeln!(out, "{step}: skipped"),
-        News::Phase(monitor, phase) => writeln!(out, "{step}: monitor {monitor} phase {phase:?}"),
-        News::Notice(monitor, notice) => {
-            let kind = shown(notice.kind.word());
-            match notice.line {
-                Some(line) => writeln!(out, "{step}: monitor {monitor} notice {kind} {line}"),
-                None => writeln!(out, "{step}: monitor {monitor} notice {kind}"),
-            }
-        }
+        News::Skipped => show_skipped(logged.step, out),
+        News::Phase(monitor, phase) => show_phase(logged.step, monitor, phase, out),
+        News::Notice(monitor, notice) => show_notice(logged.step, monitor, notice, out),
+    }
+}
+
+fn show_skipped<W: Write>(step: usize, out: &mut W) -> io::Result<()> {
+    writeln!(out, "{step}: skipped")
+}
+
+fn show_phase<W: Write>(step: usize, monitor: usize, phase: Phase, out: &mut W) -> io::Result<()> {
+    writeln!(out, "{step}: monitor {monitor} phase {phase:?}")
+}
+
+/// Writes a notice, and the number of the MONITOR line that it is about, if it is about one.
+fn show_notice<W: Write>(
+    step: usize,
+    monitor: usize,
+    notice: Notice,
+    out: &mut W,
+) -> io::Result<()> {
+    let kind = shown(notice.kind.word());
+    write!(out, "{step}: monitor {monitor} notice {kind}")?;
+    end_notice(notice.line, out)
+}
+
+fn end_notice<W: Write>(line: Option<usize>, out: &mut W) -> io::Result<()> {
+    match line {
+        Some(line) => writeln!(out, " {line}"),
+        None => writeln!(out),
     }
 }

@@ -22,13 +22,13 @@
 //! it disconnects and the connections that it closes.
 
 use crate::failure::Failure;
-use crate::played::Played;
+use crate::played::{Played, wrote};
 use crate::playing;
 use crate::stage::Texts;
 use crate::text::{decode, parted};
 use nut_conf::{ConfFault, UpsConf, UpsdConf, UsersConf, read_ups, read_upsd, read_users};
-use nut_server::{Arrival, Config, Server};
-use std::alloc::{AllocError, Global};
+use nut_server::{Arrival, Config, Server, ServerFault};
+use std::alloc::Global;
 use std::io::Write;
 
 /// A peer for which bytes may wait.
@@ -40,11 +40,9 @@ pub enum Peer {
     Driver(usize),
 }
 
-/// A step of a schedule.
-#[derive(Drop)]
-pub enum Step<'a> {
-    /// Tells the server this.
-    Tell(Arrival<'a>),
+/// What a step asks of a server or of a peer.
+#[derive(Clone, Copy)]
+pub enum Asked {
     /// The peer takes what waits for it, at most this many bytes.
     Take(Peer, usize),
     /// Asks the server for the least connection from this number on for which bytes wait or that leaves.
@@ -59,11 +57,20 @@ pub enum Step<'a> {
 ///
 /// The first fault of a file; `Memory` if memory cannot be allocated.
 pub fn begin(alloc: Global, texts: &Texts) -> Result<Server, Failure> {
-    let config = read_config(alloc, texts)?;
-    Ok(Server::new(alloc, config)?)
+    match read_config(alloc, texts) {
+        Ok(config) => made(Server::new(alloc, config)),
+        Err(fault) => Err(Failure::from(fault)),
+    }
 }
 
-/// Reads the texts. What was read is dropped in functions of its own, which makes the check much faster.
+fn made(server: Result<Server, ServerFault>) -> Result<Server, Failure> {
+    match server {
+        Ok(server) => Ok(server),
+        Err(fault) => Err(Failure::from(fault)),
+    }
+}
+
+/// Reads the texts. What was read is dropped by calls, which makes the check much faster.
 ///
 /// # Errors
 ///
@@ -73,7 +80,7 @@ pub fn read_config(alloc: Global, texts: &Texts) -> Result<Config, ConfFault> {
     match read_users(alloc, &texts.users) {
         Ok(users) => with_upsd(ups, users, read_upsd(alloc, &texts.upsd)),
         Err(fault) => {
-            let_go(ups);
+            drop(ups);
             Err(fault)
         }
     }
@@ -87,16 +94,12 @@ fn with_upsd(
     match upsd {
         Ok(upsd) => Ok(Config::new(ups, users, upsd)),
         Err(fault) => {
-            let_go(ups);
-            let_users_go(users);
+            drop(ups);
+            drop(users);
             Err(fault)
         }
     }
 }
-
-fn let_go(_ups: UpsConf) {}
-
-fn let_users_go(_users: UsersConf) {}
 
 /// Puts the texts of the configuration files in force, and writes the answer.
 ///
@@ -109,75 +112,146 @@ pub fn reload<W: Write>(
     server: &mut Server,
     out: &mut W,
 ) -> Result<Played, Failure> {
-    let config = boxed_config(alloc, texts)?;
-    playing::reload(config, server, out)?;
-    Ok(Played::Step)
+    match boxed_config(alloc, texts) {
+        Ok(config) => wrote(playing::reload(config, server, out), Played::Step),
+        Err(failure) => Err(failure),
+    }
 }
 
 /// Reads the texts into memory of their own.
 fn boxed_config(alloc: Global, texts: &Texts) -> Result<Box<Config>, Failure> {
-    let config = read_config(alloc, texts)?;
-    Ok(boxed(alloc, config)?)
+    match read_config(alloc, texts) {
+        Ok(config) => boxed(alloc, config),
+        Err(fault) => Err(Failure::from(fault)),
+    }
 }
 
-fn boxed(alloc: Global, config: Config) -> Result<Box<Config>, AllocError> {
-    Ok(Box::new(alloc, config)?)
+fn boxed(alloc: Global, config: Config) -> Result<Box<Config>, Failure> {
+    match Box::new(alloc, config) {
+        Ok(config) => Ok(config),
+        Err(_) => Err(Failure::Memory),
+    }
 }
 
-/// Drops a server.
-pub fn close(_server: Option<Server>) {}
-
-/// Plays a step on a server, and writes the answer.
+/// Plays a step on a server, and writes the answer. The bytes that it tells are put into `piece`.
 pub fn play<W: Write>(
     server: &mut Option<Server>,
     line: &str,
     piece: &mut Vec<u8>,
     out: &mut W,
 ) -> Result<Played, Failure> {
-    let (Some(step), Some(server)) = (read_step(line, piece)?, server.as_mut()) else {
-        return Ok(Played::Nothing);
-    };
-    playing::play(step, server, out)?;
-    Ok(Played::Step)
-}
-
-/// Reads a step of a server; `None` if the line isn't one. The bytes that it tells are put into `piece`.
-fn read_step<'a>(line: &'a str, piece: &'a mut Vec<u8>) -> Result<Option<Step<'a>>, AllocError> {
     let (verb, rest) = parted(line);
     let (number, more) = parted(rest);
     decode(if verb == "open" { rest } else { more }, piece)?;
-    let asked = asked_step(verb, number, more);
-    Ok(asked.or(told_arrival(verb, number, more, piece.as_slice()).map(Step::Tell)))
+    let Some(server) = server.as_mut() else {
+        return Ok(Played::Nothing);
+    };
+    match asked_by(verb, number, more) {
+        Some(asked) => wrote(playing::answer(asked, server, out), Played::Step),
+        None => tell(told_by(verb, number, more, piece.as_slice()), server, out),
+    }
+}
+
+/// Tells the server an arrival, if the line is one, and writes the answer.
+fn tell<W: Write>(
+    told: Option<Arrival<'_>>,
+    server: &mut Server,
+    out: &mut W,
+) -> Result<Played, Failure> {
+    match told {
+        Some(arrival) => wrote(playing::tell(arrival, server, out), Played::Step),
+        None => Ok(Played::Nothing),
+    }
 }
 
 /// Returns the arrival that a verb tells, if it tells one.
-fn told_arrival<'a>(verb: &str, number: &str, more: &str, piece: &'a [u8]) -> Option<Arrival<'a>> {
-    let arrival = match verb {
-        "moment" => Arrival::Moment(number.parse().ok()?),
-        "open" => Arrival::Open(piece),
-        "bytes" => Arrival::Bytes(number.parse().ok()?, piece),
-        "took" => Arrival::Took(number.parse().ok()?, more.parse().ok()?),
-        "close" => Arrival::Close(number.parse().ok()?),
-        "fail" => Arrival::WriteFailed(number.parse().ok()?),
-        "up" => Arrival::DriverUp(number.parse().ok()?),
-        "driver" => Arrival::DriverBytes(number.parse().ok()?, piece),
-        "driver-took" => Arrival::DriverTook(number.parse().ok()?, more.parse().ok()?),
-        "down" => Arrival::DriverDown(number.parse().ok()?),
-        _ => return None,
-    };
-    Some(arrival)
+fn told_by<'a>(verb: &str, number: &str, more: &str, piece: &'a [u8]) -> Option<Arrival<'a>> {
+    match verb {
+        "moment" => moment_of(number),
+        "open" => Some(Arrival::Open(piece)),
+        "bytes" | "took" | "close" | "fail" => told_by_connection(
+            verb,
+            number.parse().ok()?,
+            more,
+            piece,
+        ),
+        _ => told_by_driver(verb, number.parse().ok()?, more, piece),
+    }
+}
+
+fn moment_of<'a>(seconds: &str) -> Option<Arrival<'a>> {
+    match seconds.parse() {
+        Ok(t) => Some(Arrival::Moment(t)),
+        Err(_) => None,
+    }
+}
+
+/// Returns the arrival from a connection that a verb tells, if it tells one.
+fn told_by_connection<'a>(verb: &str, c: u64, more: &str, piece: &'a [u8]) -> Option<Arrival<'a>> {
+    match verb {
+        "bytes" => Some(Arrival::Bytes(c, piece)),
+        "took" => taken_by_connection(c, more),
+        "close" => Some(Arrival::Close(c)),
+        "fail" => Some(Arrival::WriteFailed(c)),
+        _ => None,
+    }
+}
+
+fn taken_by_connection<'a>(c: u64, number: &str) -> Option<Arrival<'a>> {
+    match number.parse() {
+        Ok(n) => Some(Arrival::Took(c, n)),
+        Err(_) => None,
+    }
+}
+
+/// Returns the arrival from the driver of a UPS that a verb tells, if it tells one.
+fn told_by_driver<'a>(verb: &str, u: usize, more: &str, piece: &'a [u8]) -> Option<Arrival<'a>> {
+    match verb {
+        "up" => Some(Arrival::DriverUp(u)),
+        "driver" => Some(Arrival::DriverBytes(u, piece)),
+        "driver-took" => taken_by_driver(u, more),
+        "down" => Some(Arrival::DriverDown(u)),
+        _ => None,
+    }
+}
+
+fn taken_by_driver<'a>(u: usize, number: &str) -> Option<Arrival<'a>> {
+    match number.parse() {
+        Ok(n) => Some(Arrival::DriverTook(u, n)),
+        Err(_) => None,
+    }
 }
 
 /// Returns what a verb asks of the server or of a peer, if it asks anything.
-fn asked_step<'a>(verb: &str, number: &str, more: &str) -> Option<Step<'a>> {
-    let step = match verb {
-        "take" => Step::Take(Peer::Connection(number.parse().ok()?), most(more)?),
-        "driver-take" => Step::Take(Peer::Driver(number.parse().ok()?), most(more)?),
-        "next" => Step::Next(number.parse().ok()?),
-        "next-driver" => Step::NextDriver(number.parse().ok()?),
-        _ => return None,
-    };
-    Some(step)
+fn asked_by(verb: &str, number: &str, more: &str) -> Option<Asked> {
+    match verb {
+        "take" => take_of(connection(number)?, more),
+        "driver-take" => take_of(driver(number)?, more),
+        "next" => Some(Asked::Next(number.parse().ok()?)),
+        "next-driver" => Some(Asked::NextDriver(number.parse().ok()?)),
+        _ => None,
+    }
+}
+
+fn connection(number: &str) -> Option<Peer> {
+    match number.parse() {
+        Ok(c) => Some(Peer::Connection(c)),
+        Err(_) => None,
+    }
+}
+
+fn driver(number: &str) -> Option<Peer> {
+    match number.parse() {
+        Ok(u) => Some(Peer::Driver(u)),
+        Err(_) => None,
+    }
+}
+
+fn take_of(peer: Peer, more: &str) -> Option<Asked> {
+    match most(more) {
+        Some(most) => Some(Asked::Take(peer, most)),
+        None => None,
+    }
 }
 
 /// Returns how many bytes are taken at most: all, if the text is empty. `None` if it isn't a number.

@@ -1,7 +1,7 @@
 //! What a script has made so far.
 
-use crate::failure::Failure;
-use crate::played::Played;
+use crate::failure::{Failure, sent};
+use crate::played::{Played, show_ok, wrote};
 use crate::room::Rooms;
 use crate::text::{decode, parted};
 use crate::{carrying, dummy, link, monitor, server, watching, words};
@@ -79,12 +79,11 @@ impl Stage {
         line: &str,
         out: &mut W,
     ) -> Result<(), Failure> {
-        let played = self.play_any(rt, line, out)?;
-        if played == Played::Nothing {
-            return Err(Failure::Line(number));
+        match self.play_any(rt, line, out) {
+            Ok(Played::Nothing) => Err(Failure::Line(number)),
+            Ok(Played::Step | Played::Lack) => sent(writeln!(out)),
+            Err(failure) => Err(failure),
         }
-        writeln!(out)?;
-        Ok(())
     }
 
     /// Plays a line, which may be a comment or may have a question mark.
@@ -95,19 +94,38 @@ impl Stage {
         out: &mut W,
     ) -> Result<Played, Failure> {
         if line.is_empty() || line.starts_with('#') {
-            write!(out, "{line}")?;
-            return Ok(Played::Step);
+            return wrote(out.write_all(line.as_bytes()), Played::Step);
         }
-        if let Some(step) = line.strip_prefix("? ") {
-            return if self.is_lack {
-                self.play(rt, step, out)
-            } else {
-                Ok(Played::Step)
-            };
+        match line.strip_prefix("? ") {
+            Some(step) => self.play_on_lack(rt, step, out),
+            None => self.play_plain(rt, line, out),
         }
-        let played = self.play(rt, line, out)?;
-        self.is_lack = played == Played::Lack;
-        Ok(played)
+    }
+
+    /// Plays a step that has a question mark.
+    fn play_on_lack<W: Write>(
+        &mut self,
+        rt: &impl Wait,
+        step: &str,
+        out: &mut W,
+    ) -> Result<Played, Failure> {
+        if self.is_lack {
+            self.play(rt, step, out)
+        } else {
+            Ok(Played::Step)
+        }
+    }
+
+    /// Plays a step that has no question mark.
+    fn play_plain<W: Write>(
+        &mut self,
+        rt: &impl Wait,
+        line: &str,
+        out: &mut W,
+    ) -> Result<Played, Failure> {
+        let played = self.play(rt, line, out);
+        self.is_lack = matches!(played, Ok(Played::Lack));
+        played
     }
 
     /// Plays a step, and writes the answer.
@@ -140,28 +158,29 @@ impl Stage {
         out: &mut W,
     ) -> Result<Played, Failure> {
         match verb {
-            "ups" => decode(rest, &mut self.texts.ups)?,
-            "users" => decode(rest, &mut self.texts.users)?,
-            "upsd" => decode(rest, &mut self.texts.upsd)?,
-            "server" => {
-                let server = self.fresh_server()?;
-                self.put_server(server);
-            }
-            "reload" => return self.reload(out),
-            "carry" => return self.carry(rest, out),
-            _ => return server::play(&mut self.server, line, &mut self.piece, out),
+            "ups" => keep(rest, &mut self.texts.ups, out),
+            "users" => keep(rest, &mut self.texts.users, out),
+            "upsd" => keep(rest, &mut self.texts.upsd, out),
+            "server" => self.begin(out),
+            "reload" => self.reload(out),
+            "carry" => self.carry(rest, out),
+            _ => server::play(&mut self.server, line, &mut self.piece, out),
         }
-        write!(out, "ok")?;
-        Ok(Played::Step)
     }
 
-    /// Makes a server with the texts of the configuration files.
-    fn fresh_server(&self) -> Result<Server, Failure> {
-        server::begin(self.alloc, &self.texts)
+    /// Replaces the server by a new one with the texts of the configuration files.
+    fn begin<W: Write>(&mut self, out: &mut W) -> Result<Played, Failure> {
+        match server::begin(self.alloc, &self.texts) {
+            Ok(server) => {
+                self.put_server(server);
+                show_ok(out)
+            }
+            Err(failure) => Err(failure),
+        }
     }
 
     fn put_server(&mut self, server: Server) {
-        server::close(mem::replace(&mut self.server, Some(server)));
+        drop(mem::replace(&mut self.server, Some(server)));
     }
 
     /// Puts the texts of the configuration files in force.
@@ -172,34 +191,26 @@ impl Stage {
         }
     }
 
-    /// Drops all engines.
-    pub fn close(self) {
-        let Stage {
-            server,
-            dummy,
-            monitor,
-            link,
-            rooms,
-            events,
-            ..
-        } = self;
-        server::close(server);
-        dummy::close(dummy);
-        monitor::close(monitor);
-        link::close(link);
-        rooms.close();
-        watching::close(events);
-    }
-
     /// Lets driver and server take what waits for them, `size` bytes at a time.
     fn carry<W: Write>(&mut self, size: &str, out: &mut W) -> Result<Played, Failure> {
-        let Ok(size) = size.parse() else {
-            return Ok(Played::Nothing);
-        };
-        let (Some(server), Some(dummy)) = (&mut self.server, &mut self.dummy) else {
-            return Ok(Played::Nothing);
-        };
-        carrying::carry(server, dummy, size, out)?;
-        Ok(Played::Step)
+        match size.parse() {
+            Ok(size) => self.carry_pieces(size, out),
+            Err(_) => Ok(Played::Nothing),
+        }
+    }
+
+    fn carry_pieces<W: Write>(&mut self, size: usize, out: &mut W) -> Result<Played, Failure> {
+        match (&mut self.server, &mut self.dummy) {
+            (Some(server), Some(dummy)) => carrying::carry(server, dummy, size, out),
+            _ => Ok(Played::Nothing),
+        }
+    }
+}
+
+/// Keeps a text for a configuration file, and writes the answer.
+fn keep<W: Write>(text: &str, file: &mut Vec<u8>, out: &mut W) -> Result<Played, Failure> {
+    match decode(text, file) {
+        Ok(()) => show_ok(out),
+        Err(error) => Err(Failure::from(error)),
     }
 }

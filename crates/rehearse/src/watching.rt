@@ -14,13 +14,13 @@
 ghost use Rattle.std.specs.Prelude.{◌≡◌, IfOk, []};
 ghost use Rattle.nut_monitor_spec.specs.Content.{content};
 
-use crate::failure::Failure;
-use crate::monitor::{self, show_notice};
-use crate::played::Played;
+use crate::failure::{Failure, sent};
+use crate::monitor::show_notice;
+use crate::played::{Played, wrote};
 use crate::text::{decode, parted, shown};
-use nut_conf::read_upsmon;
+use nut_conf::{UpsmonConf, read_upsmon};
 use nut_io::{Piece, ServeFault};
-use nut_monitor::{Monitor, Phase};
+use nut_monitor::{Monitor, Notice, Phase};
 use nut_monitor_loop::{Given, MemoryMonWorld, Note, watch_memory};
 use std::alloc::Global;
 use std::io::Write;
@@ -45,21 +45,41 @@ pub fn play<W: Write>(
     let (number, more) = parted(rest);
     decode(more, piece)?;
     match given_by(verb, number, piece) {
-        Some(event) => Ok(push(events, event, out)?),
+        Some(event) => push(events, event, out),
         None => Ok(Played::Nothing),
     }
 }
 
 /// Returns the event that a verb tells, if it tells one.
 fn given_by(verb: &str, number: &str, bytes: &[u8]) -> Option<Given> {
-    let given = match verb {
-        "moment" => Given::Moment(number.parse().ok()?),
-        "linked" => Given::Linked(number.parse().ok()?),
-        "bytes" => Given::LinkBytes(number.parse().ok()?, piece_of(bytes)?),
-        "lost" => Given::LinkLost(number.parse().ok()?),
-        _ => return None,
-    };
-    Some(given)
+    match verb {
+        "moment" => given_moment(number),
+        _ => given_on_link(verb, number.parse().ok()?, bytes),
+    }
+}
+
+fn given_moment(seconds: &str) -> Option<Given> {
+    match seconds.parse() {
+        Ok(t) => Some(Given::Moment(t)),
+        Err(_) => None,
+    }
+}
+
+/// Returns the event on a link that a verb tells, if it tells one.
+fn given_on_link(verb: &str, i: usize, bytes: &[u8]) -> Option<Given> {
+    match verb {
+        "linked" => Some(Given::Linked(i)),
+        "bytes" => given_bytes(i, bytes),
+        "lost" => Some(Given::LinkLost(i)),
+        _ => None,
+    }
+}
+
+fn given_bytes(i: usize, bytes: &[u8]) -> Option<Given> {
+    match piece_of(bytes) {
+        Some(piece) => Some(Given::LinkBytes(i, piece)),
+        None => None,
+    }
 }
 
 /// Returns the piece of these bytes; `None` if there are too many.
@@ -71,14 +91,11 @@ fn piece_of(bytes: &[u8]) -> Option<Piece> {
     }
 }
 
-/// Drops queued events.
-pub fn close(_events: Vec<Given>) {}
-
 /// Queues an event.
-fn push<W: Write>(events: &mut Vec<Given>, event: Given, out: &mut W) -> io::Result<Played> {
+fn push<W: Write>(events: &mut Vec<Given>, event: Given, out: &mut W) -> Result<Played, Failure> {
     let is_lack = events.push(event).is_err();
-    write!(out, "{}", if is_lack { "Memory" } else { "ok" })?;
-    Ok(Played::with_lack(is_lack))
+    let answer: &[u8] = if is_lack { b"Memory" } else { b"ok" };
+    wrote(out.write_all(answer), Played::with_lack(is_lack))
 }
 
 /// Makes a monitor with this file, lets it watch a world, and writes what happened.
@@ -95,7 +112,7 @@ fn run<W: Write>(
     match fresh_monitor(alloc, file) {
         Ok(monitor) => watch(rt, monitor, world, file, out),
         Err(failure) => {
-            end(world);
+            drop(world);
             Err(failure)
         }
     }
@@ -105,9 +122,20 @@ fn run<W: Write>(
 fn fresh_monitor(alloc: Global, file: &[u8]) -> Result<Monitor, Failure>
     ensures { IfOk result (λ m. m.content ≡ content m.content.configuration []) }
 {
-    let config = read_upsmon(alloc, file)?;
-    let monitor = Monitor::new(alloc, config)?;
-    Ok(monitor)
+    match read_upsmon(alloc, file) {
+        Ok(config) => made_with(alloc, config),
+        Err(fault) => Err(Failure::from(fault)),
+    }
+}
+
+/// Makes a monitor of this configuration that was told nothing.
+fn made_with(alloc: Global, config: UpsmonConf) -> Result<Monitor, Failure>
+    ensures { IfOk result (λ m. m.content ≡ content m.content.configuration []) }
+{
+    match Monitor::new(alloc, config) {
+        Ok(monitor) => Ok(monitor),
+        Err(fault) => Err(Failure::from(fault)),
+    }
 }
 
 /// Lets a monitor watch a world, and writes what happened. `text` is used for the texts of notices.
@@ -126,13 +154,10 @@ fn watch<W: Write>(
     let mut world = world;
     let led = watch_memory(rt, &mut monitor, &mut world);
     let shown = show_run(&monitor, world.notes(), led, text, out);
-    monitor::close(Some(monitor));
-    end(world);
+    drop(monitor);
+    drop(world);
     shown
 }
-
-/// Drops a world.
-fn end(_world: MemoryMonWorld) {}
 
 /// Writes what happened, and then the phase or the fault.
 fn show_run<W: Write>(
@@ -147,13 +172,9 @@ fn show_run<W: Write>(
         writeln!(out)?;
     }
     match led {
-        Ok(phase) => write!(out, "= {phase:?}")?,
-        Err(_) => {
-            write!(out, "fault")?;
-            show_waiting(monitor, text, out)?;
-        }
+        Ok(phase) => wrote(write!(out, "= {phase:?}"), Played::Step),
+        Err(_) => show_waiting(monitor, text, out),
     }
-    Ok(Played::with_lack(led.is_err()))
 }
 
 /// Writes one thing that happened.
@@ -164,15 +185,22 @@ fn show_note<W: Write>(
     out: &mut W,
 ) -> Result<(), Failure> {
     match note {
-        Note::Gave(given) => show_given(given, out)?,
-        Note::Took(i, part) => write!(out, "link {i} is asked {}", shown(part.as_slice()))?,
-        Note::Closed(i) => write!(out, "link {i} is closed")?,
-        Note::Told(notice) => {
-            write!(out, "told ")?;
-            show_notice(monitor, *notice, text, out)?;
-        }
+        Note::Gave(given) => sent(show_given(given, out)),
+        Note::Took(i, part) => sent(write!(out, "link {i} is asked {}", shown(part.as_slice()))),
+        Note::Closed(i) => sent(write!(out, "link {i} is closed")),
+        Note::Told(notice) => show_told(monitor, *notice, text, out),
     }
-    Ok(())
+}
+
+/// Writes a notice that was told.
+fn show_told<W: Write>(
+    monitor: &Monitor,
+    notice: Notice,
+    text: &mut Vec<u8>,
+    out: &mut W,
+) -> Result<(), Failure> {
+    out.write_all(b"told ")?;
+    show_notice(monitor, notice, text, out)
 }
 
 /// Writes an event.
@@ -185,19 +213,42 @@ fn show_given<W: Write>(given: &Given, out: &mut W) -> io::Result<()> {
     }
 }
 
-/// Writes what waits: how many bytes for each link, and the oldest notice.
+/// Writes that the world failed, and what waits: how many bytes for each link, and the oldest notice.
 fn show_waiting<W: Write>(
     monitor: &Monitor,
     text: &mut Vec<u8>,
     out: &mut W,
-) -> Result<(), Failure> {
-    for i in 0..monitor.lines() {
-        let waits = monitor.waiting(i).len();
-        write!(out, " {waits}")?;
+) -> Result<Played, Failure> {
+    show_counts(monitor, out)?;
+    match monitor.first_notice() {
+        Some(notice) => show_first(monitor, notice, text, out),
+        None => Ok(Played::Lack),
     }
-    if let Some(notice) = monitor.first_notice() {
-        write!(out, " to be told ")?;
-        show_notice(monitor, notice, text, out)?;
+}
+
+/// Writes that the world failed, and how many bytes wait for each link.
+fn show_counts<W: Write>(monitor: &Monitor, out: &mut W) -> io::Result<()> {
+    out.write_all(b"fault")?;
+    for i in 0..monitor.lines() {
+        show_count(monitor.waiting(i).len(), out)?;
     }
     Ok(())
+}
+
+fn show_count<W: Write>(waits: usize, out: &mut W) -> io::Result<()> {
+    write!(out, " {waits}")
+}
+
+/// Writes the oldest notice.
+fn show_first<W: Write>(
+    monitor: &Monitor,
+    notice: Notice,
+    text: &mut Vec<u8>,
+    out: &mut W,
+) -> Result<Played, Failure> {
+    out.write_all(b" to be told ")?;
+    match show_notice(monitor, notice, text, out) {
+        Ok(()) => Ok(Played::Lack),
+        Err(failure) => Err(failure),
+    }
 }

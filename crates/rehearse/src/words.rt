@@ -9,7 +9,7 @@
 //! Each word is followed by `|`, each line is in brackets, and a line that is too long is `[!]`.
 
 use crate::failure::Failure;
-use crate::played::Played;
+use crate::played::{Played, show_ok, wrote};
 use crate::text::{decode, parted, shown};
 use nut_words::{Line, LineCutter, WordFault, Words, split};
 use std::alloc::Global;
@@ -27,33 +27,39 @@ pub fn play<W: Write>(
     let (verb, rest) = parted(text);
     decode(rest, piece)?;
     match verb {
-        "split" => return Ok(show_split(alloc, piece, out)?),
-        "feed" => feed(cutter, piece, out)?,
+        "split" => show_split(alloc, piece, out),
+        "feed" => wrote(feed(cutter, piece, out), Played::Step),
         "new" => {
             *cutter = LineCutter::new();
-            write!(out, "ok")?;
+            show_ok(out)
         }
-        _ => return Ok(Played::Nothing),
+        _ => Ok(Played::Nothing),
     }
-    Ok(Played::Step)
 }
 
 /// Splits a line, and writes its words or its fault.
-fn show_split<W: Write>(alloc: Global, line: &[u8], out: &mut W) -> io::Result<Played> {
+fn show_split<W: Write>(alloc: Global, line: &[u8], out: &mut W) -> Result<Played, Failure> {
     match split(alloc, line) {
-        Ok(words) => show_words(&words, out),
-        Err(fault) => {
-            write!(out, "{fault:?}")?;
-            Ok(Played::with_lack(fault == WordFault::Memory))
-        }
+        Ok(words) => wrote(show_words(&words, out), Played::Step),
+        Err(fault) => show_fault(fault, out),
     }
 }
 
-fn show_words<W: Write>(words: &Words<'_>, out: &mut W) -> io::Result<Played> {
+fn show_fault<W: Write>(fault: WordFault, out: &mut W) -> Result<Played, Failure> {
+    let is_lack = fault == WordFault::Memory;
+    wrote(write!(out, "{fault:?}"), Played::with_lack(is_lack))
+}
+
+fn show_words<W: Write>(words: &Words<'_>, out: &mut W) -> io::Result<()> {
     for index in 0..words.len() {
-        write!(out, "{}|", shown(words.get(index)))?;
+        show_word(words.get(index), out)?;
     }
-    Ok(Played::Step)
+    Ok(())
+}
+
+/// Writes a word, followed by `|`.
+pub fn show_word<W: Write>(word: &[u8], out: &mut W) -> io::Result<()> {
+    write!(out, "{}|", shown(word))
 }
 
 /// Feeds a whole piece, and writes its lines.
@@ -74,6 +80,6 @@ fn feed<W: Write>(cutter: &mut LineCutter, piece: &[u8], out: &mut W) -> io::Res
 fn show_line<W: Write>(line: Line<'_>, out: &mut W) -> io::Result<()> {
     match line {
         Line::Text(text) => write!(out, "[{}]", shown(text)),
-        Line::TooLong => write!(out, "[!]"),
+        Line::TooLong => out.write_all(b"[!]"),
     }
 }

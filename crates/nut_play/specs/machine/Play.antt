@@ -74,6 +74,12 @@ IsFault k steps (BadStep at) new = (n : ℕ) × IsStopped k steps n at new
 IsFault k steps (Memory at) new = (new.failed ≡ true) × (n : ℕ) × (before : Kept) × IsLacking k steps n at before
 IsFault k steps Failed new = ⊥
 
+-- Why a call stopped at the step with this number: it doesn't fit, or memory was lacking there.
+abbrev pub IsFaultAt : Kept → Step → ℕ → FleetFault → Kept → Type 0
+IsFaultAt k step at (BadStep n) new = (n ≡ at) × (fits k step ≡ false) × (new ≡ k)
+IsFaultAt k step at (Memory n) new = (n ≡ at) × (fits k step ≡ true) × (may_lack step (told_at k step) ≡ true) × (new.failed ≡ true)
+IsFaultAt k step at Failed new = ⊥
+
 pub record IsLog (k : Kept) (steps : List Step) (told : List L.Logged) (new : Kept) : Type 0 where
   pub played : IsPlayed k steps (length steps) new
   pub log : told ≡ run_log k (firsts (length steps) steps)

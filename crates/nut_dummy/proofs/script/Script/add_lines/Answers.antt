@@ -1,8 +1,8 @@
 use Rattle.std.proofs.Common.{◌≡◌, ℕ, ◌+◌, ◌≤◌, [], ◌∷◌, ◌++◌, Err, length, refl, sym, ap, ◌∙◌, subst, arith, append_assoc, length-append}
-use Rattle.nut_dummy.specs.Script.{read_lines, IsFaultOf, Means}
+use Rattle.nut_dummy.specs.Script.{read_lines, IsFaultOf}
 use Rattle.nut_words.proofs.CutLemmas.{pending, left, left-shorter}
 use Rattle.nut_dummy.proofs.ScriptLemmas.{read_lines-fault, read_lines-done, makes_more, reads_on}
-use Rattle.nut_dummy.proofs.script.Script.read.Goals as goal
+use Rattle.nut_dummy.proofs.script.Script.add_lines.Goals as goal
 
 pub loop-rest-init : goal.loop-rest-init
 loop-rest-init c = (
@@ -10,20 +10,20 @@ loop-rest-init c = (
   record {
     taken = refl;
     count = refl;
-    makes = λ more. ap (λ s. read_lines c.args.kind s 1 more) (sym c.new-script.ensures);
+    makes = λ more. ap (λ s. read_lines c.args.kind s 1 more) (sym c.requires);
     room = omega arith;
-    round = omega (arith, ap (λ s. s.round) c.new-script.ensures);
+    round = omega (arith, ap (λ s. s.round) c.requires);
   },
 )
 
-pub returns-in-Err-clause-means : goal.returns-in-Err-clause-means
-returns-in-Err-clause-means c =
+pub returns-in-Err-clause-fault : goal.returns-in-Err-clause-fault
+returns-in-Err-clause-fault c =
     let kept = c.loop-rest.invariant in
     let behind = pending 10 c.cut.result.1 in
     let n : ℕ = c.loop-rest.number + 1 in
     let line_of : pending 10 c.loop-rest.rest ≡ c.cut.result.0.now ∷ behind = ap (pending 10) c.in-Some.is ∙ c.cut.ensures.parts in
-    subst (IsFaultOf n c.in-Err.kind) (sym (reads_on c.args.kind c.args.bytes.now kept.0 (c.cut.result.0.now ∷ behind) c.loop-rest.script c.loop-rest.number (kept.1.taken ∙ ap (λ ls. kept.0 ++ ls) line_of) kept.1.count kept.1.makes))
-    (read_lines-fault c.args.kind c.loop-rest.script n c.in-Err.kind c.cut.result.0.now behind c.in-Err.ensures.line)
+    subst (IsFaultOf n c.in-Err.kind) (sym (reads_on c.args.kind c.args.bytes.now kept.0 (c.cut.result.0.now ∷ behind) c.loop-rest.self c.loop-rest.number (kept.1.taken ∙ ap (λ ls. kept.0 ++ ls) line_of) kept.1.count kept.1.makes))
+    (read_lines-fault c.args.kind c.loop-rest.self n c.in-Err.kind c.cut.result.0.now behind c.in-Err.ensures.line)
 
 pub returns-in-Err-clause-memory : goal.returns-in-Err-clause-memory
 returns-in-Err-clause-memory c = λ ran_out.
@@ -32,7 +32,7 @@ returns-in-Err-clause-memory c = λ ran_out.
       front = kept.0;
       line = c.cut.result.0.now;
       rest = pending 10 c.cut.result.1;
-      before = c.loop-rest.script;
+      before = c.loop-rest.self;
       parted = kept.1.taken ∙ ap (λ ls. kept.0 ++ ls) (ap (pending 10) c.in-Some.is ∙ c.cut.ensures.parts);
       number = omega (arith, kept.1.count);
       makes = kept.1.makes;
@@ -49,7 +49,7 @@ loop-rest-preserved c =
       record {
         taken = kept.1.taken ∙ ap (λ ls. kept.0 ++ ls) line_of ∙ sym (append_assoc kept.0 (line ∷ []) behind);
         count = omega (arith, kept.1.count, length-append kept.0 (line ∷ []));
-        makes = makes_more c.args.kind kept.0 line c.loop-rest.script c.in-Ok.script kept.1.makes c.in-Ok.ensures.line;
+        makes = makes_more c.args.kind kept.0 line c.loop-rest.self c.add_line.new.self kept.1.makes c.in-Ok.ensures.line;
         room =
             let shorter : left c.cut.result.1 ≤ length c.in-Some.text.now = left-shorter c.cut.result.1 (length c.in-Some.text.now) c.cut.ensures.shorter in
             let was : left c.loop-rest.rest ≡ length c.in-Some.text.now + 1 = ap left c.in-Some.is in
@@ -58,10 +58,8 @@ loop-rest-preserved c =
       },
     )
 
-pub returns-clause-means : goal.returns-clause-means
-returns-clause-means c =
+pub returns-clause-lines : goal.returns-clause-lines
+returns-clause-lines c =
     let kept = c.loop-rest.invariant in
-    subst (Means c.check_round.result)
-    (sym (reads_on c.args.kind c.args.bytes.now kept.0 [] c.loop-rest.script c.loop-rest.number (kept.1.taken ∙ ap (λ r. kept.0 ++ pending 10 r) c.in_default.is) kept.1.count kept.1.makes
-    ∙ read_lines-done c.args.kind c.loop-rest.script (c.loop-rest.number + 1)))
-    c.check_round.ensures.whole
+    reads_on c.args.kind c.args.bytes.now kept.0 [] c.loop-rest.self c.loop-rest.number (kept.1.taken ∙ ap (λ r. kept.0 ++ pending 10 r) c.in_default.is) kept.1.count kept.1.makes
+    ∙ read_lines-done c.args.kind c.loop-rest.self (c.loop-rest.number + 1)

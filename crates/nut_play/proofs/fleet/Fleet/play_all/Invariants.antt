@@ -1,7 +1,7 @@
 use Rattle.std.proofs.Common.{◌≡◌, map}
 use Rattle.nut_play.specs.machine.Play.{firsts, run_log, IsPlayed}
 use Rattle.nut_play.specs.Steps.{step_of, logged_of}
-use Rattle.nut_play.proofs.fleet.Fleet.run.Given as goal
+use Rattle.nut_play.proofs.fleet.Fleet.play_all.Given as goal
 
 abbrev pub invariant-loop-k : goal.invariant-loop-k
 invariant-loop-k l =
