@@ -4,3 +4,4 @@ pub mod Lack
 pub mod Kept
 pub mod Room
 pub mod machine
+pub mod inside

@@ -9,12 +9,6 @@ use Rattle.nut_play.specs.declared.reading.StepFault.{StepFault}
 use Rattle.nut_play.specs.declared.reading.StepFault.TheVariants.{BadStep, Memory}
 use Rattle.nut_play.specs.declared.verb.Verb.{Verb}
 use Rattle.nut_play.specs.declared.verb.Verb.TheVariants as verbs
-use Rattle.nut_play.specs.declared.reading.OneNumber.{OneNumber}
-use Rattle.nut_play.specs.declared.reading.OneNumber.TheVariants as singles
-use Rattle.nut_play.specs.declared.reading.TwoNumbers.{TwoNumbers}
-use Rattle.nut_play.specs.declared.reading.TwoNumbers.TheVariants as pairs
-use Rattle.nut_play.specs.declared.reading.ThreeNumbers.{ThreeNumbers}
-use Rattle.nut_play.specs.declared.reading.ThreeNumbers.TheVariants as triples
 use Rattle.nut_play.specs.declared.limits.TheConstants.{STEP_LINE_MAX}
 use Rattle.nut_fleet.specs.Schedule.{Step, ServerClock, MonitorClock, Up, Driver, Down, Link, Out, Reach, Back, Land, CutServer, CutMonitor}
 
@@ -83,24 +77,6 @@ three step words = option_map (λ x. step x.0 x.1 x.2) (three_numbers words)
 
 abbrev pub said_by_driver : List (List ℕ) → Option Step
 said_by_driver words = option_map (λ x. Driver x.0 x.1) (numbered_word words)
-
--- the steps of the verbs with one number, with two and with three
-abbrev pub one_form : OneNumber → ℕ → Step
-one_form singles.Server = ServerClock
-one_form singles.Up = Up
-one_form singles.Down = Down
-
-abbrev pub two_form : TwoNumbers → ℕ → ℕ → Step
-two_form pairs.Monitor = MonitorClock
-two_form pairs.Link = Link
-two_form pairs.CutServer = CutServer
-two_form pairs.CutMonitor = CutMonitor
-
-abbrev pub three_form : ThreeNumbers → ℕ → ℕ → ℕ → Step
-three_form triples.Out = Out
-three_form triples.Reach = Reach
-three_form triples.Back = Back
-three_form triples.Land = Land
 
 -- The forms of steps, by their verbs.
 abbrev pub form : Verb → List (List ℕ) → Option Step

@@ -3,7 +3,8 @@
 ghost use Rattle.std.specs.Prelude.{◌≡◌, Err, IsTrue};
 ghost use Rattle.nut_words.specs.Number.{natural};
 ghost use Rattle.nut_play.specs.declared.reading.StepFault.{StepFault};
-ghost use Rattle.nut_play.specs.Lines.{Gives, form, is_of_driver, meant, one, one_form, one_number, said, said_by_driver, takes_memory, three, three_form, three_numbers, two, two_form, two_numbers};
+ghost use Rattle.nut_play.specs.Lines.{Gives, form, is_of_driver, meant, one, one_number, said, said_by_driver, takes_memory, three, three_numbers, two, two_numbers};
+ghost use Rattle.nut_play.specs.inside.Verbs.{one_form, two_form, three_form};
 ghost use Rattle.nut_play.specs.Steps.{step_of};
 
 use crate::limits::STEP_LINE_MAX;
