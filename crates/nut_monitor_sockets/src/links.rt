@@ -11,7 +11,7 @@ use crate::look_ups::{Found, LookUps};
 use crate::refusals::title;
 use crate::upstream::Upstream;
 use mio::{Events, Token};
-use nut_conf::{MONITORS_MAX, Monitored, UpsmonConf};
+use nut_conf::{MONITORS_MAX, UpsmonConf};
 use nut_io::{Piece, Written};
 use nut_monitor::{Monitor, Phase, Query};
 use nut_monitor_loop::Next;
@@ -472,37 +472,10 @@ impl<'r, 'e, R: Net + Clock + Processes, E: Write> Links<'r, 'e, R, E> {
 /// Returns a link for each MONITOR line. Their servers are about to be called.
 fn upstreams_of(alloc: Global, config: &UpsmonConf) -> Result<Vec<Upstream>, AllocError> {
     let mut upstreams = Vec::new(alloc);
-    match put_upstreams(alloc, config, &mut upstreams) {
-        Ok(()) => Ok(upstreams),
-        Err(error) => {
-            // dropped by a call, which keeps the proof of this function short
-            drop(upstreams);
-            Err(error)
-        }
-    }
-}
-
-/// Appends a link for each MONITOR line.
-fn put_upstreams(
-    alloc: Global,
-    config: &UpsmonConf,
-    upstreams: &mut Vec<Upstream>,
-) -> Result<(), AllocError> {
     for line in config.monitors.lines.iter() {
-        put_upstream(alloc, line, upstreams)?;
+        upstreams.push(Upstream::new(alloc, line)?)?;
     }
-    Ok(())
-}
-
-/// Appends the link for a MONITOR line.
-fn put_upstream(
-    alloc: Global,
-    line: &Monitored,
-    upstreams: &mut Vec<Upstream>,
-) -> Result<(), AllocError> {
-    let upstream = Upstream::new(alloc, line)?;
-    upstreams.push(upstream)?;
-    Ok(())
+    Ok(upstreams)
 }
 
 /// Returns the link whose host is to be looked up next, if any is due: the one whose last pause between look-ups is the
