@@ -1,11 +1,12 @@
 //! What an answer changes in what is known of a UPS, and which notices it gives.
-ghost use Rattle.std.specs.Prelude.{◌≡◌, ◌+◌, ◌<◌, ◌≤◌, ◌++◌, [], if◌then◌else◌, length};
+ghost use Rattle.std.specs.Prelude.{◌≡◌, ◌+◌, ◌<◌, ◌≤◌, ◌++◌, [], ◌&&◌, if◌then◌else◌, is_some, length, not};
 ghost use Rattle.nut_monitor_spec.specs.declared.Query.TheVariants as queries;
 ghost use Rattle.nut_link.specs.declared.outcome.Outcome.TheVariants as outcomes;
 ghost use Rattle.nut_monitor_spec.specs.Configuration.{configuration_of};
-ghost use Rattle.nut_monitor_spec.specs.Decision.{answer_notices, had, is_bad as bad, loss_notices, status_notices, tells_replace, told};
+ghost use Rattle.nut_conf.specs.declared.notice.Notice.TheVariants as kinds;
+ghost use Rattle.nut_monitor_spec.specs.Decision.{answer_notices, had, is_bad as is_bad_now, is_new as is_new_flag, loss_notices, status_notices, tells_replace, told, when};
 ghost use Rattle.nut_monitor_spec.specs.machine.Machine.{known_answered, newer};
-ghost use Rattle.nut_monitor_spec.specs.Query.{logins_in};
+ghost use Rattle.nut_monitor_spec.specs.Query.{is_forced, logins_in};
 ghost use Rattle.nut_monitor.specs.inside.Sound.{IsCount, with_flags};
 ghost use Rattle.nut_monitor_spec.specs.declared.Communication.TheVariants as communications;
 
@@ -37,7 +38,7 @@ pub fn on_line(kind: Kind, line: usize) -> Notice
 }
 
 fn is_bad(communication: Communication) -> bool
-    ensures { result ≡ bad communication }
+    ensures { result ≡ is_bad_now communication }
 {
     matches!(communication, Communication::Bad)
 }
@@ -79,23 +80,60 @@ fn tell_status(
     ensures told { notices.new ≡ notices.old ++ status_notices (configuration_of config.now) scene.clock scene.line known flags }
 {
     let earlier = earlier(known);
-    let line = scene.line;
-    let restored = known.flags.is_some() && flags.on_line && !earlier.on_line;
+    let bad = is_bad(known.communication);
+    let restored = is_restored(known, flags);
     let worn = is_worn(config, scene.clock, known, flags);
-    notices.tell_when(is_bad(known.communication), on_line(Kind::Commok, line));
+    tell_return(scene.line, bad, restored, notices);
+    tell_trouble(scene.line, earlier, flags, worn, notices);
+}
+
+/// Whether a flag is set now that wasn't before.
+fn is_new(flag: bool, before: bool) -> bool
+    ensures { result ≡ (flag && not before) }
+{
+    flag && !before
+}
+
+/// Whether a UPS whose status is known is on line again.
+fn is_restored(known: Known, flags: StatusFlags) -> bool
+    ensures { result ≡ (is_some known.flags && is_new_flag (λ f. f.on_line) known.flags flags) }
+{
+    match known.flags {
+        Some(earlier) => is_new(flags.on_line, earlier.on_line),
+        None => false,
+    }
+}
+
+/// Queues COMMOK if communication was bad, and ONLINE if the UPS is on line again.
+fn tell_return(line: usize, bad: bool, restored: bool, notices: &mut Notices)
+    requires { length notices.old ≤ 8 }
+    ensures few { length notices.new ≤ length notices.old + 2 }
+    ensures told { notices.new ≡ notices.old ++ when bad (told kinds.Commok line) ++ when restored (told kinds.Online line) }
+{
+    notices.tell_when(bad, on_line(Kind::Commok, line));
     notices.tell_when(restored, on_line(Kind::Online, line));
-    notices.tell_when(
-        flags.on_battery && !earlier.on_battery,
-        on_line(Kind::Onbatt, line),
-    );
-    notices.tell_when(
-        flags.low_battery && !earlier.low_battery,
-        on_line(Kind::Lowbatt, line),
-    );
-    notices.tell_when(
-        flags.forced_shutdown && !earlier.forced_shutdown,
-        on_line(Kind::Fsd, line),
-    );
+}
+
+/// Queues ONBATT, LOWBATT and FSD for the flags that weren't set before, and REPLBATT if the battery is worn.
+fn tell_trouble(
+    line: usize,
+    earlier: StatusFlags,
+    flags: StatusFlags,
+    worn: bool,
+    notices: &mut Notices,
+)
+    requires { length notices.old ≤ 10 }
+    ensures few { length notices.new ≤ length notices.old + 4 }
+    ensures told { notices.new ≡ notices.old ++ when (flags.on_battery && not earlier.on_battery) (told kinds.Onbatt line)
+        ++ when (flags.low_battery && not earlier.low_battery) (told kinds.Lowbatt line)
+        ++ when (flags.forced_shutdown && not earlier.forced_shutdown) (told kinds.Fsd line) ++ when worn (told kinds.Replbatt line) }
+{
+    let on_battery = is_new(flags.on_battery, earlier.on_battery);
+    let low_battery = is_new(flags.low_battery, earlier.low_battery);
+    let forced = is_new(flags.forced_shutdown, earlier.forced_shutdown);
+    notices.tell_when(on_battery, on_line(Kind::Onbatt, line));
+    notices.tell_when(low_battery, on_line(Kind::Lowbatt, line));
+    notices.tell_when(forced, on_line(Kind::Fsd, line));
     notices.tell_when(worn, on_line(Kind::Replbatt, line));
 }
 
@@ -184,6 +222,47 @@ fn count_said(fields: &Fields, before: Option<u32>) -> Option<u32>
     }
 }
 
+/// Takes in the outcome of a query for the status and queues the notices that it gives. Returns what is known after it.
+fn hear_status_outcome(
+    config: &UpsmonConf,
+    scene: Scene,
+    known: Known,
+    outcome: &Outcome,
+    notices: &mut Notices,
+) -> Known
+    requires { length notices.old ≤ 8 }
+    ensures few { length notices.new ≤ length notices.old + 7 }
+    ensures known { result ≡ known_answered (configuration_of config.now) scene.clock scene.watching queries.Status outcome.now known }
+    ensures told { notices.new ≡ notices.old ++ (if scene.watching then answer_notices (configuration_of config.now) scene.clock scene.line known queries.Status outcome.now else []) }
+{
+    match outcome {
+        Outcome::Said(fields) => hear_status(config, scene, known, fields, notices),
+        Outcome::Refused(_) => {
+            tell_disturbed(scene, known, notices);
+            disturbed(known)
+        }
+        Outcome::Done | Outcome::List(_) => known,
+    }
+}
+
+/// Whether a query for FSD was answered by OK.
+fn is_done(outcome: &Outcome) -> bool
+    ensures { result ≡ is_forced queries.Fsd outcome.now }
+{
+    matches!(outcome, Outcome::Done)
+}
+
+/// Returns the number of logins after the outcome of a query for it: the one that it gives, or else `before`.
+fn count_after(outcome: &Outcome, before: Option<u32>) -> Option<u32>
+    requires { IsCount queries.NumLogins outcome.now }
+    ensures { result ≡ newer (logins_in queries.NumLogins outcome.now) before }
+{
+    match outcome {
+        Outcome::Said(fields) => count_said(fields, before),
+        Outcome::Done | Outcome::List(_) | Outcome::Refused(_) => before,
+    }
+}
+
 /// Takes in the outcome of a query and queues the notices that it gives. Returns what is known after it.
 pub fn hear(
     config: &UpsmonConf,
@@ -200,27 +279,14 @@ pub fn hear(
     ensures told { notices.new ≡ notices.old ++ (if scene.watching then answer_notices (configuration_of config.now) scene.clock scene.line known query outcome.now else []) }
 {
     match query {
-        Query::Status => match outcome {
-            Outcome::Said(fields) => hear_status(config, scene, known, fields, notices),
-            Outcome::Refused(_) => {
-                tell_disturbed(scene, known, notices);
-                disturbed(known)
-            }
-            Outcome::Done | Outcome::List(_) => known,
+        Query::Status => hear_status_outcome(config, scene, known, outcome, notices),
+        Query::Fsd => Known {
+            forced: is_done(outcome) || known.forced,
+            ..known
         },
-        Query::Fsd => match outcome {
-            Outcome::Done => Known {
-                forced: true,
-                ..known
-            },
-            Outcome::Said(_) | Outcome::List(_) | Outcome::Refused(_) => known,
-        },
-        Query::NumLogins => match outcome {
-            Outcome::Said(fields) => Known {
-                logins: count_said(fields, known.logins),
-                ..known
-            },
-            Outcome::Done | Outcome::List(_) | Outcome::Refused(_) => known,
+        Query::NumLogins => Known {
+            logins: count_after(outcome, known.logins),
+            ..known
         },
         Query::Username | Query::Password | Query::Login | Query::Primary => known,
     }

@@ -1,5 +1,6 @@
 //! The flags that the words of a status set.
-ghost use Rattle.std.specs.Prelude.{◌≡◌, []};
+ghost use Rattle.std.specs.Prelude.{◌≡◌, ◌||◌, []};
+ghost use Rattle.std.specs.Str.{bytes_eq};
 ghost use Rattle.nut_monitor_spec.specs.Query.{flags_of, parted};
 ghost use Rattle.nut_monitor.specs.inside.Sound.{with_word};
 
@@ -20,17 +21,24 @@ pub fn no_flags() -> StatusFlags
     }
 }
 
+/// Whether a flag is set after a further word: it was, or the word is its name.
+fn is_set(flag: bool, name: &[u8], word: &[u8]) -> bool
+    ensures { result ≡ (flag || bytes_eq name.now word.now) }
+{
+    flag || name == word
+}
+
 /// Returns the flags with the one that a further word sets, if it sets one.
 fn add(flags: StatusFlags, word: &[u8]) -> StatusFlags
     ensures { result ≡ with_word word.now flags }
 {
     StatusFlags {
-        on_line: flags.on_line || b"OL".as_slice() == word,
-        on_battery: flags.on_battery || b"OB".as_slice() == word,
-        low_battery: flags.low_battery || b"LB".as_slice() == word,
-        forced_shutdown: flags.forced_shutdown || b"FSD".as_slice() == word,
-        replace_battery: flags.replace_battery || b"RB".as_slice() == word,
-        calibrating: flags.calibrating || b"CAL".as_slice() == word,
+        on_line: is_set(flags.on_line, b"OL", word),
+        on_battery: is_set(flags.on_battery, b"OB", word),
+        low_battery: is_set(flags.low_battery, b"LB", word),
+        forced_shutdown: is_set(flags.forced_shutdown, b"FSD", word),
+        replace_battery: is_set(flags.replace_battery, b"RB", word),
+        calibrating: is_set(flags.calibrating, b"CAL", word),
     }
 }
 

@@ -69,7 +69,8 @@ fn feed(
     let (done, heard) = going.feed_lines(piece);
     let outcome = going.answer();
     if heard.is_err() {
-        let _failed = link.take();
+        // dropped by a call, which keeps the proof of this function short
+        drop(link.take());
         return (done, heard, outcome);
     }
     (done, heard, outcome)
@@ -81,19 +82,19 @@ fn hear_answer(
     scene: Scene,
     known: Known,
     last: Option<LastQuery>,
-    outcome: Option<Outcome>,
+    outcome: &Option<Outcome>,
     notices: &mut Notices,
 ) -> Known
     requires few { length notices.old ≤ 8 }
-    requires count { IsCountAfter last outcome }
+    requires count { IsCountAfter last outcome.now }
     ensures few { length notices.new ≤ length notices.old + 7 }
-    ensures known { result ≡ known_after (configuration_of config.now) scene.clock scene.watching last outcome known }
-    ensures told { notices.new ≡ notices.old ++ (if scene.watching then answer_told (configuration_of config.now) scene.clock scene.line last outcome known else []) }
+    ensures known { result ≡ known_after (configuration_of config.now) scene.clock scene.watching last outcome.now known }
+    ensures told { notices.new ≡ notices.old ++ (if scene.watching then answer_told (configuration_of config.now) scene.clock scene.line last outcome.now known else []) }
 {
     let Some(last) = last else {
         return known;
     };
-    match &outcome {
+    match outcome {
         Some(outcome) => hear(config, scene, known, last.query, outcome, notices),
         None => known,
     }
@@ -176,7 +177,8 @@ impl MonitorLine {
         ensures { self.new ≡ made self.old }
     {
         self.last = None;
-        self.link = Some(Link::new(alloc));
+        // dropped by a call, which keeps the proof of this function short
+        drop(self.link.replace(Link::new(alloc)));
     }
 
     /// Drops its link, and queues COMMBAD if communication wasn't bad before.
@@ -188,7 +190,8 @@ impl MonitorLine {
     {
         tell_disturbed(scene, self.known, notices);
         self.known = disturbed(self.known);
-        self.link = None;
+        // dropped by a call, which keeps the proof of this function short
+        drop(self.link.take());
     }
 
     /// Removes the first `n` of the bytes that wait: its server took them.
@@ -214,7 +217,9 @@ impl MonitorLine {
         ensures hears { (v : LinkValue) → self.old.link ≡ Some v → HearsPiece (configuration_of config.now) scene piece.now v self.old notices.old result self.new notices.new }
     {
         let (done, heard, outcome) = feed(&mut self.link, self.last, piece);
-        self.known = hear_answer(config, scene, self.known, self.last, outcome, notices);
+        self.known = hear_answer(config, scene, self.known, self.last, &outcome, notices);
+        // dropped by a call, which keeps the proof of this function short
+        drop(outcome);
         if heard.is_err() {
             tell_disturbed(scene, self.known, notices);
             self.known = disturbed(self.known);

@@ -1,5 +1,5 @@
 //! The texts of notices.
-ghost use Rattle.std.specs.Prelude.{◌≡◌, ◌+◌, ◌≤◌, ◌++◌, IfSome, OnOk, OnErr, length, take, ◌<◌, vec_capacity, vec_len};
+ghost use Rattle.std.specs.Prelude.{◌≡◌, ◌+◌, ◌≤◌, ◌++◌, IfSome, OnOk, OnErr, drop, length, take, ◌<◌, vec_capacity, vec_len};
 ghost use Rattle.std.specs.Option.{option_map};
 ghost use Rattle.nut_monitor.specs.Texts.{filled_if, is_mark, place_of, target_for, text_of};
 
@@ -57,9 +57,19 @@ fn put_filled(out: &mut Vec<u8>, text: &[u8], target: Option<&[u8]>) -> Result<(
     let Some(target) = target else {
         return out.extend_from_slice(text);
     };
-    let Some(at) = mark_place(text) else {
-        return out.extend_from_slice(text);
-    };
+    match mark_place(text) {
+        Some(at) => put_parts(out, text, at, target),
+        None => out.extend_from_slice(text),
+    }
+}
+
+/// Appends a text with the two bytes at a place replaced by the target. On an error a part of it may have been appended.
+fn put_parts(out: &mut Vec<u8>, text: &[u8], at: usize, target: &[u8]) -> Result<(), AllocError>
+    requires { at + 2 ≤ length text.now }
+    ensures ok { OnOk result (out.new.items ≡ out.old.items ++ (take at text.now ++ target.now ++ drop (at + 2) text.now)) }
+    ensures err { OnErr result (take (length out.old.items) out.new.items ≡ out.old.items) }
+    ensures full { OnErr result (vec_capacity out.old < vec_len out.old + length (take at text.now ++ target.now ++ drop (at + 2) text.now)) }
+{
     out.extend_from_slice(&text[..at])?;
     out.extend_from_slice(target)?;
     out.extend_from_slice(&text[at + 2..])

@@ -64,10 +64,14 @@ impl Monitor {
                 state,
                 alloc,
             }),
-            Err(_) => Err(MonitorFault::Memory {
-                link: None,
-                lines: 0,
-            }),
+            Err(AllocError) => {
+                // dropped by a call, which keeps the proof of this function short
+                drop(config);
+                Err(MonitorFault::Memory {
+                    link: None,
+                    lines: 0,
+                })
+            }
         }
     }
 

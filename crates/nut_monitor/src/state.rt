@@ -1,5 +1,5 @@
 //! What a monitor knows and has decided, and how events change it.
-ghost use Rattle.std.specs.Prelude.{◌≡◌, ◌≤◌, ◌<◌, ◌+◌, ◌++◌, [], Some, IfOk, MatchResult, is_none, length, map};
+ghost use Rattle.std.specs.Prelude.{◌≡◌, ◌≤◌, ◌<◌, ◌+◌, ◌++◌, [], Some, IfOk, OnOk, MatchResult, is_none, length, map};
 ghost use Rattle.std.specs.Option.{option_map};
 ghost use Rattle.nut_monitor_spec.specs.Acceptance.{is_linked, waiting_on, watch_at};
 ghost use Rattle.nut_monitor_spec.specs.Configuration.{Configuration, configuration_of};
@@ -38,10 +38,24 @@ fn unlinked(alloc: Global, lines: &[Monitored]) -> Result<Vec<MonitorLine>, Allo
     ensures { IfOk result (λ ws. ws.items ≡ map (λ line. unwatched) lines.now) }
 {
     let mut watches = Vec::new(alloc);
+    match put_unlinked(lines, &mut watches) {
+        Ok(()) => Ok(watches),
+        Err(error) => {
+            // dropped by a call, which keeps the proof of this function short
+            drop(watches);
+            Err(error)
+        }
+    }
+}
+
+/// Appends a line without a link for each MONITOR line.
+fn put_unlinked(lines: &[Monitored], watches: &mut Vec<MonitorLine>) -> Result<(), AllocError>
+    ensures { OnOk result (watches.new.items ≡ watches.old.items ++ map (λ line. unwatched) lines.now) }
+{
     for _ in lines {
         watches.push(MonitorLine::new())?;
     }
-    Ok(watches)
+    Ok(())
 }
 
 /// Whether a link failed because memory could not be allocated.
@@ -87,14 +101,20 @@ impl State {
     {
         let monitors = &config.monitors;
         let watches = unlinked(alloc, monitors.lines.as_slice())?;
-        let notices = Notices::new(alloc)?;
-        Ok(State {
-            clock: 0,
-            begun: None,
-            ended: None,
-            notices,
-            watches,
-        })
+        match Notices::new(alloc) {
+            Ok(notices) => Ok(State {
+                clock: 0,
+                begun: None,
+                ended: None,
+                notices,
+                watches,
+            }),
+            Err(error) => {
+                // dropped by a call, which keeps the proof of this function short
+                drop(watches);
+                Err(error)
+            }
+        }
     }
 
     /// Returns the phase.
@@ -160,11 +180,18 @@ impl State {
         ask_all(config, self.clock, phase, &mut self.watches);
     }
 
+    /// Returns the line with this number, if there is one.
+    fn watch(&self, i: usize) -> Option<&MonitorLine>
+        ensures { option_map (λ w. w.now) result ≡ watch_at i self.now.watches.items }
+    {
+        self.watches.get(i)
+    }
+
     /// Whether the link of a line is up.
     pub fn is_linked(&self, i: usize) -> bool
         ensures { result ≡ is_linked (watch_at i self.now.watches.items) }
     {
-        match self.watches.get(i) {
+        match self.watch(i) {
             Some(watch) => watch.is_linked(),
             None => false,
         }
@@ -174,7 +201,7 @@ impl State {
     pub fn waiting(&self, i: usize) -> &[u8]
         ensures { result.now ≡ waiting_on (watch_at i self.now.watches.items) }
     {
-        match self.watches.get(i) {
+        match self.watch(i) {
             Some(watch) => watch.waiting(),
             None => &[],
         }
@@ -184,7 +211,7 @@ impl State {
     pub fn known(&self, i: usize) -> Option<Known>
         ensures { result ≡ option_map (λ w. w.known) (watch_at i self.now.watches.items) }
     {
-        match self.watches.get(i) {
+        match self.watch(i) {
             Some(watch) => Some(watch.known()),
             None => None,
         }
@@ -194,7 +221,7 @@ impl State {
     pub fn last_query(&self, i: usize) -> Option<LastQuery>
         ensures { result ≡ last_on (watch_at i self.now.watches.items) }
     {
-        match self.watches.get(i) {
+        match self.watch(i) {
             Some(watch) => watch.last_query(),
             None => None,
         }
@@ -206,7 +233,7 @@ impl State {
         ensures { MatchResult result (λ _. (i < length self.now.watches.items) × (is_linked (watch_at i self.now.watches.items) ≡ linked))
             (λ fault. checked_fault linked (watch_at i self.now.watches.items) ≡ Some fault) }
     {
-        match self.watches.get(i) {
+        match self.watch(i) {
             Some(watch) => {
                 if watch.is_linked() == linked {
                     Ok(())

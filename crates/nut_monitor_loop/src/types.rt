@@ -4,7 +4,7 @@ use nut_io::Piece;
 use nut_monitor::Notice;
 
 /// What a world gives next. A link has the number of its MONITOR line, from 0 on.
-#[derive(Drop)]
+#[derive(Clone, Copy)]
 pub enum Next {
     /// This many seconds have passed since the start.
     Moment(u64),

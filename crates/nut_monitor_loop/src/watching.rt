@@ -44,14 +44,19 @@ pub fn watch<W: MonWorld>(
     ensures fault { OnErr result (W.fault_count world.old < W.fault_count world.new) }
     ensures reached { W.reached world.old world.new }
 {
-    go_on(rt, monitor, world)
+    let mut piece = Piece::new();
+    let phase = go_on(rt, monitor, world, &mut piece);
+    // dropped by a call, which keeps the proof of this function short
+    drop(piece);
+    phase
 }
 
-/// Continues the loop of `watch` from where it is.
+/// Continues the loop of `watch` from where it is. The world puts the bytes of its events into the piece.
 fn go_on<W: MonWorld>(
     rt: &impl Wait,
     monitor: &mut Monitor,
     world: &mut W,
+    piece: &mut Piece,
 ) -> Result<Phase, ServeFault>
     ghost first: { Configuration }
     requires few { W.fault_count world.old < 2 ^ 64 - 1 }
@@ -64,18 +69,37 @@ fn go_on<W: MonWorld>(
     ensures fault { OnErr result (W.fault_count world.old < W.fault_count world.new) }
     ensures reached { W.reached world.old world.new }
 {
-    let mut piece = Piece::new();
     for _ in rt.forever() {
-        // A lost link may let queries be put on other links, so after a failed write all links are settled again.
-        if !settle_links(monitor, world)? {
-            continue;
-        }
-        tell_all(monitor, world)?;
-        if !turn(monitor, world, &mut piece)? {
+        if !round(monitor, world, piece)? {
             return Ok(monitor.phase());
         }
     }
     unreachable!()
+}
+
+/// Writes what waits, hands over the notices, and handles the next event, unless the machine has to be halted. Returns
+/// whether the loop goes on.
+fn round<W: MonWorld>(
+    monitor: &mut Monitor,
+    world: &mut W,
+    piece: &mut Piece,
+) -> Result<bool, Fault>
+    ghost first: { Configuration }
+    requires few { W.fault_count world.old < 2 ^ 64 - 1 }
+    requires watched { Watched first (W.log world.old) monitor.old.content None }
+    ensures err { OnErr result ((owed : Option ℕ) × Watched first (W.log world.new) monitor.new.content owed) }
+    ensures ok { OnOk result (Watched first (W.log world.new) monitor.new.content None) }
+    ensures told { result ≡ Ok false → monitor.new.content.notices ≡ [] }
+    ensures ended { result ≡ Ok false → (is_halted (phase_of monitor.new.content) ≡ true) ⊎ W.has_ended world.new }
+    ensures counted { W.fault_count world.new ≡ (if is_ok result then W.fault_count world.old else W.fault_count world.old + 1) }
+    ensures reached { W.reached world.old world.new }
+{
+    // A lost link may let queries be put on other links, so after a failed write all links are settled again.
+    if !settle_links(monitor, world)? {
+        return Ok(true);
+    }
+    tell_all(monitor, world)?;
+    turn(monitor, world, piece)
 }
 
 /// Asks for the next event, unless the machine has to be halted, and handles it. Returns whether the loop goes on.

@@ -7,7 +7,7 @@ ghost use Rattle.nut_monitor_loop.specs.declared.types.Next.TheVariants as next;
 use crate::dialler::Dialler;
 use crate::inquiry::Reply;
 use crate::limits::{CALM, Limits};
-use crate::look_ups::LookUps;
+use crate::look_ups::{Found, LookUps};
 use crate::refusals::title;
 use crate::report::Report;
 use crate::upstream::Upstream;
@@ -310,26 +310,37 @@ impl<'r, 'e, R: Net + Clock + Processes, E: Write> Links<'r, 'e, R, E> {
         ensures goes_on { IfSome result (λ n. n ≢ next.End) }
     {
         let heard = self.upstreams.get_mut(i)?.hear(piece);
-        let next = match heard {
-            Heard::Nothing => None,
-            Heard::All => Some(Next::LinkBytes(i)),
+        self.take_in(monitor, i, heard, piece);
+        match self.loss_after(i, heard) {
+            Some(loss) => {
+                self.end(i, loss);
+                Some(Next::LinkLost(i))
+            }
+            None => next_after(heard, i),
+        }
+    }
+
+    /// Takes in what was read from a link: hands a piece on, and has the link looked at again if there may be more.
+    fn take_in(&mut self, monitor: &Monitor, i: usize, heard: Heard, piece: &Piece) {
+        match heard {
+            Heard::All => self.hand_on(monitor, i, piece),
             Heard::Part => {
                 self.rounds.ready.insert(Token(i));
-                Some(Next::LinkBytes(i))
+                self.hand_on(monitor, i, piece);
             }
-            Heard::End => {
-                self.end(i, Loss::Closed);
-                return Some(Next::LinkLost(i));
-            }
-        };
-        if next.is_some() {
-            self.hand_on(monitor, i, piece);
+            Heard::Nothing | Heard::End => {}
+        }
+    }
+
+    /// Returns why a link ends after what was read from it, if it does.
+    fn loss_after(&self, i: usize, heard: Heard) -> Option<Loss> {
+        if let Heard::End = heard {
+            return Some(Loss::Closed);
         }
         if self.upstreams.get(i)?.is_overdue(self.limits) {
-            self.end(i, Loss::Silent(self.limits.answer));
-            return Some(Next::LinkLost(i));
+            return Some(Loss::Silent(self.limits.answer));
         }
-        next
+        None
     }
 
     /// Notes the piece that is given to the monitor, and what it answers to the query on its link.
@@ -437,9 +448,15 @@ impl<'r, 'e, R: Net + Clock + Processes, E: Write> Links<'r, 'e, R, E> {
         let Some(found) = self.look_ups.take() else {
             return;
         };
-        if self.is_ending {
-            return;
+        if !self.is_ending {
+            self.take_found(&found);
         }
+        // dropped by a call, which keeps the proof of this function short
+        drop(found);
+    }
+
+    /// Gives the links to a host what a look-up of it has found, and calls them.
+    fn take_found(&mut self, found: &Found) {
         for (i, upstream) in self.upstreams.iter_mut().enumerate() {
             if upstream.host_name() == found.name.as_str() {
                 self.rounds.ready.insert(Token(i));
@@ -481,6 +498,17 @@ fn next_look_up<R: Processes>(upstreams: &[Upstream], look_ups: &LookUps<'_, R>)
     match best {
         Some((_, i)) => Some(i),
         None => None,
+    }
+}
+
+/// Returns what comes next after this was read from a link.
+fn next_after(heard: Heard, i: usize) -> Option<Next>
+    ensures goes_on { IfSome result (λ n. n ≢ next.End) }
+{
+    match heard {
+        Heard::Nothing => None,
+        Heard::All | Heard::Part => Some(Next::LinkBytes(i)),
+        Heard::End => Some(Next::LinkLost(i)),
     }
 }
 

@@ -2,14 +2,8 @@ use Rattle.std.proofs.Common.{◌≡◌, None}
 use Rattle.nut_monitor_loop.specs.Watched.{Watched}
 use Rattle.nut_monitor_loop.proofs.watching.go_on.Given as goal
 
-abbrev pub ghost-settle_links : goal.ghost-settle_links
-ghost-settle_links g a = g.first
-
-abbrev pub ghost-tell_all : goal.ghost-tell_all
-ghost-tell_all g a = g.first
-
-abbrev pub ghost-turn : goal.ghost-turn
-ghost-turn g a = g.first
+abbrev pub ghost-round : goal.ghost-round
+ghost-round g a = g.first
 
 abbrev pub invariant-loop : goal.invariant-loop
 invariant-loop g l =
