@@ -7,7 +7,7 @@ ghost use Rattle.nut_monitor_loop.specs.declared.types.Next.TheVariants as next;
 use crate::dialler::Dialler;
 use crate::inquiry::Reply;
 use crate::limits::{CALM, Limits};
-use crate::look_ups::{Found, LookUps};
+use crate::look_ups::LookUps;
 use crate::refusals::title;
 use crate::report::Report;
 use crate::upstream::Upstream;
@@ -448,15 +448,9 @@ impl<'r, 'e, R: Net + Clock + Processes, E: Write> Links<'r, 'e, R, E> {
         let Some(found) = self.look_ups.take() else {
             return;
         };
-        if !self.is_ending {
-            self.take_found(&found);
+        if self.is_ending {
+            return;
         }
-        // dropped by a call, which keeps the proof of this function short
-        drop(found);
-    }
-
-    /// Gives the links to a host what a look-up of it has found, and calls them.
-    fn take_found(&mut self, found: &Found) {
         for (i, upstream) in self.upstreams.iter_mut().enumerate() {
             if upstream.host_name() == found.name.as_str() {
                 self.rounds.ready.insert(Token(i));

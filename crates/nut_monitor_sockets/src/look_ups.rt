@@ -67,25 +67,10 @@ impl<'r, R: Processes> LookUps<'r, R> {
     /// If the process can't be started or memory cannot be allocated.
     pub fn start(&mut self, name: &str) -> io::Result<()> {
         let command = getent(self.alloc, name)?;
-        match String::from_str(self.alloc, name) {
-            Ok(name) => self.ask(command, name),
-            Err(error) => {
-                // dropped by a call, which keeps the proof of this function short
-                drop(command);
-                Err(io::Error::from(error))
-            }
-        }
-    }
-
-    /// Begins to look this host up by a command.
-    fn ask(&mut self, command: Command<Global>, name: String) -> io::Result<()> {
+        let name = String::from_str(self.alloc, name)?;
         match self.questions.start(command, name) {
             Ok(()) => Ok(()),
-            Err(name) => {
-                // dropped by a call, which keeps the proof of this function short
-                drop(name);
-                Err(io::Error::other("getent, which looks its name up, cannot be started"))
-            }
+            Err(_) => Err(io::Error::other("getent, which looks its name up, cannot be started")),
         }
     }
 
@@ -118,20 +103,8 @@ impl<'r, R: Processes> LookUps<'r, R> {
 /// Returns the command that looks a host up.
 fn getent(alloc: Global, name: &str) -> Result<Command<Global>, AllocError> {
     let mut command = Command::new(alloc, "getent")?;
-    match put_words(&mut command, name) {
-        Ok(()) => Ok(command),
-        Err(error) => {
-            // dropped by a call, which keeps the proof of this function short
-            drop(command);
-            Err(error)
-        }
-    }
-}
-
-/// Gives `getent` its words.
-fn put_words(command: &mut Command<Global>, name: &str) -> Result<(), AllocError> {
     command.arg("ahosts")?.arg(name)?;
-    Ok(())
+    Ok(command)
 }
 
 /// Returns the addresses that an ended look-up printed.

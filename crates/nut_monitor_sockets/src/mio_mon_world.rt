@@ -63,20 +63,13 @@ impl<'r, 'e, R: Net + Clock + Processes, H: Herald, E: Write> MioMonWorld<'r, 'e
     ) -> io::Result<MioMonWorld<'r, 'e, R, H, E>>
         ensures { IfOk result (λ w. w.faults ≡ 0) }
     {
-        match Links::none(rt, alloc, reports) {
-            Ok(links) => Ok(MioMonWorld {
-                links,
-                herald,
-                late: ArrayVec::new(),
-                faults: 0,
-                has_ended: false,
-            }),
-            Err(error) => {
-                // dropped by a call, which keeps the proof of this function short
-                drop(herald);
-                Err(error)
-            }
-        }
+        Ok(MioMonWorld {
+            links: Links::none(rt, alloc, reports)?,
+            herald,
+            late: ArrayVec::new(),
+            faults: 0,
+            has_ended: false,
+        })
     }
 
     /// Begins for a monitor with these links: their servers are called, and all earlier links are closed. Look-ups that

@@ -139,68 +139,52 @@ impl Upstream {
     ///
     /// The error of the last address: the call has failed.
     pub fn reach(&mut self, dialler: &Dialler<'_, impl Net>) -> io::Result<bool> {
-        match &self.stage {
-            Stage::Down => self.begin(dialler),
-            Stage::Calling(link, waited) => {
-                let answered = is_answered(link.stream(), *waited);
-                self.go_on(dialler, answered)
-            }
-            Stage::Up(_, _) => Ok(false),
-        }
-    }
-
-    /// Calls the host if that is due and an address is known. Returns false: the link isn't made yet.
-    fn begin(&mut self, dialler: &Dialler<'_, impl Net>) -> io::Result<bool> {
-        if self.pause.is_over() && self.host.has_addresses() {
-            self.pause.wait();
-            self.host.begin();
-            return self.call(dialler, io::Error::from(ErrorKind::NotFound));
-        }
-        Ok(false)
-    }
-
-    /// Dials the next address. Returns false: the link isn't made yet. Returns `error` if no address is left.
-    fn call(&mut self, dialler: &Dialler<'_, impl Net>, error: io::Error) -> io::Result<bool> {
-        match self.host.dial(dialler, error) {
-            Ok(stream) => {
-                // dropped by a call, which keeps the proof of this function short
-                drop(mem::replace(&mut self.stage, Stage::Calling(Link::new(stream), 0)));
+        match mem::replace(&mut self.stage, Stage::Down) {
+            Stage::Down => {
+                if self.pause.is_over() && self.host.has_addresses() {
+                    self.pause.wait();
+                    self.host.begin();
+                    self.call(dialler, io::Error::from(ErrorKind::NotFound))?;
+                }
                 Ok(false)
             }
-            Err(error) => Err(error),
+            Stage::Calling(link, waited) => self.go_on(dialler, link, waited),
+            Stage::Up(link, inquiry) => {
+                self.stage = Stage::Up(link, inquiry);
+                Ok(false)
+            }
         }
     }
 
-    /// Continues a call by what its address has answered, and returns whether the link is now made.
+    /// Dials the next address. Returns `error` if none is left.
+    fn call(&mut self, dialler: &Dialler<'_, impl Net>, error: io::Error) -> io::Result<()> {
+        let stream = self.host.dial(dialler, error)?;
+        self.stage = Stage::Calling(Link::new(stream), 0);
+        Ok(())
+    }
+
+    /// Continues a call, and returns whether the link is now made.
     fn go_on(
         &mut self,
         dialler: &Dialler<'_, impl Net>,
-        answered: io::Result<bool>,
+        link: Link<TcpStream>,
+        waited: u8,
     ) -> io::Result<bool> {
-        match answered {
+        match is_answered(link.stream(), waited) {
             Ok(true) => {
-                self.come_up();
+                self.stage = Stage::Up(link, Inquiry::new());
+                self.host.reach();
                 Ok(true)
             }
-            Ok(false) => Ok(false),
-            Err(error) => self.call_next(dialler, error),
+            Ok(false) => {
+                self.stage = Stage::Calling(link, waited);
+                Ok(false)
+            }
+            Err(error) => {
+                self.call(dialler, error)?;
+                Ok(false)
+            }
         }
-    }
-
-    /// Makes the link of a call that was answered.
-    fn come_up(&mut self) {
-        let called = mem::replace(&mut self.stage, Stage::Down);
-        // dropped by a call, which keeps the proof of this function short
-        drop(mem::replace(&mut self.stage, answered(called)));
-        self.host.reach();
-    }
-
-    /// Dials the next address after this error. The socket of the one before is closed after that.
-    fn call_next(&mut self, dialler: &Dialler<'_, impl Net>, error: io::Error) -> io::Result<bool> {
-        let former = mem::replace(&mut self.stage, Stage::Down);
-        let called = self.call(dialler, error);
-        drop(former);
-        called
     }
 
     /// Notes that a call failed. Returns whether it is the first one since the server last served.
@@ -288,15 +272,6 @@ impl Upstream {
             self.pause.begin(limits.pause);
         }
         served
-    }
-}
-
-/// Returns the stage of a link after its call was answered.
-fn answered(called: Stage) -> Stage {
-    match called {
-        Stage::Calling(link, _) => Stage::Up(link, Inquiry::new()),
-        Stage::Down => Stage::Down,
-        Stage::Up(link, inquiry) => Stage::Up(link, inquiry),
     }
 }
 
