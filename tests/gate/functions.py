@@ -36,6 +36,10 @@ class Function:
     def holds(self, file, at):
         return file == self.file and self.first <= at < self.end
 
+    def surrounds(self, other):
+        """Whether another function stands in its body."""
+        return other is not self and self.holds(other.file, other.first)
+
 
 def impl_name(words):
     """Returns what a check calls an impl, by the words of its header: the type, and then the trait and its arguments."""

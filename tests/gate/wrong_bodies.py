@@ -155,6 +155,13 @@ class Copy:
         return "::".join(self.parts)
 
 
+def proof_of(folder, function):
+    """Returns the folder of a function's proof in this folder of a crate; None if it shares a proof +NAME with functions that
+    it calls and that call it."""
+    proof = f"{folder}/proofs/{function.path.replace('::', '/')}"
+    return None if glob.glob(f"{os.path.dirname(proof)}/+*") else proof
+
+
 class Room:
     """A copy of a crate in which all but some functions have empty bodies and open proofs, and copies of functions beside
     these."""
@@ -171,20 +178,14 @@ class Room:
         opened = [it for it in functions if it.path not in shown and self.leave_open(it)]
         # from the end of each file backwards, so that the places before stay right
         for function in sorted(functions, key=lambda it: it.first, reverse=True):
-            holds_others = any(it is not function and function.holds(it.file, it.first) for it in functions)
+            holds_others = any(map(function.surrounds, functions))
             beside = b"".join(it.text for it in copies if it.of is function)
             self.rewrite(function, function in opened and not holds_others, beside)
-
-    def proof_of(self, function):
-        """Returns the folder of a function's proof; None if it shares a proof +NAME with functions that it calls and that
-        call it."""
-        proof = f"{self.folder}/proofs/{function.path.replace('::', '/')}"
-        return None if glob.glob(f"{os.path.dirname(proof)}/+*") else proof
 
     def begin_answers(self, function):
         """Gives a function without a proof file one without answers. A check that has to offer a new file takes twice the
         time."""
-        proof = self.proof_of(function)
+        proof = proof_of(self.folder, function)
         if proof and not os.path.isfile(f"{proof}/Answers.antt") and not os.path.isfile(f"{proof}/Proof.antt"):
             os.makedirs(proof, exist_ok=True)
             with open(f"{proof}/Answers.antt", "w", encoding="utf-8") as file:
@@ -192,7 +193,7 @@ class Room:
 
     def copy_proof(self, copy):
         """Gives a copy of a function the proof of that function, under its own name."""
-        proof, own, name = self.proof_of(copy.of), self.proof_of(copy), copy.of.parts[-1]
+        proof, own, name = proof_of(self.folder, copy.of), proof_of(self.folder, copy), copy.of.parts[-1]
         if os.path.isdir(proof):
             shutil.copytree(proof, own)
         path = re.escape(f"Rattle.{self.crate.name}.proofs.{'.'.join(copy.of.parts)}")
@@ -205,7 +206,7 @@ class Room:
 
     def leave_open(self, function):
         """Leaves the proof of a function open. Returns whether that was possible."""
-        proof = self.proof_of(function)
+        proof = proof_of(self.folder, function)
         if not proof:
             return False
         shutil.rmtree(proof, ignore_errors=True)
@@ -313,16 +314,16 @@ class Rounds:
         """Whether copies of the functions that have to refuse an edit can stand beside these: it edits bodies, and they are
         not of a trait or of an impl of one, not one in another, and not in a folder where functions share a proof."""
         found = [it for it in self.functions if it.path in edit.wanted]
-        pairs = [(it, other) for it in self.functions for other in found if it is not other]
-        is_inside = any(it.holds(other.file, other.first) or other.holds(it.file, it.first) for it, other in pairs)
-        shares = any(glob.glob(f"{self.crate.folder}/proofs/{'/'.join(it.parts[:-1])}/+*") for it in found)
+        is_inside = any(it.surrounds(other) or other.surrounds(it) for it in self.functions for other in found)
+        shares = any(proof_of(self.crate.folder, it) is None for it in found)
         return edit.is_of_bodies() and not any(it.is_of_trait for it in found) and not is_inside and not shares
 
     def copy(self, path, ending, edit=None):
         """Returns a copy of a function, as an edit makes it if one is given."""
         function = next(it for it in self.functions if it.path == path)
-        text = open_text(f"{self.crate.folder}/{function.file}")[function.start : function.end]
-        return Copy(function, ending, edit.item_of(function) if edit else text)
+        if edit:
+            return Copy(function, ending, edit.item_of(function))
+        return Copy(function, ending, open_text(f"{self.crate.folder}/{function.file}")[function.start : function.end])
 
     def control(self):
         """Whether there are functions that should fail and that pass without edits. The first check has shown that of most."""
