@@ -46,12 +46,11 @@ fn put_row(out: &mut Vec<u8>, form: Form, row: &Fields) -> Result<(), AllocError
     ensures { OnOk result (out.new.items ≡ out.old.items ++ row_line form row.now) }
 {
     match form {
-        Form::Pairs => put_line(out, &[row.get(0), b": ", row.get(1)])?,
-        Form::Firsts => put_line(out, &[row.get(0)])?,
-        Form::Options => put_line(out, &[b"Option: ", row.get(0)])?,
-        Form::Ranges => put_line(out, &[b"Range: ", row.get(0), b"..", row.get(1)])?,
+        Form::Pairs => put_line(out, &[row.get(0), b": ", row.get(1)]),
+        Form::Firsts => put_line(out, &[row.get(0)]),
+        Form::Options => put_line(out, &[b"Option: ", row.get(0)]),
+        Form::Ranges => put_line(out, &[b"Range: ", row.get(0), b"..", row.get(1)]),
     }
-    Ok(())
 }
 
 /// Appends the lines that show all rows.

@@ -1,6 +1,7 @@
 //! Decides on requests: the answer to each, and what it changes.
 
 ghost use Rattle.std.specs.Prelude.{◌≡◌, MatchResult};
+ghost use Rattle.nut_proto.specs.declared.reply.Reply.TheVariants as replies;
 ghost use Rattle.nut_server_spec.specs.Answer.{accepted, refused};
 ghost use Rattle.nut_server_spec.specs.Answer as definitions;
 ghost use Rattle.nut_server_spec.specs.Command.{Asks, asked};
@@ -46,6 +47,14 @@ fn only<'a>(answer: Answer<'a>) -> Decision<'a, 'static>
     }
 }
 
+/// Returns the decision to give this line and change nothing.
+fn say<'a>(reply: Reply<'a>) -> Decision<'a, 'static>
+    ensures answer { given result.answer ≡ definitions.Line reply.entry }
+    ensures effect { result.effect ≡ effects.Nothing }
+{
+    only(Answer::Line(reply))
+}
+
 /// Returns the decision on a request that changes nothing: its answer or its refusal.
 fn tell<'a>(told: Result<Answer<'a>, Refusal>) -> Decision<'a, 'static>
     ensures answer { given result.answer ≡ outcome told.entry }
@@ -69,12 +78,25 @@ fn grant<'a, 'l>(reply: Reply<'a>, granted: Result<Effect<'l>, Refusal>) -> Deci
             answer: Answer::Line(reply),
             effect,
         },
-        Err(refusal) => tell(Err(refusal)),
+        Err(refusal) => Decision {
+            answer: Answer::Line(Reply::Refused(refusal)),
+            effect: Effect::Nothing,
+        },
     }
 }
 
+/// Returns the decision on a request that changes something: `OK` and the effect if it is granted, or the refusal and no
+/// effect.
+fn accept<'a, 'l>(granted: Result<Effect<'l>, Refusal>) -> Decision<'a, 'l>
+    ensures { MatchResult granted.entry
+        (λ effect. (given result.answer ≡ definitions.Line replies.Accepted) × (result.effect ≡ effect))
+        (λ refusal. (given result.answer ≡ refused refusal) × (result.effect ≡ effects.Nothing)) }
+{
+    grant(Reply::Accepted, granted)
+}
+
 /// Returns the reply to a request that is handed on to a driver: `OK`, with the number of the request if it is tracked.
-fn accepted(number: Option<u32>) -> Reply<'static>
+fn accepted<'a>(number: Option<u32>) -> Reply<'a>
     ensures { definitions.Line result ≡ accepted number }
 {
     match number {
@@ -95,6 +117,17 @@ fn hand_on<'a>(granted: Result<HandedOn, Refusal>) -> Decision<'a, 'static>
             effect: Effect::Ask(ups, number),
         },
         Err(refusal) => tell(Err(refusal)),
+    }
+}
+
+/// Returns the decision on `LOGOUT`: a goodbye, and the client is logged out.
+fn log_out<'a>() -> Decision<'a, 'static>
+    ensures answer { given result.answer ≡ definitions.Line replies.Goodbye }
+    ensures effect { result.effect ≡ effects.Logout }
+{
+    Decision {
+        answer: Answer::Line(Reply::Goodbye),
+        effect: Effect::Logout,
     }
 }
 
@@ -132,13 +165,13 @@ fn decide_request<'a, 'l>(
             ups.as_bytes(),
             command.as_bytes(),
         )),
-        Request::GetTracking => only(Answer::Line(Reply::TrackingIs {
+        Request::GetTracking => say(Reply::TrackingIs {
             on: caller.tracks_requests(),
-        })),
-        Request::GetTrackingOf { number } => only(Answer::Line(Reply::Tracking {
+        }),
+        Request::GetTrackingOf { number } => say(Reply::Tracking {
             number: *number,
             status: scene.status_of(*number),
-        })),
+        }),
         Request::List(query) => tell(list_answer(scene, query)),
         Request::SetVar {
             ups,
@@ -152,7 +185,7 @@ fn decide_request<'a, 'l>(
             value.as_bytes(),
             line,
         )),
-        Request::SetTracking { on } => grant(Reply::Accepted, switch_tracking(caller, *on)),
+        Request::SetTracking { on } => accept(switch_tracking(caller, *on)),
         Request::InstCmd {
             ups,
             command,
@@ -165,22 +198,16 @@ fn decide_request<'a, 'l>(
             parameter,
             line,
         )),
-        Request::Username { name } => grant(Reply::Accepted, give_user(caller, name.as_bytes())),
-        Request::Password { password } => grant(
-            Reply::Accepted,
-            give_password(caller, password.as_bytes()),
-        ),
-        Request::Login { ups } => grant(Reply::Accepted, log_in(scene, caller, ups.as_bytes())),
-        Request::Primary { ups } => grant(
-            Reply::Accepted,
-            become_primary(scene, caller, ups.as_bytes()),
-        ),
+        Request::Username { name } => accept(give_user(caller, name.as_bytes())),
+        Request::Password { password } => accept(give_password(caller, password.as_bytes())),
+        Request::Login { ups } => accept(log_in(scene, caller, ups.as_bytes())),
+        Request::Primary { ups } => accept(become_primary(scene, caller, ups.as_bytes())),
         Request::Fsd { ups } => grant(Reply::FsdSet, force(scene, caller, ups.as_bytes())),
-        Request::Logout => grant(Reply::Goodbye, Ok(Effect::Logout)),
-        Request::Ver => only(Answer::Line(Reply::Version)),
-        Request::NetVer => only(Answer::Line(Reply::NetworkVersion)),
-        Request::Help => only(Answer::Line(Reply::Commands)),
-        Request::StartTls => tell(Err(Refusal::FeatureNotConfigured)),
+        Request::Logout => log_out(),
+        Request::Ver => say(Reply::Version),
+        Request::NetVer => say(Reply::NetworkVersion),
+        Request::Help => say(Reply::Commands),
+        Request::StartTls => say(Reply::Refused(Refusal::FeatureNotConfigured)),
     }
 }
 

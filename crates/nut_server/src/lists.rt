@@ -3,44 +3,59 @@
 ghost use Rattle.std.specs.Prelude.{◌≡◌};
 ghost use Rattle.nut_proto.specs.declared.request.ListQuery.TheVariants as queries;
 ghost use Rattle.nut_server_spec.specs.Answer.{list_answer};
-ghost use Rattle.nut_server.specs.inside.Answers.{outcome};
+ghost use Rattle.nut_server.specs.inside.Answers.{given, outcome};
 
 use crate::answer::{Answer, Rows};
+use crate::config::Config;
 use crate::queries::variable_of;
 use crate::scene::Scene;
 use nut_proto::{ListQuery, Refusal, Word};
+
+/// Answers `LIST UPS`: all UPSes.
+fn list_upses<'a>(scene: &'a Scene<'_>) -> Answer<'a>
+    ensures { given result ≡ list_answer scene.now queries.Ups }
+{
+    let config: &'a Config = scene.config;
+    Answer::Listing(ListQuery::Ups, Rows::Upses(config))
+}
 
 /// Answers `LIST VAR`: the variables of a UPS.
 fn list_variables<'a>(scene: &'a Scene<'_>, ups: &'a [u8]) -> Result<Answer<'a>, Refusal>
     ensures { outcome result ≡ list_answer scene.now (queries.Var ups.now) }
 {
-    let device = scene.data_of(scene.number_of(ups)?)?;
-    let query = ListQuery::Var {
-        ups: Word::new(ups),
-    };
-    Ok(Answer::Listing(query, Rows::Variables(ups, device)))
+    let device = scene.device_named(ups)?;
+    Ok(Answer::Listing(
+        ListQuery::Var {
+            ups: Word::new(ups),
+        },
+        Rows::Variables(ups, device),
+    ))
 }
 
 /// Answers `LIST RW`: the variables of a UPS that clients may set.
 fn list_writable<'a>(scene: &'a Scene<'_>, ups: &'a [u8]) -> Result<Answer<'a>, Refusal>
     ensures { outcome result ≡ list_answer scene.now (queries.Rw ups.now) }
 {
-    let device = scene.data_of(scene.number_of(ups)?)?;
-    let query = ListQuery::Rw {
-        ups: Word::new(ups),
-    };
-    Ok(Answer::Listing(query, Rows::Writable(ups, device)))
+    let device = scene.device_named(ups)?;
+    Ok(Answer::Listing(
+        ListQuery::Rw {
+            ups: Word::new(ups),
+        },
+        Rows::Writable(ups, device),
+    ))
 }
 
 /// Answers `LIST CMD`: the commands of a UPS.
 fn list_commands<'a>(scene: &'a Scene<'_>, ups: &'a [u8]) -> Result<Answer<'a>, Refusal>
     ensures { outcome result ≡ list_answer scene.now (queries.Cmd ups.now) }
 {
-    let device = scene.data_of(scene.number_of(ups)?)?;
-    let query = ListQuery::Cmd {
-        ups: Word::new(ups),
-    };
-    Ok(Answer::Listing(query, Rows::Commands(ups, device)))
+    let device = scene.device_named(ups)?;
+    Ok(Answer::Listing(
+        ListQuery::Cmd {
+            ups: Word::new(ups),
+        },
+        Rows::Commands(ups, device),
+    ))
 }
 
 /// Answers `LIST ENUM`: the enum values of a variable.
@@ -51,13 +66,15 @@ fn list_enums<'a>(
 ) -> Result<Answer<'a>, Refusal>
     ensures { outcome result ≡ list_answer scene.now (queries.Enum ups.now name.now) }
 {
-    let device = scene.data_of(scene.number_of(ups)?)?;
+    let device = scene.device_named(ups)?;
     let variable = variable_of(device, name)?;
-    let query = ListQuery::Enum {
-        ups: Word::new(ups),
-        variable: Word::new(name),
-    };
-    Ok(Answer::Listing(query, Rows::Enums(ups, name, variable)))
+    Ok(Answer::Listing(
+        ListQuery::Enum {
+            ups: Word::new(ups),
+            variable: Word::new(name),
+        },
+        Rows::Enums(ups, name, variable),
+    ))
 }
 
 /// Answers `LIST RANGE`: the ranges of a variable.
@@ -68,13 +85,15 @@ fn list_ranges<'a>(
 ) -> Result<Answer<'a>, Refusal>
     ensures { outcome result ≡ list_answer scene.now (queries.Range ups.now name.now) }
 {
-    let device = scene.data_of(scene.number_of(ups)?)?;
+    let device = scene.device_named(ups)?;
     let variable = variable_of(device, name)?;
-    let query = ListQuery::Range {
-        ups: Word::new(ups),
-        variable: Word::new(name),
-    };
-    Ok(Answer::Listing(query, Rows::Ranges(ups, name, variable)))
+    Ok(Answer::Listing(
+        ListQuery::Range {
+            ups: Word::new(ups),
+            variable: Word::new(name),
+        },
+        Rows::Ranges(ups, name, variable),
+    ))
 }
 
 /// Answers `LIST CLIENT`: the clients that are logged in to a UPS.
@@ -83,10 +102,12 @@ fn list_clients<'a>(scene: &'a Scene<'_>, ups: &'a [u8]) -> Result<Answer<'a>, R
 {
     let u = scene.number_of(ups)?;
     scene.data_of(u)?;
-    let query = ListQuery::Client {
-        ups: Word::new(ups),
-    };
-    Ok(Answer::Listing(query, Rows::Clients(ups, u, scene.connections)))
+    Ok(Answer::Listing(
+        ListQuery::Client {
+            ups: Word::new(ups),
+        },
+        Rows::Clients(ups, u, scene.connections),
+    ))
 }
 
 /// Answers LIST: the rows that the query asks for, or the refusal.
@@ -102,7 +123,7 @@ pub fn list_answer<'a>(
     ensures { outcome result ≡ list_answer scene.now query.now }
 {
     match query {
-        ListQuery::Ups => Ok(Answer::Listing(ListQuery::Ups, Rows::Upses(scene.config))),
+        ListQuery::Ups => Ok(list_upses(scene)),
         ListQuery::Var { ups } => list_variables(scene, ups.as_bytes()),
         ListQuery::Rw { ups } => list_writable(scene, ups.as_bytes()),
         ListQuery::Cmd { ups } => list_commands(scene, ups.as_bytes()),

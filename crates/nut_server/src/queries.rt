@@ -74,7 +74,7 @@ pub fn show_variable<'a>(
 ) -> Result<Answer<'a>, Refusal>
     ensures { outcome result ≡ on_device scene.now ups.now (λ d. on_variable name.now d (λ v. Line (var_row ups.now d v))) }
 {
-    let device = scene.data_of(scene.number_of(ups)?)?;
+    let device = scene.device_named(ups)?;
     let variable = variable_of(device, name)?;
     Ok(Answer::Value(ups, device, variable))
 }
@@ -92,7 +92,7 @@ pub fn show_type<'a>(
 ) -> Result<Answer<'a>, Refusal>
     ensures { outcome result ≡ on_device scene.now ups.now (λ d. on_variable name.now d (λ v. Line (type_reply ups.now v))) }
 {
-    let device = scene.data_of(scene.number_of(ups)?)?;
+    let device = scene.device_named(ups)?;
     let variable = variable_of(device, name)?;
     Ok(Answer::Line(Reply::Type {
         ups: Word::new(ups),
@@ -115,7 +115,7 @@ pub fn describe_variable<'a>(
 ) -> Result<Answer<'a>, Refusal>
     ensures { outcome result ≡ on_device scene.now ups.now (λ d. on_variable name.now d (λ v. Line (replies.Desc ups.now name.now (variable_description scene.now.configuration.variable_texts name.now)))) }
 {
-    let device = scene.data_of(scene.number_of(ups)?)?;
+    let device = scene.device_named(ups)?;
     variable_of(device, name)?;
     Ok(Answer::Line(Reply::Desc {
         ups: Word::new(ups),
@@ -137,7 +137,7 @@ pub fn describe_command<'a>(
 ) -> Result<Answer<'a>, Refusal>
     ensures { outcome result ≡ on_device scene.now ups.now (λ d. on_command name.now d (Line (replies.CmdDesc ups.now name.now (command_description scene.now.configuration.command_texts name.now)))) }
 {
-    let device = scene.data_of(scene.number_of(ups)?)?;
+    let device = scene.device_named(ups)?;
     if !device.table().has_cmd(name) {
         return Err(Refusal::CmdNotSupported);
     }

@@ -2,7 +2,9 @@
 
 ghost use Rattle.std.specs.Prelude.{◌≡◌, None, Some, MatchResult};
 ghost use Rattle.nut_proto.specs.declared.refusal.Refusal.TheVariants as refusals;
-ghost use Rattle.nut_server_spec.specs.Answer.{ups_number, device_at, status_of};
+ghost use Rattle.nut_server_spec.specs.Answer as definitions;
+ghost use Rattle.nut_server_spec.specs.Answer.{ups_number, device_at, on_device, refused, status_of};
+ghost use Rattle.nut_server_spec.specs.Device as devices;
 ghost use Rattle.nut_server_spec.specs.Device.{trouble};
 
 use crate::config::Config;
@@ -67,6 +69,16 @@ impl<'a> Scene<'a> {
             Some(refusal) => Err(refusal),
             None => Ok(device),
         }
+    }
+
+    /// Returns the UPS with this name, or `UnknownUps` if there is none, or `DriverNotConnected` or `DataStale` if its data
+    /// can't be relied on.
+    pub fn device_named(&self, name: &[u8]) -> Result<&'a Device, Refusal>
+        ensures { MatchResult result
+            (λ d. (next : devices.Device → definitions.Answer) → on_device self.now name.now next ≡ next d.now.device)
+            (λ refusal. (next : devices.Device → definitions.Answer) → on_device self.now name.now next ≡ refused refusal) }
+    {
+        self.data_of(self.number_of(name)?)
     }
 
     /// Returns how the tracked request with this number ended: `Unknown` if no UPS remembers it.

@@ -1,8 +1,21 @@
 //! The command line of upsd.
 
-use clap::{Arg, ArgAction, Command};
+use clap::{Arg, ArgAction, ArgMatches, Command};
 use nut_program::{check_option, quiet_option};
 use std::alloc::{AllocError, Global};
+use std::convert::AsStr;
+
+/// Returns what these words say on a command line, the program's name first.
+///
+/// # Errors
+///
+/// That of clap. It is a lack of memory if the command line couldn't be made.
+pub fn matches_of<'a, S: AsStr>(
+    command: Result<Command<'a>, AllocError>,
+    words: &'a [S],
+) -> Result<ArgMatches<'a>, clap::Error> {
+    command?.try_get_matches_from(words)
+}
 
 /// Returns the command line of `upsd --stdio`.
 pub fn stdio_command<'a>(alloc: Global) -> Result<Command<'a>, AllocError> {

@@ -1,9 +1,9 @@
 //! upsd: a server over sockets, or over standard streams.
 
-ghost use Rattle.std.specs.Prelude.{◌≡◌, ◌<◌, ◌-◌, ◌^◌, [], IfSome};
+ghost use Rattle.std.specs.Prelude.{◌≡◌, ◌<◌, ◌-◌, ◌^◌, [], IfOk, IfSome};
 ghost use Rattle.nut_server_spec.specs.Content.{content};
 
-use crate::command_line::upsd_command;
+use crate::command_line::{matches_of, upsd_command};
 use crate::configuration::{Settings, read_folder};
 use crate::listeners::listen;
 use crate::reloading::Reloading;
@@ -17,11 +17,12 @@ use nut_poll::Reports;
 use nut_program::{Failure, conf_folder, hold_closed_streams};
 use nut_server::{Config, Server};
 use nut_server_loop::{World, serve};
-use nut_server_sockets::{Drivers, MioWorld};
+use nut_server_sockets::{Drivers, MioWorld, Reloader};
 use std::alloc::{Alloc, Global};
 use std::convert::AsStr;
 use std::env::Env;
-use std::io::{Read, Write};
+use std::io;
+use std::io::{ErrorKind, Read, Write};
 use std::net::Net;
 use std::rt::Files;
 use std::sync::Wait;
@@ -69,7 +70,7 @@ fn run<S: AsStr, I: Read, O: Write, E: Write>(
     out: &mut O,
     err: &mut E,
 ) -> Result<(), Failure<UpsdFault>> {
-    let matches = upsd_command(alloc)?.try_get_matches_from(words)?;
+    let matches = matches_of(upsd_command(alloc), words)?;
     run_matches(rt, alloc, &matches, input, out, err)
 }
 
@@ -183,32 +184,32 @@ fn paired<A: Drop, B: Drop, F: Drop>(made: Result<A, F>, value: B) -> Result<(A,
     Ok((made?, value))
 }
 
-/// Serves all clients that connect to the listeners with this configuration.
-fn serve_config<R: Wait + Files + Net + Clock, E: Write>(
+/// Serves all clients that connect to the listeners with this configuration, and then with those of the reloader.
+fn serve_config<R: Wait + Net + Clock, L: Reloader + Drop, E: Write>(
     rt: &R,
     alloc: Global,
     config: Config,
     listeners: Vec<TcpListener>,
-    reloading: Reloading<'_, R>,
+    reloader: L,
     options: &Options<'_>,
     err: &mut E,
 ) -> Result<(), Failure<UpsdFault>> {
     let Ok(mut server) = Server::new(alloc, config) else {
         return Err(Failure::Memory);
     };
-    let served = serve_listeners(rt, alloc, &mut server, listeners, reloading, options, err);
+    let served = serve_listeners(rt, alloc, &mut server, listeners, reloader, options, err);
     // dropped by a call, which keeps the proof of this function short
     drop(server);
     served
 }
 
-/// Serves all clients that connect to the listeners.
-fn serve_listeners<R: Wait + Files + Net + Clock, E: Write>(
+/// Serves all clients that connect to the listeners, first with the configuration that the server has.
+fn serve_listeners<R: Wait + Net + Clock, L: Reloader + Drop, E: Write>(
     rt: &R,
     alloc: Global,
     server: &mut Server,
     listeners: Vec<TcpListener>,
-    reloading: Reloading<'_, R>,
+    reloader: L,
     options: &Options<'_>,
     err: &mut E,
 ) -> Result<(), Failure<UpsdFault>>
@@ -217,22 +218,30 @@ fn serve_listeners<R: Wait + Files + Net + Clock, E: Write>(
     let drivers = Drivers::new(alloc, options.sockets, server)?;
     let mut reports = Reports::new("upsd", err, !options.is_quiet);
     tell_start(&listeners, &drivers, &mut reports);
-    let world = MioWorld::new(rt, alloc, listeners, drivers, reports, reloading)?;
-    serve_world(rt, server, world)?;
+    let made = MioWorld::new(rt, alloc, listeners, drivers, reports, reloader);
+    serve_world(rt, server, made)?;
     Ok(())
 }
 
-/// Serves a world to its end.
+/// Serves a world to its end, if it could be made.
+///
+/// # Errors
+///
+/// Why it couldn't be made, or `Other` if a call of the world returned a fault.
 fn serve_world<W: World + Drop>(
     rt: &impl Wait,
     server: &mut Server,
-    mut world: W,
-) -> Result<(), ServeFault>
+    made: io::Result<W>,
+) -> io::Result<()>
     requires fresh { server.old ≡ content server.old.configuration [] }
-    requires blank { IfSome (W.log world) (λ r. r ≡ []) }
-    requires few { W.fault_count world < 2 ^ 64 - 1 }
+    requires blank { IfOk made (λ w. IfSome (W.log w) (λ r. r ≡ [])) }
+    requires few { IfOk made (λ w. W.fault_count w < 2 ^ 64 - 1) }
 {
-    serve(rt, server, &mut world)
+    let mut world = made?;
+    match serve(rt, server, &mut world) {
+        Ok(()) => Ok(()),
+        Err(ServeFault::World) => Err(io::Error::from(ErrorKind::Other)),
+    }
 }
 
 /// Reports the addresses listened on and the UPSes served.

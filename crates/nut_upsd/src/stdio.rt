@@ -3,7 +3,7 @@
 ghost use Rattle.std.specs.Prelude.{◌≡◌, []};
 ghost use Rattle.nut_server_spec.specs.Content.{content};
 
-use crate::command_line::stdio_command;
+use crate::command_line::{matches_of, stdio_command};
 use crate::configuration::read_options;
 use crate::upsd_fault::{UpsdFault, exit_status};
 use clap::ArgMatches;
@@ -53,7 +53,7 @@ fn serve_words<S: AsStr, I: Read, O: Write>(
     input: &mut I,
     out: &mut O,
 ) -> Result<(), Failure<UpsdFault>> {
-    let matches = stdio_command(alloc)?.try_get_matches_from(words)?;
+    let matches = matches_of(stdio_command(alloc), words)?;
     serve_options(rt, alloc, &matches, input, out)
 }
 

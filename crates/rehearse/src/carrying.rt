@@ -79,17 +79,33 @@ fn carry_all(server: &mut Server, dummy: &mut Dummy, size: usize) -> Carried {
     Carried::Piece
 }
 
-/// Moves pieces until none waits or one is refused, and writes which it was.
+/// Lets driver and server take what waits for them, `size` bytes at a time, and writes how that ended.
 pub fn carry<W: Write>(
-    server: &mut Server,
-    dummy: &mut Dummy,
-    size: usize,
+    server: &mut Option<Server>,
+    dummy: &mut Option<Dummy>,
+    size: &str,
     out: &mut W,
 ) -> Result<Played, Failure> {
-    wrote(
-        show_carried(carry_all(server, dummy, size), out),
-        Played::Step,
-    )
+    match server {
+        Some(server) => carry_between(server, dummy, size, out),
+        None => Ok(Played::Nothing),
+    }
+}
+
+/// Moves pieces of this size until none waits or one is refused, and writes which it was.
+fn carry_between<W: Write>(
+    server: &mut Server,
+    dummy: &mut Option<Dummy>,
+    size: &str,
+    out: &mut W,
+) -> Result<Played, Failure> {
+    match (dummy, size.parse()) {
+        (Some(dummy), Ok(size)) => wrote(
+            show_carried(carry_all(server, dummy, size), out),
+            Played::Step,
+        ),
+        _ => Ok(Played::Nothing),
+    }
 }
 
 /// Writes what happened to the last piece.

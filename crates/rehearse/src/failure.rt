@@ -62,11 +62,3 @@ impl From<io::Error> for Failure {
         }
     }
 }
-
-/// Returns the failure of a write, if it failed. A call of this keeps the proofs of its callers short.
-pub fn sent(written: io::Result<()>) -> Result<(), Failure> {
-    match written {
-        Ok(()) => Ok(()),
-        Err(error) => Err(Failure::from(error)),
-    }
-}

@@ -43,6 +43,7 @@ mod watching;
 mod words;
 
 use failure::Failure;
+use played::{Played, wrote};
 use stage::Stage;
 
 fn main(rt: HostRuntime) -> ExitCode {
@@ -76,10 +77,8 @@ fn play_input<R: BufRead, W: Write + Drop>(
 ) -> Result<(), Failure> {
     let mut out = BufWriter::new(alloc, output)?;
     let played = play(rt, alloc, input, &mut out);
-    match out.flush() {
-        Ok(()) => played,
-        Err(error) => Err(Failure::from(error)),
-    }
+    out.flush()?;
+    played
 }
 
 /// Plays a script on a new stage.
@@ -110,7 +109,20 @@ fn play_lines<R: BufRead, W: Write>(
         if input.read_line(line)? == 0 {
             break;
         }
-        stage.play_line(rt, number, line.trim_end_matches('\n'), out)?;
+        let played = stage.play_line(rt, line.trim_end_matches('\n'), out);
+        end_line(played, number, out)?;
     }
     Ok(())
+}
+
+/// Ends the answer to the line with this number, which has to be a step.
+fn end_line<W: Write>(
+    played: Result<Played, Failure>,
+    number: u64,
+    out: &mut W,
+) -> Result<(), Failure> {
+    match played? {
+        Played::Nothing => Err(Failure::Line(number)),
+        Played::Step | Played::Lack => wrote(writeln!(out), ()),
+    }
 }

@@ -15,7 +15,7 @@
 //! An event is answered by `ok` or its fault, then by the phase, and for each link by whether it is up and how many
 //! bytes wait for its server.
 
-use crate::failure::{Failure, sent};
+use crate::failure::Failure;
 use crate::played::{Played, show_file_fault, show_ok, wrote};
 use crate::text::{decode, parted, put, shown};
 use nut_conf::read_upsmon;
@@ -174,10 +174,8 @@ fn took_on_link<'a>(i: usize, number: &str) -> Option<Event<'a>> {
 
 /// Writes that a step was done, and then the monitor's state.
 fn show_all<W: Write>(monitor: &Monitor, out: &mut W) -> Result<Played, Failure> {
-    match out.write_all(b"ok") {
-        Ok(()) => wrote(show(monitor, out), Played::Step),
-        Err(error) => Err(Failure::from(error)),
-    }
+    out.write_all(b"ok")?;
+    wrote(show(monitor, out), Played::Step)
 }
 
 /// Writes the monitor's phase and links.
@@ -211,10 +209,10 @@ fn take_notice<W: Write>(
     out: &mut W,
 ) -> Result<Played, Failure> {
     match monitor.take_notice() {
-        Some(notice) => match show_notice(monitor, notice, text, out) {
-            Ok(()) => Ok(Played::Step),
-            Err(failure) => Err(failure),
-        },
+        Some(notice) => {
+            show_notice(monitor, notice, text, out)?;
+            Ok(Played::Step)
+        }
         None => wrote(out.write_all(b"none"), Played::Step),
     }
 }
@@ -228,7 +226,7 @@ pub fn show_notice<W: Write>(
 ) -> Result<(), Failure> {
     text.clear();
     monitor.notice_text(notice, text)?;
-    sent(show_parts(notice, text.as_slice(), out))
+    wrote(show_parts(notice, text.as_slice(), out), ())
 }
 
 fn show_parts<W: Write>(notice: Notice, text: &[u8], out: &mut W) -> io::Result<()> {

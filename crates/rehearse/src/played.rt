@@ -23,12 +23,10 @@ impl Played {
     }
 }
 
-/// Returns what happened at a line, if its answer was written. A call of this keeps the proofs of its callers short.
-pub fn wrote(written: io::Result<()>, played: Played) -> Result<Played, Failure> {
-    match written {
-        Ok(()) => Ok(played),
-        Err(error) => Err(Failure::from(error)),
-    }
+/// Returns what is told of a write, if it succeeded. A call of this keeps the proofs of its callers short.
+pub fn wrote<T: Copy>(written: io::Result<()>, told: T) -> Result<T, Failure> {
+    written?;
+    Ok(told)
 }
 
 /// Writes that a step was done.

@@ -18,7 +18,6 @@ use crate::text::{decode, parted, shown};
 use nut_conf::{UpsmonConf, read_upsmon};
 use nut_monitor::{Notice, Phase};
 use nut_play::{Fleet, FleetFault, FleetLog, Logged, News, Step, StepFault, read_step};
-use nut_server::Config;
 use std::alloc::Global;
 use std::io::Write;
 use std::{io, mem};
@@ -53,24 +52,11 @@ impl Rooms {
         let (verb, rest) = parted(text);
         decode(rest, piece)?;
         match verb {
-            "monitor" => self.add_monitor(alloc, piece, out),
+            "monitor" => add_monitor(alloc, piece, &mut self.monitors, out),
             "new" => self.begin(alloc, texts, out),
-            "step" => self.add_step(alloc, piece, out),
+            "step" => add_step(alloc, piece, &mut self.schedule, out),
             "play" => self.call(alloc, out),
             _ => Ok(Played::Nothing),
-        }
-    }
-
-    /// Adds a monitor to the next room.
-    fn add_monitor<W: Write>(
-        &mut self,
-        alloc: Global,
-        file: &[u8],
-        out: &mut W,
-    ) -> Result<Played, Failure> {
-        match read_upsmon(alloc, file) {
-            Ok(config) => show_growth(push_monitor(&mut self.monitors, config), out),
-            Err(fault) => show_file_fault(fault, out),
         }
     }
 
@@ -82,69 +68,78 @@ impl Rooms {
         out: &mut W,
     ) -> Result<Played, Failure> {
         match read_config(alloc, texts) {
-            Ok(config) => self.begin_with(alloc, config, out),
-            Err(fault) => Err(Failure::from(fault)),
-        }
-    }
-
-    /// Replaces the room by a new one with this server.
-    fn begin_with<W: Write>(
-        &mut self,
-        alloc: Global,
-        config: Config,
-        out: &mut W,
-    ) -> Result<Played, Failure> {
-        let monitors = mem::replace(&mut self.monitors, Vec::new(alloc));
-        self.put_made(Fleet::new(alloc, config, monitors), out)
-    }
-
-    /// Replaces the room by the new one, or writes why there is none.
-    fn put_made<W: Write>(
-        &mut self,
-        made: Result<Fleet, FleetFault>,
-        out: &mut W,
-    ) -> Result<Played, Failure> {
-        match made {
-            Ok(fleet) => {
-                self.put_fleet(fleet);
-                show_ok(out)
+            Ok(config) => {
+                let monitors = mem::replace(&mut self.monitors, Vec::new(alloc));
+                put_fleet(Fleet::new(alloc, config, monitors), &mut self.fleet, out)
             }
-            Err(fault) => show_fault(fault, out),
-        }
-    }
-
-    fn put_fleet(&mut self, fleet: Fleet) {
-        drop(mem::replace(&mut self.fleet, Some(fleet)));
-    }
-
-    /// Adds a step to the next call.
-    fn add_step<W: Write>(
-        &mut self,
-        alloc: Global,
-        line: &[u8],
-        out: &mut W,
-    ) -> Result<Played, Failure> {
-        match read_step(alloc, line) {
-            Ok(step) => show_growth(push_step(&mut self.schedule, step), out),
-            Err(fault) => show_step_fault(fault, out),
+            Err(fault) => Err(Failure::from(fault)),
         }
     }
 
     /// Plays the steps of a call, and writes what they tell.
     fn call<W: Write>(&mut self, alloc: Global, out: &mut W) -> Result<Played, Failure> {
         let schedule = mem::replace(&mut self.schedule, Vec::new(alloc));
-        let played = self.play_steps(schedule.as_slice(), out);
+        let played = play_steps(schedule.as_slice(), &mut self.fleet, out);
         // dropped by a call, which keeps the proof of this function short
         drop(schedule);
         played
     }
+}
 
-    /// Plays these steps in one call, and writes what they tell.
-    fn play_steps<W: Write>(&mut self, schedule: &[Step], out: &mut W) -> Result<Played, Failure> {
-        match &mut self.fleet {
-            Some(fleet) => show_call(fleet.play(schedule), out),
-            None => Ok(Played::Nothing),
+/// Replaces the room by the new one, or writes why there is none.
+fn put_fleet<W: Write>(
+    made: Result<Fleet, FleetFault>,
+    fleet: &mut Option<Fleet>,
+    out: &mut W,
+) -> Result<Played, Failure> {
+    match made {
+        Ok(made) => {
+            put_in(made, fleet);
+            show_ok(out)
         }
+        Err(fault) => show_fault(fault, out),
+    }
+}
+
+fn put_in(made: Fleet, fleet: &mut Option<Fleet>) {
+    drop(mem::replace(fleet, Some(made)));
+}
+
+/// Plays these steps in one call, and writes what they tell.
+fn play_steps<W: Write>(
+    schedule: &[Step],
+    fleet: &mut Option<Fleet>,
+    out: &mut W,
+) -> Result<Played, Failure> {
+    match fleet {
+        Some(fleet) => show_call(fleet.play(schedule), out),
+        None => Ok(Played::Nothing),
+    }
+}
+
+/// Adds a monitor to the next room.
+fn add_monitor<W: Write>(
+    alloc: Global,
+    file: &[u8],
+    monitors: &mut Vec<UpsmonConf>,
+    out: &mut W,
+) -> Result<Played, Failure> {
+    match read_upsmon(alloc, file) {
+        Ok(config) => show_growth(push_monitor(monitors, config), out),
+        Err(fault) => show_file_fault(fault, out),
+    }
+}
+
+/// Adds a step to the next call.
+fn add_step<W: Write>(
+    alloc: Global,
+    line: &[u8],
+    schedule: &mut Vec<Step>,
+    out: &mut W,
+) -> Result<Played, Failure> {
+    match read_step(alloc, line) {
+        Ok(step) => show_growth(push_step(schedule, step), out),
+        Err(fault) => show_step_fault(fault, out),
     }
 }
 

@@ -112,10 +112,8 @@ pub fn reload<W: Write>(
     server: &mut Server,
     out: &mut W,
 ) -> Result<Played, Failure> {
-    match boxed_config(alloc, texts) {
-        Ok(config) => wrote(playing::reload(config, server, out), Played::Step),
-        Err(failure) => Err(failure),
-    }
+    let config = boxed_config(alloc, texts)?;
+    wrote(playing::reload(config, server, out), Played::Step)
 }
 
 /// Reads the texts into memory of their own.
@@ -129,7 +127,10 @@ fn boxed_config(alloc: Global, texts: &Texts) -> Result<Box<Config>, Failure> {
 fn boxed(alloc: Global, config: Config) -> Result<Box<Config>, Failure> {
     match Box::new(alloc, config) {
         Ok(config) => Ok(config),
-        Err(_) => Err(Failure::Memory),
+        Err(failed) => {
+            drop(failed);
+            Err(Failure::Memory)
+        }
     }
 }
 

@@ -1,6 +1,6 @@
 //! What a script has made so far.
 
-use crate::failure::{Failure, sent};
+use crate::failure::Failure;
 use crate::played::{Played, show_ok, wrote};
 use crate::room::Rooms;
 use crate::text::{decode, parted};
@@ -66,28 +66,12 @@ impl Stage {
         }
     }
 
-    /// Plays a line of a script, and writes a line for it.
+    /// Plays a line of a script, which may be a comment or may have a question mark, and writes the answer.
     ///
     /// # Errors
     ///
-    /// `Line` with this number if it isn't a step; `Memory` if memory cannot be allocated outside of what the engines
-    /// answer; `Io` if the output fails.
+    /// `Memory` if memory cannot be allocated outside of what the engines answer; `Io` if the output fails.
     pub fn play_line<W: Write>(
-        &mut self,
-        rt: &impl Wait,
-        number: u64,
-        line: &str,
-        out: &mut W,
-    ) -> Result<(), Failure> {
-        match self.play_any(rt, line, out) {
-            Ok(Played::Nothing) => Err(Failure::Line(number)),
-            Ok(Played::Step | Played::Lack) => sent(writeln!(out)),
-            Err(failure) => Err(failure),
-        }
-    }
-
-    /// Plays a line, which may be a comment or may have a question mark.
-    fn play_any<W: Write>(
         &mut self,
         rt: &impl Wait,
         line: &str,
@@ -97,35 +81,14 @@ impl Stage {
             return wrote(out.write_all(line.as_bytes()), Played::Step);
         }
         match line.strip_prefix("? ") {
-            Some(step) => self.play_on_lack(rt, step, out),
-            None => self.play_plain(rt, line, out),
+            Some(step) if self.is_lack => self.play(rt, step, out),
+            Some(_) => Ok(Played::Step),
+            None => {
+                let played = self.play(rt, line, out);
+                self.is_lack = matches!(played, Ok(Played::Lack));
+                played
+            }
         }
-    }
-
-    /// Plays a step that has a question mark.
-    fn play_on_lack<W: Write>(
-        &mut self,
-        rt: &impl Wait,
-        step: &str,
-        out: &mut W,
-    ) -> Result<Played, Failure> {
-        if self.is_lack {
-            self.play(rt, step, out)
-        } else {
-            Ok(Played::Step)
-        }
-    }
-
-    /// Plays a step that has no question mark.
-    fn play_plain<W: Write>(
-        &mut self,
-        rt: &impl Wait,
-        line: &str,
-        out: &mut W,
-    ) -> Result<Played, Failure> {
-        let played = self.play(rt, line, out);
-        self.is_lack = matches!(played, Ok(Played::Lack));
-        played
     }
 
     /// Plays a step, and writes the answer.
@@ -163,7 +126,7 @@ impl Stage {
             "upsd" => keep(rest, &mut self.texts.upsd, out),
             "server" => self.begin(out),
             "reload" => self.reload(out),
-            "carry" => self.carry(rest, out),
+            "carry" => carrying::carry(&mut self.server, &mut self.dummy, rest, out),
             _ => server::play(&mut self.server, line, &mut self.piece, out),
         }
     }
@@ -172,15 +135,11 @@ impl Stage {
     fn begin<W: Write>(&mut self, out: &mut W) -> Result<Played, Failure> {
         match server::begin(self.alloc, &self.texts) {
             Ok(server) => {
-                self.put_server(server);
+                put_in(server, &mut self.server);
                 show_ok(out)
             }
             Err(failure) => Err(failure),
         }
-    }
-
-    fn put_server(&mut self, server: Server) {
-        drop(mem::replace(&mut self.server, Some(server)));
     }
 
     /// Puts the texts of the configuration files in force.
@@ -190,27 +149,14 @@ impl Stage {
             None => Ok(Played::Nothing),
         }
     }
+}
 
-    /// Lets driver and server take what waits for them, `size` bytes at a time.
-    fn carry<W: Write>(&mut self, size: &str, out: &mut W) -> Result<Played, Failure> {
-        match size.parse() {
-            Ok(size) => self.carry_pieces(size, out),
-            Err(_) => Ok(Played::Nothing),
-        }
-    }
-
-    fn carry_pieces<W: Write>(&mut self, size: usize, out: &mut W) -> Result<Played, Failure> {
-        match (&mut self.server, &mut self.dummy) {
-            (Some(server), Some(dummy)) => carrying::carry(server, dummy, size, out),
-            _ => Ok(Played::Nothing),
-        }
-    }
+fn put_in(made: Server, server: &mut Option<Server>) {
+    drop(mem::replace(server, Some(made)));
 }
 
 /// Keeps a text for a configuration file, and writes the answer.
 fn keep<W: Write>(text: &str, file: &mut Vec<u8>, out: &mut W) -> Result<Played, Failure> {
-    match decode(text, file) {
-        Ok(()) => show_ok(out),
-        Err(error) => Err(Failure::from(error)),
-    }
+    decode(text, file)?;
+    show_ok(out)
 }

@@ -14,7 +14,7 @@
 ghost use Rattle.std.specs.Prelude.{◌≡◌, IfOk, []};
 ghost use Rattle.nut_monitor_spec.specs.Content.{content};
 
-use crate::failure::{Failure, sent};
+use crate::failure::Failure;
 use crate::monitor::show_notice;
 use crate::played::{Played, wrote};
 use crate::text::{decode, parted, shown};
@@ -185,21 +185,25 @@ fn show_note<W: Write>(
     out: &mut W,
 ) -> Result<(), Failure> {
     match note {
-        Note::Gave(given) => sent(show_given(given, out)),
-        Note::Took(i, part) => sent(write!(out, "link {i} is asked {}", shown(part.as_slice()))),
-        Note::Closed(i) => sent(write!(out, "link {i} is closed")),
-        Note::Told(notice) => show_told(monitor, *notice, text, out),
+        Note::Gave(given) => wrote(show_given(given, out), ()),
+        Note::Took(i, part) => {
+            let asked = shown(part.as_slice());
+            wrote(write!(out, "link {i} is asked {asked}"), ())
+        }
+        Note::Closed(i) => wrote(write!(out, "link {i} is closed"), ()),
+        Note::Told(notice) => show_behind(b"told ", monitor, *notice, text, out),
     }
 }
 
-/// Writes a notice that was told.
-fn show_told<W: Write>(
+/// Writes a notice behind these words.
+fn show_behind<W: Write>(
+    words: &[u8],
     monitor: &Monitor,
     notice: Notice,
     text: &mut Vec<u8>,
     out: &mut W,
 ) -> Result<(), Failure> {
-    out.write_all(b"told ")?;
+    out.write_all(words)?;
     show_notice(monitor, notice, text, out)
 }
 
@@ -220,10 +224,10 @@ fn show_waiting<W: Write>(
     out: &mut W,
 ) -> Result<Played, Failure> {
     show_counts(monitor, out)?;
-    match monitor.first_notice() {
-        Some(notice) => show_first(monitor, notice, text, out),
-        None => Ok(Played::Lack),
+    if let Some(notice) = monitor.first_notice() {
+        show_behind(b" to be told ", monitor, notice, text, out)?;
     }
+    Ok(Played::Lack)
 }
 
 /// Writes that the world failed, and how many bytes wait for each link.
@@ -237,18 +241,4 @@ fn show_counts<W: Write>(monitor: &Monitor, out: &mut W) -> io::Result<()> {
 
 fn show_count<W: Write>(waits: usize, out: &mut W) -> io::Result<()> {
     write!(out, " {waits}")
-}
-
-/// Writes the oldest notice.
-fn show_first<W: Write>(
-    monitor: &Monitor,
-    notice: Notice,
-    text: &mut Vec<u8>,
-    out: &mut W,
-) -> Result<Played, Failure> {
-    out.write_all(b" to be told ")?;
-    match show_notice(monitor, notice, text, out) {
-        Ok(()) => Ok(Played::Lack),
-        Err(failure) => Err(failure),
-    }
 }

@@ -62,7 +62,7 @@ returns-in-SetTracking c =
     let s = c.args.scene.now in
     let k = caller_of c.args.caller.now in
     let line = c.args.line.now.items in
-    rw c.in-SetTracking.is (grants s k (Asks (requests.SetTracking c.in-SetTracking.on)) replies.Accepted c.switch_tracking.result c.grant.result line c.grant.ensures (λ r line. (λ k. refl, λ supplies. refl, refl)) (c.switch_tracking.ensures s line))
+    rw c.in-SetTracking.is (grants s k (Asks (requests.SetTracking c.in-SetTracking.on)) replies.Accepted c.switch_tracking.result c.accept.result line c.accept.ensures (λ r line. (λ k. refl, λ supplies. refl, refl)) (c.switch_tracking.ensures s line))
 
 pub returns-in-InstCmd : goal.returns-in-InstCmd
 returns-in-InstCmd c =
@@ -75,7 +75,7 @@ returns-in-Username c =
     let k = caller_of c.args.caller.now in
     let line = c.args.line.now.items in
     let granted = subst (λ word. Grants s k (Asks (requests.Username word)) replies.Accepted c.give_user.result line) c.as_bytes-in-Username.ensures (c.give_user.ensures s line) in
-    rw c.in-Username.is (grants s k (Asks (requests.Username c.in-Username.name)) replies.Accepted c.give_user.result c.grant-in-Username.result line c.grant-in-Username.ensures (λ r line. (λ k. refl, λ supplies. refl, refl)) granted)
+    rw c.in-Username.is (grants s k (Asks (requests.Username c.in-Username.name)) replies.Accepted c.give_user.result c.accept-in-Username.result line c.accept-in-Username.ensures (λ r line. (λ k. refl, λ supplies. refl, refl)) granted)
 
 pub returns-in-Password : goal.returns-in-Password
 returns-in-Password c =
@@ -83,7 +83,7 @@ returns-in-Password c =
     let k = caller_of c.args.caller.now in
     let line = c.args.line.now.items in
     let granted = subst (λ word. Grants s k (Asks (requests.Password word)) replies.Accepted c.give_password.result line) c.as_bytes-in-Password.ensures (c.give_password.ensures s line) in
-    rw c.in-Password.is (grants s k (Asks (requests.Password c.in-Password.password)) replies.Accepted c.give_password.result c.grant-in-Password.result line c.grant-in-Password.ensures (λ r line. (λ k. refl, λ supplies. refl, refl)) granted)
+    rw c.in-Password.is (grants s k (Asks (requests.Password c.in-Password.password)) replies.Accepted c.give_password.result c.accept-in-Password.result line c.accept-in-Password.ensures (λ r line. (λ k. refl, λ supplies. refl, refl)) granted)
 
 pub returns-in-Login : goal.returns-in-Login
 returns-in-Login c =
@@ -91,14 +91,14 @@ returns-in-Login c =
     let k = caller_of c.args.caller.now in
     let line = c.args.line.now.items in
     let granted = subst (λ word. Grants s k (Asks (requests.Login word)) replies.Accepted c.log_in.result line) c.as_bytes-in-Login.ensures (c.log_in.ensures line) in
-    rw c.in-Login.is (grants s k (Asks (requests.Login c.in-Login.ups)) replies.Accepted c.log_in.result c.grant-in-Login.result line c.grant-in-Login.ensures (λ r line. (λ k. refl, λ supplies. refl, refl)) granted)
+    rw c.in-Login.is (grants s k (Asks (requests.Login c.in-Login.ups)) replies.Accepted c.log_in.result c.accept-in-Login.result line c.accept-in-Login.ensures (λ r line. (λ k. refl, λ supplies. refl, refl)) granted)
 
 pub returns-in-Primary : goal.returns-in-Primary
 returns-in-Primary c =
     rw (c.in-Primary.is, ← c.as_bytes-in-Primary.ensures)
-    (grants c.args.scene.now (caller_of c.args.caller.now) (Asks (requests.Primary c.as_bytes-in-Primary.result.now)) replies.Accepted c.become_primary.result c.grant-in-Primary.result c.args.line.now.items c.grant-in-Primary.ensures (λ r line. (λ k. refl, λ supplies. refl, refl)) (c.become_primary.ensures c.args.line.now.items))
+    (grants c.args.scene.now (caller_of c.args.caller.now) (Asks (requests.Primary c.as_bytes-in-Primary.result.now)) replies.Accepted c.become_primary.result c.accept-in-Primary.result c.args.line.now.items c.accept-in-Primary.ensures (λ r line. (λ k. refl, λ supplies. refl, refl)) (c.become_primary.ensures c.args.line.now.items))
 
 pub returns-in-Fsd : goal.returns-in-Fsd
 returns-in-Fsd c =
     rw (c.in-Fsd.is, ← c.as_bytes-in-Fsd.ensures)
-    (grants c.args.scene.now (caller_of c.args.caller.now) (Asks (requests.Fsd c.as_bytes-in-Fsd.result.now)) replies.FsdSet c.force.result c.grant-in-Fsd.result c.args.line.now.items c.grant-in-Fsd.ensures (refusable_fsd c.args.scene.now c.as_bytes-in-Fsd.result.now) (c.force.ensures c.args.line.now.items))
+    (grants c.args.scene.now (caller_of c.args.caller.now) (Asks (requests.Fsd c.as_bytes-in-Fsd.result.now)) replies.FsdSet c.force.result c.grant.result c.args.line.now.items c.grant.ensures (refusable_fsd c.args.scene.now c.as_bytes-in-Fsd.result.now) (c.force.ensures c.args.line.now.items))
