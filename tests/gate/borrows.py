@@ -4,7 +4,8 @@ a crate that keeps one has to be refused, and one that is done with it has to pa
 
     python3 -m tests.gate.borrows
 
-It needs the toolchain's command `rt`, and no proof: the compiler decides. The last line is 'N passed, M failed'."""
+It needs the toolchain, and no proof: the compiler decides. It takes the library of nut_words as the gate has built it, and
+builds it if that is older than its sources. The last line is 'N passed, M failed'."""
 
 import os
 import shutil
@@ -12,6 +13,8 @@ import subprocess
 import sys
 import tempfile
 
+from tests.gate.functions import check_command, toolchain
+from tests.gate.wrong_bodies import is_newer
 from tests.support.harness import ROOT, ensure, expect, run_tests
 
 CRATES = os.path.join(ROOT, "crates")
@@ -31,21 +34,27 @@ KEPT = "let (line, _used) = cutter.feed(piece);\n    cutter.feed(piece);\n    ma
 
 class Tests:
     def __init__(self, folder):
-        self.folder = folder
-        os.makedirs(os.path.join(folder, "crates", "keeps", "src"))
-        # a copy, since all crates have to be in one folder; of what was proved it needs only the library
+        # a copy, since all crates have to be in one folder
         words = os.path.join(folder, "crates", "nut_words")
         shutil.copytree(os.path.join(CRATES, "nut_words"), words, ignore=shutil.ignore_patterns("incremental"))
         with open(os.path.join(folder, "crates.txt"), "w") as file:
             file.write("nut_words: memchr arrayvec thiserror\nkeeps: nut_words\n")
+        self.code = os.path.join(folder, "crates", "keeps", "src", "lib.rt")
+        os.makedirs(os.path.dirname(self.code))
+        self.write(DONE_WITH)
+        library, self.crate = toolchain().rtlib.crates_below(folder)
+        if not is_newer(library):
+            expect(library.build_rlib(["--jobs", "1"], anew=False), 0, "nut_words isn't proved")
+
+    def write(self, body):
+        with open(self.code, "w") as file:
+            file.write(CODE % body)
 
     def compile(self, body):
         """Compiles a crate with this body, without a proof. Returns the status and the output."""
-        crate = os.path.join(self.folder, "crates", "keeps")
-        with open(os.path.join(crate, "src", "lib.rt"), "w") as file:
-            file.write(CODE % body)
-        command = ["rt", "check", "--jobs", "1", "--only="]
-        done = subprocess.run(command, cwd=crate, stdout=subprocess.PIPE, stderr=subprocess.STDOUT, timeout=600)
+        self.write(body)
+        command = check_command(self.crate, ["--jobs", "1", "--only", ""])
+        done = subprocess.run(command, cwd=self.crate.folder, stdout=subprocess.PIPE, stderr=subprocess.STDOUT, timeout=600)
         return done.returncode, done.stdout.decode()
 
     def test_a_line_that_is_done_with(self):

@@ -21,6 +21,11 @@ def toolchain():
     return module
 
 
+def check_command(crate, flags):
+    """Returns the command that checks a crate over the libraries that are built."""
+    return [*toolchain().rtlib.guarded(), toolchain().rtlib.RATTLE, "check", *crate.words(flags, keeps=False)]
+
+
 class Function:
     """A function: its place in a crate, and what a check calls it. It stands from `start` to `end` in its file, its name at
     `name`, and its body from `first` on."""

@@ -4,18 +4,18 @@
 usage: python3 -m tests.gate.wrong_bodies [--look | --one-by-one] [--after-gate] [CRATE ..]
 
 The edits are crates/NAME/wrong-bodies/*.edit, and crates/NAME/must-fail/*.edit, which the toolchain's own gate tries too.
-docs/tests.md says how to write one. Most are tried in one check of their crate: beside each function that they edit stand a
-copy of it as it is, which has to pass, and one for each edit, which has to fail. An edit for which that is impossible, or that
-isn't refused so, is tried in a round: edits of different functions are applied to the crate, and only these functions are
-checked. The first check, or else a control round, shows that they pass without edits. All other functions have empty bodies
-and open proofs there.
+docs/tests.md says how to write one. Most are tried in one check of their crate: one edit of each function in its place, and
+others in copies of the function beside it. All other functions have empty bodies and open proofs there. What is left is tried
+in rounds: edits of different functions together, and an edit of a definition alone. The functions have been proved as they
+are. That an empty body elsewhere isn't why one fails is seen on copies without edits, which have to pass in the same check.
 
 --look only lists the edits that cannot be applied. --one-by-one also tries each edit as the toolchain's gate does, in a
-check of the whole crate, and fails if the two disagree. Both need the libraries that a crate depends on: those that the gate
-has built since the last change are used, and others are built. --after-gate takes them as they are: the gate may have taken one
-from an earlier run, with older times. The last line is 'N passed, M failed'."""
+check of the whole crate, and fails if the two disagree. Both need the crates built, which proves them, and those that they
+depend on: what the gate has built since the last change is used, and the rest is built. --after-gate takes all as it is: the
+gate may have taken a library from an earlier run, with older times. The last line is 'N passed, M failed'."""
 
 import argparse
+import collections
 import glob
 import itertools
 import os
@@ -26,7 +26,7 @@ import sys
 import tempfile
 import threading
 
-from tests.gate.functions import functions_of, toolchain
+from tests.gate.functions import check_command, functions_of, toolchain
 from tests.support.harness import ROOT
 
 FOLDERS = ("wrong-bodies", "must-fail")
@@ -163,11 +163,12 @@ def proof_of(folder, function):
 
 
 class Room:
-    """A copy of a crate in which all but some functions have empty bodies and open proofs, and copies of functions beside
-    these."""
+    """A copy of a crate in which all but some functions have empty bodies and open proofs. Edits of bodies stand in the places of
+    their functions, and copies of functions beside these."""
 
-    def __init__(self, crate, functions, shown, folder, copies=()):
-        self.crate, self.folder, self.changed, self.seconds = crate, folder, set(), 0.0
+    def __init__(self, crate, functions, shown, folder, edits=(), copies=()):
+        self.crate, self.folder, self.seconds = crate, folder, 0.0
+        self.changed = {file for edit in edits for file in edit.texts}
         for part in toolchain().rtlib.PARTS:
             if os.path.isdir(f"{crate.folder}/{part}"):
                 shutil.copytree(f"{crate.folder}/{part}", f"{folder}/{part}")
@@ -176,11 +177,16 @@ class Room:
         for copy in copies:
             self.copy_proof(copy)
         opened = [it for it in functions if it.path not in shown and self.leave_open(it)]
+        edited = {it: edit for edit in edits for it in functions if it.path in edit.edited}
         # from the end of each file backwards, so that the places before stay right
         for function in sorted(functions, key=lambda it: it.first, reverse=True):
-            holds_others = any(map(function.surrounds, functions))
             beside = b"".join(it.text for it in copies if it.of is function)
-            self.rewrite(function, function in opened and not holds_others, beside)
+            if function in edited:
+                self.rewrite(function, function.start, edited[function].item_of(function) + beside)
+            elif function in opened and not any(map(function.surrounds, functions)) and not any(it.surrounds(function) for it in edited):
+                self.rewrite(function, function.first, b"{ unreachable!() }" + beside)
+            elif beside:
+                self.rewrite(function, function.end, beside)
 
     def begin_answers(self, function):
         """Gives a function without a proof file one without answers. A check that has to offer a new file takes twice the
@@ -217,33 +223,28 @@ class Room:
             file.write(f"pub {name}_spec : {{M : Type 1}} → statement M\n{name}_spec = ?\n")
         return True
 
-    def rewrite(self, function, is_emptied, beside):
-        """Puts copies beside a function, and empties its body if it is to be. A check would translate the body otherwise, and
-        check all that it calls."""
+    def rewrite(self, function, start, words):
+        """Replaces a function from this place on. Functions that aren't checked lose their bodies: a check would translate
+        these, and check all that they call."""
         path = f"{self.folder}/{function.file}"
         text = open_text(path)
-        body = b"{ unreachable!() }" if is_emptied else text[function.first : function.end]
         with open(path, "wb") as file:
-            file.write(text[: function.first] + body + beside + text[function.end :])
+            file.write(text[:start] + words + text[function.end :])
 
-    def apply(self, edits):
-        """Applies these edits, and returns those that fit beside the others."""
-        applied = []
-        for edit in edits:
-            texts, fault = toolchain().read_edit(edit.path, self.folder)
-            if not fault:
-                applied.append(edit)
-                self.changed.update(texts)
-                for path, text in texts.items():
-                    with open(f"{self.folder}/{path}", "w", encoding="utf-8") as file:
-                        file.write(text)
-        return applied
+    def apply(self, edit):
+        """Applies an edit of a definition. Returns why, if that is impossible."""
+        texts, fault = toolchain().read_edit(edit.path, self.folder)
+        for path, text in texts.items() if not fault else ():
+            self.changed.add(path)
+            with open(f"{self.folder}/{path}", "w", encoding="utf-8") as file:
+                file.write(text)
+        return fault
 
     def check(self, wanted, kept):
         """Checks these functions, on top of what earlier checks of the crate have kept."""
         only = [word for path in sorted(wanted) for word in ("--only", path)]
         flags = ["--jobs", "1", "--allow-holes", "--incremental", kept, *only]
-        words = [*toolchain().rtlib.guarded(), toolchain().rtlib.RATTLE, "check", *self.crate.words(flags, keeps=False)]
+        words = check_command(self.crate, flags)
         how = {"stdin": subprocess.DEVNULL, "stdout": subprocess.PIPE, "stderr": subprocess.STDOUT}
         # a check that is killed, most likely for lack of memory, is tried once more
         for _ in range(2):
@@ -261,54 +262,78 @@ class Rounds:
 
     def __init__(self, crate, edits, functions, folder):
         self.crate, self.edits, self.functions, self.folder = crate, edits, functions, folder
-        # the paths of the functions that pass without edits, as far as the first check has shown that
-        self.passed = set()
-        self.said, self.copied, self.count, self.seconds = {}, 0, 0, 0.0
+        # the paths of the functions that were seen to pass without edits, and of those that were seen to fail
+        self.passed, self.fallen = set(), set()
+        self.said, self.together, self.count, self.seconds = {}, 0, 0, 0.0
 
     def say(self, edit, refused, why):
         self.said[edit] = refused, f"{edit.name}: {why}"
 
-    def room(self, edits, copies=()):
-        """Makes a room in which the functions of these edits have their bodies, with copies of others."""
-        shutil.rmtree(f"{self.folder}/room", ignore_errors=True)
-        shown = {path for it in edits for path in it.wanted | it.edited}
-        return Room(self.crate, self.functions, shown, f"{self.folder}/room", copies)
+    def left(self):
+        return [it for it in self.edits if it not in self.said]
 
-    def check(self, room, edits, copies=()):
-        """Returns the result of a check for the functions that should fail by these edits, and for copies."""
-        paths = {path for edit in edits for path in edit.wanted} | {it.path for it in copies}
+    def room(self, shown, edits=(), copies=()):
+        """Makes a room in which these functions have their bodies, or those that edits of bodies give them."""
+        shutil.rmtree(f"{self.folder}/room", ignore_errors=True)
+        return Room(self.crate, self.functions, shown, f"{self.folder}/room", edits, copies)
+
+    def check(self, room, paths):
+        """Returns the result of a check for these functions."""
         report = room.check(paths, f"{self.folder}/kept")
         self.seconds += room.seconds
         return report
 
     def run(self):
         if self.edits:
-            self.try_copies()
-        if self.edits and self.control():
-            for edits in self.shared():
+            self.try_together()
+            self.control()
+            for edits in self.shared(self.left()):
                 for edit in self.round(edits):
                     self.round([edit])
         return self.said
 
-    def try_copies(self):
-        """Tries the edits in copies of their functions, all in one check. Copies without edits have to pass there, and so
-        have the functions of the edits for which that is impossible. Edits that no copy refused are left for the rounds."""
-        copied = [it for it in self.edits if self.can_be_copied(it)]
-        others = [it for it in self.edits if it not in copied]
+    def try_together(self):
+        """Tries as many edits of bodies as possible in one check: in copies those of functions that are controlled, and of the
+        others one in its place. Edits that weren't refused are left for the rounds."""
+        bodies = [it for it in self.edits if it.is_of_bodies()]
+        copyable = [it for it in bodies if self.can_be_copied(it)]
+        controlled = self.controlled(copyable)
+        copied = [it for it in copyable if it.wanted & controlled]
+        placed = next(iter(self.shared([it for it in bodies if it not in copied])), [])
         plain = {path: self.copy(path, "unedited") for path in sorted({path for it in copied for path in it.wanted})}
         edited = {it: [self.copy(path, f"edited_{at}", it) for path in sorted(it.wanted)] for at, it in enumerate(copied)}
         copies = [*plain.values(), *itertools.chain(*edited.values())]
-        report = self.check(self.room(others, copies), others, copies)
+        shown = {path for it in placed for path in it.edited}
+        # what edits of definitions have to fail
+        others = {path for it in self.edits if it not in bodies for path in it.wanted} - shown
+        paths = {path for it in placed for path in it.wanted} | others | {it.path for it in copies}
+        report = self.check(self.room(shown | others, placed, copies), paths)
         if not report.ended or report.unread:
             return
-        self.passed = {path for path, it in plain.items() if report.passes(it.path)}
-        self.passed |= {path for it in others for path in it.wanted if report.passes(path)}
-        for edit, made in edited.items():
-            why = refusal(edit, report, [it.path for it in made])
-            if why and edit.wanted <= self.passed:
-                self.say(edit, True, why)
-                self.copied += 1
-        self.edits = [it for it in self.edits if it not in self.said]
+        self.passed = {path for path, it in plain.items() if report.passes(it.path)} | {it for it in others if report.passes(it)}
+        self.fallen = {*plain, *others} - self.passed
+        refusals = {edit: refusal(edit, report) for edit in placed if self.passed and not edit.wanted & self.fallen}
+        refusals |= {edit: refusal(edit, report, [it.path for it in made]) for edit, made in edited.items() if edit.wanted <= self.passed}
+        for edit in filter(refusals.get, refusals):
+            self.say(edit, True, refusals[edit])
+        self.together = len(self.said)
+
+    def controlled(self, edits):
+        """Returns the functions of which a copy without an edit has to pass: those of several edits, or else one, a short one
+        that calls another if there is one; and those that they call, since they can't pass if an edit makes one of these fail."""
+        edited = collections.Counter(path for it in edits for path in it.wanted)
+        functions = {it.path: it for it in self.functions if it.path in edited}
+        names = {it.parts[-1] for it in self.functions}
+        called = {path: {*re.findall(r"\b(\w+)\(", self.text_of(it)[it.first - it.start :].decode())} for path, it in functions.items()}
+        found = {it for it in edited if edited[it] > 1}
+        found = found or {*sorted(edited, key=lambda it: (not called[it] & names, len(self.text_of(functions[it]))))[:1]}
+        left = [*found]
+        while left:
+            calls = called[left.pop()]
+            more = {path for path, it in functions.items() if it.parts[-1] in calls} - found
+            found |= more
+            left += more
+        return found
 
     def can_be_copied(self, edit):
         """Whether copies of the functions that have to refuse an edit can stand beside these: it edits bodies, and they are
@@ -318,46 +343,51 @@ class Rounds:
         shares = any(proof_of(self.crate.folder, it) is None for it in found)
         return edit.is_of_bodies() and not any(it.is_of_trait for it in found) and not is_inside and not shares
 
+    def text_of(self, function):
+        return open_text(f"{self.crate.folder}/{function.file}")[function.start : function.end]
+
     def copy(self, path, ending, edit=None):
         """Returns a copy of a function, as an edit makes it if one is given."""
         function = next(it for it in self.functions if it.path == path)
-        if edit:
-            return Copy(function, ending, edit.item_of(function))
-        return Copy(function, ending, open_text(f"{self.crate.folder}/{function.file}")[function.start : function.end])
+        return Copy(function, ending, edit.item_of(function) if edit else self.text_of(function))
 
     def control(self):
-        """Whether there are functions that should fail and that pass without edits. The first check has shown that of most."""
-        unseen = [it for it in self.edits if not it.wanted <= self.passed]
-        report = self.check(self.room(unseen), unseen) if unseen else None
+        """Checks functions without edits, where the first check has shown too little of them: if no function passed there, those
+        of all edits; and always those that edits of definitions have to fail, and those of which a copy failed."""
+        unseen = [it for it in self.left() if not self.passed or not it.is_of_bodies() or it.wanted & self.fallen]
+        paths = {path for it in unseen for path in it.wanted} - self.passed
+        report = self.check(self.room(paths), paths) if paths else None
         for edit in unseen:
-            fallen = [it for it in sorted(edit.wanted) if not report.ended or not report.passes(it)]
+            fallen = [it for it in sorted(edit.wanted & paths) if not report.ended or not report.passes(it)]
             if fallen:
                 said = report.status.get(fallen[0], report.lines[-1])
                 self.say(edit, False, f"NOT TRIED: without any edit the prover says of {fallen[0]}: {said[:300]}")
-        self.edits = [it for it in self.edits if it not in self.said]
-        return bool(self.edits)
 
-    def shared(self):
-        """Returns the edits in rounds. No edit of a round edits a function that another one checks, and an edit of more than
-        bodies is alone."""
+    def shared(self, edits):
+        """Returns edits in rounds. Those of a round edit different functions, and an edit of a definition is alone."""
         rounds = []
-        for edit in [it for it in self.edits if it.is_of_bodies()]:
-            fits = [it for it in rounds if not any(other.edited & edit.wanted or other.wanted & edit.edited for other in it)]
+        for edit in [it for it in edits if it.is_of_bodies()]:
+            fits = [it for it in rounds if not any(other.edited & edit.edited for other in it)]
             if fits:
                 fits[0].append(edit)
             else:
                 rounds.append([edit])
-        return rounds + [[it] for it in self.edits if not it.is_of_bodies()]
+        return rounds + [[it] for it in edits if not it.is_of_bodies()]
 
     def round(self, edits):
         """Tries edits together, and returns those that have to be tried alone, since another edit may be why they weren't
         refused."""
         self.count += 1
-        room = self.room(edits)
-        applied = room.apply(edits)
-        report = self.check(room, applied)
-        for edit in applied:
-            if len(applied) == 1:
+        bodies = [it for it in edits if it.is_of_bodies()]
+        room = self.room({path for it in edits for path in it.wanted | it.edited}, bodies)
+        for edit in [it for it in edits if it not in bodies]:
+            fault = room.apply(edit)
+            if fault:
+                self.say(edit, False, f"BAD EDIT: {fault}")
+                return []
+        report = self.check(room, {path for it in edits for path in it.wanted})
+        for edit in edits:
+            if len(edits) == 1:
                 self.say(edit, *self.judged(edit, report))
             elif report.ended and not report.unread and refusal(edit, report):
                 self.say(edit, True, refusal(edit, report))
@@ -403,13 +433,14 @@ def is_newer(crate):
 
 
 def build_libraries(crates):
-    """Builds the libraries that the crates depend on. Those of the gate have no stamp, and are used if all are there."""
-    below = list(dict.fromkeys(it for crate in crates for it in crate.below()))
-    if all(not os.path.isfile(f"{it.folder}/out/rlib/stamp") and is_newer(it) for it in below):
+    """Builds the crates and those that they depend on, which proves their functions as they are. The libraries of the gate have
+    no stamp, and are used if all are there."""
+    needed = list(dict.fromkeys(it for crate in crates for it in [*crate.below(), crate]))
+    if all(not os.path.isfile(f"{it.folder}/out/rlib/stamp") and is_newer(it) for it in needed):
         return
-    for crate in below:
+    for crate in needed:
         if crate.build_rlib(["--jobs", "1"], anew=False):
-            sys.exit(f"{crate.name} isn't proved, so no edit above it was tried\n0 passed, 1 failed")
+            sys.exit(f"{crate.name} isn't proved, so no edit of it or above it was tried\n0 passed, 1 failed")
 
 
 def look(crates):
@@ -431,7 +462,7 @@ def in_rounds(crate, functions, edits, printing):
         said = rounds.run()
     with printing:
         print(*[why for _, why in said.values()], sep="\n")
-        print(f"{crate.name}: {len(edits)} edits, {rounds.copied} in copies, {rounds.count} rounds: {rounds.seconds:.0f} processor seconds", flush=True)
+        print(f"{crate.name}: {len(edits)} edits, {rounds.together} in the first check, {rounds.count} rounds: {rounds.seconds:.0f} processor seconds", flush=True)
     return {edit.path: refused for edit, (refused, _) in said.items()}
 
 

@@ -1,7 +1,7 @@
 #!/usr/bin/env python3
 """Tests wrong_bodies.py on crates of four functions that are written here: a wrong body is refused; and a right body is
-reported, a body that its contract allows, an edit that only another function refuses, and one that nothing follows from. The
-last line is 'N passed, M failed'."""
+reported, a body that its contract allows, an edit that only another function refuses, one that nothing follows from, and one
+of a function that isn't proved. The last line is 'N passed, M failed'."""
 
 import os
 import sys
@@ -70,11 +70,18 @@ EDITS = {
     "constant": ("const MOST: usize = 8;\nnew: const MOST: usize = 9;\nrefused by: few", "refused, as it must be by few, in a round of its own"),
     "constant-of-another": ("const MOST: usize = 8;\nnew: const MOST: usize = 9;\nrefused by: next", f"{LET_THROUGH}next: "),
     "nowhere": ("const MOST: usize = 8;\nnew: const MOST: usize = 9;", "BAD EDIT: it edits no function"),
+    "unproved": ("{ count } else { MOST }\nnew: { 9 } else { MOST }", "NOT TRIED: without any edit the prover says of few: "),
     "twice": ("usize\nnew: u64", "BAD EDIT: an 'old:' text is in src/lib.rt"),
 }
 
-# The edits of each crate, and how many are refused in copies: none of those that stand beside one that can't be read.
-CRATES = {"rounds": (["wrong", "right", "unreadable"], 0), "copies": ([it for it in EDITS if it != "unreadable"], 2)}
+# The edits of each crate, and how many are refused in its first check: in `places` one in its place and one in a copy; none of
+# those that stand beside one that can't be read, and none where the function of the control isn't proved.
+CRATES = {
+    "copies": ([it for it in EDITS if it not in ("unreadable", "unproved")], 2),
+    "places": (["wrong", "wrong-beside-its-callee"], 2),
+    "rounds": (["wrong", "right", "unreadable"], 0),
+    "unproved": (["unproved"], 0),
+}
 
 
 def write(path, text):
@@ -86,7 +93,8 @@ def write(path, text):
 def write_crates(root):
     write(f"{root}/crates.txt", "".join(f"{name}:\n" for name in CRATES))
     for name, (edits, _) in CRATES.items():
-        write(f"{root}/crates/{name}/src/lib.rt", CODE)
+        code = CODE if name != "unproved" else CODE.replace("result ≤ 8", "result ≤ 7")
+        write(f"{root}/crates/{name}/src/lib.rt", code)
         write(f"{root}/crates/{name}/proofs/as_second/Answers.antt", ANSWER.replace("NAME", name))
         for edit in edits:
             write(f"{root}/crates/{name}/wrong-bodies/{edit}.edit", f"file: src/lib.rt\nold: {EDITS[edit][0]}\n")
@@ -94,26 +102,26 @@ def write_crates(root):
 
 def said_of_edits(root):
     """Returns the messages about each edit of the crates in this folder, by their names, and how many edits of each crate were
-    refused in copies."""
+    refused in its first check."""
     write_crates(root)
     os.chdir(root)
     found, said = wrong_bodies.look(functions.toolchain().rtlib.crates_below(root))
-    copied = {}
+    together = {}
     for crate, (bodies, edits) in found.items():
         with tempfile.TemporaryDirectory(prefix="wrong-bodies-") as folder:
             rounds = wrong_bodies.Rounds(crate, [it for it in edits if not it.fault], bodies, folder)
             said += [why for _, why in rounds.run().values()]
-        copied[crate.name] = rounds.copied
-        print(f"{crate.name}: {rounds.copied} in copies, {rounds.count} rounds: {rounds.seconds:.0f} processor seconds")
-    return dict(line.partition(".edit: ")[::2] for line in said), copied
+        together[crate.name] = rounds.together
+        print(f"{crate.name}: {rounds.together} in the first check, {rounds.count} rounds: {rounds.seconds:.0f} processor seconds")
+    return dict(line.partition(".edit: ")[::2] for line in said), together
 
 
 def main():
     with tempfile.TemporaryDirectory(prefix="edited-") as root:
-        said, copied = said_of_edits(root)
+        said, together = said_of_edits(root)
     wanted = {f"{name}/{edit}": EDITS[edit][1] for name, (edits, _) in CRATES.items() for edit in edits}
     failed = [f"{it}: found {said.get(it)!r}, wanted {wanted[it]!r}" for it in wanted if not said.get(it, "").startswith(wanted[it])]
-    failed += [f"{name}: {copied[name]} edits in copies, wanted {count}" for name, (_, count) in CRATES.items() if copied[name] != count]
+    failed += [f"{name}: {together[name]} edits in the first check, wanted {count}" for name, (_, count) in CRATES.items() if together[name] != count]
     print(*failed, sep="\n", end="\n" if failed else "")
     print(f"{len(wanted) + len(CRATES) - len(failed)} passed, {len(failed)} failed")
     return 1 if failed else 0
