@@ -98,15 +98,16 @@ def answered(name, config, steps, out):
 
 
 def greatest_memory(process):
-    """Returns the greatest memory, in KiB, of a process that has read all of its input, which is still open. (After its end
-    the system would count the memory of this test, too, from which it was forked.)"""
+    """Returns the greatest memory, in KiB, of a process that has read all of its input, which is still open. It is the memory
+    that the process was given (VmPeak), which the system counts exactly; of the memory in use (VmHWM) each processor keeps
+    a count of its own, and together they may be wrong by hundreds of KiB."""
     while process.poll() is None:
         unread = array.array("i", [0])
         fcntl.ioctl(process.stdin, termios.FIONREAD, unread)
         with open(f"/proc/{process.pid}/status") as file:
             status = dict(line.split(":", 1) for line in file if ":" in line)
         if unread[0] == 0 and status["State"].split()[0] == "S":
-            return int(status["VmHWM"].split()[0])
+            return int(status["VmPeak"].split()[0])
         time.sleep(0.001)
     return 0
 
