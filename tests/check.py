@@ -16,8 +16,9 @@ import time
 from tests.gate import times as gate_times
 from tests.support.harness import ROOT
 
-# The tests of built programs, and the programs that each is given.
+# The tests that run beside the rounds of wrong bodies, and the built programs that each is given.
 TESTS = (
+    ("gate.wrong_bodies_test", ()),
     ("gate.believe", ()),
     ("programs.upsd_stdio", ("upsd",)),
     ("programs.files", ("upsd", "upsmon")),
@@ -110,8 +111,7 @@ def pass_all(count):
     if count.failed == 0:
         count.run(["rt", "ci"])
     if count.failed == 0:
-        count.run_test("gate.wrong_bodies_test")
-        # the tests of programs mostly wait, and the rounds use the processors meanwhile
+        # these tests mostly wait, and the rounds use the processors meanwhile
         count.run_beside(lambda: run_programs(count), test_command("gate.wrong_bodies", "--after-gate"))
 
 

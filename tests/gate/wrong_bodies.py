@@ -32,6 +32,9 @@ from tests.support.harness import ROOT
 FOLDERS = ("wrong-bodies", "must-fail")
 # A goal of a function that is open, on a line above the function's own.
 GOAL = re.compile(r"note: (src/\S+: .*\(`\S+`\).*)")
+# The beginnings of what a check says of a function whose proof passes, and of one that only those that it calls make fail.
+PASSED = ("no holes", "depends on a hole", "proved")
+FAILED_BELOW = ("no proof: it calls", "not proved; it calls")
 # The message of antt about a proof file that names what an edit removed.
 NAMES = re.compile(r"has no field|is not in scope|has no `|was not admitted")
 
@@ -122,7 +125,17 @@ class Report:
         return [it for it in self.status if it == path or plain[it] != it and plain[it].startswith(f"{path}::")]
 
     def passes(self, path):
-        return self.status.get(path, "").startswith(("no holes", "depends on a hole", "proved"))
+        """Whether a function's own goals are proved, and those of its closures. A function that it calls may fail."""
+        return path in self.status and all(map(self.passes_alone, self.of(path)))
+
+    def passes_alone(self, symbol):
+        status, has_own_faults = self.status[symbol], self.goals[symbol] or self.errors(symbol, True)
+        return status.startswith(PASSED) or status.startswith(FAILED_BELOW) and not has_own_faults
+
+    def errors(self, symbol, is_of_body):
+        """Returns the errors in the proof of a function; if an edit isn't of a body, those in the lemmas that it uses, too."""
+        own = f"proofs/{symbol.replace('::', '/')}/" if is_of_body else "proofs/"
+        return [it for it in self.lines if re.match(rf"(\./)?{re.escape(own)}\S+: error", it)]
 
     def refusal(self, path, is_of_body):
         """Returns why a function is refused in its own goals, or None; and which missing name a proof file uses. If an edit
@@ -133,8 +146,7 @@ class Report:
                 continue
             if self.goals[symbol]:
                 return self.goals[symbol][0], None
-            own = f"proofs/{symbol.replace('::', '/')}/" if is_of_body else "proofs/"
-            told = [it for it in self.lines if re.match(rf"(\./)?{re.escape(own)}\S+: error", it)]
+            told = self.errors(symbol, is_of_body)
             first = next((it for it in told if not NAMES.search(it)), None)
             if first or "`search` did not prove" in self.status[symbol]:
                 return first or self.status[symbol], None
@@ -320,20 +332,13 @@ class Rounds:
 
     def controlled(self, edits):
         """Returns the functions of which a copy without an edit has to pass: those of several edits, or else one, a short one
-        that calls another if there is one; and those that they call, since they can't pass if an edit makes one of these fail."""
+        that calls another if there is one."""
         edited = collections.Counter(path for it in edits for path in it.wanted)
-        functions = {it.path: it for it in self.functions if it.path in edited}
         names = {it.parts[-1] for it in self.functions}
-        called = {path: {*re.findall(r"\b(\w+)\(", self.text_of(it)[it.first - it.start :].decode())} for path, it in functions.items()}
-        found = {it for it in edited if edited[it] > 1}
-        found = found or {*sorted(edited, key=lambda it: (not called[it] & names, len(self.text_of(functions[it]))))[:1]}
-        left = [*found]
-        while left:
-            calls = called[left.pop()]
-            more = {path for path, it in functions.items() if it.parts[-1] in calls} - found
-            found |= more
-            left += more
-        return found
+        bodies = {it.path: self.text_of(it)[it.first - it.start :].decode() for it in self.functions if it.path in edited}
+        calls = {path: bool(names & {*re.findall(r"\b(\w+)\(", body)}) for path, body in bodies.items()}
+        several = {path for path in edited if edited[path] > 1}
+        return several or {*sorted(bodies, key=lambda it: (not calls[it], len(bodies[it])))[:1]}
 
     def can_be_copied(self, edit):
         """Whether copies of the functions that have to refuse an edit can stand beside these: it edits bodies, and they are
