@@ -1,4 +1,5 @@
 use Rattle.std.proofs.Common.{ap, length, arith, refl}
+use Rattle.std.proofs.lemmas.Grind.{common_steps}
 use Rattle.std.proofs.lemmas.List.{length-drop}
 use Rattle.nut_client.proofs.Writing.{cut_at, keeps_on, wrote_more}
 use Rattle.nut_client.proofs.engine.put_all.Goals as goal
@@ -11,3 +12,6 @@ loop-preserved-in-Bytes g c = record {
   within = omega (arith, c.in-Bytes.ensures.wrote.0, ap length c.rest_from.ensures, length-drop c.loop.at c.args.bytes.now, c.loop.invariant.within);
   wrote = wrote_more _ _ _ c.loop.at c.in-Bytes.n c.args.bytes.now _ c.rest_from.ensures c.loop.invariant.wrote c.in-Bytes.ensures.wrote.1;
 }
+
+pub returns-then-at-bytes : goal.returns-then-at-bytes
+returns-then-at-bytes g c = grind (arith, common_steps)

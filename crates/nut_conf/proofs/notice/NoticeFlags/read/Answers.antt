@@ -1,4 +1,5 @@
-use Rattle.std.proofs.Common.{[], ◌∷◌, ◌++◌, append_assoc, sym, ap, ◌∙◌}
+use Rattle.std.proofs.Common.{[], ◌∷◌, ◌++◌, append_assoc, sym, ap, ◌∙◌, arith}
+use Rattle.std.proofs.lemmas.Grind.{common_steps}
 use Rattle.nut_conf.specs.Notices.{with_flag}
 use Rattle.nut_words.proofs.CutLemmas.{pending}
 use Rattle.nut_conf.proofs.FlagLemmas.{flags_in-more, known_more}
@@ -16,3 +17,6 @@ loop-rest-preserved c =
         flags = added.1 ∙ ap (with_flag word) kept.1.flags ∙ sym (flags_in-more kept.0 word);
       },
     )
+
+pub returns-in_err-add : goal.returns-in_err-add
+returns-in_err-add c = grind (arith, common_steps)

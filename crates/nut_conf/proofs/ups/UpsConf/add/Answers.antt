@@ -1,4 +1,5 @@
 use Rattle.std.proofs.Common.{◌≡◌, arith, Ok, sym, ap, ◌∙◌}
+use Rattle.std.proofs.lemmas.Grind.{common_steps}
 use Rattle.std.specs.List.{list_all}
 use Rattle.nut_words.specs.Spelling.{is_printing}
 use Rattle.nut_conf.proofs.DraftLemmas.{Ok-equal}
@@ -54,3 +55,6 @@ returns-clause-added c =
     with_ups-ok before c.args.name.now name.bytes.items desc text.bytes.items (c.in_ok-name.ensures {u = tt}) described (omega (arith, same, c.len.ensures.len))
     (sym (new ∙ any-is map name)) (ap (list_all is_printing) is ∙ sym (c.if-not-are_printing.ensures {u = tt}))
     ∙ ap Ok (sym (shown-insert map name (sym new) _ _ c.in_ok-insert.ensures.entries))
+
+pub returns-then-desc-gt-DESCRIPTION_MAX-clause-added : goal.returns-then-desc-gt-DESCRIPTION_MAX-clause-added
+returns-then-desc-gt-DESCRIPTION_MAX-clause-added c = grind (arith, common_steps)

@@ -1,4 +1,5 @@
-use Rattle.std.proofs.Common.{◌≡◌, Some, Ok, Err, OnOk, ap, sym, subst, ◌∙◌, slice_get}
+use Rattle.std.proofs.Common.{◌≡◌, Some, Ok, Err, OnOk, ap, sym, subst, ◌∙◌, slice_get, arith}
+use Rattle.std.proofs.lemmas.Grind.{common_steps}
 use Rattle.nut_words.specs.Cutter.{line_of}
 use Rattle.nut_words.specs.declared.words.WordFault.TheVariants.{Memory}
 use Rattle.nut_server_spec.specs.Command.{command_in, command_of}
@@ -21,3 +22,6 @@ returns-in-Ok-clause-ok c = λ c' k stands there.
     let is : command_in (Ok c.in-Ok.words) ≡ command_of (line_of c.args.line) = ap command_in (sym c.in-Ok.is) ∙ c.words_of.ensures.command spelled in
     subst (λ command. OnOk c.hear_words.result (c.hear_words.new.self ≡ answered_by c' command (answer_in c.args.self.now command k) c.args.self.now)) is
     (c.hear_words.ensures.ok c' k stands there (ap (λ k. k.logged_out) (sym same) ∙ sym c.has_logged_out.ensures ∙ c.if-has_logged_out.false))
+
+pub returns-in-Err-Memory-clause-ok : goal.returns-in-Err-Memory-clause-ok
+returns-in-Err-Memory-clause-ok c = grind (arith, common_steps)

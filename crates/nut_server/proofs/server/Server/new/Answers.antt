@@ -1,4 +1,5 @@
 use Rattle.std.proofs.Common.{length, subst, sym, ap, ◌∙◌, arith, ◌≡◌, ◌<◌}
+use Rattle.std.proofs.lemmas.Grind.{common_steps}
 use Rattle.std.proofs.lemmas.List.{length-map}
 use Rattle.nut_server_spec.specs.laws.Laws.{IsUpTo}
 use Rattle.nut_server_spec.specs.laws.Limits.{IsWithin}
@@ -23,3 +24,6 @@ invariant_of-result c =
       placed = subst (λ m. AllByRecursion (λ n. n < m) c.first_numbers.result.items) (sym long) (subst (λ ns. AllByRecursion (λ n. n < c.number_of_upses-count.result) ns) (sym c.first_numbers.ensures) (below_are c.number_of_upses-count.result));
       places = omega (arith, long, c.number_of_upses-count.ensures.few);
     }
+
+pub returns-in-Ok : goal.returns-in-Ok
+returns-in-Ok c = grind (arith, common_steps)
