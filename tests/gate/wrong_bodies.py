@@ -32,9 +32,9 @@ from tests.support.harness import ROOT
 FOLDERS = ("wrong-bodies", "must-fail")
 # A goal of a function that is open, on a line above the function's own.
 GOAL = re.compile(r"note: (src/\S+: .*\(`\S+`\).*)")
-# The beginnings of what a check says of a function whose proof passes, and of one that only those that it calls make fail.
+# The beginnings of what a check says of a function whose proof passes, and of one that those which it calls may make fail.
 PASSED = ("no holes", "depends on a hole", "proved")
-FAILED_BELOW = ("no proof: it calls", "not proved; it calls")
+FAILED_BELOW = ("no proof: it calls", "not proved; it calls", "not proved; it stands on")
 # The message of antt about a proof file that names what an edit removed.
 NAMES = re.compile(r"has no field|is not in scope|has no `|was not admitted")
 
@@ -107,7 +107,7 @@ class Report:
     """The results of a check for each function, by the function's path in its crate."""
 
     def __init__(self, crate, said, changed):
-        self.lines = said.rstrip("\n").split("\n")
+        self.name, self.lines = crate.name, said.rstrip("\n").split("\n")
         self.ended = self.lines[-1].startswith("only=")
         self.unread = [it for it in self.lines if toolchain().unread(it, changed)]
         self.status, self.goals, goals = {}, {}, []
@@ -129,8 +129,13 @@ class Report:
         return path in self.status and all(map(self.passes_alone, self.of(path)))
 
     def passes_alone(self, symbol):
-        status, has_own_faults = self.status[symbol], self.goals[symbol] or self.errors(symbol, True)
-        return status.startswith(PASSED) or status.startswith(FAILED_BELOW) and not has_own_faults
+        return self.status[symbol].startswith(PASSED) or self.fails_below(symbol)
+
+    def fails_below(self, symbol):
+        """Whether a function fails only because of those that it calls."""
+        own = f"`Rattle.{self.name}.proofs.{symbol.replace('::', '.')}."
+        has_own_faults = own in self.status[symbol] or self.goals[symbol] or self.errors(symbol, True)
+        return self.status[symbol].startswith(FAILED_BELOW) and not has_own_faults
 
     def errors(self, symbol, is_of_body):
         """Returns the errors in the proof of a function; if an edit isn't of a body, those in the lemmas that it uses, too."""
