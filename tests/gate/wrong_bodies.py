@@ -133,8 +133,10 @@ class Report:
 
     def fails_below(self, symbol):
         """Whether a function fails only because of those that it calls."""
-        own = f"`Rattle.{self.name}.proofs.{symbol.replace('::', '.')}."
-        has_own_faults = own in self.status[symbol] or self.goals[symbol] or self.errors(symbol, True)
+        own = f"Rattle.{self.name}.proofs.{symbol.replace('::', '.')}."
+        stands_on = re.findall(rf"`(Rattle\.{self.name}\.proofs\.[^`]+)`", self.status[symbol])
+        is_of_callees = all(".Answers." in it and not it.startswith(own) for it in stands_on)
+        has_own_faults = not is_of_callees or self.goals[symbol] or self.errors(symbol, True)
         return self.status[symbol].startswith(FAILED_BELOW) and not has_own_faults
 
     def errors(self, symbol, is_of_body):
