@@ -1,8 +1,8 @@
 #!/usr/bin/env python3
 """Runs all tests: the toolchain's gate (every proof from nothing, an edit of some crates that must fail, the tests and the
-stored runs), then all wrong bodies, and beside them the tests that run the programs that the gate has built. It shows
-how much processor time each crate took, beside that of the last landing, and at the end repeats the lines that reported a
-failure.
+stored runs), then all wrong bodies, and beside them the tests in Python, most of which run the programs that the gate has
+built. It shows how much processor time each crate took, beside that of the last landing, and at the end repeats the lines
+that reported a failure.
 The last line is 'N passed, M failed'."""
 
 import os
