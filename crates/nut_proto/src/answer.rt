@@ -1,5 +1,5 @@
 //! Reads the lines of the server for a client.
-ghost use Rattle.std.specs.Prelude.{◌≡◌, ◌≢◌, ◌==◌, Ok, Err, IsTrue, length};
+ghost use Rattle.std.specs.Prelude.{◌≡◌, ◌≢◌, ◌==◌, ◌&&◌, Ok, Err, IsTrue, codes, length, nat_lt};
 ghost use Rattle.nut_words.specs.Reader.{has_backslash};
 ghost use Rattle.nut_proto.specs.Answers.{answer_for, answer_in, answer_of, is_at};
 ghost use Rattle.nut_proto.specs.Positions.{word_at};
@@ -141,16 +141,30 @@ fn answer_of(words: Words<'_>) -> Answer<'_>
     if is_at(&words, 0, b"OK") {
         return Answer::Ok(Rest { words, start: 1 });
     }
-    if is_at(&words, 0, b"ERR") && 1 < words.len() {
+    if is_refusal(&words) {
         return Answer::Err(ErrorName { words });
     }
-    if is_at(&words, 0, b"BEGIN") && is_at(&words, 1, b"LIST") {
+    if is_list(&words, b"BEGIN") {
         return Answer::Begin(Rest { words, start: 2 });
     }
-    if is_at(&words, 0, b"END") && is_at(&words, 1, b"LIST") {
+    if is_list(&words, b"END") {
         return Answer::End(Rest { words, start: 2 });
     }
     Answer::Row(Rest { words, start: 0 })
+}
+
+/// Whether the first word is `ERR`, and a name follows.
+fn is_refusal(words: &Words<'_>) -> bool
+    ensures { result ≡ (is_at words.now 0 (codes "ERR") && nat_lt 1 (length words.now)) }
+{
+    is_at(words, 0, b"ERR") && 1 < words.len()
+}
+
+/// Whether the first word is this mark, and the second is `LIST`.
+fn is_list(words: &Words<'_>, mark: &[u8]) -> bool
+    ensures { result ≡ (is_at words.now 0 mark.now && is_at words.now 1 (codes "LIST")) }
+{
+    is_at(words, 0, mark) && is_at(words, 1, b"LIST")
 }
 
 /// Whether the word at place `index` is `word`, byte for byte.
