@@ -68,33 +68,34 @@ fn get_request<'a>(mut rest: Cursor<'a, '_>) -> Option<Request<'a>>
 fn get_about<'a>(subject: Subject, rest: Cursor<'a, '_>) -> Option<Request<'a>>
     ensures { result ≡ get_about (Some subject) rest.entry }
 {
-    match subject {
-        Subject::NumLogins => Some(Request::GetNumLogins { ups: rest.one()? }),
-        Subject::UpsDesc => Some(Request::GetUpsDesc { ups: rest.one()? }),
+    let request = match subject {
+        Subject::NumLogins => Request::GetNumLogins { ups: rest.one()? },
+        Subject::UpsDesc => Request::GetUpsDesc { ups: rest.one()? },
         Subject::Var => {
             let (ups, variable) = rest.two()?;
-            Some(Request::GetVar { ups, variable })
+            Request::GetVar { ups, variable }
         }
         Subject::Type => {
             let (ups, variable) = rest.two()?;
-            Some(Request::GetType { ups, variable })
+            Request::GetType { ups, variable }
         }
         Subject::Desc => {
             let (ups, variable) = rest.two()?;
-            Some(Request::GetDesc { ups, variable })
+            Request::GetDesc { ups, variable }
         }
         Subject::CmdDesc => {
             let (ups, command) = rest.two()?;
-            Some(Request::GetCmdDesc { ups, command })
+            Request::GetCmdDesc { ups, command }
         }
-        Subject::Tracking => get_tracking(rest),
+        Subject::Tracking => return get_tracking(rest),
         Subject::Ups
         | Subject::Rw
         | Subject::Cmd
         | Subject::Enum
         | Subject::Range
-        | Subject::Client => None,
-    }
+        | Subject::Client => return None,
+    };
+    Some(request)
 }
 
 fn get_tracking<'a>(rest: Cursor<'a, '_>) -> Option<Request<'a>>
@@ -119,27 +120,31 @@ fn list_request<'a>(mut rest: Cursor<'a, '_>) -> Option<Request<'a>>
 fn list_about<'a>(subject: Subject, rest: Cursor<'a, '_>) -> Option<Request<'a>>
     ensures { result ≡ list_about (Some subject) rest.entry }
 {
-    match subject {
-        Subject::Ups => rest.end().and(Some(Request::List(ListQuery::Ups))),
-        Subject::Var => Some(Request::List(ListQuery::Var { ups: rest.one()? })),
-        Subject::Rw => Some(Request::List(ListQuery::Rw { ups: rest.one()? })),
-        Subject::Cmd => Some(Request::List(ListQuery::Cmd { ups: rest.one()? })),
+    let query = match subject {
+        Subject::Ups => {
+            rest.end()?;
+            ListQuery::Ups
+        }
+        Subject::Var => ListQuery::Var { ups: rest.one()? },
+        Subject::Rw => ListQuery::Rw { ups: rest.one()? },
+        Subject::Cmd => ListQuery::Cmd { ups: rest.one()? },
         Subject::Enum => {
             let (ups, variable) = rest.two()?;
-            Some(Request::List(ListQuery::Enum { ups, variable }))
+            ListQuery::Enum { ups, variable }
         }
         Subject::Range => {
             let (ups, variable) = rest.two()?;
-            Some(Request::List(ListQuery::Range { ups, variable }))
+            ListQuery::Range { ups, variable }
         }
-        Subject::Client => Some(Request::List(ListQuery::Client { ups: rest.one()? })),
+        Subject::Client => ListQuery::Client { ups: rest.one()? },
         Subject::NumLogins
         | Subject::UpsDesc
         | Subject::Type
         | Subject::Desc
         | Subject::CmdDesc
-        | Subject::Tracking => None,
-    }
+        | Subject::Tracking => return None,
+    };
+    Some(Request::List(query))
 }
 
 fn set_request<'a>(mut rest: Cursor<'a, '_>) -> Option<Request<'a>>
