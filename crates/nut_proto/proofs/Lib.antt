@@ -8,3 +8,4 @@ pub mod Readable
 pub mod RoundTrip
 pub mod Lengths
 pub mod Digits
+pub mod Marks

@@ -58,9 +58,7 @@ impl<'a> DriverAsk<'a> {
         }
         None
     }
-}
 
-impl DriverAsk<'_> {
     /// Appends the line with its line feed.
     ///
     /// # Errors
@@ -76,7 +74,7 @@ impl DriverAsk<'_> {
     }
 
     #[tactic(auto, unfolding(crate::specs::DriverAsks::ask_line, crate::specs::Lines::line))]
-    fn line(&self) -> Line<'_>
+    fn line(&self) -> Line<'a>
         ensures { written result ≡ ask_line self.now }
     {
         match self {
@@ -102,7 +100,7 @@ fn set_line<'a>(variable: &Word<'a>, value: &Word<'a>, number: Option<u32>) -> L
     ensures { written result ≡ line (ask_parts (DriverAsk.Set variable.now value.now number)) }
 {
     match number {
-        None => Line::Two(b"SET", word(variable), quoted(value)),
+        None => Line::of_name_and_text(b"SET", variable, value),
         Some(number) => Line::Four(
             b"SET",
             word(variable),
@@ -133,7 +131,7 @@ fn plain_command_line<'a>(command: &Word<'a>, number: Option<u32>) -> Line<'a>
     ensures { written result ≡ line (ask_parts (DriverAsk.InstCmd command.now None number)) }
 {
     match number {
-        None => Line::One(b"INSTCMD", word(command)),
+        None => Line::of_name(b"INSTCMD", command),
         Some(number) => Line::Three(
             b"INSTCMD",
             word(command),
@@ -149,7 +147,7 @@ fn command_line_with<'a>(command: &Word<'a>, parameter: &Word<'a>, number: Optio
     ensures { written result ≡ line (ask_parts (DriverAsk.InstCmd command.now (Some parameter.now) number)) }
 {
     match number {
-        None => Line::Two(b"INSTCMD", word(command), quoted(parameter)),
+        None => Line::of_name_and_text(b"INSTCMD", command, parameter),
         Some(number) => Line::Four(
             b"INSTCMD",
             word(command),

@@ -3,7 +3,8 @@ ghost use Rattle.std.specs.Prelude.{◌≡◌, ◌∷◌, [], ◌++◌, length, 
 ghost use Rattle.nut_words.specs.Out.{Fits, Exceeds};
 ghost use Rattle.nut_proto.specs.inside.Written.{Puts, line_from, written};
 
-use crate::part::{Part, append_parts};
+use crate::part::{Part, append_parts, quoted, word};
+use crate::word::Word;
 use nut_words::Out;
 
 /// A line that is to be written: the words of the protocol that it begins with, as they stand there, and at most four
@@ -17,7 +18,40 @@ pub enum Line<'a> {
     Four(&'static [u8], Part<'a>, Part<'a>, Part<'a>, Part<'a>),
 }
 
-impl Line<'_> {
+impl<'a> Line<'a> {
+    /// Returns a line of these words and a name.
+    pub fn of_name(words: &'static [u8], name: &Word<'a>) -> Line<'a>
+        ensures { result ≡ Line.One words.entry (Part.Word name.now) }
+    {
+        Line::One(words, word(name))
+    }
+
+    /// Returns a line of these words and two names.
+    pub fn of_names(words: &'static [u8], first: &Word<'a>, second: &Word<'a>) -> Line<'a>
+        ensures { result ≡ Line.Two words.entry (Part.Word first.now) (Part.Word second.now) }
+    {
+        Line::Two(words, word(first), word(second))
+    }
+
+    /// Returns a line of these words, a name and a text.
+    pub fn of_name_and_text(words: &'static [u8], name: &Word<'a>, text: &Word<'a>) -> Line<'a>
+        ensures { result ≡ Line.Two words.entry (Part.Word name.now) (Part.Quoted text.now) }
+    {
+        Line::Two(words, word(name), quoted(text))
+    }
+
+    /// Returns a line of these words, two names and a text.
+    pub fn of_names_and_text(
+        words: &'static [u8],
+        first: &Word<'a>,
+        second: &Word<'a>,
+        text: &Word<'a>,
+    ) -> Line<'a>
+        ensures { result ≡ Line.Three words.entry (Part.Word first.now) (Part.Word second.now) (Part.Quoted text.now) }
+    {
+        Line::Three(words, word(first), word(second), quoted(text))
+    }
+
     /// Appends the line with its line feed.
     ///
     /// # Errors

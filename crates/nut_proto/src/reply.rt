@@ -2,7 +2,7 @@
 ghost use Rattle.std.specs.Prelude.{◌≡◌, ◌++◌, length, OnOk, OnErr};
 ghost use Rattle.nut_words.specs.Out.{Fits, Exceeds};
 ghost use Rattle.nut_proto.specs.Lines.{line};
-ghost use Rattle.nut_proto.specs.Replies.{reply_line, type_parts, kind_part};
+ghost use Rattle.nut_proto.specs.Replies.{reply_line, reply_parts, type_parts, kind_part};
 ghost use Rattle.nut_proto.specs.inside.Written.{written};
 
 use crate::line::Line;
@@ -128,7 +128,7 @@ pub enum Reply<'a> {
     },
 }
 
-impl Reply<'_> {
+impl<'a> Reply<'a> {
     /// Appends the line with its line feed.
     ///
     /// Names are written bare if they can be, values and descriptions always in quotes. Words of bytes 0x20 to 0x7E are
@@ -147,7 +147,7 @@ impl Reply<'_> {
     }
 
     #[tactic(auto, unfolding(crate::specs::Replies::reply_line, crate::specs::Lines::line))]
-    fn line(&self) -> Line<'_>
+    fn line(&self) -> Line<'a>
         ensures { written result ≡ reply_line self.now }
     {
         match self {
@@ -161,15 +161,11 @@ impl Reply<'_> {
             Reply::Commands => Line::Bare(
                 b"Commands: GET LIST SET INSTCMD USERNAME PASSWORD LOGIN PRIMARY FSD LOGOUT VER NETVER HELP STARTTLS",
             ),
-            Reply::NumLogins { ups, count } => Line::Two(
-                b"NUMLOGINS",
-                word(ups),
-                Part::Number(*count),
-            ),
-            Reply::UpsDesc { ups, description } => Line::Two(
+            Reply::NumLogins { ups, count } => count_line(ups, *count),
+            Reply::UpsDesc { ups, description } => Line::of_name_and_text(
                 b"UPSDESC",
-                word(ups),
-                quoted(description),
+                ups,
+                description,
             ),
             Reply::Type {
                 ups,
@@ -181,50 +177,66 @@ impl Reply<'_> {
                 ups,
                 variable,
                 description,
-            } => Line::Three(b"DESC", word(ups), word(variable), quoted(description)),
+            } => Line::of_names_and_text(b"DESC", ups, variable, description),
             Reply::CmdDesc {
                 ups,
                 command,
                 description,
-            } => Line::Three(b"CMDDESC", word(ups), word(command), quoted(description)),
+            } => Line::of_names_and_text(b"CMDDESC", ups, command, description),
             Reply::Var {
                 ups,
                 variable,
                 value,
-            } => Line::Three(b"VAR", word(ups), word(variable), quoted(value)),
+            } => Line::of_names_and_text(b"VAR", ups, variable, value),
             Reply::TrackingIs { on } => Line::One(b"TRACKING", text(switch_word(*on))),
             Reply::Tracking { number, status } => Line::Two(
                 b"TRACKING",
                 Part::Number(*number),
                 text(status.word()),
             ),
-            Reply::Ups { ups, description } => Line::Two(b"UPS", word(ups), quoted(description)),
+            Reply::Ups { ups, description } => Line::of_name_and_text(b"UPS", ups, description),
             Reply::Rw {
                 ups,
                 variable,
                 value,
-            } => Line::Three(b"RW", word(ups), word(variable), quoted(value)),
-            Reply::Cmd { ups, command } => Line::Two(b"CMD", word(ups), word(command)),
+            } => Line::of_names_and_text(b"RW", ups, variable, value),
+            Reply::Cmd { ups, command } => Line::of_names(b"CMD", ups, command),
             Reply::Enum {
                 ups,
                 variable,
                 value,
-            } => Line::Three(b"ENUM", word(ups), word(variable), quoted(value)),
+            } => Line::of_names_and_text(b"ENUM", ups, variable, value),
             Reply::Range {
                 ups,
                 variable,
                 min,
                 max,
-            } => Line::Four(
-                b"RANGE",
-                word(ups),
-                word(variable),
-                Part::QuotedNumber(*min),
-                Part::QuotedNumber(*max),
-            ),
-            Reply::Client { ups, address } => Line::Two(b"CLIENT", word(ups), word(address)),
+            } => range_line(ups, variable, *min, *max),
+            Reply::Client { ups, address } => Line::of_names(b"CLIENT", ups, address),
         }
     }
+}
+
+/// Returns the answer to GET NUMLOGINS.
+#[tactic(auto, unfolding(crate::specs::Lines::line))]
+fn count_line<'a>(ups: &Word<'a>, count: u32) -> Line<'a>
+    ensures { written result ≡ line (reply_parts (Reply.NumLogins ups.now count)) }
+{
+    Line::Two(b"NUMLOGINS", word(ups), Part::Number(count))
+}
+
+/// Returns a row of LIST RANGE.
+#[tactic(auto, unfolding(crate::specs::Lines::line))]
+fn range_line<'a>(ups: &Word<'a>, variable: &Word<'a>, min: i32, max: i32) -> Line<'a>
+    ensures { written result ≡ line (reply_parts (Reply.Range ups.now variable.now min max)) }
+{
+    Line::Four(
+        b"RANGE",
+        word(ups),
+        word(variable),
+        Part::QuotedNumber(min),
+        Part::QuotedNumber(max),
+    )
 }
 
 #[tactic(auto, unfolding(crate::specs::Lines::line))]

@@ -1,12 +1,11 @@
 //! The requests of a client, and how they are written.
 ghost use Rattle.std.specs.Prelude.{◌≡◌, ◌++◌, length, OnOk, OnErr};
 ghost use Rattle.nut_words.specs.Out.{Fits, Exceeds};
-ghost use Rattle.nut_proto.specs.Lines.{line};
-ghost use Rattle.nut_proto.specs.Requests.{request_line, request_parts, begin_line, end_line};
+ghost use Rattle.nut_proto.specs.Requests.{request_line, begin_line, end_line};
 ghost use Rattle.nut_proto.specs.inside.Written.{Puts, written};
 
 use crate::line::Line;
-use crate::part::{Part, quoted, text, word};
+use crate::part::{Part, text};
 use crate::tracking::switch_word;
 use crate::word::Word;
 use nut_words::Out;
@@ -120,7 +119,7 @@ pub enum ListQuery<'a> {
     Client { ups: Word<'a> },
 }
 
-impl Request<'_> {
+impl<'a> Request<'a> {
     /// Appends the request's line with its line feed.
     ///
     /// Words are written bare if they can be, the value of SET and the parameter of INSTCMD always in quotes. Words of
@@ -139,20 +138,16 @@ impl Request<'_> {
     }
 
     #[tactic(auto, unfolding(crate::specs::Requests::request_line, crate::specs::Lines::line))]
-    fn line(&self) -> Line<'_>
+    fn line(&self) -> Line<'a>
         ensures { written result ≡ request_line self.now }
     {
         match self {
-            Request::GetNumLogins { ups } => Line::One(b"GET NUMLOGINS", word(ups)),
-            Request::GetUpsDesc { ups } => Line::One(b"GET UPSDESC", word(ups)),
-            Request::GetVar { ups, variable } => Line::Two(b"GET VAR", word(ups), word(variable)),
-            Request::GetType { ups, variable } => Line::Two(b"GET TYPE", word(ups), word(variable)),
-            Request::GetDesc { ups, variable } => Line::Two(b"GET DESC", word(ups), word(variable)),
-            Request::GetCmdDesc { ups, command } => Line::Two(
-                b"GET CMDDESC",
-                word(ups),
-                word(command),
-            ),
+            Request::GetNumLogins { ups } => Line::of_name(b"GET NUMLOGINS", ups),
+            Request::GetUpsDesc { ups } => Line::of_name(b"GET UPSDESC", ups),
+            Request::GetVar { ups, variable } => Line::of_names(b"GET VAR", ups, variable),
+            Request::GetType { ups, variable } => Line::of_names(b"GET TYPE", ups, variable),
+            Request::GetDesc { ups, variable } => Line::of_names(b"GET DESC", ups, variable),
+            Request::GetCmdDesc { ups, command } => Line::of_names(b"GET CMDDESC", ups, command),
             Request::GetTracking => Line::Bare(b"GET TRACKING"),
             Request::GetTrackingOf { number } => Line::One(b"GET TRACKING", Part::Number(*number)),
             Request::List(query) => query.line(),
@@ -160,23 +155,23 @@ impl Request<'_> {
                 ups,
                 variable,
                 value,
-            } => set_line(ups, variable, value),
+            } => Line::of_names_and_text(b"SET VAR", ups, variable, value),
             Request::SetTracking { on } => Line::One(b"SET TRACKING", text(switch_word(*on))),
             Request::InstCmd {
                 ups,
                 command,
                 parameter: None,
-            } => Line::Two(b"INSTCMD", word(ups), word(command)),
+            } => Line::of_names(b"INSTCMD", ups, command),
             Request::InstCmd {
                 ups,
                 command,
                 parameter: Some(parameter),
-            } => Line::Three(b"INSTCMD", word(ups), word(command), quoted(parameter)),
-            Request::Username { name } => Line::One(b"USERNAME", word(name)),
-            Request::Password { password } => Line::One(b"PASSWORD", word(password)),
-            Request::Login { ups } => Line::One(b"LOGIN", word(ups)),
-            Request::Primary { ups } => Line::One(b"PRIMARY", word(ups)),
-            Request::Fsd { ups } => Line::One(b"FSD", word(ups)),
+            } => Line::of_names_and_text(b"INSTCMD", ups, command, parameter),
+            Request::Username { name } => Line::of_name(b"USERNAME", name),
+            Request::Password { password } => Line::of_name(b"PASSWORD", password),
+            Request::Login { ups } => Line::of_name(b"LOGIN", ups),
+            Request::Primary { ups } => Line::of_name(b"PRIMARY", ups),
+            Request::Fsd { ups } => Line::of_name(b"FSD", ups),
             Request::Logout => Line::Bare(b"LOGOUT"),
             Request::Ver => Line::Bare(b"VER"),
             Request::NetVer => Line::Bare(b"NETVER"),
@@ -186,31 +181,19 @@ impl Request<'_> {
     }
 }
 
-/// Returns the line of a request to set a variable.
-#[tactic(auto, unfolding(crate::specs::Lines::line))]
-fn set_line<'a>(ups: &Word<'a>, variable: &Word<'a>, value: &Word<'a>) -> Line<'a>
-    ensures { written result ≡ line (request_parts (Request.SetVar ups.now variable.now value.now)) }
-{
-    Line::Three(b"SET VAR", word(ups), word(variable), quoted(value))
-}
-
-impl ListQuery<'_> {
+impl<'a> ListQuery<'a> {
     #[tactic(auto, unfolding(crate::specs::Requests::request_line, crate::specs::Lines::line))]
-    fn line(&self) -> Line<'_>
+    fn line(&self) -> Line<'a>
         ensures { written result ≡ request_line (Request.List self.now) }
     {
         match self {
             ListQuery::Ups => Line::Bare(b"LIST UPS"),
-            ListQuery::Var { ups } => Line::One(b"LIST VAR", word(ups)),
-            ListQuery::Rw { ups } => Line::One(b"LIST RW", word(ups)),
-            ListQuery::Cmd { ups } => Line::One(b"LIST CMD", word(ups)),
-            ListQuery::Enum { ups, variable } => Line::Two(b"LIST ENUM", word(ups), word(variable)),
-            ListQuery::Range { ups, variable } => Line::Two(
-                b"LIST RANGE",
-                word(ups),
-                word(variable),
-            ),
-            ListQuery::Client { ups } => Line::One(b"LIST CLIENT", word(ups)),
+            ListQuery::Var { ups } => Line::of_name(b"LIST VAR", ups),
+            ListQuery::Rw { ups } => Line::of_name(b"LIST RW", ups),
+            ListQuery::Cmd { ups } => Line::of_name(b"LIST CMD", ups),
+            ListQuery::Enum { ups, variable } => Line::of_names(b"LIST ENUM", ups, variable),
+            ListQuery::Range { ups, variable } => Line::of_names(b"LIST RANGE", ups, variable),
+            ListQuery::Client { ups } => Line::of_name(b"LIST CLIENT", ups),
         }
     }
 
@@ -232,7 +215,6 @@ impl ListQuery<'_> {
     /// # Errors
     ///
     /// If memory cannot be allocated, or if the whole doesn't fit into a buffer of fixed size. `out` is then as it was.
-    #[tactic(auto, unfolding(crate::specs::Requests::begin_line, crate::specs::Requests::request_line, crate::specs::Lines::line))]
     pub fn put_begin<O: Out>(&self, out: &mut O) -> Result<(), O::Fault>
         ensures ok { OnOk result (O.held out.new ≡ O.held out.old ++ begin_line self.now) }
         ensures err { OnErr result (O.held out.new ≡ O.held out.old) }
@@ -247,7 +229,6 @@ impl ListQuery<'_> {
     /// # Errors
     ///
     /// If memory cannot be allocated, or if the whole doesn't fit into a buffer of fixed size. `out` is then as it was.
-    #[tactic(auto, unfolding(crate::specs::Requests::end_line, crate::specs::Requests::request_line, crate::specs::Lines::line))]
     pub fn put_end<O: Out>(&self, out: &mut O) -> Result<(), O::Fault>
         ensures ok { OnOk result (O.held out.new ≡ O.held out.old ++ end_line self.now) }
         ensures err { OnErr result (O.held out.new ≡ O.held out.old) }
