@@ -61,7 +61,7 @@ impl<'a> Line<'a> {
         ensures { Puts O.most (O.held out.old) (O.held out.new) (written self.entry) result }
     {
         match self {
-            Line::Bare(words) => put_line(out, words, &[]),
+            Line::Bare(words) => put_bare(out, words),
             Line::One(words, first) => put_one(out, words, first),
             Line::Two(words, first, second) => put_two(out, words, first, second),
             Line::Three(words, first, second, third) => put_three(out, words, first, second, third),
@@ -73,6 +73,12 @@ impl<'a> Line<'a> {
 }
 
 // A function for each number of parts: a match whose arms make arrays is dear to prove.
+
+fn put_bare<O: Out>(out: &mut O, words: &[u8]) -> Result<(), O::Fault>
+    ensures { Puts O.most (O.held out.old) (O.held out.new) (line_from words.now []) result }
+{
+    put_line(out, words, &[])
+}
 
 fn put_one<O: Out>(out: &mut O, words: &[u8], first: Part<'_>) -> Result<(), O::Fault>
     ensures { Puts O.most (O.held out.old) (O.held out.new) (line_from words.now (first.entry ∷ [])) result }

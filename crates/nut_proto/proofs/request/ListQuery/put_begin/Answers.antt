@@ -6,6 +6,9 @@ use Rattle.nut_proto.proofs.request.ListQuery.put_begin.Goals as goal
 pub returns-clause-ok : goal.returns-clause-ok
 returns-clause-ok g c = grind (arith, common_steps, begin_marked c.args.self.now)
 
+pub returns-clause-err : goal.returns-clause-err
+returns-clause-err g c = grind (arith, common_steps)
+
 pub returns-clause-fits : goal.returns-clause-fits
 returns-clause-fits g c = grind (arith, common_steps, begin_marked c.args.self.now)
 
