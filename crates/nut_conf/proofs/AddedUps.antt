@@ -1,5 +1,6 @@
 -- A UPS that is added after others.
 use Rattle.std.proofs.Common.{◌≡◌, ℕ, ◌<◌, ◌≤◌, true, false, not, ◌||◌, List, [], ◌∷◌, ◌++◌, length, map, codes, Result, Ok, Err, nat_le, if◌then◌else◌, refl, ap, ◌∙◌, arith}
+use Rattle.std.specs.Prelude.{OnOk}
 use Rattle.std.specs.List.{list_any, list_all}
 use Rattle.std.specs.Map.{keys_of}
 use Rattle.std.specs.Option.{is_some}
@@ -12,14 +13,17 @@ use Rattle.indexmap.specs.IndexMap.{get, insert_entry}
 use Rattle.indexmap.proofs.CallerLemmas.{insert_entry-new}
 use Rattle.nut_words.specs.Spelling.{is_printing}
 use Rattle.nut_words.specs.declared.limits.TheConstants.{UPS_NAME_MAX}
-use Rattle.nut_conf.specs.Faults.{◌>>=◌}
+use Rattle.nut_conf.specs.Faults.{◌>>=◌, Fails, Reads}
 use Rattle.nut_conf.specs.Values.{name, text}
 use Rattle.nut_conf.specs.Sections.{AllHold}
 use Rattle.nut_conf.specs.Ups.{Shown, shown, is_shown_as, with_ups, UpsHolds}
 use Rattle.nut_conf.specs.declared.text.Name.{Name}
+use Rattle.nut_conf.specs.declared.text.Text.{Text}
 use Rattle.nut_conf.specs.declared.ups.Ups.{Ups}
 use Rattle.nut_conf.specs.declared.fault.FaultKind.{FaultKind}
 use Rattle.nut_conf.specs.declared.fault.FaultKind.TheVariants.{PastLimit, Repeated, Unreadable}
+use Rattle.nut_conf.specs.declared.fault.FaultKind.TheVariants as kinds
+use Rattle.nut_conf.proofs.DraftLemmas.{Ok-equal}
 use Rattle.nut_conf.proofs.SlotLemmas.{length-map}
 use Rattle.nut_conf.proofs.SectionLemmas.{same_name, none-from_not_some}
 use Rattle.nut_conf.specs.declared.limits.TheConstants.{DESCRIPTION_MAX, UPSES_MAX}
@@ -77,3 +81,17 @@ module _ (before : List Shown) (bytes n desc d : List ℕ) (named : name UPS_NAM
       → with_ups before bytes desc ≡ Ok (before ++ record { name = n; driver = codes "dummy-ups"; port = []; description = d } ∷ [])
   unfolding tested
   with_ups-ok new good = with_ups-tested ∙ rw (lt-leb UPSES_MAX (length before) room, new, good) refl
+
+-- If a text is read as it is, what is made of the text is made of its bytes.
+pub reads-made : (make : List ℕ → List Shown) (reading : Result (List Shown) FaultKind) (d : List ℕ) (r : Result (Text 0 DESCRIPTION_MAX) FaultKind)
+    → Reads (λ t. t.bytes.items) r (Ok d) → reading ≡ Ok (make d) → Reads (λ t. make t.bytes.items) r reading
+reads-made make reading d (Ok t) same is = is ∙ ap (λ e. Ok (make e)) (Ok-equal d t.bytes.items same)
+reads-made make reading d (Err e) same is = absurd (cc)
+
+pub on-ok : {X E P : Type 0} (r : Result X E) → P → OnOk r P
+on-ok (Ok x) p = p
+on-ok (Err e) p = tt
+
+pub fails-with : {Y : Type 0} (e : FaultKind) (r : Result Y FaultKind) → r ≡ Err e → Fails e r
+fails-with kinds.Memory r h = tt
+fails-with _ r h = h

@@ -18,7 +18,7 @@ use Rattle.nut_words.specs.declared.limits.TheConstants.{UPS_NAME_MAX}
 use Rattle.nut_conf.proofs.SlotLemmas.{length-map}
 
 -- What is a name is read as one.
-reads_named : (most : ℕ) (bytes : List ℕ) → is_name most bytes ≡ true → name most bytes ≡ Ok bytes
+pub reads_named : (most : ℕ) (bytes : List ℕ) → is_name most bytes ≡ true → name most bytes ≡ Ok bytes
 reads_named most bytes h = grind (arith, nat_tests)
 
 -- A word that can't be read as a name isn't any name.

@@ -1,1 +1,4 @@
 pub mod Drafts
+pub mod Slots
+pub mod Tables
+pub mod Upses

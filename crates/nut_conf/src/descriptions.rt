@@ -48,10 +48,12 @@ impl DescriptionDirective {
     fn of(word: &[u8]) -> Option<Self>
         ensures { MatchOption result (directive_of word.now description_directives ≡ None) (λ d. word.now ≡ (description_directive d).word) }
     {
-        match word {
-            b"VARDESC" => Some(DescriptionDirective::Variable),
-            b"CMDDESC" => Some(DescriptionDirective::Command),
-            _ => None,
+        if word == b"VARDESC".as_slice() {
+            Some(DescriptionDirective::Variable)
+        } else if word == b"CMDDESC".as_slice() {
+            Some(DescriptionDirective::Command)
+        } else {
+            None
         }
     }
 }

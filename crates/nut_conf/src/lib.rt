@@ -17,6 +17,7 @@ mod monitors;
 mod notice;
 mod sections;
 mod slot;
+mod tables;
 mod target;
 mod text;
 mod texts;

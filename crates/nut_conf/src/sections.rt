@@ -6,6 +6,7 @@ ghost use Rattle.nut_conf.specs.Sections.{section_name as name_in};
 use crate::draft::Draft;
 use crate::fault::FaultKind;
 use crate::line::Line;
+use crate::tables::check_new;
 use crate::text::Name;
 use indexmap::IndexMap;
 use nut_words::UPS_NAME_MAX;
@@ -47,12 +48,7 @@ impl<S: Draft, const MOST: usize> Sections<S, MOST> {
             → Takes (result_err (opens MOST earlier bytes.now)) result (AllHold S.Holds self.new.by_name.entries (earlier ++ (bytes.now, []) ∷ [])) }
     {
         let name = Name::read(bytes)?;
-        if self.by_name.contains_key(&name) {
-            return Err(FaultKind::Repeated);
-        }
-        if self.by_name.len() >= MOST {
-            return Err(FaultKind::PastLimit);
-        }
+        check_new(&self.by_name, &name, MOST)?;
         self.by_name.insert(name, S::new(self.alloc))?;
         Ok(())
     }

@@ -3,6 +3,7 @@ ghost use Rattle.std.specs.Prelude.{◌≡◌, ◌≤◌, ℕ, List, Bool, Optio
 ghost use Rattle.std.specs.List.{list_any};
 ghost use Rattle.std.specs.Option.{option_map, option_to_list};
 ghost use Rattle.nut_conf.specs.Faults.{Reads, Spares};
+ghost use Rattle.nut_conf.specs.inside.Slots.{Pushes, set_by_line};
 ghost use Rattle.nut_conf.specs.Settings.{Setting, Puts};
 ghost use Rattle.nut_conf.specs.Settings as rules;
 ghost use Rattle.nut_conf.specs.declared.fault.FaultKind.{FaultKind};
@@ -27,6 +28,15 @@ pub trait FromValues: Drop + Sized {
     ghost spares: { (values : List (List ℕ)) → Spares (reads values) };
 }
 
+/// Reads the setting of a line. Returns its first fault, if it has one.
+pub fn setting_of<T: FromValues>(form: Form, line: &Line<'_>) -> Result<T, FaultKind>
+    ensures reads { Reads T.setting result (set_by_line form T.reads line.now.words) }
+    ensures spares { Spares result }
+{
+    let values = Values::of(form, line)?;
+    T::from_values(&values)
+}
+
 /// Stores the setting of a directive that is allowed once. Returns `Repeated` if it is set. Allocates no memory.
 pub fn once<T: FromValues>(
     slot: &mut Option<T>,
@@ -36,8 +46,7 @@ pub fn once<T: FromValues>(
     ensures puts { Puts (rules.once form T.reads) (option_to_list (option_map T.setting slot.old)) line.now.words result (option_to_list (option_map T.setting slot.new)) }
     ensures spares { Spares result }
 {
-    let values = Values::of(form, line)?;
-    let value = T::from_values(&values)?;
+    let value: T = setting_of(form, line)?;
     if slot.is_some() {
         return Err(FaultKind::Repeated);
     }
@@ -54,6 +63,18 @@ fn is_full<T>(most: Option<usize>, items: &[T]) -> bool
     }
 }
 
+/// Adds a value to the list. Returns `PastLimit` if the list has `most` values already.
+fn push_within<T: Drop>(list: &mut Vec<T>, value: T, most: Option<usize>) -> Result<(), FaultKind>
+    ensures pushed { Pushes most list.old.items value result list.new.items }
+    ensures bounded { (n : ℕ) → most ≡ Some n → length list.old.items ≤ n → length list.new.items ≤ n }
+{
+    if is_full(most, list.as_slice()) {
+        return Err(FaultKind::PastLimit);
+    }
+    list.push(value)?;
+    Ok(())
+}
+
 /// Adds the setting of a line to the list. Returns `PastLimit` if the list has `most` settings already.
 pub fn listed<T: FromValues>(
     slot: &mut Vec<T>,
@@ -63,13 +84,8 @@ pub fn listed<T: FromValues>(
 ) -> Result<(), FaultKind>
     ensures { Puts (rules.listed most form T.reads) (map T.setting slot.old.items) line.now.words result (map T.setting slot.new.items) }
 {
-    let values = Values::of(form, line)?;
-    let value = T::from_values(&values)?;
-    if is_full(most, slot.as_slice()) {
-        return Err(FaultKind::PastLimit);
-    }
-    slot.push(value)?;
-    Ok(())
+    let value: T = setting_of(form, line)?;
+    push_within(slot, value, most)
 }
 
 /// A setting that can clash with another: both can't be in one list.
@@ -99,14 +115,9 @@ pub fn listed_apart<T: Clashes>(
     ensures puts { Puts (rules.distinct T.clashes most form T.reads) (map T.setting slot.old.items) line.now.words result (map T.setting slot.new.items) }
     ensures bounded { (n : ℕ) → most ≡ Some n → length slot.old.items ≤ n → length slot.new.items ≤ n }
 {
-    let values = Values::of(form, line)?;
-    let value = T::from_values(&values)?;
+    let value: T = setting_of(form, line)?;
     if clashes_with_any(&value, slot.as_slice()) {
         return Err(FaultKind::Repeated);
     }
-    if is_full(most, slot.as_slice()) {
-        return Err(FaultKind::PastLimit);
-    }
-    slot.push(value)?;
-    Ok(())
+    push_within(slot, value, most)
 }

@@ -5,7 +5,8 @@ ghost use Rattle.nut_conf.specs.declared.limits.TheConstants.{DESCRIPTIONS_MAX};
 use crate::fault::FaultKind;
 use crate::limits::{DESCRIPTION_MAX, DESCRIPTIONS_MAX};
 use crate::line::Line;
-use crate::slot::FromValues;
+use crate::slot::{FromValues, setting_of};
+use crate::tables::check_new;
 use crate::text::{Name, Text};
 use crate::values::{Form, Values};
 use indexmap::IndexMap;
@@ -70,15 +71,9 @@ impl Texts {
     pub(crate) fn put(&mut self, line: &Line<'_>) -> Result<(), FaultKind>
         ensures { Puts description_rule (map described (rows_of self.old)) line.now.words result (map described (rows_of self.new)) }
     {
-        let values = Values::of(Form::Plain, line)?;
-        let described = Described::from_values(&values)?;
+        let described: Described = setting_of(Form::Plain, line)?;
         let Described { name, text } = described;
-        if self.by_name.contains_key(&name) {
-            return Err(FaultKind::Repeated);
-        }
-        if self.by_name.len() >= DESCRIPTIONS_MAX {
-            return Err(FaultKind::PastLimit);
-        }
+        check_new(&self.by_name, &name, DESCRIPTIONS_MAX)?;
         self.by_name.insert(name, text)?;
         Ok(())
     }

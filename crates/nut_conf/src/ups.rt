@@ -1,15 +1,16 @@
 //! The file ups.conf.
-ghost use Rattle.std.specs.Prelude.{◌≡◌, ◌==◌, ◌<◌, ◌≤◌, [], Err, IfSome, IsOk, IsTrue, None, MatchOption, IfErr, OnErr, length, slice_get};
-ghost use Rattle.std.specs.List.{IsDistinct};
+ghost use Rattle.std.specs.Prelude.{◌≡◌, ◌==◌, ◌<◌, ◌≤◌, [], false, Err, IfSome, IsOk, IsTrue, None, MatchOption, IfErr, OnErr, OnOk, length, slice_get};
+ghost use Rattle.std.specs.List.{IsDistinct, list_any};
 ghost use Rattle.std.specs.Option.{option_copied, option_map};
 ghost use Rattle.std.specs.Str.{bytes_eq};
 ghost use Rattle.nut_words.specs.Quoting.{IsPrintable};
-ghost use Rattle.nut_conf.specs.Faults.{Gives};
+ghost use Rattle.nut_conf.specs.Faults.{Gives, Reads, Spares};
 ghost use Rattle.nut_conf.specs.Files.{Means, read_file};
 ghost use Rattle.nut_conf.specs.Memory.{MayRunOut};
 ghost use Rattle.nut_words.specs.Name.{is_name};
 ghost use Rattle.nut_conf.specs.Values.{is_text};
-ghost use Rattle.nut_conf.specs.Ups.{UpsConfHolds, ups_fault, ups_conf_grows, driver_of, port_of, desc_of, names_of, number_of, ups_at, shown_in, with_ups};
+ghost use Rattle.nut_conf.specs.Ups.{UpsConfHolds, ups_fault, ups_conf_grows, driver_of, port_of, desc_of, names_of, number_of, ups_at, shown_in, is_shown_as, with_ups};
+ghost use Rattle.nut_conf.specs.inside.Upses.{and_ups};
 
 use crate::draft::Draft;
 use crate::fault::{ConfFault, FaultKind};
@@ -107,22 +108,37 @@ impl UpsConf {
         ensures memory { result ≡ Err FaultKind.Memory → IsOk (with_ups (shown_in self.old) name.now desc.now) }
     {
         let name = Name::read(name)?;
+        let desc = self.new_desc(&name, desc)?;
+        let ups = Ups {
+            driver: None,
+            port: None,
+            desc: Some(desc),
+        };
+        self.ups.by_name.insert(name, ups)?;
+        Ok(())
+    }
+
+    /// Reads the description of a UPS that is to be added under this name. Returns the first test that fails.
+    fn new_desc(
+        &self,
+        name: &Name<UPS_NAME_MAX>,
+        desc: &[u8],
+    ) -> Result<Text<0, DESCRIPTION_MAX>, FaultKind>
+        ensures reads { Reads (λ d. and_ups (shown_in self.now) name.now.bytes.items d.bytes.items) result (with_ups (shown_in self.now) name.now.bytes.items desc.now) }
+        ensures room { OnOk result (length self.now.ups.by_name.entries < UPSES_MAX) }
+        ensures unnamed { OnOk result (list_any (is_shown_as name.now.bytes.items) (shown_in self.now) ≡ false) }
+        ensures spares { Spares result }
+    {
         if desc.len() > DESCRIPTION_MAX || self.ups.by_name.len() >= UPSES_MAX {
             return Err(FaultKind::PastLimit);
         }
-        if self.ups.by_name.contains_key(&name) {
+        if self.ups.by_name.contains_key(name) {
             return Err(FaultKind::Repeated);
         }
         if !are_printing(desc) {
             return Err(FaultKind::Unreadable);
         }
-        let ups = Ups {
-            driver: None,
-            port: None,
-            desc: Some(Text::read(desc)?),
-        };
-        self.ups.by_name.insert(name, ups)?;
-        Ok(())
+        Text::read(desc)
     }
 
     /// How many UPSes there are, at most [`UPSES_MAX`].
@@ -196,11 +212,14 @@ impl UpsDirective {
     fn of(word: &[u8]) -> Option<Self>
         ensures { MatchOption result (directive_of word.now ups_directives ≡ None) (λ d. word.now ≡ (ups_directive d).word) }
     {
-        match word {
-            b"driver" => Some(UpsDirective::Driver),
-            b"port" => Some(UpsDirective::Port),
-            b"desc" => Some(UpsDirective::Desc),
-            _ => None,
+        if word == b"driver".as_slice() {
+            Some(UpsDirective::Driver)
+        } else if word == b"port".as_slice() {
+            Some(UpsDirective::Port)
+        } else if word == b"desc".as_slice() {
+            Some(UpsDirective::Desc)
+        } else {
+            None
         }
     }
 }

@@ -107,11 +107,14 @@ impl UpsdDirective {
     fn of(word: &[u8]) -> Option<Self>
         ensures { MatchOption result (directive_of word.now upsd_directives ≡ None) (λ d. word.now ≡ (upsd_directive d).word) }
     {
-        match word {
-            b"LISTEN" => Some(UpsdDirective::Listen),
-            b"MAXAGE" => Some(UpsdDirective::MaxAge),
-            b"MAXCONN" => Some(UpsdDirective::MaxConn),
-            _ => None,
+        if word == b"LISTEN".as_slice() {
+            Some(UpsdDirective::Listen)
+        } else if word == b"MAXAGE".as_slice() {
+            Some(UpsdDirective::MaxAge)
+        } else if word == b"MAXCONN".as_slice() {
+            Some(UpsdDirective::MaxConn)
+        } else {
+            None
         }
     }
 }

@@ -150,12 +150,16 @@ impl UserDirective {
     fn of(word: &[u8]) -> Option<Self>
         ensures { MatchOption result (directive_of word.now user_directives ≡ None) (λ d. word.now ≡ (user_directive d).word) }
     {
-        match word {
-            b"password" => Some(UserDirective::Password),
-            b"actions" => Some(UserDirective::Actions),
-            b"instcmds" => Some(UserDirective::Instcmds),
-            b"upsmon" => Some(UserDirective::Upsmon),
-            _ => None,
+        if word == b"password".as_slice() {
+            Some(UserDirective::Password)
+        } else if word == b"actions".as_slice() {
+            Some(UserDirective::Actions)
+        } else if word == b"instcmds".as_slice() {
+            Some(UserDirective::Instcmds)
+        } else if word == b"upsmon".as_slice() {
+            Some(UserDirective::Upsmon)
+        } else {
+            None
         }
     }
 }
@@ -172,10 +176,13 @@ impl FromValues for Action {
     ghost spares = { word_value_spares (codes "SET" ∷ codes "FSD" ∷ []) };
 
     fn from_values(values: &Values<'_, '_>) -> Result<Self, FaultKind> {
-        match values.one()? {
-            b"SET" => Ok(Action::Set),
-            b"FSD" => Ok(Action::Fsd),
-            _ => Err(FaultKind::UnknownWord),
+        let word = values.one()?;
+        if word == b"SET".as_slice() {
+            Ok(Action::Set)
+        } else if word == b"FSD".as_slice() {
+            Ok(Action::Fsd)
+        } else {
+            Err(FaultKind::UnknownWord)
         }
     }
 }

@@ -1,60 +1,33 @@
-use Rattle.std.proofs.Common.{◌≡◌, arith, Ok, sym, ap, ◌∙◌}
-use Rattle.std.proofs.lemmas.Grind.{common_steps}
-use Rattle.std.specs.List.{list_all}
-use Rattle.nut_words.specs.Spelling.{is_printing}
-use Rattle.nut_conf.proofs.DraftLemmas.{Ok-equal}
-use Rattle.nut_conf.proofs.AddedUps.{text-short, any-is, length-shown, shown-insert, with_ups-repeated, with_ups-unreadable, with_ups-ok}
-use Rattle.nut_conf.specs.Ups.{shown_in}
+use Rattle.std.proofs.Common.{Ok, sym, ap, ◌∙◌}
+use Rattle.std.proofs.lemmas.Result.{err_from_is_err_and}
+use Rattle.nut_words.specs.declared.limits.TheConstants.{UPS_NAME_MAX}
+use Rattle.nut_conf.specs.Ups.{shown_in, with_ups}
+use Rattle.nut_conf.specs.declared.limits.TheConstants.{UPSES_MAX}
+use Rattle.nut_conf.proofs.AddedUps.{any-is, shown-insert, fails-with}
+use Rattle.nut_conf.proofs.SectionLemmas.{name-same, insert-few}
 use Rattle.nut_conf.proofs.SlotLemmas.{is_read}
 use Rattle.nut_conf.proofs.ups.UpsConf.add.Goals as goal
 
-pub returns-then-contains_key-clause-added : goal.returns-then-contains_key-clause-added
-returns-then-contains_key-clause-added c =
-    let before = shown_in c.args.self.now in
-    let map = c.args.self.now.ups.by_name in
-    let name = c.in_ok-name.name in
-    let desc = c.args.desc.now in
-    let same = length-shown map.entries in
-    with_ups-repeated before c.args.name.now name.bytes.items desc desc (c.in_ok-name.ensures {u = tt}) (text-short desc (omega arith)) (omega (arith, same, c.len.ensures.len))
-    (sym (c.if-contains_key.ensures {u = tt} ∙ any-is map name))
+pub invariant_of-self : goal.invariant_of-self
+invariant_of-self c = record {
+  few = insert-few c.insert.result c.args.self.now.ups.by_name.entries c.insert.new.self.entries UPSES_MAX c.insert.ensures.len c.insert.ensures.err c.in_ok-desc.ensures.room;
+}
 
-pub returns-then-not-are_printing-clause-added : goal.returns-then-not-are_printing-clause-added
-returns-then-not-are_printing-clause-added c =
-    let before = shown_in c.args.self.now in
-    let map = c.args.self.now.ups.by_name in
-    let name = c.in_ok-name.name in
-    let desc = c.args.desc.now in
-    let same = length-shown map.entries in
-    with_ups-unreadable before c.args.name.now name.bytes.items desc desc (c.in_ok-name.ensures {u = tt}) (text-short desc (omega arith)) (omega (arith, same, c.len.ensures.len))
-    (sym (c.if-contains_key.ensures {u = tt} ∙ any-is map name)) (sym (c.if-not-are_printing.ensures {u = tt}))
+pub returns-in_err-desc-clause-added : goal.returns-in_err-desc-clause-added
+returns-in_err-desc-clause-added c =
+    let is = name-same UPS_NAME_MAX c.args.name.now c.in_ok-name.name.bytes.items (c.in_ok-name.ensures {u = tt}) in
+    let p = err_from_is_err_and c.from_residual-in_err-desc.result c.from_residual-in_err-desc.ensures.1 in
+    rw (p.1, p.2) (fails-with _ _ (ap (λ n. with_ups (shown_in c.args.self.now) n c.args.desc.now) (sym is) ∙ c.in_err-desc.ensures.reads))
 
 pub returns-in_err-insert-clause-memory : goal.returns-in_err-insert-clause-memory
 returns-in_err-insert-clause-memory c = λ _.
-    let before = shown_in c.args.self.now in
-    let map = c.args.self.now.ups.by_name in
-    let name = c.in_ok-name.name in
-    let desc = c.args.desc.now in
-    let text = c.in_ok-read.field-0 in
-    let described = c.in_ok-read.ensures {u = tt} in
-    let is : text.bytes.items ≡ desc = Ok-equal text.bytes.items desc (sym described ∙ text-short desc (omega arith)) in
-    let same = length-shown map.entries in
-    is_read _ _ (with_ups-ok before c.args.name.now name.bytes.items desc text.bytes.items (c.in_ok-name.ensures {u = tt}) described (omega (arith, same, c.len.ensures.len))
-    (sym (c.if-contains_key.ensures {u = tt} ∙ any-is map name)) (ap (list_all is_printing) is ∙ sym (c.if-not-are_printing.ensures {u = tt})))
+    let is = name-same UPS_NAME_MAX c.args.name.now c.in_ok-name.name.bytes.items (c.in_ok-name.ensures {u = tt}) in
+    is_read _ _ (ap (λ n. with_ups (shown_in c.args.self.now) n c.args.desc.now) (sym is) ∙ c.in_ok-desc.ensures.reads)
 
 pub returns-clause-added : goal.returns-clause-added
 returns-clause-added c =
-    let before = shown_in c.args.self.now in
     let map = c.args.self.now.ups.by_name in
     let name = c.in_ok-name.name in
-    let desc = c.args.desc.now in
-    let text = c.in_ok-read.field-0 in
-    let described = c.in_ok-read.ensures {u = tt} in
-    let is : text.bytes.items ≡ desc = Ok-equal text.bytes.items desc (sym described ∙ text-short desc (omega arith)) in
-    let same = length-shown map.entries in
-    let new = c.if-contains_key.ensures {u = tt} in
-    with_ups-ok before c.args.name.now name.bytes.items desc text.bytes.items (c.in_ok-name.ensures {u = tt}) described (omega (arith, same, c.len.ensures.len))
-    (sym (new ∙ any-is map name)) (ap (list_all is_printing) is ∙ sym (c.if-not-are_printing.ensures {u = tt}))
-    ∙ ap Ok (sym (shown-insert map name (sym new) _ _ c.in_ok-insert.ensures.entries))
-
-pub returns-then-desc-gt-DESCRIPTION_MAX-clause-added : goal.returns-then-desc-gt-DESCRIPTION_MAX-clause-added
-returns-then-desc-gt-DESCRIPTION_MAX-clause-added c = grind (arith, common_steps)
+    let is = name-same UPS_NAME_MAX c.args.name.now name.bytes.items (c.in_ok-name.ensures {u = tt}) in
+    ap (λ n. with_ups (shown_in c.args.self.now) n c.args.desc.now) (sym is) ∙ c.in_ok-desc.ensures.reads
+    ∙ ap Ok (sym (shown-insert map name (any-is map name ∙ c.in_ok-desc.ensures.unnamed) _ _ c.in_ok-insert.ensures.entries))
