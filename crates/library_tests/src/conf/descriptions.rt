@@ -20,15 +20,21 @@ fn has(texts: &Texts, rows: &[(&[u8], &[u8])], absent: &[&[u8]]) -> bool {
     true
 }
 
+fn conf_has(conf: &Descriptions) -> bool {
+    has(
+        &conf.variables,
+        &[(b"ups.model", b"UPS model"), (b"ups.mfr", b"")],
+        &[b"load.cycle", b"UPS.MODEL", b"", b"a b"],
+    ) && has(
+        &conf.commands,
+        &[(b"load.cycle", b"Turn off, \"then\" on")],
+        &[b"ups.model", b"load"],
+    )
+}
+
 fn file_has(alloc: Global, file: &[u8]) -> bool {
-    let variables: [(&[u8], &[u8]); 2] = [(b"ups.model", b"UPS model"), (b"ups.mfr", b"")];
-    let commands: [(&[u8], &[u8]); 1] = [(b"load.cycle", b"Turn off, \"then\" on")];
     match read_descriptions(alloc, file) {
-        Ok(conf) => has(
-            &conf.variables,
-            &variables,
-            &[b"load.cycle", b"UPS.MODEL", b"", b"a b"],
-        ) && has(&conf.commands, &commands, &[b"ups.model", b"load"]),
+        Ok(conf) => conf_has(&conf),
         Err(_) => false,
     }
 }

@@ -37,12 +37,18 @@ fn has(answer: &Answer<'_>, kind: Kind, words: &[&[u8]]) -> bool {
     }
 }
 
+fn is_read(alloc: Global, line: &[u8], kind: Kind, words: &[&[u8]]) -> bool {
+    match read_answer(alloc, line) {
+        Ok(answer) => has(&answer, kind, words),
+        Err(_) => false,
+    }
+}
+
 /// Returns the first line that isn't read as an answer of its kind with its words.
 fn first_wrong(alloc: Global, rows: &[(&[u8], Kind, &[&[u8]])]) -> Option<usize> {
     for (index, (line, kind, words)) in rows.iter().enumerate() {
-        match read_answer(alloc, line) {
-            Ok(answer) if has(&answer, *kind, words) => {}
-            _ => return Some(index),
+        if !is_read(alloc, line, *kind, words) {
+            return Some(index);
         }
     }
     None
