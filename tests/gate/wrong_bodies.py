@@ -315,6 +315,8 @@ class Rounds:
         """Tries as many edits of bodies as possible in one check: in copies those of functions that are controlled, and of the
         others one in its place. Edits that weren't refused are left for the rounds."""
         bodies = [it for it in self.edits if it.is_of_bodies()]
+        if not bodies:
+            return
         copyable = [it for it in bodies if self.can_be_copied(it)]
         controlled = self.controlled(copyable)
         copied = [it for it in copyable if it.wanted & controlled]
@@ -322,15 +324,12 @@ class Rounds:
         plain = {path: self.copy(path, "unedited") for path in sorted({path for it in copied for path in it.wanted})}
         edited = {it: [self.copy(path, f"edited_{at}", it) for path in sorted(it.wanted)] for at, it in enumerate(copied)}
         copies = [*plain.values(), *itertools.chain(*edited.values())]
-        shown = {path for it in placed for path in it.edited}
-        # what edits of definitions have to fail
-        others = {path for it in self.edits if it not in bodies for path in it.wanted} - shown
-        paths = {path for it in placed for path in it.wanted} | others | {it.path for it in copies}
-        report = self.check(self.room(shown | others, placed, copies), paths)
+        paths = {path for it in placed for path in it.wanted} | {it.path for it in copies}
+        report = self.check(self.room({path for it in placed for path in it.edited}, placed, copies), paths)
         if not report.ended or report.unread:
             return
-        self.passed = {path for path, it in plain.items() if report.passes(it.path)} | {it for it in others if report.passes(it)}
-        self.fallen = {*plain, *others} - self.passed
+        self.passed = {path for path, it in plain.items() if report.passes(it.path)}
+        self.fallen = {*plain} - self.passed
         refusals = {edit: refusal(edit, report) for edit in placed if self.passed and not edit.wanted & self.fallen}
         refusals |= {edit: refusal(edit, report, [it.path for it in made]) for edit, made in edited.items() if edit.wanted <= self.passed}
         for edit in filter(refusals.get, refusals):
@@ -364,9 +363,10 @@ class Rounds:
         return Copy(function, ending, edit.item_of(function) if edit else self.text_of(function))
 
     def control(self):
-        """Checks functions without edits, where the first check has shown too little of them: if no function passed there, those
-        of all edits; and always those that edits of definitions have to fail, and those of which a copy failed."""
-        unseen = [it for it in self.left() if not self.passed or not it.is_of_bodies() or it.wanted & self.fallen]
+        """Checks functions without edits of their bodies, where the first check has shown too little of them: if no function
+        passed there, those of all edits; and always those of which a copy failed."""
+        bodies = [it for it in self.left() if it.is_of_bodies()]
+        unseen = [it for it in bodies if not self.passed or it.wanted & self.fallen]
         paths = {path for it in unseen for path in it.wanted} - self.passed
         report = self.check(self.room(paths), paths) if paths else None
         for edit in unseen:
@@ -388,10 +388,11 @@ class Rounds:
 
     def round(self, edits):
         """Tries edits together, and returns those that have to be tried alone, since another edit may be why they weren't
-        refused."""
+        refused. Beside an edit of a definition all functions keep their bodies and proofs, so nothing but the edit differs from
+        the crate that was proved."""
         self.count += 1
         bodies = [it for it in edits if it.is_of_bodies()]
-        room = self.room({path for it in edits for path in it.wanted | it.edited}, bodies)
+        room = self.room({path for it in edits for path in it.wanted | it.edited} if bodies else {it.path for it in self.functions}, bodies)
         for edit in [it for it in edits if it not in bodies]:
             fault = room.apply(edit)
             if fault:

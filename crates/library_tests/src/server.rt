@@ -1,0 +1,4 @@
+//! A server, and the loop that serves it over a world.
+
+mod logins;
+mod serve;
