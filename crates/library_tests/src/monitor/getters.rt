@@ -54,9 +54,6 @@ fn what_is_said(monitor: &Monitor, line: usize) -> Said {
     }
 }
 
-/// Drops a monitor, in a function of its own, which makes the check much faster.
-fn let_go(_monitor: Monitor) {}
-
 /// What is known of a UPS before anything came.
 const NOTHING: Known = Known {
     flags: None,
@@ -83,7 +80,7 @@ fn nothing_is_known_at_first(rt: HostRuntime) -> Result<(), Fail> {
     let monitor = quiet_monitor(rt.alloc())?;
     let first = what_is_said(&monitor, 0);
     let beyond = what_is_said(&monitor, 1);
-    let_go(monitor);
+    drop(monitor);
     assert!(rt; first.known == Some(NOTHING) && first.last_query.is_none());
     assert!(rt; beyond.known.is_none() && beyond.last_query.is_none());
     Ok(())
@@ -94,7 +91,7 @@ fn a_link_asks_for_its_user_first(rt: HostRuntime) -> Result<(), Fail> {
     let mut monitor = quiet_monitor(rt.alloc())?;
     let linked = link(&mut monitor);
     let first = what_is_said(&monitor, 0);
-    let_go(monitor);
+    drop(monitor);
     let asked = LastQuery {
         query: Query::Username,
         moment: 7,
@@ -109,7 +106,7 @@ fn a_status_is_known(rt: HostRuntime) -> Result<(), Fail> {
     let mut monitor = quiet_monitor(rt.alloc())?;
     let answered = link_and_answer(&mut monitor);
     let first = what_is_said(&monitor, 0);
-    let_go(monitor);
+    drop(monitor);
     let asked = LastQuery {
         query: Query::Status,
         moment: 7,

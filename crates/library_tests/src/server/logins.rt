@@ -1,6 +1,6 @@
 //! Whether a server says that a client is logged in.
 
-use nut_conf::{UpsConf, UsersConf, read_ups, read_upsd, read_users};
+use nut_conf::{read_ups, read_upsd, read_users};
 use nut_server::{Arrival, Config, Refused, Server};
 use std::alloc::Global;
 use std::test::Fail;
@@ -15,7 +15,7 @@ fn fresh_server(alloc: Global) -> Result<Server, Fail> {
     let users = match read_users(alloc, USERS) {
         Ok(users) => users,
         Err(fault) => {
-            let_ups_go(ups);
+            drop(ups);
             return Err(fault.into());
         }
     };
@@ -25,19 +25,12 @@ fn fresh_server(alloc: Global) -> Result<Server, Fail> {
             Ok(server)
         }
         Err(fault) => {
-            let_conf_go(ups, users);
+            drop(ups);
+            drop(users);
             Err(fault.into())
         }
     }
 }
-
-// Large values are dropped in functions of their own, which makes the check much faster.
-
-fn let_ups_go(_ups: UpsConf) {}
-
-fn let_conf_go(_ups: UpsConf, _users: UsersConf) {}
-
-fn let_go(_server: Server) {}
 
 /// What a client says, and whether it is logged in afterwards. Replies are taken before the next piece.
 static SAID: [(&[u8], bool); 4] = [
@@ -65,7 +58,7 @@ fn says_who_is_logged_in(server: &mut Server) -> Result<bool, Refused> {
 fn a_client_is_logged_in_from_login_to_logout(rt: HostRuntime) -> Result<(), Fail> {
     let mut server = fresh_server(rt.alloc())?;
     let said = says_who_is_logged_in(&mut server);
-    let_go(server);
+    drop(server);
     assert!(rt; said == Ok(true));
     Ok(())
 }

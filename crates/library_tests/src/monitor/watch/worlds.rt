@@ -213,12 +213,9 @@ fn watch_odd(rt: &impl Wait, alloc: Global, mode: Mode) -> Result<Outcome, Fail>
     let is_ok = watch(rt, &mut monitor, &mut world) == Ok(Phase::Watching);
     let linked = (monitor.linked(0), monitor.linked(1));
     let waits = monitor.first_notice();
-    let_go(monitor);
+    drop(monitor);
     Ok(outcome_of(is_ok, linked, waits, &world))
 }
-
-/// Drops a monitor, in a function of its own, which makes the check much faster.
-fn let_go(_monitor: Monitor) {}
 
 fn outcome_of(is_ok: bool, linked: (bool, bool), waits: Option<Notice>, world: &Odd) -> Outcome {
     let took = &world.took;

@@ -3,7 +3,7 @@
 ghost use Rattle.std.specs.Prelude.{◌≡◌, []};
 ghost use Rattle.nut_server_spec.specs.Content.{content};
 
-use super::room::{fresh_server, let_server_go};
+use super::room::fresh_server;
 use failing_world::{Deed, FailingWorld, Row, Trouble, serve_failing};
 use nut_io::Written;
 use nut_server::Server;
@@ -105,7 +105,7 @@ fn play_rows(
     match copy_of(alloc, rows) {
         Ok(rows) => Ok(play(rt, alloc, server, rows, troubles, due)),
         Err(error) => {
-            let_server_go(server);
+            drop(server);
             Err(error.into())
         }
     }
@@ -137,7 +137,7 @@ fn play(
     );
     let is_ok = serve_failing(rt, &mut server, &mut world).is_ok();
     let waits = (server.waits(1), server.waits_for_driver(0));
-    let_server_go(server);
+    drop(server);
     judge(&world, is_ok, waits, due)
 }
 

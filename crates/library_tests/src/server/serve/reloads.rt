@@ -1,21 +1,15 @@
 //! The loop over a world that gives a new configuration.
 
-ghost use Rattle.std.specs.Prelude.{◌≡◌, []};
+ghost use Rattle.std.specs.Prelude.{◌≡◌, [], IfOk};
 ghost use Rattle.nut_server_spec.specs.Content.{content};
 
-use super::room::{config_of, let_server_go, server_of};
+use super::room::{config_of, server_of};
 use failing_world::{Deed, FailingWorld, ReloadingWorld, Row, Trouble, serve_reloading};
 use nut_io::Written;
 use nut_server::{Config, Server};
 use std::alloc::{AllocError, Global};
 use std::sync::Wait;
 use std::test::Fail;
-
-// Large values are dropped in functions of their own, which makes the check much faster.
-
-fn let_world_go(_world: ReloadingWorld) {}
-
-fn let_config_go(_config: Config) {}
 
 /// The UPSes before the reload, and after it.
 const BEFORE: &[u8] = b"[su700]\ndesc = \"Server room\"\n[old]\n";
@@ -53,32 +47,41 @@ fn rows_of(alloc: Global, rows: &[Row]) -> Result<Vec<Row>, AllocError> {
     Ok(copy)
 }
 
-/// Serves rows, a reload and further rows, and returns the world if it ended.
-fn play(
-    rt: &impl Wait,
+/// Makes a world that gives these rows, a reload of these UPSes, and further rows.
+fn world_of(
     alloc: Global,
-    server: Server,
-    config: Config,
-    rows: Vec<Row>,
-    further: Vec<Row>,
-) -> Option<ReloadingWorld>
-    requires { server ≡ content server.configuration [] }
+    rows: &[Row],
+    upses: &[u8],
+    further: &[Row],
+) -> Result<ReloadingWorld, Fail>
+    ensures { IfOk result (λ made. made.world.faults ≡ 0) }
+{
+    let rows = rows_of(alloc, rows)?;
+    let further = rows_of(alloc, further)?;
+    let config = boxed_config(alloc, upses)?;
+    let world = FailingWorld::new(alloc, rows, Trouble::Nothing, Trouble::Nothing, 0);
+    Ok(ReloadingWorld::new(world, config, further))
+}
+
+fn boxed_config(alloc: Global, upses: &[u8]) -> Result<Box<Config>, Fail> {
+    match Box::new(alloc, config_of(alloc, upses)?) {
+        Ok(config) => Ok(config),
+        Err(failed) => {
+            drop(failed);
+            Err(AllocError.into())
+        }
+    }
+}
+
+/// Serves the world, and returns whether it ended.
+fn is_served(rt: &impl Wait, server: Server, world: &mut ReloadingWorld) -> bool
+    requires fresh { server ≡ content server.configuration [] }
+    requires sound { world.old.world.faults ≡ 0 }
 {
     let mut server = server;
-    let world = FailingWorld::new(alloc, rows, Trouble::Nothing, Trouble::Nothing, 0);
-    let Ok(config) = Box::new(alloc, config) else {
-        let_server_go(server);
-        return None;
-    };
-    let mut world = ReloadingWorld::new(world, config, further);
-    let is_ok = serve_reloading(rt, &mut server, &mut world).is_ok();
-    let_server_go(server);
-    if is_ok {
-        Some(world)
-    } else {
-        let_world_go(world);
-        None
-    }
+    let is_ok = serve_reloading(rt, &mut server, world).is_ok();
+    drop(server);
+    is_ok
 }
 
 /// What the world did: the links and connections that it closed in turn, and what it took for a connection and for the
@@ -129,37 +132,42 @@ fn serve_rows(
     c: u64,
     u: usize,
 ) -> Result<Deeds, Fail> {
-    let rows = rows_of(alloc, rows)?;
-    let further = rows_of(alloc, further)?;
-    let config = config_of(alloc, upses)?;
-    let server = match server_of(alloc, BEFORE) {
-        Ok(server) => server,
-        Err(fail) => {
-            let_config_go(config);
-            return Err(fail);
-        }
-    };
-    let Some(world) = play(rt, alloc, server, config, rows, further) else {
+    let mut world = world_of(alloc, rows, upses, further)?;
+    let deeds = serve_world(rt, alloc, &mut world, c, u);
+    drop(world);
+    deeds
+}
+
+fn serve_world(
+    rt: &impl Wait,
+    alloc: Global,
+    world: &mut ReloadingWorld,
+    c: u64,
+    u: usize,
+) -> Result<Deeds, Fail>
+    requires { world.old.world.faults ≡ 0 }
+{
+    let server = server_of(alloc, BEFORE)?;
+    if !is_served(rt, server, world) {
         return Err(AllocError.into());
-    };
-    let deeds = deeds_of(alloc, world.deeds(), c, u);
-    let_world_go(world);
-    Ok(deeds?)
+    }
+    Ok(deeds_of(alloc, world.deeds(), c, u)?)
+}
+
+fn are(done: &Deeds, closes: &[Close], replies: &[u8], requests: &[u8]) -> bool {
+    done.closes.as_slice() == closes
+        && done.replies.as_slice() == replies
+        && done.requests.as_slice() == requests
 }
 
 #[test]
 fn a_reload_ends_what_was_of_a_ups_that_goes(rt: HostRuntime) -> Result<(), Fail> {
     let done = serve_rows(&rt, rt.alloc(), &FIRST, AFTER, &FURTHER, 2, 1)?;
-    assert_eq!(rt;
-        done.closes.as_slice(),
-        [Close::Driver(1), Close::Connection(1)].as_slice()
-    );
-    assert_eq!(rt;
-        done.replies.as_slice(),
-        b"OK\nOK\nOK\nBEGIN LIST UPS\nUPS neu \"N\"\nUPS su700 \"New room\"\nEND LIST UPS\nNUMLOGINS su700 1\nERR DRIVER-NOT-CONNECTED\nVAR neu ups.status \"OL\"\nVAR su700 ups.status \"OL\"\n".as_slice()
-    );
+    let closes = [Close::Driver(1), Close::Connection(1)];
+    let replies =
+        b"OK\nOK\nOK\nBEGIN LIST UPS\nUPS neu \"N\"\nUPS su700 \"New room\"\nEND LIST UPS\nNUMLOGINS su700 1\nERR DRIVER-NOT-CONNECTED\nVAR neu ups.status \"OL\"\nVAR su700 ups.status \"OL\"\n";
     // once for the driver of `old`, and once for that of `neu`
-    assert_eq!(rt; done.requests.as_slice(), b"DUMPALL\nDUMPALL\n".as_slice());
+    assert!(rt; are(&done, &closes, replies, b"DUMPALL\nDUMPALL\n"));
     Ok(())
 }
 
@@ -167,12 +175,8 @@ fn a_reload_ends_what_was_of_a_ups_that_goes(rt: HostRuntime) -> Result<(), Fail
 fn a_reload_of_the_same_files_ends_nothing(rt: HostRuntime) -> Result<(), Fail> {
     let further = [Row::Bytes(1, b"GET VAR old ups.status\n")];
     let done = serve_rows(&rt, rt.alloc(), &FIRST, BEFORE, &further, 1, 1)?;
-    assert_eq!(rt; done.closes.len(), 0);
-    assert_eq!(rt;
-        done.replies.as_slice(),
-        b"OK\nOK\nOK\nOK FSD-SET\nVAR old ups.status \"FSD OL\"\n".as_slice()
-    );
-    assert_eq!(rt; done.requests.as_slice(), b"DUMPALL\n".as_slice());
+    let replies = b"OK\nOK\nOK\nOK FSD-SET\nVAR old ups.status \"FSD OL\"\n";
+    assert!(rt; are(&done, &[], replies, b"DUMPALL\n"));
     Ok(())
 }
 
@@ -181,10 +185,7 @@ fn a_reload_that_changes_a_driver_ends_its_link(rt: HostRuntime) -> Result<(), F
     let upses = b"[su700]\n[old]\ndriver = other\n";
     let further = [Row::Bytes(1, b"GET VAR old ups.status\n")];
     let done = serve_rows(&rt, rt.alloc(), &FIRST, upses, &further, 1, 1)?;
-    assert_eq!(rt; done.closes.as_slice(), [Close::Driver(1)].as_slice());
-    assert_eq!(rt;
-        done.replies.as_slice(),
-        b"OK\nOK\nOK\nOK FSD-SET\nERR DRIVER-NOT-CONNECTED\n".as_slice()
-    );
+    let replies = b"OK\nOK\nOK\nOK FSD-SET\nERR DRIVER-NOT-CONNECTED\n";
+    assert!(rt; are(&done, &[Close::Driver(1)], replies, b"DUMPALL\n"));
     Ok(())
 }

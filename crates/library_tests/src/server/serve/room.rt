@@ -3,7 +3,7 @@
 ghost use Rattle.std.specs.Prelude.{◌≡◌, [], IfOk};
 ghost use Rattle.nut_server_spec.specs.Content.{content};
 
-use nut_conf::{UsersConf, read_ups, read_upsd, read_users};
+use nut_conf::{read_ups, read_upsd, read_users};
 use nut_server::{Config, Server};
 use std::alloc::Global;
 use std::test::Fail;
@@ -36,14 +36,8 @@ pub fn config_of(alloc: Global, upses: &[u8]) -> Result<Config, Fail> {
     match read_ups(alloc, upses) {
         Ok(ups) => Ok(Config::new(ups, users, upsd)),
         Err(fault) => {
-            let_users_go(users);
+            drop(users);
             Err(fault.into())
         }
     }
 }
-
-// Large values are dropped in functions of their own, which makes the check much faster.
-
-fn let_users_go(_users: UsersConf) {}
-
-pub fn let_server_go(_server: Server) {}

@@ -3,7 +3,7 @@
 ghost use Rattle.std.specs.Prelude.{◌≡◌, []};
 ghost use Rattle.nut_server_spec.specs.Content.{content};
 
-use super::room::{fresh_server, let_server_go};
+use super::room::fresh_server;
 use super::{ROWS, ROWS_ANSWERED};
 use failing_world::Row;
 use nut_io::Piece;
@@ -12,8 +12,6 @@ use nut_server_loop::{Address, Given, MemoryWorld, Note, serve_memory};
 use std::alloc::{AllocError, Global};
 use std::sync::Wait;
 use std::test::Fail;
-
-fn let_go(_server: Server, _world: MemoryWorld) {}
 
 fn address(text: &[u8]) -> Address {
     let mut address = Address::new();
@@ -100,7 +98,7 @@ fn serve_rows(
     match arrivals_of(alloc, rows) {
         Ok(arrivals) => serve_all(rt, alloc, server, arrivals, c, u),
         Err(fail) => {
-            let_server_go(server);
+            drop(server);
             Err(fail)
         }
     }
@@ -129,7 +127,8 @@ fn serve_all(
     let mut world = MemoryWorld::new(alloc, arrivals);
     let is_served = serve_memory(rt, &mut server, &mut world).is_ok();
     let deeds = deeds_of(alloc, is_served, world.notes(), c, u);
-    let_go(server, world);
+    drop(server);
+    drop(world);
     deeds
 }
 
