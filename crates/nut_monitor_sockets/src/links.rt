@@ -66,45 +66,46 @@ impl NewLinks {
     }
 }
 
+/// What the links are watched with, which the program gives.
+#[derive(Drop)]
+pub struct Services<'r, 'e, R: Processes, E> {
+    /// The system.
+    pub rt: &'r R,
+    /// The look-ups of hosts.
+    pub look_ups: LookUps<'r, R>,
+    /// Where servers are reported.
+    pub reports: Reports<'e, E>,
+}
+
 /// The links to the servers of the MONITOR lines, by the numbers of the lines, and a clock. The token of a link is its
 /// number.
 #[derive(Drop)]
-pub struct Links<'r, 'e, R: Processes, E> {
-    rt: &'r R,
+pub struct Links {
     alloc: Global,
     rounds: Rounds,
     upstreams: Vec<Upstream>,
-    look_ups: LookUps<'r, R>,
     /// How long a server may take at present.
     limits: Limits,
     /// Whether the shutdown has begun.
     is_ending: bool,
     /// The piece that was given to the monitor last, until it is known whether the monitor read it.
     handed: Option<Handed>,
-    reports: Reports<'e, E>,
 }
 
-impl<'r, 'e, R: Net + Clock + Processes, E: Write> Links<'r, 'e, R, E> {
+impl Links {
     /// Returns an empty set of links.
     ///
     /// # Errors
     ///
     /// The error of the poll or of the clock, or a lack of memory.
-    pub fn none(
-        rt: &'r R,
-        alloc: Global,
-        reports: Reports<'e, E>,
-    ) -> io::Result<Links<'r, 'e, R, E>> {
+    pub fn none(rt: &(impl Net + Clock), alloc: Global) -> io::Result<Links> {
         Ok(Links {
-            rt,
             alloc,
             rounds: Rounds::new(rt, alloc, MONITORS_MAX)?,
             upstreams: Vec::new(alloc),
-            look_ups: LookUps::none(rt, alloc),
             limits: CALM,
             is_ending: false,
             handed: None,
-            reports,
         })
     }
 
@@ -114,10 +115,15 @@ impl<'r, 'e, R: Net + Clock + Processes, E: Write> Links<'r, 'e, R, E> {
     /// # Errors
     ///
     /// The error of the clock. Nothing has changed then.
-    pub fn begin(&mut self, links: NewLinks) -> io::Result<()> {
-        match Seconds::start(self.rt) {
+    pub fn begin<R: Clock + Processes, E: Write>(
+        &mut self,
+        services: &mut Services<'_, '_, R, E>,
+        links: NewLinks,
+    ) -> io::Result<()> {
+        match Seconds::start(services.rt) {
             Ok(seconds) => {
                 self.begin_at(seconds, links);
+                self.look_up(&mut services.look_ups, &mut services.reports);
                 Ok(())
             }
             Err(error) => {
@@ -137,15 +143,14 @@ impl<'r, 'e, R: Net + Clock + Processes, E: Write> Links<'r, 'e, R, E> {
         self.limits = CALM;
         self.is_ending = false;
         self.handed = None;
-        self.look_up();
     }
 
     /// Closes all links, and ends the look-ups. Nothing is reported.
-    pub fn leave(&mut self)
+    pub fn leave(&mut self, look_ups: &mut LookUps<'_, impl Processes>)
         ensures { vec_len self.new.upstreams ≡ 0 }
     {
         self.upstreams.clear();
-        self.look_ups.end();
+        look_ups.end();
     }
 
     /// Returns what comes next, after at most one wait.
@@ -156,30 +161,41 @@ impl<'r, 'e, R: Net + Clock + Processes, E: Write> Links<'r, 'e, R, E> {
     /// # Errors
     ///
     /// The error of the wait or of the clock.
-    pub fn next(&mut self, monitor: &Monitor, piece: &mut Piece) -> io::Result<Next>
+    pub fn next<R: Net + Clock + Processes, E: Write>(
+        &mut self,
+        services: &mut Services<'_, '_, R, E>,
+        monitor: &Monitor,
+        piece: &mut Piece,
+    ) -> io::Result<Next>
         ensures goes_on { IfOk result (λ n. n ≢ next.End) }
     {
-        self.follow(monitor);
+        self.follow(monitor, &mut services.look_ups);
         if let Some(link) = self.link_of_handed() {
-            self.judge(monitor.linked(link));
+            self.judge(monitor.linked(link), &mut services.reports);
         }
-        if let Some(next) = self.look(monitor, piece) {
+        if let Some(next) = self.look(monitor, piece, services.rt, &mut services.reports) {
             return Ok(next);
         }
         let all = self.may_catch_up();
         if let Some(moment) = self.rounds.seconds.next(all) {
             return Ok(Next::Moment(moment));
         }
-        self.wait(monitor)?;
-        Ok(self.look(monitor, piece).unwrap_or(Next::Again))
+        self.wait(monitor, services)?;
+        let next = self.look(monitor, piece, services.rt, &mut services.reports);
+        Ok(next.unwrap_or(Next::Again))
     }
 
     /// Offers bytes to the server of a link. The monitor keeps a link that it writes to, so it has read the last piece.
-    pub fn offer(&mut self, i: usize, bytes: &[u8]) -> Written
+    pub fn offer(
+        &mut self,
+        i: usize,
+        bytes: &[u8],
+        reports: &mut Reports<'_, impl Write>,
+    ) -> Written
         ensures { IsWithin result (length bytes.now) }
     {
         if self.link_of_handed() == Some(i) {
-            self.judge(true);
+            self.judge(true, reports);
         }
         match self.upstreams.get_mut(i) {
             Some(upstream) => upstream.offer(bytes),
@@ -188,12 +204,12 @@ impl<'r, 'e, R: Net + Clock + Processes, E: Write> Links<'r, 'e, R, E> {
     }
 
     /// Closes a link. If the monitor was just given a piece from it, that piece is the reason.
-    pub fn close(&mut self, i: usize) {
+    pub fn close(&mut self, i: usize, reports: &mut Reports<'_, impl Write>) {
         if self.link_of_handed() == Some(i) {
-            self.judge(false);
-            self.end(i, Loss::Unread);
+            self.judge(false, reports);
+            self.end(i, Loss::Unread, reports);
         } else {
-            self.end(i, Loss::Closed);
+            self.end(i, Loss::Closed, reports);
         }
     }
 
@@ -210,7 +226,7 @@ impl<'r, 'e, R: Net + Clock + Processes, E: Write> Links<'r, 'e, R, E> {
 
     /// Reports the answer in the piece that was given to the monitor last, now that it is known whether the monitor
     /// read it.
-    fn judge(&mut self, is_read: bool)
+    fn judge(&mut self, is_read: bool, reports: &mut Reports<'_, impl Write>)
         ensures { self.new.handed ≡ None }
     {
         let Some(Handed { link, answer }) = self.handed.take() else {
@@ -219,12 +235,19 @@ impl<'r, 'e, R: Net + Clock + Processes, E: Write> Links<'r, 'e, R, E> {
         let Some((query, reply)) = answer else {
             return;
         };
-        self.tell_answer(link, query, &reply, is_read);
+        self.tell_answer(link, query, &reply, is_read, reports);
     }
 
     /// Reports what an answer shows, if it has to be reported: that the server begins to serve, if the monitor read the
     /// answer, and what was refused.
-    fn tell_answer(&mut self, i: usize, query: Query, reply: &Reply, is_read: bool)
+    fn tell_answer(
+        &mut self,
+        i: usize,
+        query: Query,
+        reply: &Reply,
+        is_read: bool,
+        reports: &mut Reports<'_, impl Write>,
+    )
         ensures { self.new.handed ≡ self.old.handed }
     {
         let Some(upstream) = self.upstreams.get_mut(i) else {
@@ -232,20 +255,16 @@ impl<'r, 'e, R: Net + Clock + Processes, E: Write> Links<'r, 'e, R, E> {
         };
         let is_told = upstream.note_reply(query, reply);
         if is_read && is_after_opening(query) && upstream.begins_to_serve() {
-            self.reports.tell(Report::Reached(upstream.name()));
+            reports.tell(Report::Reached(upstream.name()));
         }
         if is_told {
-            self.reports.tell(Report::Refused(
-                upstream.name(),
-                title(query),
-                text_of(reply.error()),
-            ));
+            reports.tell(Report::Refused(upstream.name(), title(query), text_of(reply.error())));
         }
     }
 
     /// Closes a link and reports it: a server that has served is lost, and of any other it is reported once that there
     /// is no server yet.
-    fn end(&mut self, i: usize, loss: Loss) {
+    fn end(&mut self, i: usize, loss: Loss, reports: &mut Reports<'_, impl Write>) {
         let Some(upstream) = self.upstreams.get_mut(i) else {
             return;
         };
@@ -253,19 +272,19 @@ impl<'r, 'e, R: Net + Clock + Processes, E: Write> Links<'r, 'e, R, E> {
             return;
         }
         if upstream.close(self.limits) {
-            self.reports.tell(lost(upstream.name(), loss));
+            reports.tell(lost(upstream.name(), loss));
         } else if upstream.misses() {
-            self.reports.tell(unserved(upstream.name(), loss));
+            reports.tell(unserved(upstream.name(), loss));
         }
     }
 
     /// Follows the phase of the monitor. A shutdown counts its own seconds, so seconds that were missed before it are
     /// forgotten, and no look-up helps it any more.
-    fn follow(&mut self, monitor: &Monitor) {
+    fn follow(&mut self, monitor: &Monitor, look_ups: &mut LookUps<'_, impl Processes>) {
         if !self.is_ending && !matches!(monitor.phase(), Phase::Watching) {
             self.is_ending = true;
             self.rounds.seconds.forget_missed();
-            self.look_ups.end();
+            look_ups.end();
         }
     }
 
@@ -277,43 +296,61 @@ impl<'r, 'e, R: Net + Clock + Processes, E: Write> Links<'r, 'e, R, E> {
     }
 
     /// Looks at the links of this round, until one has something to tell.
-    fn look(&mut self, monitor: &Monitor, piece: &mut Piece) -> Option<Next>
+    fn look(
+        &mut self,
+        monitor: &Monitor,
+        piece: &mut Piece,
+        net: &impl Net,
+        reports: &mut Reports<'_, impl Write>,
+    ) -> Option<Next>
         ensures goes_on { IfSome result (λ n. n ≢ next.End) }
     {
         for _ in 0..SOCKETS_MAX {
             let Token(i) = self.rounds.ready.take()?;
-            let next = self.look_at(monitor, i, piece);
-            if next.is_some() {
-                return next;
+            if let Some(next) = self.look_at(monitor, i, piece, net, reports) {
+                return Some(next);
             }
         }
         None
     }
 
     /// Reads from a link, or calls its server. If only the monitor or only this world has the link, it is lost.
-    fn look_at(&mut self, monitor: &Monitor, i: usize, piece: &mut Piece) -> Option<Next>
+    fn look_at(
+        &mut self,
+        monitor: &Monitor,
+        i: usize,
+        piece: &mut Piece,
+        net: &impl Net,
+        reports: &mut Reports<'_, impl Write>,
+    ) -> Option<Next>
         ensures goes_on { IfSome result (λ n. n ≢ next.End) }
     {
         match (self.upstreams.get(i)?.is_up(), monitor.linked(i)) {
-            (true, true) => self.hear(monitor, i, piece),
-            (false, false) => self.reach(i),
+            (true, true) => self.hear(monitor, i, piece, reports),
+            (false, false) => self.reach(i, net, reports),
             (false, true) => Some(Next::LinkLost(i)),
             (true, false) => {
-                self.close(i);
+                self.close(i, reports);
                 None
             }
         }
     }
 
     /// Reads from a link. If its server doesn't answer in time the link is lost, whatever else the server sends.
-    fn hear(&mut self, monitor: &Monitor, i: usize, piece: &mut Piece) -> Option<Next>
+    fn hear(
+        &mut self,
+        monitor: &Monitor,
+        i: usize,
+        piece: &mut Piece,
+        reports: &mut Reports<'_, impl Write>,
+    ) -> Option<Next>
         ensures goes_on { IfSome result (λ n. n ≢ next.End) }
     {
         let heard = self.upstreams.get_mut(i)?.hear(piece);
         self.take_in(monitor, i, heard, piece);
         match self.loss_after(i, heard) {
             Some(loss) => {
-                self.end(i, loss);
+                self.end(i, loss, reports);
                 Some(Next::LinkLost(i))
             }
             None => next_after(heard, i),
@@ -358,13 +395,18 @@ impl<'r, 'e, R: Net + Clock + Processes, E: Write> Links<'r, 'e, R, E> {
 
     /// Calls the server of a link, or continues the call. When the link is made, what the server has sent already is to
     /// be read.
-    fn reach(&mut self, i: usize) -> Option<Next>
+    fn reach(
+        &mut self,
+        i: usize,
+        net: &impl Net,
+        reports: &mut Reports<'_, impl Write>,
+    ) -> Option<Next>
         ensures goes_on { IfSome result (λ n. n ≢ next.End) }
     {
         let upstream = self.upstreams.get_mut(i)?;
         let token = Token(i);
         let dialler = Dialler {
-            net: self.rt,
+            net,
             registry: self.rounds.registry(),
             token,
         };
@@ -375,39 +417,40 @@ impl<'r, 'e, R: Net + Clock + Processes, E: Write> Links<'r, 'e, R, E> {
                 Some(Next::Linked(i))
             }
             Err(error) => {
-                if upstream.misses() {
-                    self.reports
-                        .tell(Report::Unreachable(upstream.name(), error));
-                }
+                tell_unreachable(upstream, error, reports);
                 None
             }
         }
     }
 
     /// Waits until an event comes or a second is over, or not at all if there is more to do, and begins the next round.
-    fn wait(&mut self, monitor: &Monitor) -> io::Result<()> {
-        if self.rounds.look_at_clock(self.rt)? {
-            self.second(monitor);
+    fn wait<R: Clock + Processes, E: Write>(
+        &mut self,
+        monitor: &Monitor,
+        services: &mut Services<'_, '_, R, E>,
+    ) -> io::Result<()> {
+        if self.rounds.look_at_clock(services.rt)? {
+            self.second(monitor, &mut services.look_ups, &mut services.reports);
         }
-        let patience = self.patience();
+        let patience = self.patience(&services.look_ups);
         self.rounds.wait_for(patience)?;
         note(
             &self.rounds.events,
             &mut self.rounds.ready,
             &mut self.upstreams,
         );
-        self.take_look_up();
+        self.take_look_up(&mut services.look_ups, &mut services.reports);
         self.rounds.begin();
         Ok(())
     }
 
     /// Returns how long there is nothing to do except wait for events.
-    fn patience(&self) -> Duration {
+    fn patience(&self, look_ups: &LookUps<'_, impl Processes>) -> Duration {
         if self.rounds.seconds.has_next(self.may_catch_up()) {
             return Duration::ZERO;
         }
         let ahead = self.rounds.seconds.ahead();
-        if self.look_ups.is_idle() {
+        if look_ups.is_idle() {
             ahead
         } else {
             ahead.min(Duration::from_millis(LOOK_UP_WAIT))
@@ -415,37 +458,47 @@ impl<'r, 'e, R: Net + Clock + Processes, E: Write> Links<'r, 'e, R, E> {
     }
 
     /// Counts a second that has passed, or several in which this process was stopped.
-    fn second(&mut self, monitor: &Monitor) {
+    fn second(
+        &mut self,
+        monitor: &Monitor,
+        look_ups: &mut LookUps<'_, impl Processes>,
+        reports: &mut Reports<'_, impl Write>,
+    ) {
         self.limits = Limits::of(monitor);
         for upstream in self.upstreams.iter_mut() {
             upstream.second(self.limits);
         }
-        self.look_ups.second();
-        if !self.is_ending && self.look_ups.has_room() {
-            self.look_up();
+        look_ups.second();
+        if !self.is_ending && look_ups.has_room() {
+            self.look_up(look_ups, reports);
         }
     }
 
     /// Begins one look-up, if any is due.
-    fn look_up(&mut self) {
-        let Some(i) = next_look_up(&self.upstreams, &self.look_ups) else {
+    fn look_up(
+        &mut self,
+        look_ups: &mut LookUps<'_, impl Processes>,
+        reports: &mut Reports<'_, impl Write>,
+    ) {
+        let Some(i) = next_look_up(&self.upstreams, look_ups) else {
             return;
         };
         let Some(upstream) = self.upstreams.get_mut(i) else {
             return;
         };
-        if let Err(error) = self.look_ups.start(upstream.host_name()) {
+        if let Err(error) = look_ups.start(upstream.host_name()) {
             upstream.take_addresses(&[]);
-            if upstream.misses() {
-                self.reports
-                    .tell(Report::Unreachable(upstream.name(), error));
-            }
+            tell_unreachable(upstream, error, reports);
         }
     }
 
     /// Takes the result of a look-up that has ended. All links to that host are then called.
-    fn take_look_up(&mut self) {
-        let Some(found) = self.look_ups.take() else {
+    fn take_look_up(
+        &mut self,
+        look_ups: &mut LookUps<'_, impl Processes>,
+        reports: &mut Reports<'_, impl Write>,
+    ) {
+        let Some(found) = look_ups.take() else {
             return;
         };
         if self.is_ending {
@@ -454,10 +507,8 @@ impl<'r, 'e, R: Net + Clock + Processes, E: Write> Links<'r, 'e, R, E> {
         for (i, upstream) in self.upstreams.iter_mut().enumerate() {
             if upstream.host_name() == found.name.as_str() {
                 self.rounds.ready.insert(Token(i));
-                if !upstream.take_addresses(&found.addresses) && upstream.misses() {
-                    let error = io::Error::other(found.reason);
-                    self.reports
-                        .tell(Report::Unreachable(upstream.name(), error));
+                if !upstream.take_addresses(&found.addresses) {
+                    tell_unreachable(upstream, io::Error::other(found.reason), reports);
                 }
             }
         }
@@ -511,6 +562,17 @@ fn is_after_opening(query: Query) -> bool {
     match query {
         Query::Status | Query::Fsd | Query::NumLogins => true,
         Query::Username | Query::Password | Query::Login | Query::Primary => false,
+    }
+}
+
+/// Reports that a server can't be reached, unless that was reported since it last served.
+fn tell_unreachable(
+    upstream: &mut Upstream,
+    error: io::Error,
+    reports: &mut Reports<'_, impl Write>,
+) {
+    if upstream.misses() {
+        reports.tell(Report::Unreachable(upstream.name(), error));
     }
 }
 

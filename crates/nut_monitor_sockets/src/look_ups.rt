@@ -66,9 +66,9 @@ impl<'r, R: Processes> LookUps<'r, R> {
     ///
     /// If the process can't be started or memory cannot be allocated.
     pub fn start(&mut self, name: &str) -> io::Result<()> {
+        let about = String::from_str(self.alloc, name)?;
         let command = getent(self.alloc, name)?;
-        let name = String::from_str(self.alloc, name)?;
-        match self.questions.start(command, name) {
+        match self.questions.start(command, about) {
             Ok(()) => Ok(()),
             Err(_) => Err(io::Error::other("getent, which looks its name up, cannot be started")),
         }

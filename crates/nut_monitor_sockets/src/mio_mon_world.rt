@@ -7,7 +7,8 @@ ghost use Rattle.nut_poll.specs.Late.{is_noted};
 ghost use Rattle.nut_monitor_sockets.specs.Untold.{untold_watch};
 
 use crate::herald::Herald;
-use crate::links::{Links, NewLinks};
+use crate::links::{Links, NewLinks, Services};
+use crate::look_ups::LookUps;
 use arrayvec::ArrayVec;
 use nut_conf::MONITORS_MAX;
 use nut_io::{Fault, Piece, Written};
@@ -42,7 +43,8 @@ use std::time::Clock;
 /// one link concerns no other. The world keeps no record.
 #[derive(Drop)]
 pub struct MioMonWorld<'r, 'e, R: Processes, H, E> {
-    links: Links<'r, 'e, R, E>,
+    links: Links,
+    services: Services<'r, 'e, R, E>,
     herald: H,
     late: ArrayVec<u64, MONITORS_MAX>,
     faults: u64,
@@ -63,8 +65,14 @@ impl<'r, 'e, R: Net + Clock + Processes, H: Herald, E: Write> MioMonWorld<'r, 'e
     ) -> io::Result<MioMonWorld<'r, 'e, R, H, E>>
         ensures { IfOk result (λ w. w.faults ≡ 0) }
     {
+        let links = Links::none(rt, alloc)?;
         Ok(MioMonWorld {
-            links: Links::none(rt, alloc, reports)?,
+            links,
+            services: Services {
+                rt,
+                look_ups: LookUps::none(rt, alloc),
+                reports,
+            },
             herald,
             late: ArrayVec::new(),
             faults: 0,
@@ -81,7 +89,7 @@ impl<'r, 'e, R: Net + Clock + Processes, H: Herald, E: Write> MioMonWorld<'r, 'e
     pub fn begin(&mut self, links: NewLinks) -> io::Result<()>
         ensures { OnOk result (self.new.faults ≡ 0) }
     {
-        self.links.begin(links)?;
+        self.links.begin(&mut self.services, links)?;
         self.late.clear();
         self.faults = 0;
         self.has_ended = false;
@@ -90,7 +98,7 @@ impl<'r, 'e, R: Net + Clock + Processes, H: Herald, E: Write> MioMonWorld<'r, 'e
 
     /// Closes all links, and ends the look-ups: nothing more is watched. Nothing is reported.
     pub fn leave(&mut self) {
-        self.links.leave();
+        self.links.leave(&mut self.services.look_ups);
     }
 
     /// Returns the herald.
@@ -123,7 +131,7 @@ impl<'r, 'e, R: Net + Clock + Processes, H: Herald, E: Write> MonWorld
 
     fn next(&mut self, monitor: &Monitor, piece: &mut Piece) -> Result<Next, Fault> {
         self.late.clear();
-        match self.links.next(monitor, piece) {
+        match self.links.next(&mut self.services, monitor, piece) {
             Ok(Next::Moment(moment)) => {
                 self.has_ended = self.herald.second(monitor);
                 Ok(if self.has_ended {
@@ -149,7 +157,7 @@ impl<'r, 'e, R: Net + Clock + Processes, H: Herald, E: Write> MonWorld
         ensures within { IfOk result (λ w. IsWithin w (length bytes.now)) }
         ensures late { IfOk result (λ w. (j : ℕ) → is_noted self.new.late.items j ≡ late_after w i (is_noted self.old.late.items) j) }
     {
-        let written = self.links.offer(i, bytes);
+        let written = self.links.offer(i, bytes, &mut self.services.reports);
         Ok(note_written(&mut self.late, i as u64, written))
     }
 
@@ -160,7 +168,7 @@ impl<'r, 'e, R: Net + Clock + Processes, H: Herald, E: Write> MonWorld
         ensures err { OnErr result (untold_watch ≡ untold_watch) }
         ensures late { (j : ℕ) → is_noted self.new.late.items j ≡ is_noted self.old.late.items j }
     {
-        self.links.close(i);
+        self.links.close(i, &mut self.services.reports);
         Ok(())
     }
 
