@@ -9,7 +9,7 @@ ghost use Rattle.nut_server_sockets.specs.Untold.{untold};
 
 use crate::drivers::Drivers;
 use crate::reloader::Reloader;
-use crate::sockets::Sockets;
+use crate::sockets::{Services, Sockets};
 use arrayvec::ArrayVec;
 use mio::net::TcpListener;
 use nut_conf::{CONNECTIONS_MAX, UPSES_MAX};
@@ -37,7 +37,8 @@ const LATE_MAX: usize = CONNECTIONS_MAX as usize;
 /// one socket concerns no other. The world keeps no record.
 #[derive(Drop)]
 pub struct MioWorld<'r, 'e, R, E, L> {
-    sockets: Sockets<'r, 'e, R, E, L>,
+    sockets: Sockets,
+    services: Services<'r, 'e, R, E, L>,
     late: ArrayVec<u64, LATE_MAX>,
     late_drivers: ArrayVec<u64, UPSES_MAX>,
     faults: u64,
@@ -60,8 +61,14 @@ impl<'r, 'e, R: Net + Clock, E: Write, L: Reloader + Drop> MioWorld<'r, 'e, R, E
     ) -> io::Result<MioWorld<'r, 'e, R, E, L>>
         ensures { IfOk result (λ w. w.faults ≡ 0) }
     {
+        let sockets = Sockets::new(rt, alloc, listeners, drivers)?;
         Ok(MioWorld {
-            sockets: Sockets::new(rt, alloc, listeners, drivers, reports, reloader)?,
+            sockets,
+            services: Services {
+                rt,
+                reports,
+                reloader,
+            },
             late: ArrayVec::new(),
             late_drivers: ArrayVec::new(),
             faults: 0,
@@ -95,7 +102,7 @@ impl<'r, 'e, R: Net + Clock, E: Write, L: Reloader + Drop> World for MioWorld<'r
     fn next(&mut self, server: &Server, piece: &mut Piece) -> Result<Next, Fault> {
         self.late.clear();
         self.late_drivers.clear();
-        match self.sockets.next(server, piece) {
+        match self.sockets.next(&mut self.services, server, piece) {
             Ok(next) => Ok(next),
             Err(_) => {
                 self.faults += 1;
@@ -152,7 +159,7 @@ impl<'r, 'e, R: Net + Clock, E: Write, L: Reloader + Drop> World for MioWorld<'r
         ensures late { (d : ℕ) → is_noted self.new.late.items d ≡ is_noted self.old.late.items d }
         ensures drivers { (v : ℕ) → is_noted self.new.late_drivers.items v ≡ is_noted self.old.late_drivers.items v }
     {
-        self.sockets.close_driver(u);
+        self.sockets.close_driver(u, &mut self.services.reports);
         Ok(())
     }
 }

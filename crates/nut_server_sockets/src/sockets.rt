@@ -30,17 +30,25 @@ use std::time::Clock;
 /// How many pieces of one driver are read in a second before the next driver is looked at: more than its socket holds.
 const PIECES: usize = 1024;
 
+/// What the sockets are watched with, which the program gives.
+#[derive(Drop)]
+pub struct Services<'r, 'e, R, E, L> {
+    /// The system.
+    pub rt: &'r R,
+    /// Where drivers and clients are reported.
+    pub reports: Reports<'e, E>,
+    /// Where new configurations come from.
+    pub reloader: L,
+}
+
 /// The listeners, the clients and the drivers of a server, and its clock.
 #[derive(Drop)]
-pub struct Sockets<'r, 'e, R, E, L> {
-    rt: &'r R,
+pub struct Sockets {
     rounds: Rounds,
     door: Door,
     clients: Clients,
     hindrances: Hindrances,
     drivers: Drivers,
-    reports: Reports<'e, E>,
-    reloader: L,
     /// Whether the reloader has still to be asked in this second.
     asks: bool,
     /// Whether a new configuration was given at the last call of `next`.
@@ -55,32 +63,27 @@ pub struct Sockets<'r, 'e, R, E, L> {
     stall: Stall,
 }
 
-impl<'r, 'e, R: Net + Clock, E: Write, L: Reloader + Drop> Sockets<'r, 'e, R, E, L> {
-    /// Watches these listeners, and will dial these drivers and ask this reloader.
+impl Sockets {
+    /// Watches these listeners, and will dial these drivers.
     ///
     /// # Errors
     ///
     /// The error of the poll or of the clock, or a lack of memory.
     pub fn new(
-        rt: &'r R,
+        rt: &(impl Net + Clock),
         alloc: Global,
         listeners: Vec<TcpListener>,
         drivers: Drivers,
-        reports: Reports<'e, E>,
-        reloader: L,
-    ) -> io::Result<Sockets<'r, 'e, R, E, L>> {
+    ) -> io::Result<Sockets> {
         let stall = Stall::new(alloc)?;
         let rounds = Rounds::new(rt, alloc, LISTENERS_MAX)?;
         let door = Door::new(rounds.registry(), listeners)?;
         Ok(Sockets {
-            rt,
             rounds,
             door,
             clients: Clients::new(alloc),
             hindrances: Hindrances::none(),
             drivers,
-            reports,
-            reloader,
             asks: false,
             has_given: false,
             moment: 0,
@@ -97,28 +100,34 @@ impl<'r, 'e, R: Net + Clock, E: Write, L: Reloader + Drop> Sockets<'r, 'e, R, E,
     /// # Errors
     ///
     /// The error of the wait or of the clock.
-    pub fn next(&mut self, server: &Server, piece: &mut Piece) -> io::Result<Next>
+    pub fn next<R: Net + Clock, E: Write, L: Reloader>(
+        &mut self,
+        services: &mut Services<'_, '_, R, E, L>,
+        server: &Server,
+        piece: &mut Piece,
+    ) -> io::Result<Next>
         ensures may { IfOk result (λ n. MayCome n server.now) }
         ensures goes_on { IfOk result (λ n. n ≢ next.End) }
     {
-        self.end_reload(server);
-        if let Some(number) = self.seat(server) {
+        self.end_reload(server, &mut services.reloader, &mut services.reports);
+        if let Some(number) = self.seat(server, &mut services.reports) {
             return Ok(Next::Close(number));
         }
-        if let Some(number) = self.shed(server) {
+        if let Some(number) = self.shed(server, &mut services.reports) {
             return Ok(Next::Close(number));
         }
-        if let Some(config) = self.reload(server) {
+        if let Some(config) = self.reload(server, &mut services.reloader, &mut services.reports) {
             return Ok(Next::Reload(config));
         }
-        if let Some(next) = self.look(server, piece) {
+        if let Some(next) = self.look(server, piece, services.rt, &mut services.reports) {
             return Ok(next);
         }
-        if let Some(moment) = self.wait()? {
-            self.begin_second(server, moment);
+        if let Some(moment) = self.wait(services.rt)? {
+            self.begin_second(server, moment, &mut services.reports);
             return Ok(Next::Moment(moment));
         }
-        Ok(self.look(server, piece).unwrap_or(Next::Again))
+        let next = self.look(server, piece, services.rt, &mut services.reports);
+        Ok(next.unwrap_or(Next::Again))
     }
 
     /// Offers bytes to a connection.
@@ -148,39 +157,46 @@ impl<'r, 'e, R: Net + Clock, E: Write, L: Reloader + Drop> Sockets<'r, 'e, R, E,
     }
 
     /// Closes the link to the driver of a UPS, and reports it.
-    pub fn close_driver(&mut self, u: usize) {
+    pub fn close_driver(&mut self, u: usize, reports: &mut Reports<'_, impl Write>) {
         if let Some(driver) = self.drivers.get_mut(u) {
             driver.close();
-            self.reports.tell(Report::Lost(driver.name()));
+            reports.tell(Report::Lost(driver.name()));
         }
     }
 
     /// Keeps the socket of a connection that the server accepted, and closes that of one that it refused. Returns the
     /// number of a connection that the server accepted and whose socket can't be kept.
-    fn seat(&mut self, server: &Server) -> Option<u64> {
+    fn seat(&mut self, server: &Server, reports: &mut Reports<'_, impl Write>) -> Option<u64> {
         if self.door.is_refused(server) {
-            self.hindrances.tell_refusal(server, &mut self.reports);
+            self.hindrances.tell_refusal(server, reports);
         }
-        let (number, guest) = self.door.seat(server)?;
-        self.keep(number, guest)
+        match self.door.seat(server) {
+            Some((number, guest)) => self.keep(number, guest, reports),
+            None => None,
+        }
     }
 
     /// Keeps the socket of a connection. Returns its number if that is impossible.
-    fn keep(&mut self, number: u64, guest: Guest) -> Option<u64> {
+    fn keep(
+        &mut self,
+        number: u64,
+        guest: Guest,
+        reports: &mut Reports<'_, impl Write>,
+    ) -> Option<u64> {
         match self.clients.add(self.rounds.registry(), number, guest) {
             Ok(()) => {
                 self.hindrances.end();
                 None
             }
             Err(error) => {
-                self.hindrances.tell_error(error, &mut self.reports);
+                self.hindrances.tell_error(error, reports);
                 Some(number)
             }
         }
     }
 
     /// Closes the socket of a client that was silent for too long. Returns the number of its connection.
-    fn shed(&mut self, server: &Server) -> Option<u64> {
+    fn shed(&mut self, server: &Server, reports: &mut Reports<'_, impl Write>) -> Option<u64> {
         if !self.sheds {
             return None;
         }
@@ -189,71 +205,97 @@ impl<'r, 'e, R: Net + Clock, E: Write, L: Reloader + Drop> Sockets<'r, 'e, R, E,
             return None;
         };
         self.clients.close(silent.number);
-        self.reports
-            .tell(Report::Shed(silent.address, silent.seconds));
+        reports.tell(Report::Shed(silent.address, silent.seconds));
         Some(silent.number)
     }
 
     /// Returns a new configuration, if one is asked for in this second.
-    fn reload(&mut self, server: &Server) -> Option<Box<Config>> {
+    fn reload(
+        &mut self,
+        server: &Server,
+        reloader: &mut impl Reloader,
+        reports: &mut Reports<'_, impl Write>,
+    ) -> Option<Box<Config>> {
         if !self.asks {
             return None;
         }
         self.asks = false;
-        let config = self.reloader.look(server, &mut self.reports)?;
+        let config = reloader.look(server, reports)?;
         self.has_given = true;
         Some(config)
     }
 
     /// Once the server has been told a new configuration, has that reported, and takes the drivers of the UPSes that the
     /// server has now.
-    fn end_reload(&mut self, server: &Server) {
+    fn end_reload(
+        &mut self,
+        server: &Server,
+        reloader: &mut impl Reloader,
+        reports: &mut Reports<'_, impl Write>,
+    ) {
         if self.has_given {
             self.has_given = false;
-            self.reloader.tell(server, &mut self.reports);
+            reloader.tell(server, reports);
             self.drivers.follow(server);
         }
     }
 
     /// Looks at the drivers, if they haven't been looked at in this second, and then at the sockets of this round,
     /// until one has something to tell.
-    fn look(&mut self, server: &Server, piece: &mut Piece) -> Option<Next>
+    fn look(
+        &mut self,
+        server: &Server,
+        piece: &mut Piece,
+        net: &impl Net,
+        reports: &mut Reports<'_, impl Write>,
+    ) -> Option<Next>
         ensures may { IfSome result (λ n. MayCome n server.now) }
         ensures goes_on { IfSome result (λ n. n ≢ next.End) }
     {
-        if let Some(next) = self.call_roll(piece) {
+        if let Some(next) = self.call_roll(piece, net, reports) {
             return Some(next);
         }
         self.end_stall();
         for _ in 0..SOCKETS_MAX {
             let token = self.rounds.ready.take()?;
-            let next = self.look_at(server, Source::of(token), piece);
-            if next.is_some() {
-                return next;
+            if let Some(next) = self.look_at(server, Source::of(token), piece, net, reports) {
+                return Some(next);
             }
         }
         None
     }
 
     /// Looks at one source.
-    fn look_at(&mut self, server: &Server, source: Source, piece: &mut Piece) -> Option<Next>
+    fn look_at(
+        &mut self,
+        server: &Server,
+        source: Source,
+        piece: &mut Piece,
+        net: &impl Net,
+        reports: &mut Reports<'_, impl Write>,
+    ) -> Option<Next>
         ensures may { IfSome result (λ n. MayCome n server.now) }
         ensures goes_on { IfSome result (λ n. n ≢ next.End) }
     {
         match source {
-            Source::Listener(i) => self.look_at_listener(server, i),
-            Source::Driver(u) => self.look_at_driver(u, piece),
+            Source::Listener(i) => self.look_at_listener(server, i, reports),
+            Source::Driver(u) => self.look_at_driver(u, piece, net, reports),
             Source::Client(key) => self.look_at_client(server, key, piece),
         }
     }
 
     /// Looks at each driver once a second, as long as it has something to read, whether or not an event came.
-    fn call_roll(&mut self, piece: &mut Piece) -> Option<Next>
+    fn call_roll(
+        &mut self,
+        piece: &mut Piece,
+        net: &impl Net,
+        reports: &mut Reports<'_, impl Write>,
+    ) -> Option<Next>
         ensures may { (s : Content) → IfSome result (λ n. MayCome n s) }
         ensures goes_on { IfSome result (λ n. n ≢ next.End) }
     {
         for _ in self.roll..self.drivers.len() {
-            let next = self.look_at_driver(self.roll, piece);
+            let next = self.look_at_driver(self.roll, piece, net, reports);
             if self.pieces > 0 && matches!(next, Some(Next::DriverBytes(_))) {
                 self.pieces -= 1;
             } else {
@@ -269,12 +311,18 @@ impl<'r, 'e, R: Net + Clock, E: Write, L: Reloader + Drop> Sockets<'r, 'e, R, E,
 
     /// Accepts a client. If there is no memory or no descriptor for one, that is reported, whether or not a client waits,
     /// and tried again in the next second.
-    fn look_at_listener(&mut self, server: &Server, i: usize) -> Option<Next>
+    fn look_at_listener(
+        &mut self,
+        server: &Server,
+        i: usize,
+        reports: &mut Reports<'_, impl Write>,
+    ) -> Option<Next>
         ensures may { IfSome result (λ n. MayCome n server.now) }
         ensures goes_on { IfSome result (λ n. n ≢ next.End) }
     {
         if !self.clients.make_room() {
-            self.tell_shut_out(io::Error::from(ErrorKind::OutOfMemory));
+            self.hindrances
+                .tell_error(io::Error::from(ErrorKind::OutOfMemory), reports);
             return None;
         }
         match self.door.let_in(i, server.opened()) {
@@ -286,33 +334,34 @@ impl<'r, 'e, R: Net + Clock, E: Write, L: Reloader + Drop> Sockets<'r, 'e, R, E,
                 if concerns_one(&error) {
                     self.rounds.ready.insert(Source::Listener(i).token());
                 } else if error.kind() != ErrorKind::WouldBlock {
-                    self.tell_shut_out(error);
+                    self.hindrances.tell_error(error, reports);
                 }
                 None
             }
         }
     }
 
-    /// Reports that no client can be let in.
-    fn tell_shut_out(&mut self, error: io::Error) {
-        self.hindrances.tell_error(error, &mut self.reports);
-    }
-
     /// Dials a driver that isn't connected, and reads from one that is.
-    fn look_at_driver(&mut self, u: usize, piece: &mut Piece) -> Option<Next>
+    fn look_at_driver(
+        &mut self,
+        u: usize,
+        piece: &mut Piece,
+        net: &impl Net,
+        reports: &mut Reports<'_, impl Write>,
+    ) -> Option<Next>
         ensures may { (s : Content) → IfSome result (λ n. MayCome n s) }
         ensures goes_on { IfSome result (λ n. n ≢ next.End) }
     {
         let driver = self.drivers.get_mut(u)?;
         let source = Source::Driver(u);
         if !driver.is_connected() {
-            if let Err(error) = driver.dial(self.rt, self.rounds.registry(), source.token()) {
+            if let Err(error) = driver.dial(net, self.rounds.registry(), source.token()) {
                 if driver.misses() {
-                    self.reports.tell(Report::Missed(driver.name(), error));
+                    reports.tell(Report::Missed(driver.name(), error));
                 }
                 return None;
             }
-            self.reports.tell(Report::Connected(driver.name()));
+            reports.tell(Report::Connected(driver.name()));
             return Some(Next::DriverUp(u));
         }
         match driver.hear(piece) {
@@ -324,7 +373,7 @@ impl<'r, 'e, R: Net + Clock, E: Write, L: Reloader + Drop> Sockets<'r, 'e, R, E,
             }
             Heard::End => {
                 driver.close();
-                self.reports.tell(Report::Lost(driver.name()));
+                reports.tell(Report::Lost(driver.name()));
                 Some(Next::DriverDown(u))
             }
         }
@@ -361,7 +410,7 @@ impl<'r, 'e, R: Net + Clock, E: Write, L: Reloader + Drop> Sockets<'r, 'e, R, E,
 
     /// Waits until an event comes or a second is over, or not at all if there is more to look at, and begins the next
     /// round. Returns the number of seconds since the start, if one more is over.
-    fn wait(&mut self) -> io::Result<Option<u64>> {
+    fn wait(&mut self, clock: &impl Clock) -> io::Result<Option<u64>> {
         self.rounds.wait()?;
         note(
             &self.rounds.events,
@@ -369,19 +418,24 @@ impl<'r, 'e, R: Net + Clock, E: Write, L: Reloader + Drop> Sockets<'r, 'e, R, E,
             &mut self.clients,
             &mut self.drivers,
         );
-        self.rounds.turn(self.rt)
+        self.rounds.turn(clock)
     }
 
     /// Begins a second: silent clients, the reloader and all drivers are to be looked at. If more than one second and
     /// more than a third of MAXAGE passed at once, the drivers are sent PING now, and clients wait until they have
     /// answered.
-    fn begin_second(&mut self, server: &Server, moment: u64) {
+    fn begin_second(
+        &mut self,
+        server: &Server,
+        moment: u64,
+        reports: &mut Reports<'_, impl Write>,
+    ) {
         let passed = moment.saturating_sub(self.moment);
         self.moment = moment;
         self.clients.second();
         self.hindrances.second();
         self.drivers.catch_up(server);
-        self.tell_staleness(server);
+        self.tell_staleness(server, reports);
         self.sheds = true;
         self.asks = true;
         self.roll = 0;
@@ -395,12 +449,12 @@ impl<'r, 'e, R: Net + Clock, E: Write, L: Reloader + Drop> Sockets<'r, 'e, R, E,
     }
 
     /// Reports the UPSes whose data have become stale since the last second, or are no longer stale.
-    fn tell_staleness(&mut self, server: &Server) {
+    fn tell_staleness(&mut self, server: &Server, reports: &mut Reports<'_, impl Write>) {
         for u in 0..self.drivers.len() {
             if let Some(driver) = self.drivers.get_mut(u) {
                 let is_stale = server.is_stale(u);
                 if driver.note_staleness(is_stale) {
-                    self.reports.tell(staleness(driver.name(), is_stale));
+                    reports.tell(staleness(driver.name(), is_stale));
                 }
             }
         }
