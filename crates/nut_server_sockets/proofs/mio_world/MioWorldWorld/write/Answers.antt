@@ -1,0 +1,4 @@
+use Rattle.nut_server_sockets.proofs.mio_world.MioWorldWorld.write.Goals as goal
+
+pub returns-clause-late : goal.returns-clause-late
+returns-clause-late g c = c.note_written.ensures.late
