@@ -1,8 +1,8 @@
 //! What the command lines of the three tools share.
 ghost use Rattle.std.specs.Prelude.{◌≡◌, ◌==◌, ◌<◌, [], IfOk, IfSome, Ok, Result, codes, false, length, map, option_map, position, true};
-ghost use Rattle.clap.specs.Words.{App, Rule, app_of, first_of, found_of, is_simple_and_free, rows_of, rule_of, with_rule};
+ghost use Rattle.clap.specs.Words.{App, app_of, first_of, found_of, is_simple_and_free, rows_of};
 ghost use Rattle.nut_conf.specs.Target.{parted as parted_at};
-ghost use Rattle.nut_client.specs.CommandLine.{CommandLine, Options as OptionsMeant, argument as argument_rule, dialed, flag as flag_rule, is_given as given, names_server as server_named, options_of as options_meant, target_of, tool, until as until_meant, valued as valued_rule};
+ghost use Rattle.nut_client.specs.CommandLine.{CommandLine, Options as OptionsMeant, dialed, is_given as given, names_server as server_named, options_of as options_meant, target_of, until as until_meant};
 ghost use Rattle.nut_client.specs.inside.Reading.{AreOptions, IsRead, IsReadBy, IsRefusalOf};
 ghost use Rattle.nut_client.specs.declared.command_line.Refusal.TheVariants.{Failed};
 ghost use Rattle.nut_client.specs.declared.failure.Failure.{Failure as FailureValue};
@@ -12,10 +12,10 @@ ghost use Rattle.nut_client.specs.declared.wanted.Wanted.TheVariants.{Does};
 use crate::destination::{Destination, read_server, read_target};
 use crate::failure::Failure;
 use crate::wanted::{Deed, Until, Wanted};
-use clap::{Arg, ArgAction, ArgMatches, Command};
+use clap::{ArgMatches, Command};
 use nut_conf::Target;
 use nut_proto::Word;
-use std::alloc::{AllocError, Global};
+use std::alloc::AllocError;
 use std::convert::AsStr;
 
 /// The options of a command line that was read.
@@ -194,96 +194,4 @@ pub(crate) fn deed_by<'a>(
         deed,
         until,
     )
-}
-
-/// Makes the command of the tool of this name, without arguments. `about` is what its help says of the tool.
-pub(crate) fn begun<'a>(alloc: Global, name: &'a str, about: &'a str) -> Command<'a>
-    ensures { app_of result ≡ tool name.entry.now [] }
-{
-    Command::new(alloc, name)
-        .version("profile 1.3")
-        .about(about)
-}
-
-/// Adds an argument to a command. `AllocError` if there was no memory for the command, or is none for the argument.
-pub(crate) fn with<'a>(
-    command: Result<Command<'a>, AllocError>,
-    arg: Arg<'a>,
-) -> Result<Command<'a>, AllocError>
-    ensures { (app : App) (rule : Rule) → IfOk command.entry (λ c. app_of c ≡ app) → rule_of arg.entry ≡ rule → arg.entry.global ≡ false
-        → IfOk result (λ c. app_of c ≡ with_rule app rule) }
-{
-    command?.arg(arg)
-}
-
-/// Makes a flag.
-pub(crate) fn flag<'a>(alloc: Global, id: &'a str, letter: char, help: &'a str) -> Arg<'a>
-    ensures rule { rule_of result ≡ flag_rule id.entry.now letter }
-    ensures local { result.global ≡ false }
-{
-    Arg::new(alloc, id)
-        .short(letter)
-        .action(ArgAction::SetTrue)
-        .help(help)
-}
-
-/// Makes an option with a value of this kind.
-pub(crate) fn valued<'a>(
-    alloc: Global,
-    id: &'a str,
-    letter: char,
-    kind: &'a str,
-    help: &'a str,
-) -> Arg<'a>
-    ensures rule { rule_of result ≡ valued_rule id.entry.now letter }
-    ensures local { result.global ≡ false }
-{
-    Arg::new(alloc, id)
-        .short(letter)
-        .value_name(kind)
-        .help(help)
-}
-
-/// Makes an argument of this kind.
-pub(crate) fn argument<'a>(alloc: Global, id: &'a str, kind: &'a str, help: &'a str) -> Arg<'a>
-    ensures rule { rule_of result ≡ argument_rule id.entry.now }
-    ensures local { result.global ≡ false }
-{
-    Arg::new(alloc, id).value_name(kind).help(help)
-}
-
-/// Makes the option for the user's name.
-pub(crate) fn user_argument<'a>(alloc: Global) -> Arg<'a>
-    ensures rule { rule_of result ≡ valued_rule (codes "user") 117 }
-    ensures local { result.global ≡ false }
-{
-    let help = "The name of a user in the server's upsd.users";
-    valued(alloc, "user", 'u', "USER", help)
-}
-
-/// Makes the option for the user's password.
-pub(crate) fn password_argument<'a>(alloc: Global) -> Arg<'a>
-    ensures rule { rule_of result ≡ valued_rule (codes "password") 112 }
-    ensures local { result.global ≡ false }
-{
-    let help = "The password of that user; other users of this machine may see it";
-    valued(alloc, "password", 'p', "PASS", help)
-}
-
-/// Makes the flag to wait until the request has ended.
-pub(crate) fn wait_flag<'a>(alloc: Global) -> Arg<'a>
-    ensures rule { rule_of result ≡ flag_rule (codes "wait") 119 }
-    ensures local { result.global ≡ false }
-{
-    let help = "Wait at most 10 seconds until the UPS has done it";
-    flag(alloc, "wait", 'w', help)
-}
-
-/// Makes the argument for the name of the UPS.
-pub(crate) fn name_argument<'a>(alloc: Global) -> Arg<'a>
-    ensures rule { rule_of result ≡ argument_rule (codes "name") }
-    ensures local { result.global ≡ false }
-{
-    let help = "The UPS, as UPS[@HOST[:PORT]]; without a host it is localhost, without a port 3493";
-    argument(alloc, "name", "NAME", help)
 }

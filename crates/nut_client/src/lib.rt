@@ -15,6 +15,7 @@ mod failure;
 mod json;
 mod laws;
 mod output;
+mod parameter;
 mod printing;
 mod program;
 mod stream;

@@ -4,6 +4,7 @@ use crate::dialing::dial;
 use crate::engine::{refuse_words, tell};
 use crate::failure::Failure;
 use crate::output::{Output, WriterOutput};
+use crate::stream::Stream;
 use crate::upsc::{run_upsc, upsc_target};
 use crate::upscmd::{run_upscmd, upscmd_target};
 use crate::upsrw::{run_upsrw, upsrw_target};
@@ -55,17 +56,28 @@ fn run_words<R: Clock + Net + Print + Wait + AllocGlobal, E: Output>(
     words: &[String],
     err: &mut E,
 ) -> u8 {
-    let alloc = rt.alloc();
     let mut out = WriterOutput::new(io::writer(rt));
-    let Ok(destination) = target_of(tool, alloc, words) else {
+    let Ok(destination) = target_of(tool, rt.alloc(), words) else {
         return tell(rt, Err(Failure::Memory), &mut out, err);
     };
     let mut stream = dial(rt, destination);
-    let stream = stream.as_mut();
+    run_over(rt, tool, words, stream.as_mut(), &mut out, err)
+}
+
+/// Runs a tool with these words over a connection, if one was made.
+fn run_over<R: Clock + Wait + AllocGlobal, S: Stream, O: Output, E: Output>(
+    rt: &R,
+    tool: Tool,
+    words: &[String],
+    stream: Option<&mut S>,
+    out: &mut O,
+    err: &mut E,
+) -> u8 {
+    let alloc = rt.alloc();
     match tool {
-        Tool::Upsc => run_upsc(rt, alloc, words, stream, &mut out, err),
-        Tool::Upsrw => run_upsrw(rt, alloc, words, stream, &mut out, err),
-        Tool::Upscmd => run_upscmd(rt, alloc, words, stream, &mut out, err),
+        Tool::Upsc => run_upsc(rt, alloc, words, stream, out, err),
+        Tool::Upsrw => run_upsrw(rt, alloc, words, stream, out, err),
+        Tool::Upscmd => run_upscmd(rt, alloc, words, stream, out, err),
     }
 }
 

@@ -7,13 +7,13 @@ ghost use Rattle.nut_client.specs.inside.Reading.{AreOptions, IsRead};
 ghost use Rattle.nut_client.specs.Tool.{EndsBy, IsUnused, RunsAs};
 
 use crate::command_line::{
-    Options, Refusal, argument, begun, destination_of, flag, is_given, name_argument, options_of,
-    read_words, refused, value, with,
+    Options, Refusal, destination_of, is_given, options_of, read_words, refused, value,
 };
 use crate::destination::Destination;
 use crate::engine::{run, run_alone};
 use crate::failure::Failure;
 use crate::output::Output;
+use crate::parameter::{NAME, Parameter, tool_command};
 use crate::stream::Stream;
 use crate::wanted::Wanted;
 use clap::{ArgMatches, Command};
@@ -108,51 +108,33 @@ fn command<'a>(alloc: Global) -> Result<Command<'a>, AllocError>
     ensures { IfOk result (λ c. app_of c ≡ upsc_tool) }
 {
     let about = "Shows the variables of a UPS, or the UPSes of a server";
-    let command = Ok(begun(alloc, "upsc", about));
-    let command = with(
-        command,
-        flag(
-            alloc,
-            "names",
-            'l',
-            "List the names of the server's UPSes; NAME is then HOST[:PORT], and may be left out",
-        ),
-    );
-    let command = with(
-        command,
-        flag(
-            alloc,
-            "descriptions",
-            'L',
-            "List the server's UPSes with their descriptions; NAME is then HOST[:PORT], and may be left out",
-        ),
-    );
-    let command = with(
-        command,
-        flag(
-            alloc,
-            "clients",
-            'c',
-            "List the addresses of the clients that are logged in to the UPS",
-        ),
-    );
-    let command = with(
-        command,
-        flag(
-            alloc,
-            "json",
-            'j',
-            "Print the variables as one JSON object of names and values",
-        ),
-    );
-    let command = with(command, name_argument(alloc));
-    with(
-        command,
-        argument(
-            alloc,
-            "variable",
-            "VAR",
-            "The variable whose value is shown; without it all variables are",
-        ),
-    )
+    let parameters = [
+        Parameter::Flag {
+            id: "names",
+            letter: 'l',
+            help: "List the names of the server's UPSes; NAME is then HOST[:PORT], and may be left out",
+        },
+        Parameter::Flag {
+            id: "descriptions",
+            letter: 'L',
+            help: "List the server's UPSes with their descriptions; NAME is then HOST[:PORT], and may be left out",
+        },
+        Parameter::Flag {
+            id: "clients",
+            letter: 'c',
+            help: "List the addresses of the clients that are logged in to the UPS",
+        },
+        Parameter::Flag {
+            id: "json",
+            letter: 'j',
+            help: "Print the variables as one JSON object of names and values",
+        },
+        NAME,
+        Parameter::Argument {
+            id: "variable",
+            kind: "VAR",
+            help: "The variable whose value is shown; without it all variables are",
+        },
+    ];
+    tool_command(alloc, "upsc", about, &parameters)
 }

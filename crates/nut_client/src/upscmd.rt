@@ -7,14 +7,14 @@ ghost use Rattle.nut_client.specs.inside.Reading.{AreOptions, IsRead};
 ghost use Rattle.nut_client.specs.Tool.{EndsBy, IsUnused, RunsAs};
 
 use crate::command_line::{
-    Options, Refusal, argument, begun, deed_by, destination_of, flag, is_given, name_argument,
-    options_of, password_argument, read_words, refused, until, user_argument, value, wait_flag,
-    with,
+    Options, Refusal, deed_by, destination_of, is_given, options_of, read_words, refused, until,
+    value,
 };
 use crate::destination::Destination;
 use crate::engine::{run, run_alone};
 use crate::failure::Failure;
 use crate::output::Output;
+use crate::parameter::{NAME, PASSWORD, Parameter, USER, WAIT, tool_command};
 use crate::stream::Stream;
 use crate::wanted::{Deed, Wanted};
 use clap::{ArgMatches, Command};
@@ -110,36 +110,26 @@ fn command<'a>(alloc: Global) -> Result<Command<'a>, AllocError>
     ensures { IfOk result (λ c. app_of c ≡ upscmd_tool) }
 {
     let about = "Lists the commands of a UPS, or has it do one";
-    let command = Ok(begun(alloc, "upscmd", about));
-    let command = with(
-        command,
-        flag(
-            alloc,
-            "list",
-            'l',
-            "List the commands of the UPS with their descriptions",
-        ),
-    );
-    let command = with(command, wait_flag(alloc));
-    let command = with(command, user_argument(alloc));
-    let command = with(command, password_argument(alloc));
-    let command = with(command, name_argument(alloc));
-    let command = with(
-        command,
-        argument(
-            alloc,
-            "command",
-            "CMD",
-            "The command that the UPS is to do; needs -u and -p",
-        ),
-    );
-    with(
-        command,
-        argument(
-            alloc,
-            "parameter",
-            "PARAM",
-            "What the command is told, if it takes a parameter",
-        ),
-    )
+    let parameters = [
+        Parameter::Flag {
+            id: "list",
+            letter: 'l',
+            help: "List the commands of the UPS with their descriptions",
+        },
+        WAIT,
+        USER,
+        PASSWORD,
+        NAME,
+        Parameter::Argument {
+            id: "command",
+            kind: "CMD",
+            help: "The command that the UPS is to do; needs -u and -p",
+        },
+        Parameter::Argument {
+            id: "parameter",
+            kind: "PARAM",
+            help: "What the command is told, if it takes a parameter",
+        },
+    ];
+    tool_command(alloc, "upscmd", about, &parameters)
 }

@@ -7,14 +7,14 @@ ghost use Rattle.nut_client.specs.inside.Reading.{AreOptions, IsRead};
 ghost use Rattle.nut_client.specs.Tool.{EndsBy, IsUnused, RunsAs};
 
 use crate::command_line::{
-    Options, Refusal, begun, deed_by, destination_of, is_given, name_argument, options_of,
-    parted_at_equals, password_argument, read_words, refused, until, user_argument, value, valued,
-    wait_flag, with,
+    Options, Refusal, deed_by, destination_of, is_given, options_of, parted_at_equals, read_words,
+    refused, until, value,
 };
 use crate::destination::Destination;
 use crate::engine::{run, run_alone};
 use crate::failure::Failure;
 use crate::output::Output;
+use crate::parameter::{NAME, PASSWORD, Parameter, USER, WAIT, tool_command};
 use crate::stream::Stream;
 use crate::wanted::{Deed, Wanted};
 use clap::{ArgMatches, Command};
@@ -102,19 +102,17 @@ fn command<'a>(alloc: Global) -> Result<Command<'a>, AllocError>
     ensures { IfOk result (λ c. app_of c ≡ upsrw_tool) }
 {
     let about = "Shows the variables of a UPS that may be set, or sets one";
-    let command = Ok(begun(alloc, "upsrw", about));
-    let command = with(
-        command,
-        valued(
-            alloc,
-            "setting",
-            's',
-            "VAR=VALUE",
-            "Set the variable VAR to VALUE, parted at the first '='; needs -u and -p",
-        ),
-    );
-    let command = with(command, wait_flag(alloc));
-    let command = with(command, user_argument(alloc));
-    let command = with(command, password_argument(alloc));
-    with(command, name_argument(alloc))
+    let parameters = [
+        Parameter::Valued {
+            id: "setting",
+            letter: 's',
+            kind: "VAR=VALUE",
+            help: "Set the variable VAR to VALUE, parted at the first '='; needs -u and -p",
+        },
+        WAIT,
+        USER,
+        PASSWORD,
+        NAME,
+    ];
+    tool_command(alloc, "upsrw", about, &parameters)
 }

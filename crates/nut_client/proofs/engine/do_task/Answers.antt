@@ -1,5 +1,6 @@
-use Rattle.std.proofs.Common.{IsSome, refl, subst}
+use Rattle.std.proofs.Common.{IsSome, arith, refl, subst}
 use Rattle.std.proofs.lemmas.Bool.{false≢true}
+use Rattle.std.proofs.lemmas.Grind.{common_steps}
 use Rattle.nut_client.proofs.Turns.{at_start, ends_asking, ends_by, ends_well, goes_by}
 use Rattle.nut_client.specs.inside.Task.{left_of}
 use Rattle.nut_client.proofs.engine.do_task.Goals as goal
@@ -27,3 +28,6 @@ returns-clause-ends g c = elim c.match-next.branch [
   | in-None w ↦ absurd (false≢true (subst (λ o. IsSome o) w.in-None.is c.next.ensures.steps))
   | in-Some+in-Prints w ↦ ends_well (left_of c.args.task) (left_of c.loop.task) w.in-Prints.ensures.0 c.into_text.result c.loop.conversation.link c.loop.conversation.unread _ _ _ _ c.loop.invariant w.in-Prints.ensures.1 (c.into_text.ensures w.in-Prints.ensures.0 w.in-Prints.ensures.1)
 ]
+
+pub loop-preserved-in-Pauses : goal.loop-preserved-in-Pauses
+loop-preserved-in-Pauses g c = grind (arith, common_steps)

@@ -15,3 +15,9 @@ loop-preserved-in-Bytes g c = record {
 
 pub returns-then-at-bytes : goal.returns-then-at-bytes
 returns-then-at-bytes g c = grind (arith, common_steps)
+
+pub loop-preserved : goal.loop-preserved
+loop-preserved g c = record {
+  within = omega arith;
+  wrote = keeps_on _ _ _ _ c.loop.invariant.wrote c.in-Again.ensures.wrote;
+}

@@ -4,3 +4,6 @@ use Rattle.nut_client.proofs.printing.put_rows.Goals as goal
 
 pub returns : goal.returns
 returns c = grind (arith, common_steps)
+
+pub loop-row-preserved : goal.loop-row-preserved
+loop-row-preserved c = grind (arith, common_steps)

@@ -3,10 +3,4 @@ use Rattle.nut_client.proofs.upsc.command.Goals as goal
 
 pub returns : goal.returns
 unfolding upsc_tool
-returns c =
-    let with_1 = c.with-command.ensures _ _ c.begun.ensures c.flag.ensures.rule c.flag.ensures.local in
-    let with_2 = c.with-command-2.ensures _ _ with_1 c.flag-2.ensures.rule c.flag-2.ensures.local in
-    let with_3 = c.with-command-3.ensures _ _ with_2 c.flag-3.ensures.rule c.flag-3.ensures.local in
-    let with_4 = c.with-command-4.ensures _ _ with_3 c.flag-4.ensures.rule c.flag-4.ensures.local in
-    let with_5 = c.with-command-5.ensures _ _ with_4 c.name_argument.ensures.rule c.name_argument.ensures.local in
-    c.with.ensures _ _ with_5 c.argument.ensures.rule c.argument.ensures.local
+returns c = c.tool_command.ensures

@@ -1,3 +1,5 @@
+use Rattle.std.proofs.Common.{arith}
+use Rattle.std.proofs.lemmas.Grind.{common_steps}
 use Rattle.nut_client.proofs.Hearings.{hears_ok, part_read, part_reads}
 use Rattle.nut_client.proofs.conversation.Conversation.hear.Goals as goal
 
@@ -12,3 +14,9 @@ returns-clause-hears g c = record {
   came = hears_ok c.args.self.now.link c.feed-fed.new.self c.answer.new.self c.line_part-part.result.now c.feed-fed.ensures.feeds.0 c.feed-fed.result c.answer.result (g.S.Stream.has_ended c.fill.new.stream)
       c.requires.rest c.requires.waits c.line_part-part.ensures.part.1 c.feed-fed.ensures.feeds.1 c.in_default-fed.is c.answer.ensures.answer c.answer.ensures.stands;
 }
+
+pub returns-in-Err-clause-hears : goal.returns-in-Err-clause-hears
+returns-in-Err-clause-hears g c = grind (arith, common_steps)
+
+pub returns-in-Err-fed-clause-hears : goal.returns-in-Err-fed-clause-hears
+returns-in-Err-fed-clause-hears g c = grind (arith, common_steps)

@@ -1,4 +1,5 @@
-use Rattle.std.proofs.Common.{length, ◌∙◌}
+use Rattle.std.proofs.Common.{arith, length, ◌∙◌}
+use Rattle.std.proofs.lemmas.Grind.{common_steps}
 use Rattle.std.proofs.lemmas.Bool.{le-leb}
 use Rattle.nut_client.proofs.Sendings.{sent_more}
 use Rattle.nut_client.proofs.conversation.Conversation.send.Goals as goal
@@ -9,3 +10,6 @@ loop-preserved-in-Continue-branch-2 g c = record {
   unread = c.loop.invariant.unread;
   remaining = c.in-Bytes.ensures.kept ∙ c.loop.invariant.remaining;
 }
+
+pub returns-clause-sends : goal.returns-clause-sends
+returns-clause-sends g c = grind (arith, common_steps)
