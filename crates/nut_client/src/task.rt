@@ -2,6 +2,7 @@
 ghost use Rattle.std.specs.Prelude.{◌≡◌, ◌∷◌, List, ℕ, [], Some, codes};
 ghost use Rattle.nut_client.specs.Json.{json_object};
 ghost use Rattle.nut_proto.specs.Tracking.{tracking_status};
+ghost use Rattle.nut_proto.specs.declared.request.Request.TheVariants.{Password};
 ghost use Rattle.nut_client.specs.Script.{Pauses, Prints, Script, by_status, deed_query, does_until, if_pending, line, on_done, on_number, on_rows, on_words, row_lines, script, waits, word};
 ghost use Rattle.nut_client.specs.inside.Task.{GivesNumber, GivesRows, GivesWords, GoesOn, IsDone, Leads, Says, ShowsRow, answered, first_query, first_question, left_at, left_of, row_query, showing, showing_of};
 
@@ -108,6 +109,15 @@ fn deed_query<'t>(ups: &'t Word<'t>, deed: &'t Deed<'t>) -> Request<'t>
             command: command.copy(),
             parameter: parameter.as_ref().map(Word::copy),
         },
+    }
+}
+
+/// Returns the query that gives the password.
+fn password_query<'t>(password: &'t Word<'t>) -> Request<'t>
+    ensures { result ≡ Password password.now }
+{
+    Request::Password {
+        password: password.copy(),
     }
 }
 
@@ -454,9 +464,7 @@ impl<'a> Task<'a> {
         let ups = &self.ups;
         match &self.step {
             Step::Begun(wanted) => Next::Asks(first_query(ups, wanted)),
-            Step::Password(password, _, _) => Next::Asks(Request::Password {
-                password: password.copy(),
-            }),
+            Step::Password(password, _, _) => Next::Asks(password_query(password)),
             Step::Deed(deed) | Step::TrackedDeed(deed) => Next::Asks(deed_query(ups, deed)),
             Step::Tracking(_) => Next::Asks(Request::SetTracking { on: true }),
             Step::Waits(number, _) => Next::Asks(Request::GetTrackingOf { number: *number }),

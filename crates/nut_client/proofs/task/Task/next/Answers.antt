@@ -1,5 +1,4 @@
 use Rattle.std.proofs.Common.{ap, inl, inr, refl, ◌∙◌}
-use Rattle.nut_proto.specs.declared.request.Request.TheVariants as requests
 use Rattle.nut_client.specs.inside.Task.{left_at, row_query}
 use Rattle.nut_client.proofs.Tasks.{says_at, says_deed, says_first, says_password, says_pause, says_row, says_tracked, says_tracking, says_waits}
 use Rattle.nut_client.proofs.task.Task.next.Goals as goal
@@ -8,7 +7,7 @@ pub returns-in-Begun : goal.returns-in-Begun
 returns-in-Begun c = says_at _ _ _ _ (ap (left_at c.args.self.now.ups) c.in-Begun.is) c.first_query.ensures (says_first c.args.self.now.ups c.in-Begun.wanted)
 
 pub returns-in-Password : goal.returns-in-Password
-returns-in-Password c = says_at _ _ _ _ (ap (left_at c.args.self.now.ups) c.in-Password.is) (ap requests.Password c.copy.ensures) (says_password c.args.self.now.ups c.in-Password.password c.in-Password.field-1 c.in-Password.field-2)
+returns-in-Password c = says_at _ _ _ _ (ap (left_at c.args.self.now.ups) c.in-Password.is) c.password_query.ensures (says_password c.args.self.now.ups c.in-Password.password c.in-Password.field-1 c.in-Password.field-2)
 
 pub returns-in-Deed : goal.returns-in-Deed
 returns-in-Deed c = elim c.in-Deed.is [
