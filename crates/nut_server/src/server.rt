@@ -119,6 +119,7 @@ impl Server {
     pub fn new(alloc: Global, config: Config) -> Result<Server, ServerFault>
         ensures { IfOk result (λ server. server ≡ content config []) }
     {
+        config.is_within_limits();
         let count = config.number_of_upses();
         match room_for(alloc, count) {
             Ok((devices, connections)) => Ok(Server {
@@ -133,7 +134,10 @@ impl Server {
                 line: ArrayVec::new(),
                 alloc,
             }),
-            Err(AllocError) => Err(ServerFault::Memory),
+            Err(AllocError) => {
+                drop(config);
+                Err(ServerFault::Memory)
+            }
         }
     }
 

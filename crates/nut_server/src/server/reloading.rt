@@ -45,9 +45,6 @@ fn grow(alloc: Global, devices: &mut Vec<Device>, count: usize) -> Result<(), Al
     devices.append(&mut new)
 }
 
-/// Drops a configuration. It does so in a function of its own, which keeps the proofs of its callers short.
-fn let_go(_config: Config) {}
-
 /// Changes each UPS as the reload says.
 fn meet_fates(devices: &mut [Device], reloading: &Reloading<'_>)
     ensures { devices.new ≡ changed_from 0 (λ u. fated (fate_in reloading.now u)) devices.old }
@@ -79,7 +76,7 @@ impl Server {
                 Ok(())
             }
             Err(_) => {
-                let_go(config);
+                drop(config);
                 Err(Refused::Memory(Place::NewUpses))
             }
         }
@@ -118,7 +115,7 @@ impl Server {
         self.connections.close_cleared(&reloading);
         meet_fates(self.devices.as_mut_slice(), &reloading);
         self.numbers = numbers;
-        let_go(mem::replace(&mut self.config, config));
+        drop(mem::replace(&mut self.config, config));
     }
 
     /// Returns the name of the UPS with this number, if there is one.

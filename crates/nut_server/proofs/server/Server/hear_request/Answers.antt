@@ -1,4 +1,4 @@
-use Rattle.std.proofs.Common.{◌≡◌, ℕ, ◌++◌, List, Some, ap, sym, subst, ◌∙◌, map}
+use Rattle.std.proofs.Common.{◌≡◌, ℕ, ◌++◌, ◌<◌, List, Some, ap, arith, length, sym, subst, ◌∙◌, map}
 use Rattle.nut_server_spec.specs.Answer.{Answer, answer, text_of}
 use Rattle.nut_server_spec.specs.Command.{asked}
 use Rattle.nut_server_spec.specs.Content.{Session, Supply}
@@ -9,6 +9,9 @@ use Rattle.nut_server.specs.contracts.server.Server.{the_view}
 use Rattle.nut_server.specs.inside.Decisions.{AreThere}
 use Rattle.nut_server.proofs.Numbered.{are_there}
 use Rattle.nut_server.proofs.Saying.{answered_all}
+use Rattle.std.specs.List.{AllByRecursion}
+use Rattle.std.proofs.lemmas.Result.{err_from_is_err_and}
+use Rattle.nut_server_spec.specs.laws.Laws.{IsUpTo}
 use Rattle.nut_server.proofs.server.Server.hear_request.Goals as goal
 
 pub returns-clause-ok : goal.returns-clause-ok
@@ -35,3 +38,28 @@ decide-answer-requires-clause-there c =
     let there = are_there v c.self.invariant.placed in
     subst (λ ns. AreThere (record (scene_of v) { numbers = ns; devices = map (λ (d : Supply). d.device) c.as_slice-2.result.now })) (sym c.as_slice.ensures.value)
     (subst (λ ds. AreThere (record (scene_of v) { devices = map (λ (d : Supply). d.device) ds })) (sym c.as_slice-2.ensures.value) there)
+
+pub invariant_of-self-in_err-answer : goal.invariant_of-self-in_err-answer
+invariant_of-self-in_err-answer c = record {
+  up_to = subst (IsUpTo c.self.inside.opened) (sym c.answer.ensures.numbers) c.self.invariant.up_to;
+  few = c.self.invariant.few;
+  within = omega (arith, ap length c.answer.ensures.numbers, c.self.invariant.within);
+  limits = c.self.invariant.limits;
+  placed = c.self.invariant.placed;
+  places = c.self.invariant.places;
+}
+
+pub invariant_of-self-2 : goal.invariant_of-self-2
+invariant_of-self-2 c = record {
+  up_to = subst (IsUpTo c.self.inside.opened) (sym c.answer.ensures.numbers) c.self.invariant.up_to;
+  few = c.self.invariant.few;
+  within = omega (arith, ap length c.answer.ensures.numbers, c.self.invariant.within);
+  limits = c.self.invariant.limits;
+  placed = subst (λ m. AllByRecursion (λ n. n < m) c.self.inside.numbers.items) (sym c.act.ensures.len) c.self.invariant.placed;
+  places = omega (arith, c.act.ensures.len, c.self.invariant.places);
+}
+
+pub returns-in_err-answer-clause-err : goal.returns-in_err-answer-clause-err
+returns-in_err-answer-clause-err c =
+    let error = err_from_is_err_and c.from_residual-in_err-answer.result c.from_residual-in_err-answer.ensures.1 in
+    rw error.1 (ap (λ (ks : List Session). record (the_view c.self.inside) { sessions = ks }) c.in_err-answer.ensures.err ∙ c.self.view_is)

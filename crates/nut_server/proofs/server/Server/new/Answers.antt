@@ -2,12 +2,10 @@ use Rattle.std.proofs.Common.{length, subst, sym, ap, ◌∙◌, arith, ◌≡�
 use Rattle.std.proofs.lemmas.Grind.{common_steps}
 use Rattle.std.proofs.lemmas.List.{length-map}
 use Rattle.nut_server_spec.specs.laws.Laws.{IsUpTo}
-use Rattle.nut_server_spec.specs.laws.Limits.{IsWithin}
 use Rattle.nut_server_spec.specs.Numbering.{below}
 use Rattle.nut_server.specs.inside.Inside.{numbers_of}
 use Rattle.nut_server_spec.specs.Content.{unheard}
 use Rattle.nut_server_spec.proofs.Places.{below-length}
-use Rattle.nut_server.proofs.Limited.{config_within}
 use Rattle.nut_server.proofs.server.Server.new.Goals as goal
 use Rattle.std.specs.List.{AllByRecursion}
 use Rattle.nut_server_spec.proofs.Numbering.{below_are}
@@ -20,7 +18,7 @@ invariant_of-result c =
       up_to = subst (λ ks. IsUpTo 0 (numbers_of ks)) (sym c.in-Ok.ensures.1) tt;
       few = omega arith;
       within = omega (arith, ap (λ ks. length (numbers_of ks)) c.in-Ok.ensures.1);
-      limits = subst IsWithin c.config.view_is (config_within c.config.inside.ups c.config.inside.users c.config.inside.upsd c.config.inside.descriptions);
+      limits = c.is_within_limits.ensures;
       placed = subst (λ m. AllByRecursion (λ n. n < m) c.first_numbers.result.items) (sym long) (subst (λ ns. AllByRecursion (λ n. n < c.number_of_upses-count.result) ns) (sym c.first_numbers.ensures) (below_are c.number_of_upses-count.result));
       places = omega (arith, long, c.number_of_upses-count.ensures.few);
     }
