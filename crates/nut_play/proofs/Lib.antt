@@ -7,6 +7,7 @@ pub mod Fleets
 pub mod Fits
 pub mod Runs
 pub mod Changes
+pub mod Deeds
 pub mod Stepping
 pub mod Standing
 pub mod Rooms
