@@ -329,7 +329,7 @@ class Rounds:
         if not report.ended or report.unread:
             return
         self.passed = {path for path, it in plain.items() if report.passes(it.path)}
-        self.fallen = {*plain} - self.passed
+        self.fallen = plain.keys() - self.passed
         refusals = {edit: refusal(edit, report) for edit in placed if self.passed and not edit.wanted & self.fallen}
         refusals |= {edit: refusal(edit, report, [it.path for it in made]) for edit, made in edited.items() if edit.wanted <= self.passed}
         for edit in filter(refusals.get, refusals):
@@ -363,8 +363,8 @@ class Rounds:
         return Copy(function, ending, edit.item_of(function) if edit else self.text_of(function))
 
     def control(self):
-        """Checks functions without edits of their bodies, where the first check has shown too little of them: if no function
-        passed there, those of all edits; and always those of which a copy failed."""
+        """Checks functions whose bodies are edited as they are without the edits, where the first check has shown too little of
+        them: all that are left, if no function passed there; and always those of which a copy failed."""
         bodies = [it for it in self.left() if it.is_of_bodies()]
         unseen = [it for it in bodies if not self.passed or it.wanted & self.fallen]
         paths = {path for it in unseen for path in it.wanted} - self.passed
@@ -392,7 +392,8 @@ class Rounds:
         the crate that was proved."""
         self.count += 1
         bodies = [it for it in edits if it.is_of_bodies()]
-        room = self.room({path for it in edits for path in it.wanted | it.edited} if bodies else {it.path for it in self.functions}, bodies)
+        shown = {path for it in bodies for path in it.wanted | it.edited} or {it.path for it in self.functions}
+        room = self.room(shown, bodies)
         for edit in [it for it in edits if it not in bodies]:
             fault = room.apply(edit)
             if fault:
