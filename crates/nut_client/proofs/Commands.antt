@@ -1,46 +1,62 @@
 -- The commands that clap reads, and its matches.
-use Rattle.std.proofs.Common.{◌≡◌, ℕ, true, List, [], ◌∷◌, Result, Ok, Err, refl, sym, ap, subst, ◌∙◌, inl}
-use Rattle.clap.specs.Words.{App, IsAmong, Kinds, Row, fault_of, found_of, kind_of, is_simple_and_free, matches_of, rows_of}
+use Rattle.std.proofs.Common.{◌≡◌, ℕ, true, List, [], ◌∷◌, codes, Option, Result, Ok, Err, refl, sym, ap, subst, ◌∙◌, inl, inr}
+use Rattle.clap.specs.Words.{App, IsAmong, Kinds, Row, fault_of, first_of, found_of, kind_of, is_simple_and_free, matches_of, rows_of}
 use Rattle.clap.specs.declared.error.ErrorKind.{ErrorKind}
 use Rattle.clap.specs.declared.ArgMatches.{ArgMatches}
-use Rattle.nut_client.specs.CommandLine.{CommandLine, Options, line_by, read_by, upsc_tool, upsrw_tool, upscmd_tool}
-use Rattle.nut_client.specs.inside.Reading.{IsRead, IsReadBy}
+use Rattle.nut_client.specs.CommandLine.{CommandLine, Options, command_of, line_by, line_of, options_of, wanted_of}
+use Rattle.nut_client.specs.inside.Reading.{IsRead, IsReadBy, options_view}
 use Rattle.nut_client.specs.declared.command_line.Options.{Options as Read}
 use Rattle.nut_client.specs.declared.command_line.Refusal.{Refusal}
 use Rattle.nut_client.specs.declared.command_line.Refusal.TheVariants.{Usage, Failed}
 use Rattle.nut_client.specs.declared.failure.Failure.{Failure}
+use Rattle.nut_client.specs.declared.tool.Tool.{Tool}
+use Rattle.nut_client.specs.declared.tool.Tool.TheVariants.{Upsc, Upsrw, Upscmd}
+use Rattle.nut_client.specs.declared.wanted.Wanted.{Wanted}
 
-pub upsc_is_simple : is_simple_and_free upsc_tool ≡ true
-unfolding upsc_tool
-upsc_is_simple = refl
+pub is_simple : (tool : Tool) → is_simple_and_free (command_of tool) ≡ true
+unfolding command_of
+is_simple Upsc = refl
+is_simple Upsrw = refl
+is_simple Upscmd = refl
 
-pub upsrw_is_simple : is_simple_and_free upsrw_tool ≡ true
-unfolding upsrw_tool
-upsrw_is_simple = refl
-
-pub upscmd_is_simple : is_simple_and_free upscmd_tool ≡ true
-unfolding upscmd_tool
-upscmd_is_simple = refl
+-- what the options of clap's matches are for a tool
+abbrev pub options_in : Tool → List Row → Result Options Failure
+options_in tool rows = options_of (wanted_of tool rows) (first_of (codes "name") rows)
 
 -- Words in which clap finds no fault.
-pub no_fault : (app : App) (options : List Row → Result Options Failure) (words : List (List ℕ)) (rows : List Row) → fault_of app words ≡ [] → rows ≡ matches_of app words
-    → read_by app options words ≡ Ok (options rows)
-no_fault app options words rows none is = ap (line_by options (matches_of app words)) none ∙ ap (λ r. Ok (options r)) (sym is)
+no_fault : (tool : Tool) (words : List (List ℕ)) (rows : List Row) → fault_of (command_of tool) words ≡ [] → rows ≡ matches_of (command_of tool) words
+    → line_of tool words ≡ Ok (options_in tool rows)
+unfolding line_of
+no_fault tool words rows none is = ap (line_by tool (matches_of (command_of tool) words)) none ∙ ap (λ r. Ok (options_in tool r)) (sym is)
 
-by_fault : (options : List Row → Result Options Failure) (rows : List Row) (faults : Kinds) (kind : ErrorKind) → IsAmong kind faults → line_by options rows faults ≡ Err faults
-by_fault options rows [] kind none = absurd none
-by_fault options rows (k ∷ ks) kind some = refl
+by_fault : (tool : Tool) (rows : List Row) (faults : Kinds) (kind : ErrorKind) → IsAmong kind faults → line_by tool rows faults ≡ Err faults
+by_fault tool rows [] kind none = absurd none
+by_fault tool rows (k ∷ ks) kind some = refl
 
 -- Words in which clap finds a fault.
-pub faulty : (app : App) (options : List Row → Result Options Failure) (words : List (List ℕ)) (kind : ErrorKind) → IsAmong kind (fault_of app words)
-    → (faults : Kinds) × (read_by app options words ≡ Err faults) × IsAmong kind faults
-faulty app options words kind among = (fault_of app words, by_fault options (matches_of app words) (fault_of app words) kind among, among)
+faulty : (tool : Tool) (words : List (List ℕ)) (kind : ErrorKind) → IsAmong kind (fault_of (command_of tool) words)
+    → (faults : Kinds) × (line_of tool words ≡ Err faults) × IsAmong kind faults
+unfolding line_of
+faulty tool words kind among = (fault_of (command_of tool) words, by_fault tool (matches_of (command_of tool) words) (fault_of (command_of tool) words) kind among, among)
 
-pub read_well : (app : App) (options : List Row → Result Options Failure) (words : List (List ℕ)) (m : ArgMatches) (r : Result Read Refusal)
-    → (fault_of app words ≡ []) × (rows_of (found_of m) ≡ matches_of app words) → IsRead (Ok (options (rows_of (found_of m)))) r → IsRead (read_by app options words) r
-read_well app options words m r is read = subst (λ (line : CommandLine). IsRead line r) (sym (no_fault app options words (rows_of (found_of m)) is.0 is.1)) read
+-- What a command that is a tool's reads, is read by that of the tool.
+pub parsed : (tool : Tool) (app : App) (words : List (List ℕ)) (r : Result ArgMatches Refusal) → app ≡ command_of tool → (is_simple_and_free app ≡ true → IsReadBy app words r)
+    → IsReadBy (command_of tool) words r
+parsed tool app words r is read = subst (λ a. IsReadBy a words r) is (read (ap is_simple_and_free is ∙ is_simple tool))
 
-pub read_ill : (app : App) (options : List Row → Result Options Failure) (words : List (List ℕ)) (refusal : Refusal)
-    → IsReadBy app words (Err refusal) → IsRead (read_by app options words) (Err refusal)
-read_ill app options words (Usage error) among = faulty app options words (kind_of error) among
-read_ill app options words (Failed failure) memory = inl memory
+-- The options of what is wanted and a name, which are those of clap's matches.
+pub meant : (tool : Tool) (rows : List Row) (wanted : Option Wanted) (name : Option (List ℕ)) (r : Result Options Failure)
+    → wanted ≡ wanted_of tool rows → name ≡ first_of (codes "name") rows → options_of wanted name ≡ r → options_in tool rows ≡ r
+meant tool rows wanted name r w n is = subst (λ it. options_of (wanted_of tool rows) it ≡ r) n (subst (λ it. options_of it name ≡ r) w is)
+
+pub read_well : (tool : Tool) (words : List (List ℕ)) (m : ArgMatches) (read : Read) → IsReadBy (command_of tool) words (Ok m)
+    → options_in tool (rows_of (found_of m)) ≡ Ok (options_view read) → IsRead (line_of tool words) (Ok read)
+read_well tool words m read is options = no_fault tool words (rows_of (found_of m)) is.0 is.1 ∙ ap Ok options
+
+pub read_failed : (tool : Tool) (words : List (List ℕ)) (m : ArgMatches) (failure : Failure) → IsReadBy (command_of tool) words (Ok m)
+    → options_in tool (rows_of (found_of m)) ≡ Err failure → IsRead (line_of tool words) (Err (Failed failure))
+read_failed tool words m failure is options = inr (no_fault tool words (rows_of (found_of m)) is.0 is.1 ∙ ap Ok options)
+
+pub read_ill : (tool : Tool) (words : List (List ℕ)) (refusal : Refusal) → IsReadBy (command_of tool) words (Err refusal) → IsRead (line_of tool words) (Err refusal)
+read_ill tool words (Usage error) among = faulty tool words (kind_of error) among
+read_ill tool words (Failed failure) memory = inl memory

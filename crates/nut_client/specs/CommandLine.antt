@@ -13,6 +13,8 @@ use Rattle.nut_conf.specs.declared.target.NameFault.{NameFault}
 use Rattle.nut_client.specs.declared.destination.Destination.{Destination}
 use Rattle.nut_client.specs.declared.failure.Failure.{Failure}
 use Rattle.nut_client.specs.declared.failure.Failure.TheVariants.{BadArguments, BadName}
+use Rattle.nut_client.specs.declared.tool.Tool.{Tool}
+use Rattle.nut_client.specs.declared.tool.Tool.TheVariants.{Upsc, Upsrw, Upscmd}
 use Rattle.nut_client.specs.declared.wanted.Deed.TheVariants as deeds
 use Rattle.nut_client.specs.declared.wanted.Until.{Until}
 use Rattle.nut_client.specs.declared.wanted.Until.TheVariants as untils
@@ -29,18 +31,15 @@ flag id letter = record (new_rule id) { short = Some letter; action = Some SetTr
 abbrev pub argument : List ℕ → Rule
 argument id = record (new_rule id) { value_names = 1 }
 
--- a tool of this name with these options and arguments, and a version
-abbrev pub tool : List ℕ → List Rule → App
-tool name rules = fold with_rule (on_top (λ s. record s { has_version = true }) (new_app name)) rules
+-- a command of this name with these options and arguments, and a version
+abbrev pub command : List ℕ → List Rule → App
+command name rules = fold with_rule (on_top (λ s. record s { has_version = true }) (new_app name)) rules
 
-unfoldable pub upsc_tool : App
-upsc_tool = tool (codes "upsc") (flag (codes "names") 108 ∷ flag (codes "descriptions") 76 ∷ flag (codes "clients") 99 ∷ flag (codes "json") 106 ∷ argument (codes "name") ∷ argument (codes "variable") ∷ [])
-
-unfoldable pub upsrw_tool : App
-upsrw_tool = tool (codes "upsrw") (valued (codes "setting") 115 ∷ flag (codes "wait") 119 ∷ valued (codes "user") 117 ∷ valued (codes "password") 112 ∷ argument (codes "name") ∷ [])
-
-unfoldable pub upscmd_tool : App
-upscmd_tool = tool (codes "upscmd") (flag (codes "list") 108 ∷ flag (codes "wait") 119 ∷ valued (codes "user") 117 ∷ valued (codes "password") 112 ∷ argument (codes "name") ∷ argument (codes "command") ∷ argument (codes "parameter") ∷ [])
+-- the command of each tool
+unfoldable pub command_of : Tool → App
+command_of Upsc = command (codes "upsc") (flag (codes "names") 108 ∷ flag (codes "descriptions") 76 ∷ flag (codes "clients") 99 ∷ flag (codes "json") 106 ∷ argument (codes "name") ∷ argument (codes "variable") ∷ [])
+command_of Upsrw = command (codes "upsrw") (valued (codes "setting") 115 ∷ flag (codes "wait") 119 ∷ valued (codes "user") 117 ∷ valued (codes "password") 112 ∷ argument (codes "name") ∷ [])
+command_of Upscmd = command (codes "upscmd") (flag (codes "list") 108 ∷ flag (codes "wait") 119 ∷ valued (codes "user") 117 ∷ valued (codes "password") 112 ∷ argument (codes "name") ∷ argument (codes "command") ∷ argument (codes "parameter") ∷ [])
 
 -- what a command line asks for: this, of the UPS of this name, at this host and port
 pub record Options : Type 0 where
@@ -110,39 +109,20 @@ upscmd_wanted true false None None None None = Some wanteds.Commands
 upscmd_wanted false wait (Some command) parameter (Some user) (Some password) = Some (wanteds.Does user password (deeds.Command command parameter) (until wait))
 upscmd_wanted list wait command parameter user password = None
 
-abbrev pub upsc_options : List Row → Result Options Failure
-upsc_options rows =
-    options_of (upsc_wanted (is_given (codes "names") rows) (is_given (codes "descriptions") rows) (is_given (codes "clients") rows) (is_given (codes "json") rows)
-    (first_of (codes "variable") rows))
-    (first_of (codes "name") rows)
+-- what its options and arguments ask of each tool
+abbrev pub wanted_of : Tool → List Row → Option Wanted
+wanted_of Upsc rows = upsc_wanted (is_given (codes "names") rows) (is_given (codes "descriptions") rows) (is_given (codes "clients") rows) (is_given (codes "json") rows) (first_of (codes "variable") rows)
+wanted_of Upsrw rows = upsrw_wanted (first_of (codes "setting") rows) (is_given (codes "wait") rows) (first_of (codes "user") rows) (first_of (codes "password") rows)
+wanted_of Upscmd rows = upscmd_wanted (is_given (codes "list") rows) (is_given (codes "wait") rows) (first_of (codes "command") rows) (first_of (codes "parameter") rows) (first_of (codes "user") rows) (first_of (codes "password") rows)
 
-abbrev pub upsrw_options : List Row → Result Options Failure
-upsrw_options rows =
-    options_of (upsrw_wanted (first_of (codes "setting") rows) (is_given (codes "wait") rows) (first_of (codes "user") rows) (first_of (codes "password") rows))
-    (first_of (codes "name") rows)
-
-abbrev pub upscmd_options : List Row → Result Options Failure
-upscmd_options rows =
-    options_of (upscmd_wanted (is_given (codes "list") rows) (is_given (codes "wait") rows) (first_of (codes "command") rows) (first_of (codes "parameter") rows) (first_of (codes "user") rows) (first_of (codes "password") rows))
-    (first_of (codes "name") rows)
-
--- what clap's matches ask for, if clap finds no fault
-abbrev pub line_by : (List Row → Result Options Failure) → List Row → Kinds → CommandLine
-line_by options rows [] = Ok (options rows)
-line_by options rows (kind ∷ kinds) = Err (kind ∷ kinds)
+-- what clap's matches ask of a tool, if clap finds no fault
+abbrev pub line_by : Tool → List Row → Kinds → CommandLine
+line_by tool rows [] = Ok (options_of (wanted_of tool rows) (first_of (codes "name") rows))
+line_by tool rows (kind ∷ kinds) = Err (kind ∷ kinds)
 
 -- what these words ask of a tool, the program's name first
-abbrev pub read_by : App → (List Row → Result Options Failure) → List (List ℕ) → CommandLine
-read_by app options words = line_by options (matches_of app words) (fault_of app words)
-
-unfoldable pub upsc_line : List (List ℕ) → CommandLine
-upsc_line = read_by upsc_tool upsc_options
-
-unfoldable pub upsrw_line : List (List ℕ) → CommandLine
-upsrw_line = read_by upsrw_tool upsrw_options
-
-unfoldable pub upscmd_line : List (List ℕ) → CommandLine
-upscmd_line = read_by upscmd_tool upscmd_options
+unfoldable pub line_of : Tool → List (List ℕ) → CommandLine
+line_of tool words = line_by tool (matches_of (command_of tool) words) (fault_of (command_of tool) words)
 
 -- the host and the port to connect to
 abbrev pub target_of : CommandLine → Option (List ℕ × ℕ)

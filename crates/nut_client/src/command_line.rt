@@ -79,35 +79,15 @@ pub(crate) fn destination_of(
 }
 
 /// Returns clap's matches for the words.
-pub(crate) fn read_words<'a, W: AsStr>(
-    command: Result<Command<'a>, AllocError>,
+pub(crate) fn parse<'a, W: AsStr>(
+    command: Command<'a>,
     words: &'a [W],
 ) -> Result<ArgMatches<'a>, Refusal>
-    ensures { (app : App) → is_simple_and_free app ≡ true → IfOk command.entry (λ c. app_of c ≡ app)
-        → IsReadBy app (map W.text words.entry.now) result }
-{
-    match command {
-        Ok(command) => parse(command, words),
-        Err(error) => Err(Refusal::from(error)),
-    }
-}
-
-fn parse<'a, W: AsStr>(command: Command<'a>, words: &'a [W]) -> Result<ArgMatches<'a>, Refusal>
     ensures { is_simple_and_free (app_of command.entry) ≡ true
         → IsReadBy (app_of command.entry) (map W.text words.entry.now) result }
 {
     let matches = command.try_get_matches_from(words)?;
     Ok(matches)
-}
-
-/// Returns the options, or their failure as a refusal.
-pub(crate) fn refused(options: Result<Options<'_>, Failure>) -> Result<Options<'_>, Refusal>
-    ensures { (meant : Result OptionsMeant FailureValue) → AreOptions meant options.entry → IsRead (Ok meant) result }
-{
-    match options {
-        Ok(options) => Ok(options),
-        Err(failure) => Err(Refusal::Failed(failure)),
-    }
 }
 
 /// Returns the value of an option or of an argument.

@@ -20,6 +20,7 @@ mod printing;
 mod program;
 mod stream;
 mod task;
+mod tool;
 mod unread;
 mod upsc;
 mod upscmd;
@@ -40,8 +41,9 @@ pub use nut_link::{
 };
 pub use output::{Output, WriterOutput};
 pub use printing::{Form, Values};
-pub use program::{Tool, run_tool};
+pub use program::run_tool;
 pub use stream::{ByteStream, MemoryStream, Moved, Stream};
+pub use tool::Tool;
 pub use upsc::{run_upsc, upsc_target};
 pub use upscmd::{run_upscmd, upscmd_target};
 pub use upsrw::{run_upsrw, upsrw_target};

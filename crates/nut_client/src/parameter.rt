@@ -1,7 +1,7 @@
 //! What the command lines of the tools may hold.
 ghost use Rattle.std.specs.Prelude.{◌≡◌, [], IfOk, false, fold};
 ghost use Rattle.clap.specs.Words.{app_of, rule_of};
-ghost use Rattle.nut_client.specs.CommandLine.{argument as argument_rule, flag as flag_rule, tool, valued as valued_rule};
+ghost use Rattle.nut_client.specs.CommandLine.{argument as argument_rule, command as command_rule, flag as flag_rule, valued as valued_rule};
 ghost use Rattle.nut_client.specs.inside.Parameters.{rule_at, with_parameter};
 
 use clap::{Arg, ArgAction, Command};
@@ -87,7 +87,7 @@ pub(crate) fn tool_command<'a>(
     about: &'a str,
     parameters: &[Parameter],
 ) -> Result<Command<'a>, AllocError>
-    ensures { IfOk result (λ c. app_of c ≡ fold with_parameter (tool name.entry.now []) parameters.now) }
+    ensures { IfOk result (λ c. app_of c ≡ fold with_parameter (command_rule name.entry.now []) parameters.now) }
 {
     let mut command = begun(alloc, name, about);
     for parameter in parameters {
@@ -98,7 +98,7 @@ pub(crate) fn tool_command<'a>(
 
 /// Makes the command of the tool of this name, without arguments. `about` is what its help says of the tool.
 fn begun<'a>(alloc: Global, name: &'a str, about: &'a str) -> Command<'a>
-    ensures { app_of result ≡ tool name.entry.now [] }
+    ensures { app_of result ≡ command_rule name.entry.now [] }
 {
     Command::new(alloc, name)
         .version("profile 1.3")

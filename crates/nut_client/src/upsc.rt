@@ -1,20 +1,17 @@
 //! `upsc`: the variables of a UPS, the UPSes of a server, the clients of a UPS.
 ghost use Rattle.std.specs.Prelude.{◌≡◌, IfOk, map, option_map};
 ghost use Rattle.clap.specs.Words.{app_of, found_of, rows_of};
-ghost use Rattle.nut_client.specs.CommandLine.{dialed, target_of, upsc_line, upsc_options, upsc_tool, upsc_wanted};
+ghost use Rattle.nut_client.specs.CommandLine.{command_of, dialed, line_of, target_of, upsc_wanted, wanted_of};
 ghost use Rattle.nut_client.specs.Output.{written};
-ghost use Rattle.nut_client.specs.inside.Reading.{AreOptions, IsRead};
 ghost use Rattle.nut_client.specs.Tool.{EndsBy, IsUnused, RunsAs};
+ghost use Rattle.nut_client.specs.declared.tool.Tool.TheVariants.{Upsc};
 
-use crate::command_line::{
-    Options, Refusal, destination_of, is_given, options_of, read_words, refused, value,
-};
+use crate::command_line::{is_given, value};
 use crate::destination::Destination;
-use crate::engine::{run, run_alone};
-use crate::failure::Failure;
 use crate::output::Output;
 use crate::parameter::{NAME, Parameter, tool_command};
 use crate::stream::Stream;
+use crate::tool::Tool;
 use crate::wanted::Wanted;
 use clap::{ArgMatches, Command};
 use nut_proto::Word;
@@ -37,47 +34,35 @@ pub fn run_upsc<W: AsStr, S: Stream, O: Output, E: Output>(
     out: &mut O,
     err: &mut E,
 ) -> u8
-    ensures { RunsAs (upsc_line (map W.text words.now))
+    ensures { RunsAs (line_of Upsc (map W.text words.now))
         (EndsBy S.remaining S.taken S.has_ended stream.entry stream.exit) (IsUnused stream.entry stream.exit)
         result (written O.contents O.has_failed out.old out.new) (written E.contents E.has_failed err.old err.new) }
 {
-    let options = read_options(alloc, words);
     match stream {
-        Some(stream) => run(rt, alloc, options, stream, out, err),
-        None => run_alone(rt, alloc, options, out, err),
+        Some(stream) => Tool::Upsc.run(rt, alloc, words, stream, out, err),
+        None => Tool::Upsc.run_alone(rt, alloc, words, out, err),
     }
 }
 
 /// Returns the host and the port that this command line tells `upsc` to connect to. `None` if it names none: it cannot
 /// be read, is no combination that the tool knows, or has an invalid name. `AllocError` if memory cannot be allocated.
 pub fn upsc_target<W: AsStr>(alloc: Global, words: &[W]) -> Result<Option<Destination>, AllocError>
-    ensures { IfOk result (λ found. option_map dialed found ≡ target_of (upsc_line (map W.text words.now))) }
+    ensures { IfOk result (λ found. option_map dialed found ≡ target_of (line_of Upsc (map W.text words.now))) }
 {
-    destination_of(read_options(alloc, words))
-}
-
-/// Returns what the words of the command line ask for.
-fn read_options<'a, W: AsStr>(alloc: Global, words: &'a [W]) -> Result<Options<'a>, Refusal>
-    ensures { IsRead (upsc_line (map W.text words.entry.now)) result }
-{
-    match read_words(command(alloc), words) {
-        Ok(matches) => refused(options_in(&matches)),
-        Err(refusal) => Err(refusal),
-    }
+    Tool::Upsc.target(alloc, words)
 }
 
 /// Returns what the options and arguments ask for.
-fn options_in<'a>(matches: &ArgMatches<'a>) -> Result<Options<'a>, Failure>
-    ensures { AreOptions (upsc_options (rows_of (found_of matches.now))) result }
+pub(crate) fn wanted_in<'a>(matches: &ArgMatches<'a>) -> Option<Wanted<'a>>
+    ensures { result ≡ wanted_of Upsc (rows_of (found_of matches.now)) }
 {
-    let wanted = wanted_by(
+    wanted_by(
         is_given(matches, "names"),
         is_given(matches, "descriptions"),
         is_given(matches, "clients"),
         is_given(matches, "json"),
         value(matches, "variable"),
-    );
-    options_of(wanted, value(matches, "name"))
+    )
 }
 
 /// Returns what the flags `-l`, `-L`, `-c` and `-j` ask for, with or without a variable.
@@ -104,8 +89,8 @@ fn wanted_by<'a>(
 }
 
 /// Returns the command line that clap reads.
-fn command<'a>(alloc: Global) -> Result<Command<'a>, AllocError>
-    ensures { IfOk result (λ c. app_of c ≡ upsc_tool) }
+pub(crate) fn command<'a>(alloc: Global) -> Result<Command<'a>, AllocError>
+    ensures { IfOk result (λ c. app_of c ≡ command_of Upsc) }
 {
     let about = "Shows the variables of a UPS, or the UPSes of a server";
     let parameters = [

@@ -1,21 +1,17 @@
 //! `upscmd`: the commands of a UPS, and sending it one.
 ghost use Rattle.std.specs.Prelude.{◌≡◌, IfOk, map, option_map};
 ghost use Rattle.clap.specs.Words.{app_of, found_of, rows_of};
-ghost use Rattle.nut_client.specs.CommandLine.{dialed, target_of, upscmd_line, upscmd_options, upscmd_tool, upscmd_wanted};
+ghost use Rattle.nut_client.specs.CommandLine.{command_of, dialed, line_of, target_of, upscmd_wanted, wanted_of};
 ghost use Rattle.nut_client.specs.Output.{written};
-ghost use Rattle.nut_client.specs.inside.Reading.{AreOptions, IsRead};
 ghost use Rattle.nut_client.specs.Tool.{EndsBy, IsUnused, RunsAs};
+ghost use Rattle.nut_client.specs.declared.tool.Tool.TheVariants.{Upscmd};
 
-use crate::command_line::{
-    Options, Refusal, deed_by, destination_of, is_given, options_of, read_words, refused, until,
-    value,
-};
+use crate::command_line::{deed_by, is_given, until, value};
 use crate::destination::Destination;
-use crate::engine::{run, run_alone};
-use crate::failure::Failure;
 use crate::output::Output;
 use crate::parameter::{NAME, PASSWORD, Parameter, USER, WAIT, tool_command};
 use crate::stream::Stream;
+use crate::tool::Tool;
 use crate::wanted::{Deed, Wanted};
 use clap::{ArgMatches, Command};
 use nut_proto::Word;
@@ -34,14 +30,13 @@ pub fn run_upscmd<W: AsStr, S: Stream, O: Output, E: Output>(
     out: &mut O,
     err: &mut E,
 ) -> u8
-    ensures { RunsAs (upscmd_line (map W.text words.now))
+    ensures { RunsAs (line_of Upscmd (map W.text words.now))
         (EndsBy S.remaining S.taken S.has_ended stream.entry stream.exit) (IsUnused stream.entry stream.exit)
         result (written O.contents O.has_failed out.old out.new) (written E.contents E.has_failed err.old err.new) }
 {
-    let options = read_options(alloc, words);
     match stream {
-        Some(stream) => run(rt, alloc, options, stream, out, err),
-        None => run_alone(rt, alloc, options, out, err),
+        Some(stream) => Tool::Upscmd.run(rt, alloc, words, stream, out, err),
+        None => Tool::Upscmd.run_alone(rt, alloc, words, out, err),
     }
 }
 
@@ -52,34 +47,23 @@ pub fn upscmd_target<W: AsStr>(
     alloc: Global,
     words: &[W],
 ) -> Result<Option<Destination>, AllocError>
-    ensures { IfOk result (λ found. option_map dialed found ≡ target_of (upscmd_line (map W.text words.now))) }
+    ensures { IfOk result (λ found. option_map dialed found ≡ target_of (line_of Upscmd (map W.text words.now))) }
 {
-    destination_of(read_options(alloc, words))
-}
-
-/// Returns what the words of the command line ask for.
-fn read_options<'a, W: AsStr>(alloc: Global, words: &'a [W]) -> Result<Options<'a>, Refusal>
-    ensures { IsRead (upscmd_line (map W.text words.entry.now)) result }
-{
-    match read_words(command(alloc), words) {
-        Ok(matches) => refused(options_in(&matches)),
-        Err(refusal) => Err(refusal),
-    }
+    Tool::Upscmd.target(alloc, words)
 }
 
 /// Returns what the options and arguments ask for.
-fn options_in<'a>(matches: &ArgMatches<'a>) -> Result<Options<'a>, Failure>
-    ensures { AreOptions (upscmd_options (rows_of (found_of matches.now))) result }
+pub(crate) fn wanted_in<'a>(matches: &ArgMatches<'a>) -> Option<Wanted<'a>>
+    ensures { result ≡ wanted_of Upscmd (rows_of (found_of matches.now)) }
 {
-    let wanted = wanted_by(
+    wanted_by(
         is_given(matches, "list"),
         is_given(matches, "wait"),
         value(matches, "command"),
         value(matches, "parameter"),
         value(matches, "user"),
         value(matches, "password"),
-    );
-    options_of(wanted, value(matches, "name"))
+    )
 }
 
 /// Returns what the options ask for. A list takes neither a user nor a command nor the flag to wait. A command, with a
@@ -106,8 +90,8 @@ fn wanted_by<'a>(
 }
 
 /// Returns the command line that clap reads.
-fn command<'a>(alloc: Global) -> Result<Command<'a>, AllocError>
-    ensures { IfOk result (λ c. app_of c ≡ upscmd_tool) }
+pub(crate) fn command<'a>(alloc: Global) -> Result<Command<'a>, AllocError>
+    ensures { IfOk result (λ c. app_of c ≡ command_of Upscmd) }
 {
     let about = "Lists the commands of a UPS, or has it do one";
     let parameters = [

@@ -1,21 +1,17 @@
 //! `upsrw`: the writable variables of a UPS, and setting one.
 ghost use Rattle.std.specs.Prelude.{◌≡◌, IfOk, map, option_map};
 ghost use Rattle.clap.specs.Words.{app_of, found_of, rows_of};
-ghost use Rattle.nut_client.specs.CommandLine.{dialed, target_of, upsrw_line, upsrw_options, upsrw_tool, upsrw_wanted};
+ghost use Rattle.nut_client.specs.CommandLine.{command_of, dialed, line_of, target_of, upsrw_wanted, wanted_of};
 ghost use Rattle.nut_client.specs.Output.{written};
-ghost use Rattle.nut_client.specs.inside.Reading.{AreOptions, IsRead};
 ghost use Rattle.nut_client.specs.Tool.{EndsBy, IsUnused, RunsAs};
+ghost use Rattle.nut_client.specs.declared.tool.Tool.TheVariants.{Upsrw};
 
-use crate::command_line::{
-    Options, Refusal, deed_by, destination_of, is_given, options_of, parted_at_equals, read_words,
-    refused, until, value,
-};
+use crate::command_line::{deed_by, is_given, parted_at_equals, until, value};
 use crate::destination::Destination;
-use crate::engine::{run, run_alone};
-use crate::failure::Failure;
 use crate::output::Output;
 use crate::parameter::{NAME, PASSWORD, Parameter, USER, WAIT, tool_command};
 use crate::stream::Stream;
+use crate::tool::Tool;
 use crate::wanted::{Deed, Wanted};
 use clap::{ArgMatches, Command};
 use nut_proto::Word;
@@ -34,46 +30,34 @@ pub fn run_upsrw<W: AsStr, S: Stream, O: Output, E: Output>(
     out: &mut O,
     err: &mut E,
 ) -> u8
-    ensures { RunsAs (upsrw_line (map W.text words.now))
+    ensures { RunsAs (line_of Upsrw (map W.text words.now))
         (EndsBy S.remaining S.taken S.has_ended stream.entry stream.exit) (IsUnused stream.entry stream.exit)
         result (written O.contents O.has_failed out.old out.new) (written E.contents E.has_failed err.old err.new) }
 {
-    let options = read_options(alloc, words);
     match stream {
-        Some(stream) => run(rt, alloc, options, stream, out, err),
-        None => run_alone(rt, alloc, options, out, err),
+        Some(stream) => Tool::Upsrw.run(rt, alloc, words, stream, out, err),
+        None => Tool::Upsrw.run_alone(rt, alloc, words, out, err),
     }
 }
 
 /// Returns the host and the port that this command line tells `upsrw` to connect to. `None` if it names none: it cannot
 /// be read, is no combination that the tool knows, or has an invalid name. `AllocError` if memory cannot be allocated.
 pub fn upsrw_target<W: AsStr>(alloc: Global, words: &[W]) -> Result<Option<Destination>, AllocError>
-    ensures { IfOk result (λ found. option_map dialed found ≡ target_of (upsrw_line (map W.text words.now))) }
+    ensures { IfOk result (λ found. option_map dialed found ≡ target_of (line_of Upsrw (map W.text words.now))) }
 {
-    destination_of(read_options(alloc, words))
-}
-
-/// Returns what the words of the command line ask for.
-fn read_options<'a, W: AsStr>(alloc: Global, words: &'a [W]) -> Result<Options<'a>, Refusal>
-    ensures { IsRead (upsrw_line (map W.text words.entry.now)) result }
-{
-    match read_words(command(alloc), words) {
-        Ok(matches) => refused(options_in(&matches)),
-        Err(refusal) => Err(refusal),
-    }
+    Tool::Upsrw.target(alloc, words)
 }
 
 /// Returns what the options and arguments ask for.
-fn options_in<'a>(matches: &ArgMatches<'a>) -> Result<Options<'a>, Failure>
-    ensures { AreOptions (upsrw_options (rows_of (found_of matches.now))) result }
+pub(crate) fn wanted_in<'a>(matches: &ArgMatches<'a>) -> Option<Wanted<'a>>
+    ensures { result ≡ wanted_of Upsrw (rows_of (found_of matches.now)) }
 {
-    let wanted = wanted_by(
+    wanted_by(
         value(matches, "setting"),
         is_given(matches, "wait"),
         value(matches, "user"),
         value(matches, "password"),
-    );
-    options_of(wanted, value(matches, "name"))
+    )
 }
 
 /// Returns what the options ask for. A setting needs a user and a password, and these and the flag to wait are allowed
@@ -98,8 +82,8 @@ fn wanted_by<'a>(
 }
 
 /// Returns the command line that clap reads.
-fn command<'a>(alloc: Global) -> Result<Command<'a>, AllocError>
-    ensures { IfOk result (λ c. app_of c ≡ upsrw_tool) }
+pub(crate) fn command<'a>(alloc: Global) -> Result<Command<'a>, AllocError>
+    ensures { IfOk result (λ c. app_of c ≡ command_of Upsrw) }
 {
     let about = "Shows the variables of a UPS that may be set, or sets one";
     let parameters = [

@@ -17,6 +17,7 @@ use Rattle.nut_conf.specs.Faults.{◌>>=◌, Fails, Reads}
 use Rattle.nut_conf.specs.Values.{name, text}
 use Rattle.nut_conf.specs.Sections.{AllHold}
 use Rattle.nut_conf.specs.Ups.{Shown, shown, is_shown_as, with_ups, UpsHolds}
+use Rattle.nut_conf.specs.inside.Tables.{same_name}
 use Rattle.nut_conf.specs.declared.text.Name.{Name}
 use Rattle.nut_conf.specs.declared.text.Text.{Text}
 use Rattle.nut_conf.specs.declared.ups.Ups.{Ups}
@@ -25,7 +26,7 @@ use Rattle.nut_conf.specs.declared.fault.FaultKind.TheVariants.{PastLimit, Repea
 use Rattle.nut_conf.specs.declared.fault.FaultKind.TheVariants as kinds
 use Rattle.nut_conf.proofs.DraftLemmas.{Ok-equal}
 use Rattle.nut_conf.proofs.SlotLemmas.{length-map}
-use Rattle.nut_conf.proofs.SectionLemmas.{same_name, none-from_not_some}
+use Rattle.nut_conf.proofs.SectionLemmas.{none-from_not_some}
 use Rattle.nut_conf.specs.declared.limits.TheConstants.{DESCRIPTION_MAX, UPSES_MAX}
 
 -- A text that isn't too long is read as it is.

@@ -1,11 +1,12 @@
 -- Examples, computed from the definitions.
 use Rattle.std.specs.Prelude.{◌≡◌, ◌⊎◌, ◌<◌, ℕ, zero, suc, List, length, [], ◌∷◌, ◌++◌, codes, Option, Some, None, Result, Ok, Err}
 use Rattle.clap.specs.declared.error.kind.ErrorKind.TheVariants as kinds
-use Rattle.nut_client.specs.CommandLine.{CommandLine, target_of, upsc_line, upsrw_line, upscmd_line}
+use Rattle.nut_client.specs.CommandLine.{CommandLine, line_of, target_of}
 use Rattle.nut_client.specs.Script.{Script, script}
 use Rattle.nut_client.specs.Tool.{Ends, Failed, Printed, ending, run_of}
 use Rattle.nut_client.specs.declared.failure.Failure.{Failure}
 use Rattle.nut_client.specs.declared.failure.Failure.TheVariants as failures
+use Rattle.nut_client.specs.declared.tool.Tool.TheVariants.{Upsc, Upsrw, Upscmd}
 use Rattle.nut_client.specs.declared.wanted.Deed.TheVariants as deeds
 use Rattle.nut_client.specs.declared.wanted.Until.TheVariants as untils
 use Rattle.nut_proto.specs.declared.tracking.TrackingStatus.TheVariants as statuses
@@ -18,30 +19,30 @@ asks ups host port wanted = Ok (Ok (record { ups = ups; host = host; port = port
 
 -- Words that ask for something, or are no combination that the tool knows; words that clap refuses; and the help.
 pub record CommandLineExamples : Type 0 where
-  pub all : upsc_line (codes "upsc" ∷ codes "su700" ∷ []) ≡ asks (codes "su700") (codes "localhost") 3493 wanteds.Variables
-  pub object : upsc_line (codes "upsc" ∷ codes "-j" ∷ codes "su700" ∷ []) ≡ asks (codes "su700") (codes "localhost") 3493 wanteds.Object
-  pub object_of_one : upsc_line (codes "upsc" ∷ codes "-j" ∷ codes "su700" ∷ codes "ups.status" ∷ []) ≡ Ok (Err failures.BadArguments)
-  pub one : upsc_line (codes "upsc" ∷ codes "su700@h:5" ∷ codes "ups.status" ∷ []) ≡ asks (codes "su700") (codes "h") 5 (wanteds.Value (codes "ups.status"))
-  pub server : upsc_line (codes "upsc" ∷ codes "-L" ∷ codes "h:5" ∷ []) ≡ asks (codes "u") (codes "h") 5 wanteds.Descriptions
-  pub no_server : upsc_line (codes "upsc" ∷ codes "-l" ∷ []) ≡ asks (codes "u") (codes "localhost") 3493 wanteds.Names
-  pub setting : upsrw_line (codes "upsrw" ∷ codes "-s" ∷ codes "ups.id=a=b" ∷ codes "-u" ∷ codes "admin" ∷ codes "-ppw" ∷ codes "su700" ∷ [])
+  pub all : line_of Upsc (codes "upsc" ∷ codes "su700" ∷ []) ≡ asks (codes "su700") (codes "localhost") 3493 wanteds.Variables
+  pub object : line_of Upsc (codes "upsc" ∷ codes "-j" ∷ codes "su700" ∷ []) ≡ asks (codes "su700") (codes "localhost") 3493 wanteds.Object
+  pub object_of_one : line_of Upsc (codes "upsc" ∷ codes "-j" ∷ codes "su700" ∷ codes "ups.status" ∷ []) ≡ Ok (Err failures.BadArguments)
+  pub one : line_of Upsc (codes "upsc" ∷ codes "su700@h:5" ∷ codes "ups.status" ∷ []) ≡ asks (codes "su700") (codes "h") 5 (wanteds.Value (codes "ups.status"))
+  pub server : line_of Upsc (codes "upsc" ∷ codes "-L" ∷ codes "h:5" ∷ []) ≡ asks (codes "u") (codes "h") 5 wanteds.Descriptions
+  pub no_server : line_of Upsc (codes "upsc" ∷ codes "-l" ∷ []) ≡ asks (codes "u") (codes "localhost") 3493 wanteds.Names
+  pub setting : line_of Upsrw (codes "upsrw" ∷ codes "-s" ∷ codes "ups.id=a=b" ∷ codes "-u" ∷ codes "admin" ∷ codes "-ppw" ∷ codes "su700" ∷ [])
       ≡ asks (codes "su700") (codes "localhost") 3493 (wanteds.Does (codes "admin") (codes "pw") (deeds.Set (codes "ups.id") (codes "a=b")) untils.Accepted)
-  pub command : upscmd_line (codes "upscmd" ∷ codes "-u" ∷ codes "admin" ∷ codes "-p" ∷ codes "pw" ∷ codes "su700" ∷ codes "load.off" ∷ [])
+  pub command : line_of Upscmd (codes "upscmd" ∷ codes "-u" ∷ codes "admin" ∷ codes "-p" ∷ codes "pw" ∷ codes "su700" ∷ codes "load.off" ∷ [])
       ≡ asks (codes "su700") (codes "localhost") 3493 (wanteds.Does (codes "admin") (codes "pw") (deeds.Command (codes "load.off") None) untils.Accepted)
-  pub parameter : upscmd_line (codes "upscmd" ∷ codes "-u" ∷ codes "admin" ∷ codes "-p" ∷ codes "pw" ∷ codes "su700" ∷ codes "load.off" ∷ codes "5" ∷ [])
+  pub parameter : line_of Upscmd (codes "upscmd" ∷ codes "-u" ∷ codes "admin" ∷ codes "-p" ∷ codes "pw" ∷ codes "su700" ∷ codes "load.off" ∷ codes "5" ∷ [])
       ≡ asks (codes "su700") (codes "localhost") 3493 (wanteds.Does (codes "admin") (codes "pw") (deeds.Command (codes "load.off") (Some (codes "5"))) untils.Accepted)
-  pub waiting : upscmd_line (codes "upscmd" ∷ codes "-wu" ∷ codes "admin" ∷ codes "-p" ∷ codes "pw" ∷ codes "su700" ∷ codes "load.off" ∷ [])
+  pub waiting : line_of Upscmd (codes "upscmd" ∷ codes "-wu" ∷ codes "admin" ∷ codes "-p" ∷ codes "pw" ∷ codes "su700" ∷ codes "load.off" ∷ [])
       ≡ asks (codes "su700") (codes "localhost") 3493 (wanteds.Does (codes "admin") (codes "pw") (deeds.Command (codes "load.off") None) untils.Ended)
-  pub waiting_for_a_list : upscmd_line (codes "upscmd" ∷ codes "-lw" ∷ codes "su700" ∷ []) ≡ Ok (Err failures.BadArguments)
-  pub waiting_for_nothing : upsrw_line (codes "upsrw" ∷ codes "-w" ∷ codes "su700" ∷ []) ≡ Ok (Err failures.BadArguments)
-  pub dialed : target_of (upscmd_line (codes "upscmd" ∷ codes "-l" ∷ codes "su700@h:5" ∷ [])) ≡ Some (codes "h", 5)
-  pub two_lists : upsc_line (codes "upsc" ∷ codes "-lc" ∷ codes "su700" ∷ []) ≡ Ok (Err failures.BadArguments)
-  pub no_password : upsrw_line (codes "upsrw" ∷ codes "-s" ∷ codes "ups.id=a" ∷ codes "-u" ∷ codes "admin" ∷ codes "su700" ∷ []) ≡ Ok (Err failures.BadArguments)
-  pub no_name : upsc_line (codes "upsc" ∷ []) ≡ Ok (Err failures.BadArguments)
-  pub no_host : upsc_line (codes "upsc" ∷ codes "su700@" ∷ []) ≡ Ok (Err failures.BadName)
-  pub unknown : upsc_line (codes "upsc" ∷ codes "-x" ∷ codes "su700" ∷ []) ≡ Err (kinds.UnknownArgument ∷ [])
-  pub help : upsc_line (codes "upsc" ∷ codes "--help" ∷ []) ≡ Err (kinds.DisplayHelp ∷ [])
-  pub version : upsc_line (codes "upsc" ∷ codes "-V" ∷ []) ≡ Err (kinds.DisplayVersion ∷ [])
+  pub waiting_for_a_list : line_of Upscmd (codes "upscmd" ∷ codes "-lw" ∷ codes "su700" ∷ []) ≡ Ok (Err failures.BadArguments)
+  pub waiting_for_nothing : line_of Upsrw (codes "upsrw" ∷ codes "-w" ∷ codes "su700" ∷ []) ≡ Ok (Err failures.BadArguments)
+  pub dialed : target_of (line_of Upscmd (codes "upscmd" ∷ codes "-l" ∷ codes "su700@h:5" ∷ [])) ≡ Some (codes "h", 5)
+  pub two_lists : line_of Upsc (codes "upsc" ∷ codes "-lc" ∷ codes "su700" ∷ []) ≡ Ok (Err failures.BadArguments)
+  pub no_password : line_of Upsrw (codes "upsrw" ∷ codes "-s" ∷ codes "ups.id=a" ∷ codes "-u" ∷ codes "admin" ∷ codes "su700" ∷ []) ≡ Ok (Err failures.BadArguments)
+  pub no_name : line_of Upsc (codes "upsc" ∷ []) ≡ Ok (Err failures.BadArguments)
+  pub no_host : line_of Upsc (codes "upsc" ∷ codes "su700@" ∷ []) ≡ Ok (Err failures.BadName)
+  pub unknown : line_of Upsc (codes "upsc" ∷ codes "-x" ∷ codes "su700" ∷ []) ≡ Err (kinds.UnknownArgument ∷ [])
+  pub help : line_of Upsc (codes "upsc" ∷ codes "--help" ∷ []) ≡ Err (kinds.DisplayHelp ∷ [])
+  pub version : line_of Upsc (codes "upsc" ∷ codes "-V" ∷ []) ≡ Err (kinds.DisplayVersion ∷ [])
 
 -- `upsc u v`
 abbrev pub value_of_v : Script

@@ -5,12 +5,12 @@ use Rattle.nut_words.specs.Reader.{read}
 use Rattle.nut_proto.specs.Answers.{answer_of}
 use Rattle.nut_proto.specs.Lines.{line}
 use Rattle.nut_proto.specs.Requests.{request_line}
-use Rattle.nut_client.specs.CommandLine.{upsc_line, upsc_tool, upscmd_line, upscmd_tool, upsrw_line, upsrw_tool}
+use Rattle.nut_client.specs.CommandLine.{command_of, line_of}
 use Rattle.nut_client.proofs.Endings.{all_bytes}
 use Rattle.nut_client.proofs.examples.worked_examples.Goals as goal
 
 pub returns-clause-lines : goal.returns-clause-lines
-unfolding clap_on_literals upsc_line upsc_tool upsrw_line upsrw_tool upscmd_line upscmd_tool
+unfolding clap_on_literals line_of command_of
 returns-clause-lines c = record {
   all = refl;
   object = refl;

@@ -1,0 +1,114 @@
+//! The three tools: how their command lines are read, and how they run.
+ghost use Rattle.std.specs.Prelude.{◌≡◌, Err, IfOk, ⊤, map, option_map};
+ghost use Rattle.clap.specs.Words.{app_of, found_of, rows_of};
+ghost use Rattle.nut_client.specs.CommandLine.{command_of, dialed, line_of, target_of, wanted_of};
+ghost use Rattle.nut_client.specs.Output.{written};
+ghost use Rattle.nut_client.specs.inside.Reading.{IsRead};
+ghost use Rattle.nut_client.specs.Tool.{EndsOver, RunsAs};
+ghost use Rattle.nut_client.specs.declared.failure.Failure.TheVariants.{NoConnection};
+
+use crate::command_line::{Options, Refusal, destination_of, options_of, parse, value};
+use crate::destination::Destination;
+use crate::engine::{run, run_alone};
+use crate::output::Output;
+use crate::stream::Stream;
+use crate::wanted::Wanted;
+use crate::{upsc, upscmd, upsrw};
+use clap::{ArgMatches, Command};
+use std::alloc::{AllocError, Global};
+use std::convert::AsStr;
+use std::sync::Wait;
+use std::time::Clock;
+
+/// A tool.
+#[derive(Clone, Copy, Debug, PartialEq, Eq)]
+pub enum Tool {
+    /// `upsc` shows the variables of a UPS, the UPSes of a server, or the clients of a UPS.
+    Upsc,
+    /// `upsrw` shows the writable variables of a UPS, or sets one.
+    Upsrw,
+    /// `upscmd` lists the commands of a UPS, or sends it one.
+    Upscmd,
+}
+
+impl Tool {
+    /// Returns the command line that clap reads.
+    fn command<'a>(self, alloc: Global) -> Result<Command<'a>, AllocError>
+        ensures { IfOk result (λ c. app_of c ≡ command_of self) }
+    {
+        match self {
+            Tool::Upsc => upsc::command(alloc),
+            Tool::Upsrw => upsrw::command(alloc),
+            Tool::Upscmd => upscmd::command(alloc),
+        }
+    }
+
+    /// Returns what the options and arguments ask for. `None` if they are no combination that the tool knows.
+    fn wanted_in<'a>(self, matches: &ArgMatches<'a>) -> Option<Wanted<'a>>
+        ensures { result ≡ wanted_of self (rows_of (found_of matches.now)) }
+    {
+        match self {
+            Tool::Upsc => upsc::wanted_in(matches),
+            Tool::Upsrw => upsrw::wanted_in(matches),
+            Tool::Upscmd => upscmd::wanted_in(matches),
+        }
+    }
+
+    /// Returns what the words of the command line ask for.
+    fn read_options<'a, W: AsStr>(
+        self,
+        alloc: Global,
+        words: &'a [W],
+    ) -> Result<Options<'a>, Refusal>
+        ensures { IsRead (line_of self (map W.text words.entry.now)) result }
+    {
+        let matches = parse(self.command(alloc)?, words)?;
+        let options = options_of(self.wanted_in(&matches), value(&matches, "name"))?;
+        Ok(options)
+    }
+
+    /// Returns the host and the port that the words of the command line tell the tool to connect to, if they name any.
+    pub(crate) fn target<W: AsStr>(
+        self,
+        alloc: Global,
+        words: &[W],
+    ) -> Result<Option<Destination>, AllocError>
+        ensures { IfOk result (λ found. option_map dialed found ≡ target_of (line_of self (map W.text words.now))) }
+    {
+        destination_of(self.read_options(alloc, words))
+    }
+
+    /// Runs the tool with the words of a command line over a connection. Returns the exit status.
+    pub(crate) fn run<W: AsStr, S: Stream, O: Output, E: Output>(
+        self,
+        rt: &(impl Wait + Clock),
+        alloc: Global,
+        words: &[W],
+        stream: &mut S,
+        out: &mut O,
+        err: &mut E,
+    ) -> u8
+        ensures { RunsAs (line_of self (map W.text words.now))
+            (EndsOver S.remaining S.taken S.has_ended stream.old stream.new) (stream.new ≡ stream.old)
+            result (written O.contents O.has_failed out.old out.new) (written E.contents E.has_failed err.old err.new) }
+    {
+        let options = self.read_options(alloc, words);
+        run(rt, alloc, options, stream, out, err)
+    }
+
+    /// Runs the tool with the words of a command line if no connection was made. Returns the exit status.
+    pub(crate) fn run_alone<W: AsStr, O: Output, E: Output>(
+        self,
+        rt: &impl Wait,
+        alloc: Global,
+        words: &[W],
+        out: &mut O,
+        err: &mut E,
+    ) -> u8
+        ensures { RunsAs (line_of self (map W.text words.now)) (λ _ printed. printed ≡ Err NoConnection) ⊤
+            result (written O.contents O.has_failed out.old out.new) (written E.contents E.has_failed err.old err.new) }
+    {
+        let options = self.read_options(alloc, words);
+        run_alone(rt, alloc, options, out, err)
+    }
+}
