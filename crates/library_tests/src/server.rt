@@ -1,4 +1,5 @@
 //! A server, and the loop that serves it over a world.
 
 mod logins;
+mod room;
 mod serve;

@@ -14,12 +14,12 @@
 //! A call is answered by `ok` or its fault, and then by how many bytes wait.
 
 use crate::failure::Failure;
-use crate::played::{Played, show_ok, wrote};
+use crate::played::{Played, put_in, wrote};
 use crate::text::{decode, parted, put, shown};
 use nut_dummy::{Dummy, DummyFault, Script, ScriptFault, ScriptFaultKind, ScriptKind, Variable};
 use std::alloc::Global;
+use std::io;
 use std::io::Write;
-use std::{io, mem};
 
 /// Plays a step on a driver, and writes the answer.
 pub fn play<W: Write>(
@@ -67,10 +67,7 @@ fn put_driver<W: Write>(
     out: &mut W,
 ) -> Result<Played, Failure> {
     match made {
-        Ok(made) => {
-            put_in(made, dummy);
-            show_ok(out)
-        }
+        Ok(made) => put_in(made, dummy, out),
         Err(fault) => show_fault(fault, out),
     }
 }
@@ -82,10 +79,6 @@ fn show_fault<W: Write>(fault: DummyFault, out: &mut W) -> Result<Played, Failur
 /// Returns what happened at a line that a driver answers by a fault.
 fn played_with(fault: DummyFault) -> Played {
     Played::with_lack(matches!(fault, DummyFault::Memory(_)))
-}
-
-fn put_in(made: Dummy, dummy: &mut Option<Dummy>) {
-    drop(mem::replace(dummy, Some(made)));
 }
 
 /// Plays a step on a driver that was made.

@@ -16,13 +16,13 @@
 //! bytes wait for its server.
 
 use crate::failure::Failure;
-use crate::played::{Played, show_file_fault, show_ok, wrote};
+use crate::played::{Played, put_in, show_file_fault, wrote};
 use crate::text::{decode, parted, put, shown};
 use nut_conf::read_upsmon;
 use nut_monitor::{Event, Monitor, MonitorFault, Notice};
 use std::alloc::Global;
+use std::io;
 use std::io::Write;
-use std::{io, mem};
 
 /// Plays a step on a monitor, and writes the answer.
 pub fn play<W: Write>(
@@ -79,10 +79,7 @@ fn put_monitor<W: Write>(
     out: &mut W,
 ) -> Result<Played, Failure> {
     match made {
-        Ok(made) => {
-            put_in(made, monitor);
-            show_ok(out)
-        }
+        Ok(made) => put_in(made, monitor, out),
         Err(fault) => wrote(show_fault(fault, out), Played::with_lack(is_lack(fault))),
     }
 }
@@ -93,10 +90,6 @@ fn show_fault<W: Write>(fault: MonitorFault, out: &mut W) -> io::Result<()> {
 
 fn is_lack(fault: MonitorFault) -> bool {
     matches!(fault, MonitorFault::Memory { .. })
-}
-
-fn put_in(made: Monitor, monitor: &mut Option<Monitor>) {
-    drop(mem::replace(monitor, Some(made)));
 }
 
 /// Tells the monitor an event, and writes its answer and then its state.

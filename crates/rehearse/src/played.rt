@@ -2,8 +2,8 @@
 
 use crate::failure::Failure;
 use nut_conf::{ConfFault, FaultKind};
-use std::io;
 use std::io::Write;
+use std::{io, mem};
 
 /// What happened at a line of a script.
 #[derive(Clone, Copy, PartialEq, Eq)]
@@ -32,6 +32,16 @@ pub fn wrote<T: Copy>(written: io::Result<()>, told: T) -> Result<T, Failure> {
 /// Writes that a step was done.
 pub fn show_ok<W: Write>(out: &mut W) -> Result<Played, Failure> {
     wrote(out.write_all(b"ok"), Played::Step)
+}
+
+/// Puts an engine that was made into its place, in which an earlier one may be, and writes that the step was done.
+pub fn put_in<T: Drop, W: Write>(
+    made: T,
+    place: &mut Option<T>,
+    out: &mut W,
+) -> Result<Played, Failure> {
+    drop(mem::replace(place, Some(made)));
+    show_ok(out)
 }
 
 /// Writes why the text of a configuration file sets nothing.

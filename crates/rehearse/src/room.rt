@@ -11,7 +11,7 @@
 //! its fault.
 
 use crate::failure::Failure;
-use crate::played::{Played, show_file_fault, show_ok, wrote};
+use crate::played::{Played, put_in, show_file_fault, wrote};
 use crate::server::read_config;
 use crate::stage::Texts;
 use crate::text::{decode, parted, shown};
@@ -93,16 +93,9 @@ fn put_fleet<W: Write>(
     out: &mut W,
 ) -> Result<Played, Failure> {
     match made {
-        Ok(made) => {
-            put_in(made, fleet);
-            show_ok(out)
-        }
+        Ok(made) => put_in(made, fleet, out),
         Err(fault) => show_fault(fault, out),
     }
-}
-
-fn put_in(made: Fleet, fleet: &mut Option<Fleet>) {
-    drop(mem::replace(fleet, Some(made)));
 }
 
 /// Plays these steps in one call, and writes what they tell.

@@ -1,7 +1,7 @@
 //! What a script has made so far.
 
 use crate::failure::Failure;
-use crate::played::{Played, show_ok, wrote};
+use crate::played::{Played, put_in, show_ok, wrote};
 use crate::room::Rooms;
 use crate::text::{decode, parted};
 use crate::{carrying, dummy, link, monitor, server, watching, words};
@@ -13,7 +13,6 @@ use nut_server::Server;
 use nut_words::LineCutter;
 use std::alloc::Global;
 use std::io::Write;
-use std::mem;
 use std::sync::Wait;
 
 /// The texts of the configuration files of a server.
@@ -134,10 +133,7 @@ impl Stage {
     /// Replaces the server by a new one with the texts of the configuration files.
     fn begin<W: Write>(&mut self, out: &mut W) -> Result<Played, Failure> {
         match server::begin(self.alloc, &self.texts) {
-            Ok(server) => {
-                put_in(server, &mut self.server);
-                show_ok(out)
-            }
+            Ok(server) => put_in(server, &mut self.server, out),
             Err(failure) => Err(failure),
         }
     }
@@ -149,10 +145,6 @@ impl Stage {
             None => Ok(Played::Nothing),
         }
     }
-}
-
-fn put_in(made: Server, server: &mut Option<Server>) {
-    drop(mem::replace(server, Some(made)));
 }
 
 /// Keeps a text for a configuration file, and writes the answer.

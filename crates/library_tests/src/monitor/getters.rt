@@ -1,22 +1,14 @@
 //! What a monitor's getters return. Clauses cannot tell whether a getter ever returns anything.
 
-use nut_conf::read_upsmon;
+use super::fresh_monitor;
 use nut_monitor::{Event, Known, LastQuery, Monitor, MonitorFault, Query, StatusFlags};
 use nut_monitor_spec::Communication;
-use std::alloc::Global;
 use std::test::Fail;
 
 const FILE: &[u8] = b"MONITOR a@localhost 1 mon m1 secondary\n";
 
 /// The answers to the first three queries of a link, and then the status.
 static ANSWERS: [&[u8]; 4] = [b"OK\n", b"OK\n", b"OK\n", b"VAR a ups.status \"OL CHRG\"\n"];
-
-/// Makes a monitor that was told nothing.
-fn quiet_monitor(alloc: Global) -> Result<Monitor, Fail> {
-    let config = read_upsmon(alloc, FILE)?;
-    let monitor = Monitor::new(alloc, config)?;
-    Ok(monitor)
-}
 
 /// Makes the monitor's link at moment 7.
 fn link(monitor: &mut Monitor) -> Result<(), MonitorFault> {
@@ -77,7 +69,7 @@ const ON_LINE: StatusFlags = StatusFlags {
 
 #[test]
 fn nothing_is_known_at_first(rt: HostRuntime) -> Result<(), Fail> {
-    let monitor = quiet_monitor(rt.alloc())?;
+    let monitor = fresh_monitor(rt.alloc(), FILE)?;
     let first = what_is_said(&monitor, 0);
     let beyond = what_is_said(&monitor, 1);
     drop(monitor);
@@ -88,7 +80,7 @@ fn nothing_is_known_at_first(rt: HostRuntime) -> Result<(), Fail> {
 
 #[test]
 fn a_link_asks_for_its_user_first(rt: HostRuntime) -> Result<(), Fail> {
-    let mut monitor = quiet_monitor(rt.alloc())?;
+    let mut monitor = fresh_monitor(rt.alloc(), FILE)?;
     let linked = link(&mut monitor);
     let first = what_is_said(&monitor, 0);
     drop(monitor);
@@ -103,7 +95,7 @@ fn a_link_asks_for_its_user_first(rt: HostRuntime) -> Result<(), Fail> {
 
 #[test]
 fn a_status_is_known(rt: HostRuntime) -> Result<(), Fail> {
-    let mut monitor = quiet_monitor(rt.alloc())?;
+    let mut monitor = fresh_monitor(rt.alloc(), FILE)?;
     let answered = link_and_answer(&mut monitor);
     let first = what_is_said(&monitor, 0);
     drop(monitor);

@@ -1,36 +1,8 @@
 //! Whether a server says that a client is logged in.
 
-use nut_conf::{read_ups, read_upsd, read_users};
-use nut_server::{Arrival, Config, Refused, Server};
-use std::alloc::Global;
+use super::room::fresh_server;
+use nut_server::{Arrival, Refused, Server};
 use std::test::Fail;
-
-const UPS: &[u8] = b"[su700]\n";
-
-const USERS: &[u8] = b"[mon]\npassword = m1\nupsmon secondary\n";
-
-/// Makes a server of one UPS and one user.
-fn fresh_server(alloc: Global) -> Result<Server, Fail> {
-    let ups = read_ups(alloc, UPS)?;
-    let users = match read_users(alloc, USERS) {
-        Ok(users) => users,
-        Err(fault) => {
-            drop(ups);
-            return Err(fault.into());
-        }
-    };
-    match read_upsd(alloc, b"") {
-        Ok(upsd) => {
-            let server = Server::new(alloc, Config::new(ups, users, upsd))?;
-            Ok(server)
-        }
-        Err(fault) => {
-            drop(ups);
-            drop(users);
-            Err(fault.into())
-        }
-    }
-}
 
 /// What a client says, and whether it is logged in afterwards. Replies are taken before the next piece.
 static SAID: [(&[u8], bool); 4] = [

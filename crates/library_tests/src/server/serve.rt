@@ -2,7 +2,6 @@
 
 mod broken;
 mod reloads;
-mod room;
 mod worlds;
 
 /// The lines of a client, and the replies to them.

@@ -3,7 +3,7 @@
 ghost use Rattle.std.specs.Prelude.{◌≡◌, []};
 ghost use Rattle.nut_server_spec.specs.Content.{content};
 
-use super::room::fresh_server;
+use crate::server::room::{fresh_server, rows_of};
 use failing_world::{Deed, FailingWorld, Row, Trouble, serve_failing};
 use nut_io::Written;
 use nut_server::Server;
@@ -102,19 +102,13 @@ fn play_rows(
     due: Due<'_>,
 ) -> Result<Outcome, Fail> {
     let server = fresh_server(alloc)?;
-    match copy_of(alloc, rows) {
+    match rows_of(alloc, rows) {
         Ok(rows) => Ok(play(rt, alloc, server, rows, troubles, due)),
         Err(error) => {
             drop(server);
             Err(error.into())
         }
     }
-}
-
-fn copy_of(alloc: Global, rows: &[Row]) -> Result<Vec<Row>, AllocError> {
-    let mut copy = Vec::new(alloc);
-    copy.extend_from_slice(rows)?;
-    Ok(copy)
 }
 
 fn play(

@@ -3,7 +3,7 @@
 ghost use Rattle.std.specs.Prelude.{◌≡◌, [], IfOk};
 ghost use Rattle.nut_server_spec.specs.Content.{content};
 
-use super::room::{config_of, server_of};
+use crate::server::room::{config_of, rows_of, server_of};
 use failing_world::{Deed, FailingWorld, ReloadingWorld, Row, Trouble, serve_reloading};
 use nut_io::Written;
 use nut_server::{Config, Server};
@@ -40,12 +40,6 @@ const FURTHER: [Row; 6] = [
     Row::Report(1, ON_LINE),
     Row::Bytes(2, b"GET VAR neu ups.status\nGET VAR su700 ups.status\n"),
 ];
-
-fn rows_of(alloc: Global, rows: &[Row]) -> Result<Vec<Row>, AllocError> {
-    let mut copy = Vec::new(alloc);
-    copy.extend_from_slice(rows)?;
-    Ok(copy)
-}
 
 /// Makes a world that gives these rows, a reload of these UPSes, and further rows.
 fn world_of(

@@ -3,8 +3,8 @@
 ghost use Rattle.std.specs.Prelude.{◌≡◌, []};
 ghost use Rattle.nut_server_spec.specs.Content.{content};
 
-use super::room::fresh_server;
 use super::{ROWS, ROWS_ANSWERED};
+use crate::server::room::fresh_server;
 use failing_world::Row;
 use nut_io::Piece;
 use nut_server::Server;

@@ -1,11 +1,12 @@
-//! The servers of the tests: UPSes, a user who may set, a user who monitors, and two connections.
+//! What the tests of a server start with: UPSes, a user who may set, a user who monitors, two connections, and rows.
 
 ghost use Rattle.std.specs.Prelude.{◌≡◌, [], IfOk};
 ghost use Rattle.nut_server_spec.specs.Content.{content};
 
+use failing_world::Row;
 use nut_conf::{read_ups, read_upsd, read_users};
 use nut_server::{Config, Server};
-use std::alloc::Global;
+use std::alloc::{AllocError, Global};
 use std::test::Fail;
 
 const UPSES: &[u8] = b"[su700]\ndesc = \"Server room\"\n";
@@ -40,4 +41,11 @@ pub fn config_of(alloc: Global, upses: &[u8]) -> Result<Config, Fail> {
             Err(fault.into())
         }
     }
+}
+
+/// Makes a vector of these rows.
+pub fn rows_of(alloc: Global, rows: &[Row]) -> Result<Vec<Row>, AllocError> {
+    let mut copy = Vec::new(alloc);
+    copy.extend_from_slice(rows)?;
+    Ok(copy)
 }
