@@ -1,5 +1,5 @@
 # make               proves and builds every program into bin/
-# make check         passes all tests; its last line is 'N passed, M failed'
+# make check         runs all tests; its last line is 'N passed, M failed'; with ANEW=--anew it uses nothing of earlier runs
 # make check-edits   tries each wrong body one by one, which takes hours; CRATES='a b' tries those of some crates
 # make check-times   keeps the processor times of the last make check, with which the next one compares its own
 # make check-peers   joins the programs in bin/ with NUT's own, where those are installed
@@ -38,7 +38,7 @@ $(PROGRAMS): toolchain
 	@echo "bin/$(subst _,-,$@) is proved and built"
 
 check: toolchain
-	@python3 -m tests.check
+	@python3 -m tests.check $(ANEW)
 
 check-edits: toolchain
 	@python3 -m tests.gate.wrong_bodies --one-by-one $(CRATES)

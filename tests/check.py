@@ -1,9 +1,13 @@
 #!/usr/bin/env python3
-"""Runs all tests: the toolchain's gate (every proof from nothing, an edit of some crates that must fail, the tests and the
-stored runs), then all wrong bodies, and beside them the tests in Python, most of which run the programs that the gate has
-built. It shows how much processor time each crate took, beside that of the last landing, and at the end repeats the lines
-that reported a failure.
-The last line is 'N passed, M failed'."""
+"""Runs all tests: the toolchain's gate (every proof, an edit of some crates that must fail, the tests and the stored runs), then
+all wrong bodies, and beside them the tests in Python, most of which run the programs that the gate has built. It shows how
+much processor time each crate took, beside the times that were kept, and at the end repeats the lines that reported a failure
+or a test that was skipped.
+
+usage: python3 -m tests.check [--anew]
+
+The toolchain's gate takes what an earlier run on this machine has proved, if nothing that it rests on has changed; with --anew
+it proves all. The last line is 'N passed, M failed'."""
 
 import os
 import re
@@ -45,16 +49,20 @@ TESTS = (
 
 # The beginnings and the ends of lines by which the toolchain or a test reports a failure, and how many of these are repeated.
 FAILURE = re.compile(
-    r"FAILED|.*\b(NOT PROVED|not refused|BAD EDIT|FAILED)\b|rt: .*: the program (ended|was stopped|had not)|rt: .*is not what its file|rt: .*was not run"
+    r"FAILED|.*\b(NOT PROVED|NOT TRIED|NOT REFUSED|not refused|BAD EDIT|FAILED)\b|rt: .*: the program (ended|was stopped|had not)|rt: .*is not what its file|rt: .*was not run"
 )
 FAILURES_SHOWN = 60
 
+# What the toolchain's gate says if it took nothing from an earlier run.
+WHOLE = "every proof and must-fail edit was done in this run"
+
 
 class Count:
-    """How many tests passed and failed, and the lines that reported a failure."""
+    """How many tests passed and failed, the lines that reported a failure or a skipped test, and whether the toolchain's gate took
+    nothing from an earlier run."""
 
     def __init__(self):
-        self.passed, self.failed, self.failures = 0, 0, []
+        self.passed, self.failed, self.failures, self.skipped, self.is_whole = 0, 0, [], [], False
 
     def run(self, command):
         """Runs a command, shows what it prints, and adds the counts of its last line."""
@@ -76,16 +84,19 @@ class Count:
             print(line, end="", flush=True)
             if FAILURE.match(line):
                 self.failures.append(line.rstrip("\n"))
+            if line.startswith("skipped "):
+                self.skipped.append(f"{command[2]}: {line.rstrip()}")
+            self.is_whole |= WHOLE in line
             last = line
         status = run.wait()
         counts = re.fullmatch(r"(\d+) passed, (\d+) failed\s*", last)
-        if counts is None:
-            self.failures.append(f"FAILED: {' '.join(command)} ended with status {status} and no counts")
+        passed, failed = map(int, counts.groups()) if counts else (0, 0)
+        if not counts or status and not failed:
+            self.failures.append(f"FAILED: {' '.join(command)} ended with status {status}, and its last line counts no failure")
             print(self.failures[-1])
-            self.failed += 1
-        else:
-            self.passed += int(counts[1])
-            self.failed += int(counts[2]) or int(status != 0)
+            failed += 1
+        self.passed += passed
+        self.failed += failed
 
     def run_test(self, name, *words):
         self.run(test_command(name, *words))
@@ -105,31 +116,35 @@ def run_programs(count):
         count.run_test(test, *[os.path.join("crates", program, "out", program) for program in programs])
 
 
-def pass_all(count):
+def run_all(count, words):
     # an edit that cannot be applied is reported before an hour of proofs
     count.run_test("gate.wrong_bodies", "--look")
     if count.failed == 0:
-        count.run(["rt", "ci"])
+        count.run(["rt", "ci", *words])
     if count.failed == 0:
         # these tests mostly wait, and the rounds use the processors meanwhile
         count.run_beside(lambda: run_programs(count), test_command("gate.wrong_bodies", "--after-gate"))
 
 
-def main():
+def main(words):
     count, started = Count(), time.monotonic()
     with gate_times.Stopwatch() as stopwatch:
-        pass_all(count)
-    if stopwatch.seconds():
+        run_all(count, words)
+    if count.is_whole and not count.failed:
         gate_times.write(stopwatch.seconds(), gate_times.LAST)
         gate_times.main([])
+    else:
+        print("no times of crates, since something failed or was proved by an earlier run")
     used = resource.getrusage(resource.RUSAGE_CHILDREN)
     clock, processor = (time.monotonic() - started) / 60, (used.ru_utime + used.ru_stime) / 60
     print(f"{clock:.0f} minutes, {processor:.0f} of processor with the tests of programs")
     if count.failed:
         print("What failed:", *count.failures[-FAILURES_SHOWN:], sep="\n")
+    if count.skipped:
+        print("What was skipped:", *count.skipped, sep="\n")
     print(f"{count.passed} passed, {count.failed} failed")
     return 1 if count.failed else 0
 
 
 if __name__ == "__main__":
-    sys.exit(main())
+    sys.exit(main(sys.argv[1:]))

@@ -1,9 +1,10 @@
 #!/usr/bin/env python3
-"""Measures the processor time of each crate while the gate runs, shows it beside the last landing's, and keeps it.
+"""Measures the processor time of each crate while the gate runs, shows it beside the times that were kept, and keeps it.
 
 usage: python3 -m tests.gate.times [--keep]
 
-It shows the times of the last `make check` beside those in tests/gate-times.txt, or with --keep writes them there."""
+It shows the times of the last `make check` that took nothing from an earlier run and passed, beside those in
+tests/gate-times.txt, or with --keep writes them there."""
 
 import os
 import shutil
@@ -13,7 +14,7 @@ import threading
 from tests.support.harness import ROOT
 
 LAST = os.path.join(ROOT, "bin", "gate-times.txt")
-LANDED = os.path.join(ROOT, "tests", "gate-times.txt")
+KEPT = os.path.join(ROOT, "tests", "gate-times.txt")
 PARTS = ("proof", "tests", "build", "edits")
 # Times vary from run to run: a part of a crate counts as grown if it takes a fifth more and at least this many seconds more.
 FIFTH, SWING = 1.2, 5
@@ -123,31 +124,31 @@ def read(path):
     return found
 
 
-def show(now, landed):
-    """Prints the table, and the parts that have grown."""
+def show(now, kept):
+    """Prints the table, and the parts that have grown since the other times were kept."""
     columns, grown = ("lines", *PARTS), []
     both = lambda new, old: f"{new} ({'-' if old is None else old})"
-    print(f"{'processor seconds (last landing)':<34}" + "".join(f"{it:>15}" for it in columns))
+    print(f"{'processor seconds (kept)':<34}" + "".join(f"{it:>15}" for it in columns))
     for crate in sorted(now):
-        was = landed.get(crate, {})
+        was = kept.get(crate, {})
         print(f"{crate:<34}" + "".join(f"{both(now[crate][it], was.get(it)):>15}" for it in columns))
         for part in PARTS:
             new, old = now[crate][part], was.get(part)
             if old is not None and new > FIFTH * old and new > old + SWING:
                 grown.append(f"{crate}: {part} grew from {old} to {new} seconds")
     sums = [sum(it[part] for it in now.values()) for part in columns]
-    olds = [sum(it[part] for it in landed.values()) if landed else None for part in columns]
+    olds = [sum(it[part] for it in kept.values()) if kept else None for part in columns]
     print(f"{'all':<34}" + "".join(f"{both(new, old):>15}" for new, old in zip(sums, olds)))
     print(f"processor minutes in all: {sum(sums[1:]) / 60:.0f}", *grown, sep="\n", flush=True)
 
 
 def main(words):
     if not os.path.isfile(LAST):
-        sys.exit("make check has to run first: it measures each crate")
+        sys.exit("make check has to pass first: it measures each crate")
     if words == ["--keep"]:
-        shutil.copyfile(LAST, LANDED)
+        shutil.copyfile(LAST, KEPT)
     else:
-        show(read(LAST), read(LANDED))
+        show(read(LAST), read(KEPT))
 
 
 if __name__ == "__main__":

@@ -7,12 +7,13 @@ The edits are crates/NAME/wrong-bodies/*.edit, and crates/NAME/must-fail/*.edit,
 docs/tests.md says how to write one. Most are tried in one check of their crate: one edit of each function in its place, and
 others in copies of the function beside it. All other functions have empty bodies and open proofs there. What is left is tried
 in rounds: edits of different functions together, and an edit of a definition alone. The functions have been proved as they
-are. That an empty body elsewhere isn't why one fails is seen on copies without edits, which have to pass in the same check.
+are. Copies without edits, and a method of a trait without one, have to pass in the same check: so a function doesn't fail
+because others have empty bodies.
 
 --look only lists the edits that cannot be applied. --one-by-one also tries each edit as the toolchain's gate does, in a
 check of the whole crate, and fails if the two disagree. Both need the crates built, which proves them, and those that they
-depend on: what the gate has built since the last change is used, and the rest is built. --after-gate takes all as it is: the
-gate may have taken a library from an earlier run, with older times. The last line is 'N passed, M failed'."""
+depend on: what the gate has built since the last change is used, and the rest is built. --after-gate is for the gate itself,
+which may have taken a library from an earlier run, with older times. The last line is 'N passed, M failed'."""
 
 import argparse
 import collections
@@ -181,7 +182,7 @@ def proof_of(folder, function):
     return None if glob.glob(f"{os.path.dirname(proof)}/+*") else proof
 
 
-class Room:
+class Trial:
     """A copy of a crate in which all but some functions have empty bodies and open proofs. Edits of bodies stand in the places of
     their functions, and copies of functions beside these."""
 
@@ -281,6 +282,7 @@ class Rounds:
 
     def __init__(self, crate, edits, functions, folder):
         self.crate, self.edits, self.functions, self.folder = crate, edits, functions, folder
+        self.methods = {it.path for it in functions if it.is_of_trait}
         # the paths of the functions that were seen to pass without edits, and of those that were seen to fail
         self.passed, self.fallen = set(), set()
         self.said, self.together, self.count, self.seconds = {}, 0, 0, 0.0
@@ -291,15 +293,15 @@ class Rounds:
     def left(self):
         return [it for it in self.edits if it not in self.said]
 
-    def room(self, shown, edits=(), copies=()):
-        """Makes a room in which these functions have their bodies, or those that edits of bodies give them."""
-        shutil.rmtree(f"{self.folder}/room", ignore_errors=True)
-        return Room(self.crate, self.functions, shown, f"{self.folder}/room", edits, copies)
+    def trial(self, shown, edits=(), copies=()):
+        """Makes a trial in which these functions have their bodies, or those that edits of bodies give them."""
+        shutil.rmtree(f"{self.folder}/trial", ignore_errors=True)
+        return Trial(self.crate, self.functions, shown, f"{self.folder}/trial", edits, copies)
 
-    def check(self, room, paths):
+    def check(self, trial, paths):
         """Returns the result of a check for these functions."""
-        report = room.check(paths, f"{self.folder}/kept")
-        self.seconds += room.seconds
+        report = trial.check(paths, f"{self.folder}/kept")
+        self.seconds += trial.seconds
         return report
 
     def run(self):
@@ -322,15 +324,16 @@ class Rounds:
         copied = [it for it in copyable if it.wanted & controlled]
         placed = next(iter(self.shared([it for it in bodies if it not in copied])), [])
         plain = {path: self.copy(path, "unedited") for path in sorted({path for it in copied for path in it.wanted})}
+        beside = self.method_beside(bodies)
         edited = {it: [self.copy(path, f"edited_{at}", it) for path in sorted(it.wanted)] for at, it in enumerate(copied)}
         copies = [*plain.values(), *itertools.chain(*edited.values())]
-        paths = {path for it in placed for path in it.wanted} | {it.path for it in copies}
-        report = self.check(self.room({path for it in placed for path in it.edited}, placed, copies), paths)
+        paths = {path for it in placed for path in it.wanted} | {it.path for it in copies} | beside
+        report = self.check(self.trial({path for it in placed for path in it.edited} | beside, placed, copies), paths)
         if not report.ended or report.unread:
             return
-        self.passed = {path for path, it in plain.items() if report.passes(it.path)}
+        self.passed = {path for path, it in plain.items() if report.passes(it.path)} | {it for it in beside if report.passes(it)}
         self.fallen = plain.keys() - self.passed
-        refusals = {edit: refusal(edit, report) for edit in placed if self.passed and not edit.wanted & self.fallen}
+        refusals = {edit: refusal(edit, report) for edit in placed if self.is_controlled(edit)}
         refusals |= {edit: refusal(edit, report, [it.path for it in made]) for edit, made in edited.items() if edit.wanted <= self.passed}
         for edit in filter(refusals.get, refusals):
             self.say(edit, True, refusals[edit])
@@ -345,6 +348,19 @@ class Rounds:
         calls = {path: bool(names & {*re.findall(r"\b(\w+)\(", body)}) for path, body in bodies.items()}
         several = {path for path in edited if edited[path] > 1}
         return several or {*sorted(bodies, key=lambda it: (not calls[it], len(bodies[it])))[:1]}
+
+    def method_beside(self, edits):
+        """Returns the path of a short method of a trait that no edit is about, if these edits are about other such methods.
+        It is checked in place of copies of these, which can't be made."""
+        edited = {path for it in edits for path in it.edited}
+        free = [it for it in self.functions if it.is_of_trait and it.path not in edited and proof_of(self.crate.folder, it)]
+        return {it.path for it in sorted(free, key=lambda it: it.end - it.start)[:1] if edited & self.methods}
+
+    def is_controlled(self, edit):
+        """Whether a function without an edit was seen to pass, a method of a trait if the edit is of one, and the edit's own
+        functions weren't seen to fail."""
+        seen = self.passed & self.methods if edit.wanted & self.methods else self.passed
+        return bool(seen) and not edit.wanted & self.fallen
 
     def can_be_copied(self, edit):
         """Whether copies of the functions that have to refuse an edit can stand beside these: it edits bodies, and they are
@@ -364,11 +380,10 @@ class Rounds:
 
     def control(self):
         """Checks functions whose bodies are edited as they are without the edits, where the first check has shown too little of
-        them: all that are left, if no function passed there; and always those of which a copy failed."""
-        bodies = [it for it in self.left() if it.is_of_bodies()]
-        unseen = [it for it in bodies if not self.passed or it.wanted & self.fallen]
+        them."""
+        unseen = [it for it in self.left() if it.is_of_bodies() and not self.is_controlled(it)]
         paths = {path for it in unseen for path in it.wanted} - self.passed
-        report = self.check(self.room(paths), paths) if paths else None
+        report = self.check(self.trial(paths), paths) if paths else None
         for edit in unseen:
             fallen = [it for it in sorted(edit.wanted & paths) if not report.ended or not report.passes(it)]
             if fallen:
@@ -393,13 +408,13 @@ class Rounds:
         self.count += 1
         bodies = [it for it in edits if it.is_of_bodies()]
         shown = {path for it in bodies for path in it.wanted | it.edited} or {it.path for it in self.functions}
-        room = self.room(shown, bodies)
+        trial = self.trial(shown, bodies)
         for edit in [it for it in edits if it not in bodies]:
-            fault = room.apply(edit)
+            fault = trial.apply(edit)
             if fault:
                 self.say(edit, False, f"BAD EDIT: {fault}")
                 return []
-        report = self.check(room, {path for it in edits for path in it.wanted})
+        report = self.check(trial, {path for it in edits for path in it.wanted})
         for edit in edits:
             if len(edits) == 1:
                 self.say(edit, *self.judged(edit, report))
@@ -446,11 +461,13 @@ def is_newer(crate):
     return os.path.isfile(built) and max(map(os.path.getmtime, files)) <= os.path.getmtime(built)
 
 
-def build_libraries(crates):
+def build_libraries(crates, is_after_gate):
     """Builds the crates and those that they depend on, which proves their functions as they are. The libraries of the gate have
-    no stamp, and are used if all are there."""
+    no stamp, and fit only each other, so they are used if all are there. Where others stood before a gate, it puts these back,
+    which have a stamp and may be older than their sources."""
     needed = list(dict.fromkeys(it for crate in crates for it in [*crate.below(), crate]))
-    if all(not os.path.isfile(f"{it.folder}/out/rlib/stamp") and is_newer(it) for it in needed):
+    are_of_gate = all(os.path.isdir(it.rlib) and not os.path.isfile(f"{it.folder}/out/rlib/stamp") for it in needed)
+    if are_of_gate and (is_after_gate or all(map(is_newer, needed))):
         return
     for crate in needed:
         if crate.build_rlib(["--jobs", "1"], anew=False):
@@ -481,13 +498,15 @@ def in_rounds(crate, functions, edits, printing):
 
 
 def one_by_one(crate, edits, printing):
-    """Tries each edit as the toolchain's gate does, and returns the result for each edit's path."""
+    """Tries each edit as the toolchain's gate does, and returns the result for each edit's path, none if the crate isn't proved."""
     flags, refusals = ["--jobs", "1"], (toolchain().REFUSED, toolchain().AT_LIMIT)
     with tempfile.TemporaryDirectory(prefix="wrong-bodies-") as kept:
-        # what no edit changes is checked once
-        toolchain().checked(crate, {}, flags, kept)
-        tried = [toolchain().must_fail(crate, it.path, flags, kept) for it in edits]
+        # what no edit changes is checked once, and has to pass
+        whole = toolchain().checked(crate, {}, flags, kept)
+        tried = [toolchain().must_fail(crate, it.path, flags, kept) for it in edits] if whole.returncode == 0 else []
     with printing:
+        if whole.returncode:
+            print(f"{crate.name}: NOT TRIED one by one: the check without an edit ended with status {whole.returncode}")
         print(*[text for _, text in tried], sep="\n", flush=True)
     return {edit.path: outcome in refusals for edit, (outcome, _) in zip(edits, tried)}
 
@@ -522,15 +541,14 @@ def main(words):
     found = {crate: it for crate, it in found.items() if it[1]}
     passed, failed = 0, len(faults)
     if not options.look:
-        if not options.after_gate:
-            build_libraries(found)
+        build_libraries(found, options.after_gate)
         for crate, (_, edits) in found.items():
             edits[:] = [it for it in edits if not it.fault]
         said = side_by_side(found, in_rounds)
         passed, failed = sum(said.values()), failed + len(said) - sum(said.values())
         if options.one_by_one:
             alone = side_by_side(found, lambda crate, _, edits, printing: one_by_one(crate, edits, printing))
-            differ = sorted(it for it in said if said[it] != alone[it])
+            differ = sorted(it for it in said if said[it] != alone.get(it))
             for it in differ:
                 print(f"{os.path.relpath(it, ROOT)}: the rounds and the toolchain's gate disagree")
             failed += len(differ)

@@ -5,6 +5,7 @@
 
 The last line is 'N passed, M failed'."""
 
+import contextlib
 import itertools
 import os
 import resource
@@ -12,9 +13,9 @@ import shutil
 import subprocess
 import sys
 import tempfile
-import time
 
-from tests.support.harness import expect, Failed, Missing, refusal, refusals, ROOT, run_tests, Shimmed
+from tests.support.harness import expect, Failed, Missing, refusal, refusals, ROOT, run_tests, Shimmed, unread
+from tests.support.room import until
 
 ROOM = ["--stdio", "--ups", "su700=Server room"]
 EXAMPLES = ["--stdio", "--conf", os.path.join(ROOT, "examples")]
@@ -123,15 +124,15 @@ class Tests(Shimmed):
         return ["--stdio", "--conf", folder]
 
     def cut(self, data, at):
-        """Returns what a run prints if its input comes in two writes."""
+        """Returns the exit status of a run whose input comes in two writes, and what it prints. The second part is written once
+        the first has been read."""
         process = subprocess.Popen([self.upsd, *ROOM], stdin=subprocess.PIPE, stdout=subprocess.PIPE, bufsize=0)
-        try:
+        with contextlib.suppress(BrokenPipeError):
             process.stdin.write(data[:at])
-            time.sleep(0.002)
+            until(lambda: unread(process.stdin) == 0 or process.poll() is not None, "the first part is read", pause=0.001)
             process.stdin.write(data[at:])
-        except BrokenPipeError:
-            pass
-        return process.communicate(timeout=60)[0]
+        out, _ = process.communicate(timeout=60)
+        return process.returncode, out
 
     # From here on, each method whose name begins with 'test_' is a test.
 
@@ -148,7 +149,7 @@ class Tests(Shimmed):
         asked = b"".join(it for it, _ in MIXED)
         due = b"".join(it for _, it in MIXED)
         for at in range(len(asked) + 1):
-            expect(self.cut(asked, at), due, f"cut at {at}")
+            expect(self.cut(asked, at), (0, due), f"cut at {at}")
 
     def test_requests_byte_by_byte(self):
         asked = b"".join(it for it, _ in MIXED)

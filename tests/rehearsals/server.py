@@ -6,9 +6,7 @@
 The schedules are made from fixed seeds, so that each run of this test plays the same. The last line is
 'N passed, M failed'."""
 
-import array
 import contextlib
-import fcntl
 import itertools
 import os
 import random
@@ -17,11 +15,10 @@ import shutil
 import subprocess
 import sys
 import tempfile
-import termios
 import time
 import urllib.parse
 
-from tests.support.harness import Failed, ensure, expect, refusals, run_tests
+from tests.support.harness import Failed, ensure, expect, refusals, run_tests, unread
 from tests.support.model import Config
 from tests.support.player import Player, conf_steps, escaped, line_of, places, reload_steps
 from tests.support.reload_rows import RELOADS
@@ -102,11 +99,9 @@ def greatest_memory(process):
     that the process was given (VmPeak), which the system counts exactly; of the memory in use (VmHWM) each processor keeps
     a count of its own, and together they may be wrong by hundreds of KiB."""
     while process.poll() is None:
-        unread = array.array("i", [0])
-        fcntl.ioctl(process.stdin, termios.FIONREAD, unread)
         with open(f"/proc/{process.pid}/status") as file:
             status = dict(line.split(":", 1) for line in file if ":" in line)
-        if unread[0] == 0 and status["State"].split()[0] == "S":
+        if unread(process.stdin) == 0 and status["State"].split()[0] == "S":
             return int(status["VmPeak"].split()[0])
         time.sleep(0.001)
     return 0

@@ -1,12 +1,15 @@
 """What the tests of built programs share: how a check fails, how calls of a program are made to fail, how tests are run and
 counted, and how much processor time a program takes, which the benches use, too."""
 
+import array
 import collections
+import fcntl
 import functools
 import itertools
 import os
 import shutil
 import subprocess
+import termios
 import traceback
 from concurrent import futures
 
@@ -20,6 +23,13 @@ def processor_time(pid):
     with open(f"/proc/{pid}/stat") as file:
         fields = file.read().rsplit(")", 1)[1].split()
     return (int(fields[11]) + int(fields[12])) / os.sysconf("SC_CLK_TCK")
+
+
+def unread(pipe):
+    """Returns how many bytes wait in a pipe."""
+    count = array.array("i", [0])
+    fcntl.ioctl(pipe, termios.FIONREAD, count)
+    return count[0]
 
 
 class Failed(Exception):
@@ -134,6 +144,9 @@ def run_tests(tests, names=(), install="", at_once=1):
     # the files that tests make hold passwords, and a program warns if everybody can read such a file
     os.umask(0o077)
     chosen = [it for it in dir(tests) if it.startswith("test_") and (not names or any(name in it for name in names))]
+    if not chosen:
+        print("FAILED: no test has such a name\n0 passed, 1 failed")
+        return 1
     counts = collections.Counter()
     with futures.ThreadPoolExecutor(at_once) as pool:
         run_all = pool.map if at_once > 1 else map

@@ -22,7 +22,7 @@ NOT_CONNECTED = b"ERR DRIVER-NOT-CONNECTED\n"
 SOON = 10.0
 
 
-def until(test, what, within=SOON):
+def until(test, what, within=SOON, pause=0.02):
     """Repeats a test until its result is true, and returns that."""
     end = time.monotonic() + within
     while True:
@@ -31,7 +31,7 @@ def until(test, what, within=SOON):
             return found
         if time.monotonic() > end:
             raise Failed(f"{what}: not within {within} s")
-        time.sleep(0.02)
+        time.sleep(pause)
 
 
 def free_port():

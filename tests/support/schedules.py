@@ -38,7 +38,7 @@ NUMBERS = [
 ]
 FLAGS = [b"RW", b"rw", b"STRING", b"String", b"NUMBER", b"OTHER", b""]
 UPSES_MAX = 32
-# the part of the arrivals that are reloads
+# how often the maker chooses a reload; its other choices may give more than one arrival
 RELOADED = 0.008
 # the verbs of steps that ask or prepare
 NO_ARRIVALS = ("next", "next-driver", "ups", "users", "upsd")
