@@ -17,12 +17,18 @@ import threading
 import time
 
 from tests.support.harness import Failed, Missing, apart, expect, processor_time, run_tests
-from tests.support.room import Client, DEVICE, Lines, NOT_CONNECTED, ONLINE, Room, SOON, STATUS, VERSION, accepted, family_of, free_port, has_ipv6, said, until
+from tests.support.room import Client, DEVICE, Lines, NOT_CONNECTED, ONLINE, Room, SOON, STATUS, VERSION
+from tests.support.room import accepted, family_of, free_port, has_ipv6, heed_modes, said, until
 
 
 def with_hosts(path):
     """Returns the words that run a program for which this file takes the place of /etc/hosts."""
     return apart("--mount", "sh", "-c", 'mount --bind "$0" /etc/hosts && exec "$@"', path)
+
+
+def why(error):
+    """Returns how programs say an error of the system's."""
+    return f"{os.strerror(error)} (os error {error})"
 
 
 class Tests:
@@ -501,8 +507,8 @@ class Tests:
                     client.close()
             # once for those that wait, and perhaps once more after the first of them was let in
             told = said(upsd)
-            why = f"upsd: cannot let a client in: {os.strerror(errno.EMFILE)} "
-            expect((len(told) in (1, 2), all(line.startswith(why) for line in told)), (True, True), f"what is told: {told}")
+            wanted = f"upsd: cannot let a client in: {why(errno.EMFILE)}"
+            expect((len(told) in (1, 2), set(told)), (True, {wanted}), f"what is told: {told}")
 
     def test_clients_that_come_and_go(self):
         with self.room() as room:
@@ -541,6 +547,29 @@ class Tests:
             expect(found[:4], lines, "notices")
             expect(len(found), 5, "a driver that is missed is told once")
             expect(found[4].startswith("upsd: UPS su700: no driver yet: "), True, "a driver that is missed")
+
+    def test_causes_for_which_a_driver_is_missed(self):
+        """Each is told once, and again only if there was another one or a driver since."""
+        missed = "upsd: UPS su700: no driver yet: "
+        with self.room() as room:
+            path = room.path("dummy-ups-su700")
+            lines = Lines(room.upsd(preexec_fn=heed_modes))
+            lines.next(missed + why(errno.ENOENT))
+            with open(path, "w"):
+                lines.next(missed + why(errno.ECONNREFUSED))
+            with room.listener("of-another-user") as listener:
+                os.chmod(room.path("of-another-user"), 0)
+                os.rename(room.path("of-another-user"), path)
+                lines.next(missed + why(errno.EACCES))
+                # a few tries more
+                time.sleep(2.5)
+                os.chmod(path, 0o600)
+                accepted(listener).close()
+                lines.next("upsd: UPS su700: driver lost")
+            lines.next(missed + why(errno.ECONNREFUSED))
+            time.sleep(1.5)
+            wanted = [missed + why(it) for it in (errno.ENOENT, errno.ECONNREFUSED, errno.EACCES, errno.ECONNREFUSED)]
+            expect([line for line in lines.lines if line.startswith(missed)], wanted, "what is told")
 
     def test_stale_data_is_told(self):
         stale, fresh = (f"upsd: UPS su700: data is {what}" for what in ("stale", "no longer stale"))

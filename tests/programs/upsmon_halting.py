@@ -7,7 +7,6 @@ all the same.
 The last line is 'N passed, M failed'."""
 
 import contextlib
-import ctypes
 import functools
 import itertools
 import os
@@ -20,7 +19,7 @@ import tempfile
 
 from tests.support.harness import ensure, expect, Shimmed
 from tests.support.monitored import FLAG, ON_BATTERY, QUICK, SHUTDOWN, Upstream, Watch, children_of, play
-from tests.support.room import ONLINE, STATUS, Room, state_of, until
+from tests.support.room import ONLINE, STATUS, Room, heed_modes, state_of, until
 
 WORD = FLAG.strip()
 HALTED = 'SHUTDOWNCMD "touch FOLDER/halted"\n'
@@ -38,13 +37,6 @@ def fronts(lines, wanted):
 def is_running(pid):
     """Whether a process exists and hasn't ended."""
     return state_of(pid) not in ("", "Z", "X")
-
-
-def heed_modes():
-    """Has the program that is started next heed the modes of files and folders, which root doesn't otherwise."""
-    drop, dac_override = 24, 1
-    if os.geteuid() == 0 and ctypes.CDLL(None, use_errno=True).prctl(drop, dac_override, 0, 0, 0) != 0:
-        raise OSError(ctypes.get_errno(), "CAP_DAC_OVERRIDE can't be dropped")
 
 
 @contextlib.contextmanager

@@ -1,6 +1,7 @@
 """A room of built programs: upsd and dummy drivers in a folder of their own, and clients that speak to them."""
 
 import contextlib
+import ctypes
 import os
 import shutil
 import signal
@@ -83,6 +84,13 @@ def state_of(pid):
             return file.read().rsplit(")", 1)[1].split()[0]
     except FileNotFoundError:
         return ""
+
+
+def heed_modes():
+    """Has the program that is started next heed the modes of files and folders, which root doesn't otherwise."""
+    drop, dac_override = 24, 1
+    if os.geteuid() == 0 and ctypes.CDLL(None, use_errno=True).prctl(drop, dac_override, 0, 0, 0) != 0:
+        raise OSError(ctypes.get_errno(), "CAP_DAC_OVERRIDE can't be dropped")
 
 
 @contextlib.contextmanager

@@ -9,8 +9,9 @@ use mio::{Interest, Registry, Token};
 use nut_io::{Piece, Written};
 use nut_poll::{Heard, Link, text_of};
 use std::alloc::{AllocError, Global};
-use std::io;
+use std::io::ErrorKind;
 use std::net::Net;
+use std::{io, mem};
 
 /// The driver of a UPS, which listens on a Unix socket.
 #[derive(Drop)]
@@ -21,8 +22,8 @@ pub struct Driver {
     program: String,
     path: String,
     link: Option<Link<UnixStream>>,
-    /// Whether a dial has failed since the driver was last connected.
-    is_missed: bool,
+    /// Why the last dial failed, if one has failed since the driver was last connected.
+    missed: Option<ErrorKind>,
     /// Whether clients wait until the driver says something.
     is_awaited: bool,
     /// Whether the data of the UPS were stale when that was last noted since the driver was connected.
@@ -48,7 +49,7 @@ impl Driver {
             program: String::from_str(alloc, program)?,
             path: format!(in alloc; "{folder}/{program}-{name}")?,
             link: None,
-            is_missed: false,
+            missed: None,
             is_awaited: false,
             is_stale: false,
         })
@@ -84,16 +85,15 @@ impl Driver {
         let both = Interest::READABLE | Interest::WRITABLE;
         registry.register(&mut stream, token, both)?;
         self.link = Some(Link::new(stream));
-        self.is_missed = false;
+        self.missed = None;
         self.is_stale = false;
         Ok(())
     }
 
-    /// Notes that a dial failed. Returns whether it is the first one since the driver was last connected.
-    pub fn misses(&mut self) -> bool {
-        let is_first = !self.is_missed;
-        self.is_missed = true;
-        is_first
+    /// Notes why a dial failed. Returns whether that is new: it is the first failure since the driver was last connected,
+    /// or the last one had another cause.
+    pub fn misses(&mut self, cause: ErrorKind) -> bool {
+        mem::replace(&mut self.missed, Some(cause)) != Some(cause)
     }
 
     /// Notes whether the data of the UPS are stale, if the driver is connected. Returns whether that has changed: data

@@ -356,7 +356,7 @@ impl Sockets {
         let source = Source::Driver(u);
         if !driver.is_connected() {
             if let Err(error) = driver.dial(net, self.rounds.registry(), source.token()) {
-                if driver.misses() {
+                if driver.misses(error.kind()) {
                     reports.tell(Report::Missed(driver.name(), error));
                 }
                 return None;
