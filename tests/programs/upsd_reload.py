@@ -262,6 +262,11 @@ class Tests(Shimmed):
                 room.write("ups.conf", ONE)
                 os.remove(room.path("upsd.users"))
                 room.reload(None, "upsd: not reloaded: upsd.users: cannot read")
+                # nobody writes to it, so a read would wait for ever
+                os.mkfifo(room.path("upsd.users"))
+                room.reload(None, "upsd: not reloaded: upsd.users: cannot read")
+                expect(client.ask(STATUS), ONLINE, "an old client, with a pipe in place of a file")
+                os.remove(room.path("upsd.users"))
                 room.write("upsd.users", USERS)
                 room.write("upsd.conf", b"MAXAGE 0\n")
                 room.reload(None, "upsd: not reloaded: upsd.conf:1: BadNumber")

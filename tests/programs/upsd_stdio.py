@@ -255,8 +255,13 @@ class Tests(Shimmed):
             os.mkdir(path)
             expect(self.run(args, b"VER\n"), cannot, f"{name} is a folder")
             os.rmdir(path)
-            os.symlink(name, path)
-            expect(self.run(args, b"VER\n"), cannot, f"{name} is a link to itself")
+            for target, what in ((name, "itself"), ("/dev/zero", "a device")):
+                os.symlink(target, path)
+                expect(self.run(args, b"VER\n"), cannot, f"{name} is a link to {what}")
+                os.remove(path)
+            # nobody writes to it, so a read would wait for ever
+            os.mkfifo(path)
+            expect(self.run(args, b"VER\n"), cannot, f"{name} is a pipe")
             os.remove(path)
             if os.geteuid() != 0:
                 with open(path, "wb") as file:

@@ -13,7 +13,7 @@ use std::net::Net;
 use std::rt::Files;
 use std::sync::Wait;
 use std::time::Clock;
-use std::{fmt, fs, io};
+use std::{fmt, io};
 
 /// The longest file of a script, in bytes: 16 MiB, many times its 4,096 settings of at most 512 bytes.
 const FILE_MAX: u64 = 16_777_216;
@@ -144,27 +144,18 @@ fn read_script<'a>(
     }
 }
 
-/// Returns the bytes of a script's file.
+/// Returns the bytes of a script's file. Of one that is too long no more bytes are read than show that.
 fn contents<'a>(
     files: &impl Files,
     alloc: Global,
     file: &'a str,
 ) -> Result<Vec<u8>, Failure<DummyUpsFault<'a>>> {
-    match read_plain_file(files, alloc, file) {
+    match read_file(files, alloc, file, FILE_MAX + 1) {
         Ok(bytes) if bytes.len() as u64 <= FILE_MAX => Ok(bytes),
         Ok(_) => Err(Failure::Own(DummyUpsFault::TooLong(file))),
         Err(error) if error.kind() == ErrorKind::OutOfMemory => Err(Failure::Memory),
         Err(_) => Err(Failure::Own(DummyUpsFault::CannotRead(file))),
     }
-}
-
-/// Reads at most one byte more of a plain file than a script may have. A pipe could block the read, and a device may
-/// have no end.
-fn read_plain_file(files: &impl Files, alloc: Global, file: &str) -> io::Result<Vec<u8>> {
-    if !fs::metadata(files, file)?.is_file() {
-        return Err(io::Error::from(ErrorKind::InvalidInput));
-    }
-    read_file(files, alloc, file, FILE_MAX + 1)
 }
 
 /// Returns the kind of a script, by the end of its name.

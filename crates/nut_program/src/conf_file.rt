@@ -10,7 +10,7 @@ use std::fs::File;
 use std::io::{ErrorKind, Read};
 use std::path::{AsPath, Path};
 use std::rt::Files;
-use std::{fmt, io};
+use std::{fmt, fs, io};
 
 /// A configuration that is read from a file.
 pub trait ConfFile: Drop + Sized {
@@ -78,7 +78,7 @@ impl ConfFile for Descriptions {
 /// Why a file gives no configuration. It is displayed as in `ups.conf: cannot read` or `ups.conf:2: Repeated`.
 #[derive(Debug, Drop)]
 pub enum FileFault<'a> {
-    /// The file doesn't exist, is a folder, may not be read, or a read failed.
+    /// The file doesn't exist, isn't a plain file, may not be read, or a read failed.
     CannotRead(&'a str),
     /// The file has this fault. The word is that of the directive if no line of the file may have it.
     Conf(&'a str, ConfFault, Option<String>),
@@ -111,8 +111,8 @@ impl<'a> FileFault<'a> {
 ///
 /// # Errors
 ///
-/// `CannotRead` if the file cannot be opened or read, `Conf` with its first fault, `Memory` if memory cannot be
-/// allocated.
+/// `CannotRead` if the file isn't a plain one or cannot be opened or read, `Conf` with its first fault, `Memory` if memory
+/// cannot be allocated.
 pub fn read_conf<C: ConfFile>(
     files: &impl Files,
     alloc: Global,
@@ -191,17 +191,22 @@ fn conf_of<'a, C: ConfFile>(
     }
 }
 
-/// Returns the bytes of a file, of a longer one the first `most`.
+/// Returns the bytes of a plain file, of a longer one the first `most`. No other file is opened: a pipe could block the
+/// program for ever, and a device may have no end.
 ///
 /// # Errors
 ///
-/// That of the system if the file cannot be opened or read; of the kind `OutOfMemory` if memory cannot be allocated.
+/// That of the system if the file doesn't exist, or cannot be opened or read; of the kind `InvalidInput` if it isn't a
+/// plain file; of the kind `OutOfMemory` if memory cannot be allocated.
 pub fn read_file<P: AsPath>(
     files: &impl Files,
     alloc: Global,
     path: P,
     most: u64,
 ) -> io::Result<Vec<u8>> {
+    if !fs::metadata(files, &path)?.is_file() {
+        return Err(io::Error::from(ErrorKind::InvalidInput));
+    }
     let file = File::open(files, path)?;
     let mut bytes = Vec::new(alloc);
     file.take(most).read_to_end(&mut bytes)?;
