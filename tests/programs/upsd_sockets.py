@@ -262,7 +262,7 @@ class Tests:
             other.bind(("127.0.0.1", room.port))
             other.listen()
             found = self.run(self.programs[0], "--conf", room.folder, "-s", room.folder)
-            said = f"upsd: cannot listen on 127.0.0.1:{room.port}\n".encode()
+            said = f"upsd: cannot listen on 127.0.0.1:{room.port}: {why(errno.EADDRINUSE)}\n".encode()
             expect(found, (1, b"", said), "a port in use")
 
     def test_port_in_use_beside_a_listener(self):
@@ -270,11 +270,12 @@ class Tests:
         with self.room() as room, socket.socket() as other:
             other.bind(("127.0.0.1", room.port))
             other.listen()
-            for hosts, said in ((("127.0.0.2", "127.0.0.1"), "127.0.0.1"), (("127.0.0.1", "0.0.0.0"), "0.0.0.0")):
+            for hosts, taken in ((("127.0.0.2", "127.0.0.1"), "127.0.0.1"), (("127.0.0.1", "0.0.0.0"), "0.0.0.0")):
                 with open(room.path("upsd.conf"), "w") as file:
                     file.writelines(f"LISTEN {host} {room.port}\n" for host in hosts)
                 found = self.run(self.programs[0], "--conf", room.folder, "-s", room.folder)
-                expect(found, (1, b"", f"upsd: cannot listen on {said}:{room.port}\n".encode()), f"{hosts}")
+                said = f"upsd: cannot listen on {taken}:{room.port}: {why(errno.EADDRINUSE)}\n".encode()
+                expect(found, (1, b"", said), f"{hosts}")
 
     def each_in_use(self, name, addresses, words=()):
         """Has another program at each address of a name in turn. If it is the first, upsd ends: at the next one it would serve
@@ -285,7 +286,7 @@ class Tests:
                     file.write(f"LISTEN {name} {room.port}\n")
                 upsd = [*words, self.programs[0], "--conf", room.folder, "-s", room.folder]
                 if taken == addresses[0]:
-                    said = f"upsd: cannot listen on {name}:{room.port}\n".encode()
+                    said = f"upsd: cannot listen on {name}:{room.port}: {why(errno.EADDRINUSE)}\n".encode()
                     expect(self.run(*upsd), (1, b"", said), f"{taken} in use, the first of {addresses}")
                 else:
                     said = room.start(upsd).stderr.readline().decode()
@@ -316,7 +317,8 @@ class Tests:
     def test_host_that_is_not_here(self):
         with self.room(conf=b"LISTEN 192.0.2.1 3493\n") as room:
             found = self.run(self.programs[0], "--conf", room.folder, "-s", room.folder)
-            expect(found, (1, b"", b"upsd: cannot listen on 192.0.2.1:3493\n"), "an address of another machine")
+            said = f"upsd: cannot listen on 192.0.2.1:3493: {why(errno.EADDRNOTAVAIL)}\n".encode()
+            expect(found, (1, b"", said), "an address of another machine")
 
     def test_several_listeners(self):
         port = free_port()
@@ -678,9 +680,14 @@ class Tests:
         path = os.path.join(self.folder, "b.dev")
         with open(path, "wb") as file:
             file.write(DEVICE)
-        for at in (self.folder, os.path.join(self.folder, "none", "at"), "x" * 200, ""):
+        for at, cause in (
+            (self.folder, why(errno.EADDRINUSE)),
+            (os.path.join(self.folder, "none", "at"), why(errno.ENOENT)),
+            ("x" * 200, "path must be shorter than SUN_LEN"),
+            ("", "invalid input parameter"),
+        ):
             found = self.run(dummy, path, at)
-            expect(found, (1, b"", f"dummy-ups: cannot listen on {at}\n".encode()), f"socket {at!r}")
+            expect(found, (1, b"", f"dummy-ups: cannot listen on {at}: {cause}\n".encode()), f"socket {at!r}")
 
     def test_dummy_and_its_servers(self):
         with self.room() as room:

@@ -31,8 +31,8 @@ enum DummyUpsFault<'a> {
     Script(&'a str, ScriptFault),
     /// Another driver listens at this socket.
     InUse(&'a str),
-    /// It is impossible to listen at this socket.
-    Listen(&'a str),
+    /// It is impossible to listen at this socket, for this reason.
+    Listen(&'a str, io::Error),
 }
 
 impl<'a> fmt::Display for DummyUpsFault<'a> {
@@ -43,7 +43,9 @@ impl<'a> fmt::Display for DummyUpsFault<'a> {
             DummyUpsFault::TooLong(file) => write!(f, "{file}: more than {FILE_MAX} bytes"),
             DummyUpsFault::Script(file, fault) => write!(f, "{file}:{fault}"),
             DummyUpsFault::InUse(socket) => write!(f, "{socket}: another driver listens there"),
-            DummyUpsFault::Listen(socket) => write!(f, "cannot listen on {socket}"),
+            DummyUpsFault::Listen(socket, error) => {
+                write!(f, "cannot listen on {socket}: {error}")
+            }
         }
     }
 }
@@ -66,7 +68,7 @@ impl<'a> OwnFault for DummyUpsFault<'a> {
 /// to `out`, with status 0. Before anything is told to a server, the first of these is written to `err`, with status 1:
 /// `dummy-ups: FILE: unknown kind`; `dummy-ups: FILE: cannot read`; `dummy-ups: FILE: more than 16777216 bytes`; the
 /// first fault of the script, as `dummy-ups: FILE:2: BadName`; `dummy-ups: SOCKET: another driver listens there`;
-/// `dummy-ups: cannot listen on SOCKET`; or `dummy-ups: out of memory` if memory cannot be allocated before.
+/// `dummy-ups: cannot listen on SOCKET: WHY`; or `dummy-ups: out of memory` if memory cannot be allocated before.
 pub fn run_dummy_ups<S: AsStr, O: Write, E: Write>(
     rt: &(impl Wait + Files + Net + Clock),
     alloc: Global,
@@ -179,7 +181,7 @@ fn listen<'a>(
     }
     match listen_at(rt, socket) {
         Ok(listener) => Ok(listener),
-        Err(_) => Err(Failure::Own(DummyUpsFault::Listen(socket))),
+        Err(error) => Err(Failure::Own(DummyUpsFault::Listen(socket, error))),
     }
 }
 

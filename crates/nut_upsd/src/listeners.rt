@@ -45,7 +45,7 @@ impl Reach {
 ///
 /// # Errors
 ///
-/// `UpsdFault::Listen` with the first endpoint at which it is impossible to listen; `Memory` if memory cannot be
+/// `UpsdFault::Listen` with the first endpoint at which it is impossible to listen, and why; `Memory` if memory cannot be
 /// allocated.
 pub fn listen(
     net: &impl Net,
@@ -95,15 +95,15 @@ fn add_listener(
     match listen_at(net, host, port, listeners.as_slice()) {
         Ok(Some(listener)) => listeners.push(listener)?,
         Ok(None) => {}
-        Err(_) => return Err(cannot_listen(alloc, host, port)),
+        Err(error) => return Err(cannot_listen(alloc, host, port, error)),
     }
     Ok(())
 }
 
-/// Returns why upsd ends if it is impossible to listen at a host.
-fn cannot_listen(alloc: Global, host: &str, port: u16) -> Failure<UpsdFault> {
+/// Returns why upsd ends if this error makes it impossible to listen at a host.
+fn cannot_listen(alloc: Global, host: &str, port: u16, error: io::Error) -> Failure<UpsdFault> {
     match String::from_str(alloc, host) {
-        Ok(host) => Failure::Own(UpsdFault::Listen(host, port)),
+        Ok(host) => Failure::Own(UpsdFault::Listen(host, port, error)),
         Err(_) => Failure::Memory,
     }
 }

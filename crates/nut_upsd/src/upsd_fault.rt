@@ -3,8 +3,8 @@
 use nut_conf::FaultKind;
 use nut_program::{Failure, FileFault, OwnFault};
 use nut_server_loop::Stream;
-use std::fmt;
 use std::io::Write;
+use std::{fmt, io};
 
 /// The faults that only upsd has: before it serves anybody, or over standard streams.
 #[derive(Drop)]
@@ -13,8 +13,8 @@ pub enum UpsdFault {
     Ups(FaultKind),
     /// A file gives no configuration.
     File(FileFault<'static>),
-    /// It is impossible to listen at this address and port.
-    Listen(String, u16),
+    /// It is impossible to listen at this address and port, for this reason.
+    Listen(String, u16, io::Error),
     /// A read of standard input failed.
     Input,
     /// A write to standard output failed.
@@ -26,7 +26,9 @@ impl fmt::Display for UpsdFault {
         match self {
             UpsdFault::Ups(fault) => write!(f, "--ups: {fault}"),
             UpsdFault::File(fault) => write!(f, "{fault}"),
-            UpsdFault::Listen(address, port) => write!(f, "cannot listen on {address}:{port}"),
+            UpsdFault::Listen(address, port, error) => {
+                write!(f, "cannot listen on {address}:{port}: {error}")
+            }
             UpsdFault::Input => write!(f, "input failed"),
             UpsdFault::Output => write!(f, "output failed"),
         }
