@@ -58,9 +58,12 @@ impl<F> From<ServeFault> for Failure<F> {
     }
 }
 
-impl<F: From<FileFault<'static>>> From<FileFault<'static>> for Failure<F> {
-    fn from(fault: FileFault<'static>) -> Self {
-        Failure::Own(F::from(fault))
+impl<'a, F: From<FileFault<'a>>> From<FileFault<'a>> for Failure<F> {
+    fn from(fault: FileFault<'a>) -> Self {
+        match fault {
+            FileFault::Memory => Failure::Memory,
+            fault => Failure::Own(F::from(fault)),
+        }
     }
 }
 

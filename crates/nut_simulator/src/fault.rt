@@ -1,6 +1,6 @@
 //! Why a schedule isn't played to its end.
 
-use nut_program::{Failure, FileFault, OwnFault};
+use nut_program::{FileFault, OwnFault};
 use std::fmt;
 
 /// The faults that only nutsim has.
@@ -33,10 +33,8 @@ impl<'a> OwnFault for NutsimFault<'a> {
     }
 }
 
-/// Returns why nutsim ends if a configuration file gives no configuration.
-pub fn file_failure<'a>(fault: FileFault<'a>) -> Failure<NutsimFault<'a>> {
-    match fault {
-        FileFault::Memory => Failure::Memory,
-        fault => Failure::Own(NutsimFault::File(fault)),
+impl<'a> From<FileFault<'a>> for NutsimFault<'a> {
+    fn from(fault: FileFault<'a>) -> Self {
+        NutsimFault::File(fault)
     }
 }

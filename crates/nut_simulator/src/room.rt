@@ -1,6 +1,6 @@
 //! The configuration files of a room.
 
-use crate::fault::{NutsimFault, file_failure};
+use crate::fault::NutsimFault;
 use nut_conf::{UpsConf, UpsdConf, UpsmonConf, UsersConf};
 use nut_program::{Failure, FileFault, read_conf, read_conf_at};
 use nut_server::Config;
@@ -78,10 +78,7 @@ fn read_monitor<'a>(
     alloc: Global,
     path: &'a str,
 ) -> Result<UpsmonConf, Failure<NutsimFault<'a>>> {
-    match read_conf_at(files, alloc, path, name_of(path)) {
-        Ok(config) => Ok(config),
-        Err(fault) => Err(file_failure(fault)),
-    }
+    Ok(read_conf_at(files, alloc, path, name_of(path))?)
 }
 
 /// Returns a path without its folder.

@@ -1,7 +1,7 @@
 //! nutsim: a room in memory.
 
 use crate::command::nutsim_command;
-use crate::fault::{NutsimFault, file_failure};
+use crate::fault::NutsimFault;
 use crate::playing::play_schedule;
 use crate::room::{read_config, read_monitors};
 use nut_conf::UpsmonConf;
@@ -78,10 +78,8 @@ fn play_room<'a, O: Write, E: Write + IsTerminal>(
     out: &mut O,
     err: &mut E,
 ) -> Result<(), Failure<NutsimFault<'a>>> {
-    match read_config(files, alloc, names.folder) {
-        Ok(config) => play_on_server(files, alloc, config, names, out, err),
-        Err(fault) => Err(file_failure(fault)),
-    }
+    let config = read_config(files, alloc, names.folder)?;
+    play_on_server(files, alloc, config, names, out, err)
 }
 
 /// Reads the other files of a room with this server, and plays its schedule.

@@ -180,11 +180,20 @@ where
     O: Write + AsRawFd + Copy,
     E: Write + AsRawFd + Copy,
 {
-    let flag = match read_conf(files, alloc, folder) {
+    let flag = match read_config(files, alloc, folder) {
         Ok(config) => flag_of(alloc, config)?,
-        Err(fault) => flag_despite(files, alloc, folder, Failure::from(fault), out, told)?,
+        Err(failure) => flag_despite(files, alloc, folder, failure, out, told)?,
     };
     Ok(flag_status(files, flag))
+}
+
+/// Reads upsmon.conf in this folder.
+fn read_config(
+    files: &impl Files,
+    alloc: Global,
+    folder: &str,
+) -> Result<UpsmonConf, Failure<UpsmonFault>> {
+    Ok(read_conf(files, alloc, folder)?)
 }
 
 /// Returns whether a flag is set, as an exit status. It is 1 if there is none.
@@ -259,7 +268,7 @@ fn read_folder<R: Files, E: Write + AsRawFd + Copy>(
     folder: &str,
     told: &mut LossyLines<E>,
 ) -> Result<UpsmonConf, Failure<UpsmonFault>> {
-    let config = read_conf(rt, alloc, folder)?;
+    let config = read_config(rt, alloc, folder)?;
     match tell_warnings(rt, alloc, folder, &config, told) {
         Ok(()) => Ok(config),
         Err(AllocError) => {
