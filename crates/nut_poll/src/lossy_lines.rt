@@ -36,7 +36,7 @@ pub struct LossyLines<S> {
     poll: Poll,
     events: Events,
     /// What was written of the unfinished line.
-    line: ArrayVec<u8, 2048>,
+    line: ArrayVec<u8, LOG_LINE_MAX>,
     /// How many lines were dropped since one was taken.
     lost: u64,
 }
