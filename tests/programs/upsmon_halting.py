@@ -253,7 +253,13 @@ class Tests(Shimmed):
             named = {**os.environ, "NUT_CONFPATH": folder}
             expect(self.key(folder, env=named, words=[]), (0, b"", b""), "NUT_CONFPATH")
             expect(self.key(folder, "POLLFREQ x\n", env=named, words=[]), (1, b"", b"upsmon: upsmon.conf:2: BadNumber\n"), "a fault")
-            expect(self.key(folder, words=["--conf", folder + "/none"]), (1, b"", b"upsmon: upsmon.conf: cannot read\n"), "no file")
+            cannot = (1, b"", b"upsmon: upsmon.conf: cannot read\n")
+            expect(self.key(folder, words=["--conf", folder + "/none"]), cannot, "no file")
+            os.remove(os.path.join(folder, "upsmon.conf"))
+            # nobody writes to it, so a read would wait for ever
+            os.mkfifo(os.path.join(folder, "upsmon.conf"))
+            expect(self.key(folder), cannot, "a pipe in place of the file")
+            os.remove(os.path.join(folder, "upsmon.conf"))
             os.remove(flag)
             os.mkfifo(flag)
             expect(self.key(folder, conf), (1, b"", b""), "a pipe")
