@@ -390,11 +390,18 @@ where
     O: Write + AsRawFd + Copy,
     E: Write + AsRawFd + Copy,
 {
-    let mut halt = ready_halt(rt, alloc, heap, &config, told)?;
-    let watched = watch_with(rt, alloc, config, &mut halt, reloader, streams, told);
-    // dropped by a call, which keeps the proof of this function short
-    drop(halt);
-    watched
+    match ready_halt(rt, alloc, heap, &config, told) {
+        Ok(mut halt) => {
+            let watched = watch_with(rt, alloc, config, &mut halt, reloader, streams, told);
+            // dropped by a call, which keeps the proof of this function short
+            drop(halt);
+            watched
+        }
+        Err(AllocError) => {
+            drop(config);
+            Err(WatchFault::from(AllocError))
+        }
+    }
 }
 
 /// Prepares what tells notices, watches the UPSes of a configuration until the machine has to be halted, and halts it.
@@ -412,10 +419,40 @@ where
     O: Write + AsRawFd + Copy,
     E: Write + AsRawFd + Copy,
 {
+    match Voice::of(rt, alloc, &config, streams) {
+        Ok(mut voice) => {
+            let Voice { crier, err } = &mut voice;
+            let watched = watch_and_tell(rt, alloc, config, crier, err, halt, reloader, told);
+            // dropped by a call, which keeps the proof of this function short
+            drop(voice);
+            watched
+        }
+        Err(error) => {
+            drop(config);
+            Err(WatchFault::Io(error))
+        }
+    }
+}
+
+/// Watches the UPSes of a configuration until the machine has to be halted, and halts it. What happens is told by a
+/// crier and on `err`. The streams are of any kind here, which keeps the proof of this function short.
+fn watch_and_tell<'r, R, O, E>(
+    rt: &'r R,
+    alloc: Global,
+    config: UpsmonConf,
+    crier: &mut Crier<'r, R, O>,
+    err: &mut E,
+    halt: &mut Halt<'r, 'r, R>,
+    reloader: &mut Reloader,
+    told: &mut E,
+) -> Result<(), WatchFault>
+where
+    R: Wait + Files + Net + Clock + Processes,
+    O: Write + Drop,
+    E: Write + Drop,
+{
     let is_quiet = reloader.is_quiet();
-    let mut err = LossyLines::new(rt, alloc, "upsmon", streams.err)?;
-    let mut crier = crier_of(rt, alloc, &config, streams.out)?;
-    let caretaker = Caretaker::new(rt, &mut err, &mut crier, halt, reloader);
+    let caretaker = Caretaker::new(rt, err, crier, halt, reloader);
     watch_in_turn(rt, alloc, config, caretaker, is_quiet, told)
 }
 
@@ -446,6 +483,39 @@ fn tell_not_ready<E: Write>(error: &io::Error, told: &mut E) {
         told,
         "upsmon: warning: the shell that is to run SHUTDOWNCMD cannot be started yet: {error}"
     );
+}
+
+/// What upsmon tells with while it watches: a crier, which prints notices on standard output and runs NOTIFYCMD, and
+/// standard error.
+#[derive(Drop)]
+struct Voice<'r, R: Processes, O, E> {
+    crier: Crier<'r, R, LossyLines<O>>,
+    err: LossyLines<E>,
+}
+
+impl<'r, R, O, E> Voice<'r, R, O, E>
+where
+    R: Net + Processes,
+    O: Write + AsRawFd + Copy,
+    E: Write + AsRawFd + Copy,
+{
+    /// Returns the voice of a configuration.
+    fn of(
+        rt: &'r R,
+        alloc: Global,
+        config: &UpsmonConf,
+        streams: Streams<O, E>,
+    ) -> io::Result<Voice<'r, R, O, E>> {
+        let crier = crier_of(rt, alloc, config, streams.out)?;
+        match LossyLines::new(rt, alloc, "upsmon", streams.err) {
+            Ok(err) => Ok(Voice { crier, err }),
+            Err(error) => {
+                // dropped by a call, which keeps the proof of this function short
+                drop(crier);
+                Err(error)
+            }
+        }
+    }
 }
 
 /// Makes the crier that prints notices on standard output and runs NOTIFYCMD.
