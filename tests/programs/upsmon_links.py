@@ -171,33 +171,43 @@ class Tests:
             target = f"su700@127.0.0.1:{room.port}"
             room.dummy(b"ups.status: OL\n", "dev")
             server = room.upsd()
-            with self.watch(f"MONITOR {target} 1 mon wrong primary\nPOLLFREQ 1\n") as watch:
-                until(lambda: "PRIMARY refused: ACCESS-DENIED" in reports_of(watch, target), "the refusals are told")
+            conf = f"MONITOR {target} 1 mon wrong primary\nPOLLFREQ 1\n"
+            refused = [f"{word} refused: ACCESS-DENIED" for word in ("LOGIN", "PRIMARY")]
+            with self.watch(conf) as watch, self.watch(conf, "-q") as quiet:
+                for it in (watch, quiet):
+                    until(lambda: refused[-1] in reports_of(it, target), "the refusals are told")
                 time.sleep(2.5)
-                refused = [line for line in reports_of(watch, target) if "refused: ACCESS" in line]
-                expect(refused, [f"{word} refused: ACCESS-DENIED" for word in ("LOGIN", "PRIMARY")], "what is told once")
+                told = [line for line in reports_of(watch, target) if "refused: ACCESS" in line]
+                expect(told, refused, "what is told once")
+                expect(reports_of(quiet, target), refused, "what is told once with -q")
                 server.kill()
                 server.wait()
                 room.upsd()
-                until(lambda: "".join(reports_of(watch, target)).count("LOGIN refused") == 2, "it is told of the new link")
+                for it in (watch, quiet):
+                    until(lambda: reports_of(it, target).count(refused[0]) == 2, "it is told of the new link")
 
     def test_refusals_of_a_status_and_of_fsd(self):
-        with Moody() as server:
-            stale, unknown = "status refused: DATA-STALE", "status refused: UNKNOWN-UPS"
-            conf = f"MONITOR {server.target} 1 mon m1 primary\nPOLLFREQ 1\nHOSTSYNC 2\nFINALDELAY 0\n"
-            with self.watch(conf) as watch:
-                wanted = ["server connected"]
-                for error, line in ((b"DATA-STALE", stale), (b"UNKNOWN-UPS", unknown), (None, None), (b"DATA-STALE", stale)):
-                    server.statuses[b"su700"] = b"ERR " + error + b"\n" if error else b"OL"
-                    server.asked.clear()
-                    until(lambda: server.asked.count(STATUS) >= 3, "the status is asked for again")
-                    wanted += [line] if line else []
-                    expect(reports_of(watch, server.target), wanted, "what is told")
-                server.refused[b"FSD"] = b"ERR ACCESS-DENIED\n"
-                server.statuses[b"su700"] = b"OB LB"
-                expect(watch.status(), 0, "status")
-                ensure(server.asked.count(b"FSD su700\n") >= 2, "FSD is asked for again")
-                expect(reports_of(watch, server.target), [*wanted, "FSD refused: ACCESS-DENIED"], "what is told at the end")
+        """With `-q` only the refusal of FSD is told: a notice tells of a UPS without a status."""
+        for words in ((), ("-q",)):
+            with Moody() as server:
+                self.expect_refusals_of_a_status_and_of_fsd(server, words)
+
+    def expect_refusals_of_a_status_and_of_fsd(self, server, words):
+        stale, unknown = "status refused: DATA-STALE", "status refused: UNKNOWN-UPS"
+        conf = f"MONITOR {server.target} 1 mon m1 primary\nPOLLFREQ 1\nHOSTSYNC 2\nFINALDELAY 0\n"
+        with self.watch(conf, *words) as watch:
+            wanted = [] if words else ["server connected"]
+            for error, line in ((b"DATA-STALE", stale), (b"UNKNOWN-UPS", unknown), (None, None), (b"DATA-STALE", stale)):
+                server.statuses[b"su700"] = b"ERR " + error + b"\n" if error else b"OL"
+                server.asked.clear()
+                until(lambda: server.asked.count(STATUS) >= 3, "the status is asked for again")
+                wanted += [line] if line and not words else []
+                expect(reports_of(watch, server.target), wanted, f"what is told {words}")
+            server.refused[b"FSD"] = b"ERR ACCESS-DENIED\n"
+            server.statuses[b"su700"] = b"OB LB"
+            expect(watch.status(), 0, "status")
+            ensure(server.asked.count(b"FSD su700\n") >= 2, "FSD is asked for again")
+            expect(reports_of(watch, server.target), [*wanted, "FSD refused: ACCESS-DENIED"], f"what is told at the end {words}")
 
     def test_servers_that_never_serve(self):
         """A server that closes each connection, one that says what wasn't asked, and one that answers with a line that is no

@@ -8,7 +8,7 @@ use crate::dialler::Dialler;
 use crate::inquiry::Reply;
 use crate::limits::{CALM, Limits};
 use crate::look_ups::LookUps;
-use crate::refusals::title;
+use crate::refusals::{comes_and_goes, title};
 use crate::report::Report;
 use crate::upstream::Upstream;
 use mio::{Events, Token};
@@ -258,7 +258,7 @@ impl Links {
             reports.tell(Report::Reached(upstream.name()));
         }
         if is_told {
-            reports.tell(Report::Refused(upstream.name(), title(query), text_of(reply.error())));
+            tell_refusal(upstream.name(), query, reply, reports);
         }
     }
 
@@ -562,6 +562,17 @@ fn is_after_opening(query: Query) -> bool {
     match query {
         Query::Status | Query::Fsd | Query::NumLogins => true,
         Query::Username | Query::Password | Query::Login | Query::Primary => false,
+    }
+}
+
+/// Reports that a server refused a query. A refusal that lasts is told even if reports aren't wanted: as long as the link
+/// lasts, this UPS isn't watched as upsmon.conf says.
+fn tell_refusal(name: &str, query: Query, reply: &Reply, reports: &mut Reports<'_, impl Write>) {
+    let refused = Report::Refused(name, title(query), text_of(reply.error()));
+    if comes_and_goes(query) {
+        reports.tell(refused);
+    } else {
+        reports.warn(refused);
     }
 }
 

@@ -72,6 +72,15 @@ fn copy_of(error: &ErrorName) -> ErrorName {
     copy
 }
 
+/// Whether a refusal of this query may end while the link lasts. That of the status may, and if it stays, a notice tells
+/// of it. The others stay: the server doesn't know the user or the UPS, or doesn't let this user do it.
+pub fn comes_and_goes(query: Query) -> bool {
+    match query {
+        Query::Status | Query::NumLogins => true,
+        Query::Username | Query::Password | Query::Login | Query::Primary | Query::Fsd => false,
+    }
+}
+
 /// Returns the name of a query in the report of its refusal.
 pub fn title(query: Query) -> &'static str {
     match query {

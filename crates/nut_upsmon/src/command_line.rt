@@ -13,7 +13,7 @@ pub fn upsmon_command<'a>(alloc: Global) -> Result<Command<'a>, AllocError> {
         .arg(conf_of_upsmon(alloc));
     let command = with(
         command,
-        quiet_option(alloc, "Tell nothing of UPSes and servers"),
+        quiet_option(alloc, "Tell nothing of UPSes and servers that come and go"),
     );
     let command = with(
         command,
