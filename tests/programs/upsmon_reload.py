@@ -333,6 +333,26 @@ class Tests(Shimmed):
                 time.sleep(1.5)
                 room.until(b"GET NUMLOGINS su700\n", b"NUMLOGINS su700 1\n")
 
+    def test_addresses_are_kept(self):
+        """A host whose name was found once is called at its address after a reload, too, whatever the name server says then."""
+        names = os.path.join(self.folder, "reload-names")
+        asked = os.path.join(names, "asked")
+        os.mkdir(names)
+        with open(os.path.join(names, "getent"), "w") as file:
+            file.write(f"#!/bin/sh\necho >> {asked}\n[ $(wc -l < {asked}) = 1 ] || exit 2\necho 127.0.0.1 STREAM\n")
+        os.chmod(file.name, 0o755)
+        env = {**os.environ, "PATH": f"{names}:{os.environ['PATH']}"}
+        with Upstream() as server, Upstream() as other:
+            first, second = (f"MONITOR {name}@ups.example:{it.port} 1 mon m1 primary\n" for name, it in (("su700", server), ("su700", other)))
+            with self.watch(first + QUICK + OLD, env=env) as watch:
+                until_asked(server)
+                watch.reload(first + second + QUICK + OLD)
+                watch.until_reloaded(f"MONITOR su700@ups.example:{other.port} added")
+                until(lambda: server.asked.count(USERNAME) == 2, "the link is made anew")
+                until_asked(other)
+                with open(asked) as file:
+                    expect(len(file.readlines()), 1, "how often the name is looked up")
+
     def test_many(self):
         """Reloads leave neither descriptors nor processes behind."""
         with Upstream() as server, self.watch(line_of(server) + QUICK + OLD) as watch:

@@ -61,6 +61,11 @@ impl Host {
         !self.addresses.is_empty()
     }
 
+    /// Returns the known addresses of the host, in the order in which they are dialled.
+    pub fn addresses(&self) -> &[IpAddr] {
+        &self.addresses
+    }
+
     /// Counts a second that has passed.
     pub fn second(&mut self) {
         self.pause.second(LONGEST_PAUSE);
@@ -76,8 +81,7 @@ impl Host {
         }
     }
 
-    /// Replaces the known addresses by those that a look-up found, unless it found none. The next look-up comes after a
-    /// pause.
+    /// Replaces the known addresses by those that were found, unless none was. The next look-up comes after a pause.
     pub fn take_addresses(&mut self, found: &[IpAddr]) {
         self.pause.begin(LONGEST_PAUSE);
         if found.is_empty() {

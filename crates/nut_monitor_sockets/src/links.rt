@@ -109,8 +109,9 @@ impl Links {
         })
     }
 
-    /// Begins with these links, and closes all others. Their servers are about to be called. Look-ups that are under way
-    /// go on. The poll stays: a late report of a closed socket harms no other.
+    /// Begins with these links, and closes all others. Their servers are about to be called, at the addresses that are
+    /// known of their hosts. Look-ups that are under way go on. The poll stays: a late report of a closed socket harms no
+    /// other.
     ///
     /// # Errors
     ///
@@ -135,7 +136,10 @@ impl Links {
     }
 
     /// Begins with these links, and with a clock that was just started.
-    fn begin_at(&mut self, seconds: Seconds, links: NewLinks) {
+    fn begin_at(&mut self, seconds: Seconds, mut links: NewLinks) {
+        for upstream in links.upstreams.iter_mut() {
+            upstream.take_over_addresses(&self.upstreams);
+        }
         self.upstreams = links.upstreams;
         self.rounds.seconds = seconds;
         self.rounds.ready.insert_first(MONITORS_MAX);

@@ -80,8 +80,8 @@ impl<'r, 'e, R: Net + Clock + Processes, H: Herald, E: Write> MioMonWorld<'r, 'e
         })
     }
 
-    /// Begins for a monitor with these links: their servers are called, and all earlier links are closed. Look-ups that
-    /// are under way go on. It needs neither memory nor a descriptor.
+    /// Begins for a monitor with these links: their servers are called, and all earlier links are closed. The addresses
+    /// of hosts stay known, and look-ups that are under way go on. It needs neither memory nor a descriptor.
     ///
     /// # Errors
     ///

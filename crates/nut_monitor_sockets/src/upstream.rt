@@ -132,6 +132,17 @@ impl Upstream {
         self.host.has_addresses()
     }
 
+    /// Takes over the addresses of the host, in the order in which they are dialled, from the first of these earlier links
+    /// that knows some. The host is then looked up only if none of them answers.
+    pub fn take_over_addresses(&mut self, former: &[Upstream]) {
+        for link in former.iter() {
+            if link.host_name() == self.host_name() && link.host.has_addresses() {
+                self.host.take_addresses(link.host.addresses());
+                return;
+            }
+        }
+    }
+
     /// Calls the host if that is due and an address is known, or continues the call. Returns whether the link is now
     /// made. If an address refuses or doesn't answer in time, the next one is dialled.
     ///
