@@ -279,6 +279,20 @@ class Tests(Shimmed):
             time.sleep(1.5)
             expect(watch.lines("err").count("upsmon: reloaded: nothing changed"), 0, "further reloads")
 
+    def test_file_is_left_after_a_stall(self):
+        """Seconds that upsmon missed are no looks at the file: where upsd has the folder too, it is left to it for as long as ever."""
+        with Upstream() as server, self.watch(line_of(server) + QUICK + OLD) as watch:
+            until_asked(server)
+            with watch.open("upsd.conf"):
+                pass
+            with watch.stopped():
+                time.sleep(5)
+                watch.ask()
+            time.sleep(0.5)
+            expect(watch.read("reload"), b"", "the file, for upsd")
+            watch.until_reloaded("nothing changed")
+            until(lambda: watch.read("reload") is None, "the file is removed")
+
     def test_file_that_is_gone(self):
         """Where upsd has the folder too, upsmon reads its file a look after it saw the request, even if upsd has removed that."""
         with Upstream() as server, self.watch(line_of(server) + QUICK + OLD) as watch:

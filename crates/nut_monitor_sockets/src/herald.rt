@@ -7,7 +7,8 @@ pub trait Herald: Drop {
     /// Receives a notice of this monitor.
     fn announce(&mut self, monitor: &Monitor, notice: Notice);
 
-    /// Is told that a second has passed. What was started for a notice may have ended. Returns whether the watch is to
-    /// end: then this monitor is told nothing more.
+    /// Is told that a second has passed, or several of them that were missed and that the monitor is told at once. What
+    /// was started for a notice may have ended. Returns whether the watch is to end: then this monitor is told nothing
+    /// more.
     fn second(&mut self, monitor: &Monitor) -> bool;
 }

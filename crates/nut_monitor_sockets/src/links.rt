@@ -18,11 +18,11 @@ use nut_monitor::{Monitor, Phase, Query};
 use nut_monitor_loop::Next;
 use nut_poll::{Heard, Ready, Reports, Rounds, SOCKETS_MAX, Seconds, text_of};
 use std::alloc::{AllocError, Global};
-use std::io;
 use std::io::Write;
 use std::net::Net;
 use std::process::Processes;
 use std::time::{Clock, Duration};
+use std::{io, mem};
 
 /// The most milliseconds of one wait while a look-up goes on. No event reports its end.
 const LOOK_UP_WAIT: u64 = 100;
@@ -84,6 +84,8 @@ pub struct Links {
     alloc: Global,
     rounds: Rounds,
     upstreams: Vec<Upstream>,
+    /// Whether the clock was found to have moved on since that was last asked.
+    has_moved_on: bool,
     /// How long a server may take at present.
     limits: Limits,
     /// Whether the shutdown has begun.
@@ -103,6 +105,7 @@ impl Links {
             alloc,
             rounds: Rounds::new(rt, alloc, MONITORS_MAX)?,
             upstreams: Vec::new(alloc),
+            has_moved_on: false,
             limits: CALM,
             is_ending: false,
             handed: None,
@@ -144,6 +147,7 @@ impl Links {
         self.rounds.seconds = seconds;
         self.rounds.ready.insert_first(MONITORS_MAX);
         self.rounds.begin();
+        self.has_moved_on = false;
         self.limits = CALM;
         self.is_ending = false;
         self.handed = None;
@@ -187,6 +191,12 @@ impl Links {
         self.wait(monitor, services)?;
         let next = self.look(monitor, piece, services.rt, &mut services.reports);
         Ok(next.unwrap_or(Next::Again))
+    }
+
+    /// Whether the clock was found to have moved on since this was last asked. Of several seconds that are told at once,
+    /// this is so at the first one only.
+    pub fn has_moved_on(&mut self) -> bool {
+        mem::take(&mut self.has_moved_on)
     }
 
     /// Offers bytes to the server of a link. The monitor keeps a link that it writes to, so it has read the last piece.
@@ -468,6 +478,7 @@ impl Links {
         look_ups: &mut LookUps<'_, impl Processes>,
         reports: &mut Reports<'_, impl Write>,
     ) {
+        self.has_moved_on = true;
         self.limits = Limits::of(monitor);
         for upstream in self.upstreams.iter_mut() {
             upstream.second(self.limits);

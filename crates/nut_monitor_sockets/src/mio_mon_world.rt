@@ -38,9 +38,9 @@ use std::time::Clock;
 /// each only when no server is about to answer: so no server is judged by what it couldn't say. A shutdown that begins
 /// then counts its own seconds.
 ///
-/// Notices go to a herald, which is also told of each second. The world ends when the herald says so, and may then begin
-/// anew for another monitor. Only `next` returns a fault, that of the wait for the sockets or of the clock: a failure of
-/// one link concerns no other. The world keeps no record.
+/// Notices go to a herald, which is also told that a second has passed: once of those that follow at once. The world ends
+/// when the herald says so, and may then begin anew for another monitor. Only `next` returns a fault, that of the wait for
+/// the sockets or of the clock: a failure of one link concerns no other. The world keeps no record.
 #[derive(Drop)]
 pub struct MioMonWorld<'r, 'e, R: Processes, H, E> {
     links: Links,
@@ -133,7 +133,9 @@ impl<'r, 'e, R: Net + Clock + Processes, H: Herald, E: Write> MonWorld
         self.late.clear();
         match self.links.next(&mut self.services, monitor, piece) {
             Ok(Next::Moment(moment)) => {
-                self.has_ended = self.herald.second(monitor);
+                if self.links.has_moved_on() {
+                    self.has_ended = self.herald.second(monitor);
+                }
                 Ok(if self.has_ended {
                     Next::End
                 } else {

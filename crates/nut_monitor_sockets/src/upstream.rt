@@ -132,8 +132,8 @@ impl Upstream {
         self.host.has_addresses()
     }
 
-    /// Takes over the addresses of the host, in the order in which they are dialled, from the first of these earlier links
-    /// that knows some. The host is then looked up only if none of them answers.
+    /// Takes over the addresses of the host, in the order in which they are dialled, from the first of these earlier
+    /// links that knows some. The host is then looked up only if none of them answers.
     pub fn take_over_addresses(&mut self, former: &[Upstream]) {
         for link in former.iter() {
             if link.host_name() == self.host_name() && link.host.has_addresses() {
