@@ -6,7 +6,7 @@
 
 use crate::power_down_flag::PowerDownFlag;
 use crate::upsmon_fault::UpsmonFault;
-use nut_conf::{ConfFault, FILE_MAX, FaultKind, UpsmonConf, read_upsmon};
+use nut_conf::{FILE_MAX, FaultKind, UpsmonConf, read_upsmon};
 use nut_poll::LossyLines;
 use nut_program::{ConfFile, Failure, FileFault, read_file};
 use std::alloc::{AllocError, Global};
@@ -88,24 +88,25 @@ fn last_flag(alloc: Global, bytes: &[u8]) -> Result<Option<PowerDownFlag>, Alloc
 
 /// Returns the flag that a line names. `None` if it names none, or has a fault.
 fn flag_of_line(alloc: Global, line: &[u8]) -> Result<Option<PowerDownFlag>, AllocError> {
-    match read_line(alloc, line) {
+    let file = file_of(alloc, line)?;
+    flag_of_file(alloc, file.as_slice())
+}
+
+/// Returns a line as a file of its own.
+fn file_of(alloc: Global, line: &[u8]) -> Result<Vec<u8>, AllocError> {
+    let mut file = Vec::new(alloc);
+    file.extend_from_slice(NO_SUPPLIES)?;
+    file.extend_from_slice(line)?;
+    Ok(file)
+}
+
+/// Returns the flag that a file names. `None` if it names none, or has a fault.
+fn flag_of_file(alloc: Global, file: &[u8]) -> Result<Option<PowerDownFlag>, AllocError> {
+    match read_upsmon(alloc, file) {
         Ok(config) => flag_of(alloc, config),
         Err(fault) if fault.kind == FaultKind::Memory => Err(AllocError),
         Err(_) => Ok(None),
     }
-}
-
-/// Reads a line as a file of its own.
-fn read_line(alloc: Global, line: &[u8]) -> Result<UpsmonConf, ConfFault> {
-    let mut text = Vec::new(alloc);
-    let begun = text.extend_from_slice(NO_SUPPLIES);
-    if begun.is_err() || text.extend_from_slice(line).is_err() {
-        return Err(ConfFault {
-            line: 0,
-            kind: FaultKind::Memory,
-        });
-    }
-    read_upsmon(alloc, text.as_slice())
 }
 
 /// Returns the flag that a configuration names, if it names one.

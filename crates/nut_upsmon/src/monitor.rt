@@ -14,10 +14,10 @@ use crate::warning::tell_warnings;
 use crate::watching::{WatchFault, watch_in_turn};
 use clap::ArgMatches;
 use linked_list_allocator::LocalHeap;
-use nut_conf::UpsmonConf;
+use nut_conf::{UpsdConf, UpsmonConf};
 use nut_poll::LossyLines;
 use nut_program::{
-    Failure, ReloadFile, Turn, conf_folder, hold_closed_streams, read_conf, refuse_start,
+    ConfFile, Failure, ReloadFile, Turn, conf_folder, hold_closed_streams, read_conf, refuse_start,
 };
 use std::alloc::{Alloc, AllocError, Global};
 use std::convert::AsStr;
@@ -30,9 +30,6 @@ use std::process::Processes;
 use std::rt::Files;
 use std::sync::Wait;
 use std::time::Clock;
-
-/// The file of the configuration folder that upsd reads. If it is there, upsd may have that folder too.
-const FILE_OF_SERVER: &str = "upsd.conf";
 
 /// upsmon answers a request after upsd has, so that the server knows the new users and UPSes when upsmon logs in again. A
 /// login that is refused isn't asked for again.
@@ -310,7 +307,9 @@ where
     O: Write + AsRawFd + Copy,
     E: Write + AsRawFd + Copy,
 {
-    let file = ReloadFile::new(rt, alloc, folder.as_str(), FILE_OF_SERVER, TURN)?;
+    // upsd may have the folder, too, if its file is there
+    let beside = UpsdConf::file_name();
+    let file = ReloadFile::new(rt, alloc, folder.as_str(), beside, TURN)?;
     let mut reloader = Reloader::new(alloc, folder, file, is_quiet);
     let guarded = guard_reloaded(rt, alloc, &mut reloader, streams, told);
     // dropped by a call, which keeps the proof of this function short

@@ -1,6 +1,6 @@
 //! How soon this machine stops.
 
-ghost use Rattle.std.specs.Prelude.{◌≡◌, ◌<◌, ◌^◌, max};
+ghost use Rattle.std.specs.Prelude.{◌≡◌, ◌<◌, ◌^◌};
 ghost use Rattle.std.specs.List.{list_any};
 ghost use Rattle.nut_monitor_spec.specs.Configuration.{configuration_of, line_of};
 ghost use Rattle.nut_in_time.specs.InTime.{seen_by, to_halted};
@@ -81,13 +81,7 @@ fn seen_within(config: &UpsmonConf, delay: u32) -> u64
     ensures seconds { result ≡ seen_by (configuration_of config.now) (prompt delay) 0 }
     ensures fits { result < 2 ^ 33 }
 {
-    u64::from(greater(config.poll_freq(), delay)) + u64::from(delay)
-}
-
-fn greater(a: u32, b: u32) -> u32
-    ensures { result ≡ max a b }
-{
-    if a < b { b } else { a }
+    u64::from(config.poll_freq().max(delay)) + u64::from(delay)
 }
 
 /// Returns how many seconds pass at most from the beginning of the shutdown to the halt, however long an answer takes.
