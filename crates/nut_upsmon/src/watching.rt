@@ -79,8 +79,18 @@ where
 {
     tell_start(&first, is_quiet, err);
     let reports = Reports::new("upsmon", err, !is_quiet);
-    let mut world = MioMonWorld::new(rt, alloc, herald, reports)?;
-    watch_from(rt, alloc, first, &mut world)
+    match MioMonWorld::new(rt, alloc, herald, reports) {
+        Ok(mut world) => {
+            let watched = watch_from(rt, alloc, first, &mut world);
+            // dropped by a call, which keeps the proof of this function short
+            drop(world);
+            watched
+        }
+        Err(error) => {
+            drop(first);
+            Err(WatchFault::Io(error))
+        }
+    }
 }
 
 /// Watches in this world, first the UPSes of this configuration, and halts the machine.
