@@ -16,7 +16,7 @@ import time
 from concurrent import futures
 
 from tests.support.harness import ensure, expect, Failed, Missing, needed, processor_time, refusal, run_tests, Shimmed
-from tests.support.room import DEVICE, Lines, NOT_CONNECTED, ONLINE, Room, SOON, STATUS, USERS, VERSION, accepted, until
+from tests.support.room import DEVICE, Lines, NOT_CONNECTED, ONLINE, Room, SOON, STATUS, USERS, VERSION, accepted, first_lines, until
 
 ONE = b'[su700]\ndesc = "Server room"\n'
 TWO = ONE + b"[old]\n"
@@ -574,7 +574,7 @@ class Tests(Shimmed):
                 at = (few + many) // 2
                 env = refusal(self.shim, "allocation", at)
                 upsd = room.start([self.programs[0], "--conf", room.folder, "-s", room.folder], env=env)
-                if upsd.stderr.readline().startswith(b"upsd: listening on "):
+                if "".join(first_lines(upsd, 1)).startswith("upsd: listening on "):
                     many = at
                 else:
                     few = at

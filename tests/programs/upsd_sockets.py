@@ -18,7 +18,7 @@ import time
 
 from tests.support.harness import Failed, Missing, apart, expect, processor_time, run_tests
 from tests.support.room import Client, DEVICE, Lines, NOT_CONNECTED, ONLINE, Room, SOON, STATUS, VERSION
-from tests.support.room import accepted, family_of, free_port, has_ipv6, heed_modes, said, until
+from tests.support.room import accepted, family_of, first_lines, free_port, has_ipv6, heed_modes, said, until
 
 
 def with_hosts(path):
@@ -289,9 +289,9 @@ class Tests:
                     said = f"upsd: cannot listen on {name}:{room.port}: {why(errno.EADDRINUSE)}\n".encode()
                     expect(self.run(*upsd), (1, b"", said), f"{taken} in use, the first of {addresses}")
                 else:
-                    said = room.start(upsd).stderr.readline().decode()
-                    expect(said.startswith("upsd: listening on "), True, f"{taken} in use, of {addresses}: {said}")
-                    expect(said.split()[-1].rpartition(":")[0].strip("[]"), addresses[0], "where it listens")
+                    said = first_lines(room.start(upsd), 1)
+                    expect(said[0].startswith("upsd: listening on "), True, f"{taken} in use, of {addresses}: {said}")
+                    expect(said[0].split()[-1].rpartition(":")[0].strip("[]"), addresses[0], "where it listens")
 
     def test_localhost_in_use(self):
         found = [it[4][0] for it in socket.getaddrinfo("localhost", None, type=socket.SOCK_STREAM)]
@@ -311,8 +311,9 @@ class Tests:
             with open(room.path("upsd.conf"), "w") as file:
                 file.writelines(f"LISTEN {host} {room.port}\n" for host in ("twofold", addresses[0]))
             upsd = room.start([*words, self.programs[0], "--conf", room.folder, "-s", room.folder])
-            expect(upsd.stderr.readline(), f"upsd: listening on {addresses[0]}:{room.port}\n".encode(), "where it listens")
-            expect(upsd.stderr.readline().startswith(b"upsd: UPS su700, driver at "), True, "no other listener")
+            listener, other = first_lines(upsd, 2)
+            expect(listener, f"upsd: listening on {addresses[0]}:{room.port}", "where it listens")
+            expect(other.startswith("upsd: UPS su700, driver at "), True, "no other listener")
 
     def test_host_that_is_not_here(self):
         with self.room(conf=b"LISTEN 192.0.2.1 3493\n") as room:
@@ -335,7 +336,7 @@ class Tests:
         with open(room.path("upsd.conf"), "w") as file:
             file.writelines(f"LISTEN {line}\n" for line in lines)
         upsd = room.start([self.programs[0], "--conf", room.folder, "-s", room.folder])
-        said = [upsd.stderr.readline().decode() for _ in lines]
+        said = first_lines(upsd, len(lines))
         if upsd.poll() is not None or not all(it.startswith("upsd: listening on ") for it in said):
             raise Failed(f"LISTEN {lines}: {said}")
         return [it.split()[-1].rpartition(":")[0].strip("[]") for it in said]
@@ -372,8 +373,9 @@ class Tests:
             with open(room.path("upsd.conf"), "w") as file:
                 file.writelines(f"LISTEN {host} {room.port}\n" for host in lines)
             upsd = room.start([self.programs[0], "--conf", room.folder, "-s", room.folder])
-            expect(upsd.stderr.readline(), f"upsd: listening on {at}:{room.port}\n".encode(), f"{lines}")
-            expect(upsd.stderr.readline().startswith(b"upsd: UPS su700, driver at "), True, f"{lines}: no other listener")
+            listener, other = first_lines(upsd, 2)
+            expect(listener, f"upsd: listening on {at}:{room.port}", f"{lines}")
+            expect(other.startswith("upsd: UPS su700, driver at "), True, f"{lines}: no other listener")
             for host in clients:
                 with Client((host, room.port)) as client:
                     expect(client.ask(b"VER\n"), VERSION, f"{host}, by {lines}")

@@ -196,6 +196,13 @@ class Lines:
         return sum(line.startswith(beginning) for line in self.lines)
 
 
+def first_lines(process, count):
+    """Returns the first lines that a program writes to standard error, which have to come soon; fewer if it ends before."""
+    told = Lines(process)
+    until(lambda: len(told.lines) >= count or not told.thread.is_alive(), f"{count} lines on standard error")
+    return told.lines[:count]
+
+
 class Room:
     """A folder with a configuration, and the programs that run with it."""
 
