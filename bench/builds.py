@@ -19,6 +19,8 @@ import time
 ROOT = os.path.dirname(os.path.dirname(os.path.abspath(__file__)))
 # The times of the crates in the last `make check`.
 TIMES = os.path.join("bin", "gate-times.txt")
+# The words of a `make check` that uses nothing of earlier runs.
+CHECK = ["check", "ANEW=--anew"]
 
 
 def processor_time():
@@ -30,13 +32,13 @@ def measure(processors, folder):
     os.sched_setaffinity(0, sorted(os.sched_getaffinity(0))[:processors])
     subprocess.run(["git", "clone", "--quiet", ROOT, folder], check=True)
     started, used = time.monotonic(), processor_time()
-    for words in (["upsd"], [], ["check", "ANEW=--anew"]):
-        if words[:1] == ["check"]:
+    for words in (["upsd"], [], CHECK):
+        if words == CHECK:
             started, used = time.monotonic(), processor_time()
         ran = subprocess.run(["make", *words], cwd=folder, stdout=subprocess.PIPE, stderr=subprocess.STDOUT, text=True, errors="replace")
         clock, processor = (time.monotonic() - started) / 60, (processor_time() - used) / 60
         print(f"{processors} processors, {' '.join(['make', *words])}: {clock:.0f} minutes, {processor:.0f} of processor", flush=True)
-        if ran.returncode or words[:1] == ["check"]:
+        if ran.returncode or words == CHECK:
             print(ran.stdout[-6000:])
     if os.path.isfile(os.path.join(folder, TIMES)):
         os.makedirs(os.path.dirname(os.path.join(ROOT, TIMES)), exist_ok=True)

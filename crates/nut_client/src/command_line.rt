@@ -1,11 +1,10 @@
 //! What the command lines of the three tools share.
-ghost use Rattle.std.specs.Prelude.{◌≡◌, ◌==◌, ◌<◌, [], IfOk, IfSome, Ok, Result, codes, false, length, map, option_map, position, true};
-ghost use Rattle.clap.specs.Words.{App, app_of, first_of, found_of, is_simple_and_free, rows_of};
+ghost use Rattle.std.specs.Prelude.{◌≡◌, ◌==◌, ◌<◌, IfOk, IfSome, length, map, option_map, position, true};
+ghost use Rattle.clap.specs.Words.{app_of, first_of, found_of, is_simple_and_free, rows_of};
 ghost use Rattle.nut_conf.specs.Target.{parted as parted_at};
-ghost use Rattle.nut_client.specs.CommandLine.{CommandLine, Options as OptionsMeant, dialed, is_given as given, names_server as server_named, options_of as options_meant, target_of, until as until_meant};
+ghost use Rattle.nut_client.specs.CommandLine.{CommandLine, dialed, is_given as given, names_server as server_named, options_of as options_meant, target_of, until as until_meant};
 ghost use Rattle.nut_client.specs.inside.Reading.{AreOptions, IsRead, IsReadBy, IsRefusalOf};
 ghost use Rattle.nut_client.specs.declared.command_line.Refusal.TheVariants.{Failed};
-ghost use Rattle.nut_client.specs.declared.failure.Failure.{Failure as FailureValue};
 ghost use Rattle.nut_client.specs.declared.failure.Failure.TheVariants.{Memory};
 ghost use Rattle.nut_client.specs.declared.wanted.Wanted.TheVariants.{Does};
 
