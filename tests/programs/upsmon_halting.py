@@ -23,6 +23,9 @@ from tests.support.room import ONLINE, STATUS, Room, heed_modes, state_of, until
 
 WORD = FLAG.strip()
 HALTED = 'SHUTDOWNCMD "touch FOLDER/halted"\n'
+# how much a command writes to each of its streams, which is more than a pipe holds
+MUCH = 200000
+LOUD = f'SHUTDOWNCMD "head -c {MUCH} /dev/zero; head -c {MUCH} /dev/zero >&2; touch FOLDER/halted"\n'
 FOREIGN = "is not a flag of upsmon, and is left as it is"
 NO_SHELL = "upsmon: warning: the shell that is to run SHUTDOWNCMD cannot be started yet: "
 NOT_YET = "upsmon: SHUTDOWNCMD cannot be started yet: "
@@ -124,6 +127,25 @@ class Tests(Shimmed):
         with FullPipe() as pipe:
             done = subprocess.run([self.upsmon, "--conf", self.folder], stderr=pipe.writer, timeout=60)
             expect(done.returncode, 1, "status without a configuration")
+
+    def test_full_output_holds_up_no_shutdown_command(self):
+        """A stream that takes nothing is /dev/null for a command that writes much, and the other one stays."""
+        for names in ((), ("stdout",), ("stderr",), ("stdout", "stderr")):
+            with FullPipe() as pipe, self.halting(LOUD, **{name: pipe.writer for name in names}) as (_, watch):
+                expect((watch.status(), watch.read("halted")), (0, b""), f"the halt with a full pipe as {names}")
+                expect(pipe.read(), b"", "what the pipe takes")
+                for name, file in (("stdout", "out"), ("stderr", "err")):
+                    expect(watch.read(file).count(0), 0 if name in names else MUCH, f"what {name} takes with a full pipe as {names}")
+
+    def test_readers_that_are_gone_end_no_shutdown_command(self):
+        """Where nobody can read any more, a write ends the shell that does it."""
+        command = 'SHUTDOWNCMD "echo a; echo b >&2; touch FOLDER/halted"\n'
+        for names in (("stdout",), ("stderr",), ("stdout", "stderr")):
+            reader, writer = os.pipe()
+            with self.halting(command, **{name: writer for name in names}) as (_, watch):
+                os.close(reader)
+                os.close(writer)
+                expect((watch.status(), watch.read("halted")), (0, b""), f"the halt without a reader of {names}")
 
     def test_lines_that_were_let_go_are_counted(self):
         with FullPipe() as pipe, Upstream() as server:
@@ -341,12 +363,12 @@ class Tests(Shimmed):
                 expect(file.read(), "30\n", "how often it waits for a second")
 
     @contextlib.contextmanager
-    def halting_without_memory(self, before=lambda watch: None):
+    def halting_without_memory(self, before=lambda watch: None, command=HALTED, **streams):
         """Starts an upsmon whose shutdown has begun, and for which no allocation succeeds any more, not even the C
         library's. Returns the file that causes that."""
         gone = os.path.join(self.folder, "gone")
         env = {**os.environ, "LD_PRELOAD": self.shim, "REFUSE": "memory", "REFUSE_ONCE": gone}
-        with self.halting(f"POWERDOWNFLAG FOLDER/flag\n{HALTED}", "-q", delay=3, env=env) as (_, watch):
+        with self.halting(f"POWERDOWNFLAG FOLDER/flag\n{command}", "-q", delay=3, env=env, **streams) as (_, watch):
             watch.until_printed(SHUTDOWN)
             before(watch)
             self.file_of(b"")(gone)
@@ -360,6 +382,11 @@ class Tests(Shimmed):
         with self.halting_without_memory() as (watch, _):
             expect(watch.status(), 0, "status")
             expect((watch.read("flag"), watch.read("halted"), watch.lines("err")), (FLAG, b"", []), "the halt")
+
+    def test_halt_without_memory_and_readers(self):
+        with FullPipe() as pipe, self.halting_without_memory(command=LOUD, stderr=pipe.writer) as (watch, _):
+            expect(watch.status(), 0, "status")
+            expect((watch.read("flag"), watch.read("halted"), pipe.read()), (FLAG, b"", b""), "the halt")
 
     def test_halt_without_memory_and_shell(self):
         """If the waiting shell was killed, the machine is halted as soon as memory is available again."""

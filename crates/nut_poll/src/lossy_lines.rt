@@ -4,6 +4,7 @@ ghost use Rattle.std.specs.Prelude.{IsTrue};
 ghost use Rattle.std.specs.Io.KnownBytes.{Appends};
 
 use arrayvec::ArrayVec;
+use mio::event::Event;
 use mio::unix::SourceFd;
 use mio::{Events, Interest, Poll, Token};
 use std::alloc::Global;
@@ -19,6 +20,12 @@ const LOG_LINE_MAX: usize = 2048;
 /// The most bytes that are written at a time: a line, and before it the count of dropped lines. Linux takes up to 4,096
 /// bytes for a pipe whole, and without waiting if the pipe is reported as ready.
 const TEXT_MAX: usize = LOG_LINE_MAX + 128;
+
+/// A stream that may take nothing, for example a pipe that is full because its reader has stopped, or whose reader is gone.
+pub trait Outlet: Write {
+    /// Whether a line that is written now is taken at once, as far as the system knows. Nothing is allocated for the answer.
+    fn takes_line(&mut self) -> bool;
+}
 
 /// A stream of lines that doesn't wait for its reader. A line that the stream can't take at once is dropped. Before the
 /// next line that is taken, the stream says how many were dropped, as in `upsd: lines let go: 3`.
@@ -69,26 +76,12 @@ impl<S: Write + AsRawFd + Drop> LossyLines<S> {
             self.line.pop();
         }
         self.line.push(b'\n');
-        if self.is_ready() && self.offer() {
+        if self.takes_line() && self.offer() {
             self.lost = 0;
         } else {
             self.lost = self.lost.saturating_add(1);
         }
         self.line.clear();
-    }
-
-    /// Whether the stream takes a line at once. A registration reports what is ready now. A file can't be registered,
-    /// and is always ready.
-    fn is_ready(&mut self) -> bool {
-        let number = self.stream.as_raw_fd();
-        let mut source = SourceFd(&number);
-        let registry = self.poll.registry();
-        if let Err(error) = registry.register(&mut source, Token(0), Interest::WRITABLE) {
-            return error.kind() == ErrorKind::PermissionDenied;
-        }
-        let polled = self.poll.poll(&mut self.events, Some(Duration::ZERO));
-        let _ = self.poll.registry().deregister(&mut source);
-        polled.is_ok() && self.events.iter().any(|event| event.is_writable())
     }
 
     /// Writes the line, and before it the count of dropped lines, with one write. Returns whether all of it was taken.
@@ -117,6 +110,27 @@ impl<S: Write + AsRawFd + Drop> Write for LossyLines<S> {
     fn flush(&mut self) -> io::Result<()> {
         Ok(())
     }
+}
+
+impl<S: Write + AsRawFd + Drop> Outlet for LossyLines<S> {
+    /// A registration reports what is ready now. A file can't be registered, and is always ready. If the system can't be
+    /// asked, the answer is no.
+    fn takes_line(&mut self) -> bool {
+        let number = self.stream.as_raw_fd();
+        let mut source = SourceFd(&number);
+        let registry = self.poll.registry();
+        if let Err(error) = registry.register(&mut source, Token(0), Interest::WRITABLE) {
+            return error.kind() == ErrorKind::PermissionDenied;
+        }
+        let polled = self.poll.poll(&mut self.events, Some(Duration::ZERO));
+        let _ = self.poll.registry().deregister(&mut source);
+        polled.is_ok() && self.events.iter().any(|event| takes_bytes(&event))
+    }
+}
+
+/// Whether a stream takes bytes, and somebody may read them.
+fn takes_bytes(event: &Event) -> bool {
+    event.is_writable() && !event.is_write_closed()
 }
 
 /// Writes a text with one call, and returns whether all of it was taken.

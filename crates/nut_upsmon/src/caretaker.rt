@@ -9,6 +9,7 @@ use crate::watching::Follower;
 use nut_conf::UpsmonConf;
 use nut_monitor::{Monitor, Notice};
 use nut_monitor_sockets::Herald;
+use nut_poll::Outlet;
 use nut_program::{FileFault, ReloadReport, tell_not_reloaded};
 use std::alloc::AllocError;
 use std::io::Write;
@@ -36,8 +37,8 @@ pub struct Caretaker<'c, 'r, R: Processes, O, E> {
 impl<'c, 'r, R, O, E> Caretaker<'c, 'r, R, O, E>
 where
     R: Files + Processes + Clock,
-    O: Write + Drop,
-    E: Write + Drop,
+    O: Outlet + Drop,
+    E: Outlet + Drop,
 {
     /// Returns the caretaker with this crier and this halt, which are of one configuration. What is to be told to the
     /// operator is written to `err`.
@@ -113,8 +114,8 @@ where
 impl<'c, 'r, R, O, E> Herald for Caretaker<'c, 'r, R, O, E>
 where
     R: Files + Processes + Clock,
-    O: Write + Drop,
-    E: Write + Drop,
+    O: Outlet + Drop,
+    E: Outlet + Drop,
 {
     fn announce(&mut self, monitor: &Monitor, notice: Notice) {
         self.crier.announce(monitor, notice, self.err);
@@ -132,15 +133,15 @@ where
 impl<'c, 'r, R, O, E> Follower for Caretaker<'c, 'r, R, O, E>
 where
     R: Files + Processes + Clock,
-    O: Write + Drop,
-    E: Write + Drop,
+    O: Outlet + Drop,
+    E: Outlet + Drop,
 {
     fn take_next(&mut self) -> Option<Beginning> {
         self.next.take()
     }
 
     fn halt(&mut self, is_flagged: bool) -> Result<(), HaltFault> {
-        self.halt.carry_out(is_flagged, self.err)
+        self.halt.carry_out(is_flagged, self.crier.out(), self.err)
     }
 }
 

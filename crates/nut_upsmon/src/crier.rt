@@ -59,6 +59,11 @@ impl<'a, R: Processes, O: Write + Drop> Crier<'a, R, O> {
         self.command.adopt(child);
     }
 
+    /// Returns what it prints on.
+    pub fn out(&mut self) -> &mut O {
+        &mut self.out
+    }
+
     /// Prints the text as a line.
     fn print(&mut self) {
         let _ = self.out.write_all(&self.text);

@@ -1,10 +1,10 @@
 //! Halting the machine.
 
 use crate::power_down_flag::{FlagFault, FlagState, PowerDownFlag};
-use crate::shutdown_command::ShutdownCommand;
+use crate::shutdown_command::{Full, ShutdownCommand};
 use linked_list_allocator::LocalHeap;
 use nut_conf::UpsmonConf;
-use nut_poll::text_of;
+use nut_poll::{Outlet, text_of};
 use std::alloc::{AllocError, Global};
 use std::io::Write;
 use std::process::{Child, ExitStatus, Processes};
@@ -129,15 +129,23 @@ impl<'r, 'h, R: Files + Processes + Clock> Halt<'r, 'h, R> {
     /// and waits for it. Why a flag cannot be set is written to `err`. A start that fails is tried again each second,
     /// thirty times. Why a start fails is written to `err`, unless the try before failed for the same reason.
     ///
+    /// `out` and `err` are what SHUTDOWNCMD has as standard output and standard error. One that takes nothing as
+    /// SHUTDOWNCMD starts is /dev/null for it.
+    ///
     /// # Errors
     ///
     /// The reason if SHUTDOWNCMD cannot be started or waited for, or ends with a status other than 0.
-    pub fn carry_out<E: Write>(&mut self, is_flagged: bool, err: &mut E) -> Result<(), HaltFault> {
+    pub fn carry_out<O: Outlet, E: Outlet>(
+        &mut self,
+        is_flagged: bool,
+        out: &mut O,
+        err: &mut E,
+    ) -> Result<(), HaltFault> {
         if is_flagged {
             self.set_flag(err);
         }
         match &mut self.command {
-            Some(command) => run(self.rt, command, err),
+            Some(command) => run(self.rt, command, out, err),
             None => Ok(()),
         }
     }
@@ -197,12 +205,13 @@ fn shutdown_command<'r, 'h, R: Processes>(
 }
 
 /// Runs a command and waits for its end.
-fn run<R: Processes, E: Write>(
+fn run<R: Processes, O: Outlet, E: Outlet>(
     clock: &impl Clock,
     command: &mut ShutdownCommand<'_, '_, R>,
+    out: &mut O,
     err: &mut E,
 ) -> Result<(), HaltFault> {
-    start(clock, command, err)?;
+    start(clock, command, out, err)?;
     wait_for(command)
 }
 
@@ -217,14 +226,15 @@ fn wait_for<R: Processes>(command: &mut ShutdownCommand<'_, '_, R>) -> Result<()
 
 /// Starts a command, trying again if it fails. Why a start fails is written to `err`, unless the try before failed for
 /// the same reason.
-fn start<R: Processes, E: Write>(
+fn start<R: Processes, O: Outlet, E: Outlet>(
     clock: &impl Clock,
     command: &mut ShutdownCommand<'_, '_, R>,
+    out: &mut O,
     err: &mut E,
 ) -> Result<(), HaltFault> {
     let mut told = None;
     for _ in 0..TRIES {
-        match command.start() {
+        match command.start(Full::of(out, err)) {
             Ok(()) => return Ok(()),
             Err(error) => {
                 if told != Some(error.kind()) {
@@ -235,7 +245,8 @@ fn start<R: Processes, E: Write>(
         }
         thread::sleep(clock, Duration::from_secs(PAUSE));
     }
-    command.start().map_err(HaltFault::NotStarted)
+    let full = Full::of(out, err);
+    command.start(full).map_err(HaltFault::NotStarted)
 }
 
 fn tell_failed_start<E: Write>(error: &io::Error, err: &mut E) {

@@ -15,7 +15,7 @@ use crate::watching::{WatchFault, watch_in_turn};
 use clap::ArgMatches;
 use linked_list_allocator::LocalHeap;
 use nut_conf::{UpsdConf, UpsmonConf};
-use nut_poll::LossyLines;
+use nut_poll::{LossyLines, Outlet};
 use nut_program::{
     ConfFile, Failure, ReloadFile, Turn, conf_folder, hold_closed_streams, read_conf, refuse_start,
 };
@@ -447,8 +447,8 @@ fn watch_and_tell<'r, R, O, E>(
 ) -> Result<(), WatchFault>
 where
     R: Wait + Files + Net + Clock + Processes,
-    O: Write + Drop,
-    E: Write + Drop,
+    O: Outlet + Drop,
+    E: Outlet + Drop,
 {
     let is_quiet = reloader.is_quiet();
     let caretaker = Caretaker::new(rt, err, crier, halt, reloader);

@@ -5,17 +5,49 @@ ghost use Rattle.std.specs.Io.KnownBytes.{Appends};
 
 use crate::shell::{SHELL, put_script};
 use linked_list_allocator::LocalHeap;
+use nut_poll::Outlet;
 use std::alloc::AllocError;
 use std::io;
 use std::io::{ErrorKind, Write};
 use std::process::{Child, Command, ExitStatus, OpenProcess, Processes, Stdio};
 
-/// The script of the shell: it waits for a line, and then becomes SHUTDOWNCMD, which is its first argument. If its
-/// input ends without a line, as when upsmon ends, it ends and runs nothing.
-const SCRIPT: &str = "read -r go && exec sh -c \"$1\" < /dev/null";
+/// The script of the shell: it waits for a line, and then becomes SHUTDOWNCMD, which is its first argument. A stream that
+/// the line names is /dev/null from then on. If the shell's input ends without a line, as when upsmon ends, it ends and
+/// runs nothing.
+const SCRIPT: &str = "read -r full \
+    && case $full in *out*) exec > /dev/null ;; esac \
+    && case $full in *err*) exec 2> /dev/null ;; esac \
+    && exec sh -c \"$1\" < /dev/null";
 
-/// The line that the shell waits for.
-const GO: &[u8] = b"\n";
+/// Which streams of upsmon's take nothing at the halt, since nobody reads them. If SHUTDOWNCMD wrote there, it would wait
+/// for a reader that has stopped, or be ended by SIGPIPE if the reader is gone, and the machine would stay up.
+#[derive(Clone, Copy)]
+pub struct Full {
+    /// Whether standard output does.
+    pub out: bool,
+    /// Whether standard error does.
+    pub err: bool,
+}
+
+impl Full {
+    /// Asks the system about the two streams.
+    pub fn of<O: Outlet, E: Outlet>(out: &mut O, err: &mut E) -> Full {
+        Full {
+            out: !out.takes_line(),
+            err: !err.takes_line(),
+        }
+    }
+
+    /// Returns the line that the shell waits for.
+    fn line(self) -> &'static [u8] {
+        match (self.out, self.err) {
+            (false, false) => b"\n",
+            (true, false) => b"out\n",
+            (false, true) => b"err\n",
+            (true, true) => b"out err\n",
+        }
+    }
+}
 
 /// SHUTDOWNCMD, run by a shell that was started before. So the machine can be halted even if no process can be started
 /// any more, for example for lack of memory.
@@ -58,23 +90,23 @@ impl<'r, 'h, R: Processes> ShutdownCommand<'r, 'h, R> {
         self.shell.take().map(end_input)
     }
 
-    /// Makes the waiting shell run the command. Starts another shell for it if there is none, or it was ended
-    /// meanwhile.
+    /// Makes the waiting shell run the command, whose output to a full stream is let go. Starts another shell for it if
+    /// there is none, or it was ended meanwhile.
     ///
     /// # Errors
     ///
     /// That of the system if another shell cannot be started, or ends at once.
-    pub fn start(&mut self) -> io::Result<()> {
-        if self.start_waiting().is_ok() {
+    pub fn start(&mut self, full: Full) -> io::Result<()> {
+        if self.start_waiting(full).is_ok() {
             return Ok(());
         }
         self.make_ready()?;
-        self.start_waiting()
+        self.start_waiting(full)
     }
 
     /// Makes the waiting shell run the command. If it was ended meanwhile, there is none any more.
-    fn start_waiting(&mut self) -> io::Result<()> {
-        let started = self.release_shell();
+    fn start_waiting(&mut self, full: Full) -> io::Result<()> {
+        let started = self.release_shell(full);
         if started.is_err() {
             drop(self.shell.take());
         }
@@ -82,9 +114,9 @@ impl<'r, 'h, R: Processes> ShutdownCommand<'r, 'h, R> {
     }
 
     /// Writes the line that the shell waits for.
-    fn release_shell(&mut self) -> io::Result<()> {
+    fn release_shell(&mut self, full: Full) -> io::Result<()> {
         match &mut self.shell {
-            Some(shell) => release(&mut shell.stdin),
+            Some(shell) => release(&mut shell.stdin, full.line()),
             None => Err(no_shell()),
         }
     }
@@ -131,18 +163,18 @@ fn put_words(command: &mut Command<&LocalHeap>, text: &str) -> Result<(), AllocE
 }
 
 /// Writes the line that a shell waits for.
-fn release<W: Write>(input: &mut Option<W>) -> io::Result<()>
+fn release<W: Write>(input: &mut Option<W>, line: &[u8]) -> io::Result<()>
     ensures { OnOk result (IsSome input.old) }
 {
     match input {
-        Some(input) => put_line(input),
+        Some(input) => put_line(input, line),
         None => Err(io::Error::from(ErrorKind::BrokenPipe)),
     }
 }
 
 /// Writes the line.
-fn put_line<W: Write>(input: &mut W) -> io::Result<()>
-    ensures { OnOk result (Appends (W.contents input.old) (W.contents input.new) GO.now) }
+fn put_line<W: Write>(input: &mut W, line: &[u8]) -> io::Result<()>
+    ensures { OnOk result (Appends (W.contents input.old) (W.contents input.new) line.now) }
 {
-    input.write_all(GO)
+    input.write_all(line)
 }
