@@ -13,7 +13,7 @@ import sys
 import tempfile
 import time
 
-from tests.support.harness import Failed, build_library, build_shim, ensure, expect, refusals
+from tests.support.harness import Failed, Shimmed, build_library, ensure, expect, refusals
 from tests.support.monitored import (
     BATTERY_LOW,
     ESTABLISHED,
@@ -89,7 +89,7 @@ def squeezed(lines):
     return [line for line, _ in itertools.groupby(lines)]
 
 
-class Tests:
+class Tests(Shimmed):
     def __init__(self, programs, folder):
         self.upsd, self.dummy, self.upsc, self.upsmon = programs
         self.folder = folder
@@ -332,8 +332,12 @@ class Tests:
             conf = f"MONITOR {server.target} 1 mon m1 primary\n{QUICK}NOTIFYFLAG ONBATT SYSLOG+EXEC\n"
             with self.watch(conf + "NOTIFYCMD FOLDER/none\n") as watch:
                 self.expect_halt(watch, [it % server.target for it in (ON_BATTERY, BATTERY_LOW)] + [SHUTDOWN])
-            # without a shell nothing can be run at all
-            with self.watch(conf + "NOTIFYCMD true\n", "-q", env={"PATH": self.folder}) as watch:
+
+    def test_notify_command_that_cannot_be_started(self):
+        env = {**os.environ, "LD_PRELOAD": self.shim, "REFUSE_STARTS": self.folder}
+        with Upstream(status=b"OB LB") as server:
+            conf = f"MONITOR {server.target} 1 mon m1 primary\n{QUICK}NOTIFYFLAG ONBATT SYSLOG+EXEC\nNOTIFYCMD true\n"
+            with self.watch(conf, "-q", env=env) as watch:
                 self.expect_halt(watch, [it % server.target for it in (ON_BATTERY, BATTERY_LOW)] + [SHUTDOWN])
                 said = [line for line in watch.lines("err") if "warning" not in line]
                 expect(len(said), 1, "what is said of it")
@@ -590,10 +594,9 @@ class Tests:
     def test_memory_refused(self):
         """Each allocation of a whole run is refused in turn: upsmon ends before it watches anything and reports the lack of
         memory, or it continues and halts."""
-        shim = build_shim(self.folder)
         with Upstream(status=b"FSD") as server:
             conf = f"MONITOR {server.target} 1 mon m1 primary\n{QUICK}POWERDOWNFLAG FOLDER/flag\nSHUTDOWNCMD true\n"
-            for at, env, is_reached in refusals(shim):
+            for at, env, is_reached in refusals(self.shim):
                 with self.watch(conf, "-q", env={**os.environ, **env}) as watch:
                     status = watch.status()
                     if status == 1:

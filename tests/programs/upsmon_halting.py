@@ -341,20 +341,30 @@ class Tests(Shimmed):
                 with open(room.path("err")) as file:
                     expect(file.read().splitlines(), wanted, f"mode {mode:o}")
 
+    @contextlib.contextmanager
+    def without_starts(self, **settings):
+        """The name of a file that is there, and the environment of a program that can start no process while it is."""
+        none = os.path.join(self.folder, "none-starts")
+        self.file_of(b"")(none)
+        try:
+            yield none, {**os.environ, "LD_PRELOAD": self.shim, "REFUSE_STARTS": none, **settings}
+        finally:
+            with contextlib.suppress(FileNotFoundError):
+                os.remove(none)
+
     def test_shell_that_comes_late(self):
-        shells = os.path.join(self.folder, "shells")
-        os.mkdir(shells)
-        with self.halting('SHUTDOWNCMD ": > FOLDER/halted"\n', "-q", env={"PATH": shells}) as (_, watch):
+        with self.without_starts() as (none, env), self.halting(HALTED, "-q", env=env) as (_, watch):
             until(lambda: any(it.startswith(NOT_YET) for it in watch.lines("err")), "that it can't be started")
-            os.symlink("/bin/sh", os.path.join(shells, "sh"))
+            os.remove(none)
             expect(watch.status(), 0, "status")
             wanted = [NO_SHELL, NOT_YET]
             expect(fronts(watch.lines("err"), wanted), wanted, "it is tried again, and told once")
             expect(watch.read("halted"), b"", "the halt")
 
     def test_shell_that_never_comes(self):
-        env = {"PATH": self.folder, "LD_PRELOAD": self.shim, "REFUSE": "sleep", "REFUSE_COUNT": self.shim + ".naps"}
-        with self.halting("POWERDOWNFLAG FOLDER/flag\nSHUTDOWNCMD true\n", "-q", env=env) as (_, watch):
+        naps = {"REFUSE": "sleep", "REFUSE_COUNT": self.shim + ".naps"}
+        conf = "POWERDOWNFLAG FOLDER/flag\nSHUTDOWNCMD true\n"
+        with self.without_starts(**naps) as (_, env), self.halting(conf, "-q", env=env) as (_, watch):
             expect(watch.status(), 1, "status")
             expect(watch.read("flag"), FLAG, "POWERDOWNFLAG")
             wanted = [NO_SHELL, NOT_YET, NOT_STARTED]
@@ -396,6 +406,35 @@ class Tests(Shimmed):
             os.remove(gone)
             expect(watch.status(), 0, f"status: {watch.lines('err')}")
             expect(watch.read("halted"), b"", "the halt")
+
+    def test_folder_of_the_path_that_never_answers(self):
+        """A name is looked up, a UPS asked, and NOTIFYCMD and SHUTDOWNCMD run, although upsmon itself would wait for ever if it
+        looked into the first folder of PATH."""
+        with tempfile.TemporaryDirectory(dir=self.folder) as folder, Upstream(status=b"FSD") as server:
+            dead, answers = (os.path.join(folder, it) for it in ("dead", "answers"))
+            os.mkdir(dead)
+            os.mkdir(answers)
+            for name, script in (("getent", "echo 127.0.0.1 STREAM"), ("upsc", "echo 1")):
+                self.program(os.path.join(answers, name), script)
+            path = f"{dead}:{answers}:{os.environ['PATH']}"
+            env = {**os.environ, "PATH": path, "LD_PRELOAD": self.shim, "DEAD_FOLDER": dead}
+            target = f"su700@ups.example:{server.port}"
+            notes = "NOTIFYFLAG SHUTDOWN SYSLOG+EXEC\nNOTIFYCMD \"touch FOLDER/noted; true\"\n"
+            conf = f"MONITOR {target} 1 mon m1 primary\nPOLLFREQ 1\nHOSTSYNC 1\nFINALDELAY 0\n{notes}{HALTED}"
+            with self.watch(conf, "-q", env=env) as watch:
+                expect((watch.status(), watch.read("halted"), watch.lines("err")), (0, b"", []), "the halt")
+                until(lambda: watch.read("noted") == b"", "NOTIFYCMD is run")
+            with open(os.path.join(folder, "upsmon.conf"), "w") as file:
+                file.write(conf)
+            words = [self.upsmon, "--check", "--conf", folder]
+            done = subprocess.run(words, stdin=subprocess.DEVNULL, capture_output=True, timeout=60, env=env)
+            warning = f"upsmon: warning: UPS {target}: battery.runtime.low is 1, and this machine stops"
+            expect(fronts(done.stderr.decode().splitlines(), [warning]), [warning], "what is told of the UPS")
+
+    def program(self, path, script):
+        """Makes a program out of a script for the shell."""
+        self.file_of(f"#!/bin/sh\n{script}\n".encode())(path)
+        os.chmod(path, 0o755)
 
     def test_shell_that_was_ended(self):
         with self.halting(HALTED, "-q", delay=3) as (_, watch):

@@ -14,10 +14,11 @@ import socket
 import struct
 import subprocess
 import sys
+import tempfile
 import threading
 import time
 
-from tests.support.harness import Failed, Missing, apart, build_library, ensure, expect
+from tests.support.harness import Failed, Missing, Shimmed, apart, build_library, ensure, expect
 from tests.support.monitored import (
     BATTERY_LOW,
     ESTABLISHED,
@@ -86,7 +87,7 @@ def reports_of(watch, target):
     return [line for line in found if not line.startswith("watched as ")]
 
 
-class Tests:
+class Tests(Shimmed):
     def __init__(self, programs, folder):
         self.programs = programs
         self.upsd, self.dummy, self.upsc, self.upsmon = programs
@@ -146,6 +147,27 @@ class Tests:
                 until(lambda: server.ends, "it is called again", 30)
                 passed = time.monotonic() - dropped
                 ensure(passed < PATIENCE, f"the first address isn't dialled before it: {passed:.1f} s")
+
+    def test_host_is_looked_up_by_a_program(self):
+        """What is told of a host if the program isn't there, can't be run, fails, or can't be started at all."""
+        starts = {"LD_PRELOAD": self.shim, "REFUSE_STARTS": self.folder}
+        cannot, unknown = "getent, which looks its name up, cannot be started", "its name is not known"
+        for script, mode, settings, why in (
+            (None, 0, {}, cannot),
+            ("echo 127.0.0.1 STREAM", 0o644, {}, cannot),
+            ("exit 2", 0o755, {}, unknown),
+            ("echo 127.0.0.1 DGRAM", 0o755, {}, unknown),
+            ("echo 127.0.0.1 STREAM", 0o755, starts, cannot),
+        ):
+            with tempfile.TemporaryDirectory(dir=self.folder) as names:
+                if script is not None:
+                    with open(os.path.join(names, "getent"), "w") as file:
+                        file.write(f"#!/bin/sh\n{script}\n")
+                    os.chmod(file.name, mode)
+                env = {**os.environ, "PATH": names, **settings}
+                with self.watch("MONITOR su700@ups.example 1 mon m1 primary\n", env=env) as watch:
+                    until(lambda: reports_of(watch, "su700@ups.example"), "a report")
+                    expect(reports_of(watch, "su700@ups.example"), [f"no server yet: {why}"], f"{script} {mode:o} {settings}")
 
     def test_server_that_stands_still(self):
         with self.room() as room:

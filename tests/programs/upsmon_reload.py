@@ -234,19 +234,17 @@ class Tests(Shimmed):
 
     def test_without_a_shell(self):
         """If the shell of the new SHUTDOWNCMD can't be started, the earlier one goes on waiting."""
-        shells = os.path.join(self.folder, "reload-shells")
-        os.mkdir(shells)
-        shell = os.path.join(shells, "sh")
-        os.symlink("/bin/sh", shell)
-        env = {"PATH": shells}
-        with Upstream() as server, self.watch(line_of(server) + QUICK + 'SHUTDOWNCMD ": > FOLDER/old"\n', "-q", env=env) as watch:
+        none = os.path.join(self.folder, "reload-none-starts")
+        env = {**os.environ, "LD_PRELOAD": self.shim, "REFUSE_STARTS": none}
+        with Upstream() as server, self.watch(line_of(server) + QUICK + OLD, "-q", env=env) as watch:
             until_asked(server)
-            os.remove(shell)
-            watch.reload(line_of(server) + QUICK + 'SHUTDOWNCMD ": > FOLDER/new"\n')
+            with open(none, "w"):
+                pass
+            watch.reload(line_of(server) + QUICK + NEW)
             front = REFUSED + "SHUTDOWNCMD cannot be started: "
             until(lambda: any(it.startswith(front) for it in watch.lines("err")), "that it can't be started")
             expect(len(children_of(watch.process.pid)), 1, "the earlier shell")
-            os.symlink("/bin/sh", shell)
+            os.remove(none)
             server.statuses[b"su700"] = b"OB LB"
             expect(watch.status(), 0, "status")
             expect((watch.read("old"), watch.read("new")), (b"", None), "the halt")

@@ -9,13 +9,18 @@
  * file that REFUSE_ONCE names is there. It is 'sleep': no pause takes any time. Calls are counted from 1. At its end the
  * program's count of calls of that kind is written to the file that REFUSE_COUNT names.
  *
+ * Whatever REFUSE is, no process can be started while the file that REFUSE_STARTS names is there. In the folder that
+ * DEAD_FOLDER names no look at a file and no start of a program ever ends, as on a server that doesn't answer.
+ *
  * What the program starts isn't refused anything. */
 #define _GNU_SOURCE
 #include <dlfcn.h>
 #include <errno.h>
+#include <spawn.h>
 #include <stdio.h>
 #include <stdlib.h>
 #include <string.h>
+#include <sys/stat.h>
 #include <sys/uio.h>
 #include <time.h>
 #include <unistd.h>
@@ -120,6 +125,34 @@ int nanosleep(const struct timespec *asked, struct timespec *left) {
         return 0;
     }
     return next(asked, left);
+}
+
+/* Waits for ever if a path is in the dead folder. */
+static void reach(const char *path) {
+    const char *dead = setting("DEAD_FOLDER");
+    size_t length = strlen(dead);
+    while (length > 0 && strncmp(path, dead, length) == 0 && path[length] == '/')
+        pause();
+}
+
+int statx(int folder, const char *path, int flags, unsigned mask, struct statx *found) {
+    static int (*next)(int, const char *, int, unsigned, struct statx *);
+    if (!next)
+        next = NEXT("statx");
+    reach(path);
+    return next(folder, path, flags, mask, found);
+}
+
+int posix_spawn(pid_t *started, const char *path, const posix_spawn_file_actions_t *actions, const posix_spawnattr_t *attributes,
+                char *const words[], char *const variables[]) {
+    static int (*next)(pid_t *, const char *, const posix_spawn_file_actions_t *, const posix_spawnattr_t *, char *const[],
+                       char *const[]);
+    if (!next)
+        next = NEXT("posix_spawn");
+    reach(path);
+    if (access(setting("REFUSE_STARTS"), F_OK) == 0)
+        return EAGAIN;
+    return next(started, path, actions, attributes, words, variables);
 }
 
 __attribute__((constructor)) static void stay_alone(void) {

@@ -1,9 +1,9 @@
 //! Look-ups of hosts, which nobody waits for.
 
-use nut_poll::{Question, Questions};
+use nut_poll::{Question, Questions, shell_command};
 use std::alloc::{AllocError, Global};
 use std::net::IpAddr;
-use std::process::{Command, OpenProcess, Processes};
+use std::process::{OpenProcess, Processes};
 use std::{io, str};
 
 /// The greatest number of addresses of a host that are kept.
@@ -15,6 +15,12 @@ const PATIENCE: u8 = 5;
 /// The greatest number of bytes that are read of what a look-up prints. An address has at most 80 bytes there, in three
 /// lines.
 const OUTPUT_MAX: usize = 4096;
+
+/// The script by which the shell becomes `getent ahosts HOST`.
+const GETENT: &str = "exec getent ahosts \"$1\"";
+
+/// Why there are no addresses if the look-up can't begin, or the shell finds no `getent`.
+const NOT_STARTED: &str = "getent, which looks its name up, cannot be started";
 
 /// The result of a look-up.
 #[derive(Drop)]
@@ -67,10 +73,10 @@ impl<'r, R: Processes> LookUps<'r, R> {
     /// If the process can't be started or memory cannot be allocated.
     pub fn start(&mut self, name: &str) -> io::Result<()> {
         let about = String::from_str(self.alloc, name)?;
-        let command = getent(self.alloc, name)?;
+        let command = shell_command(self.alloc, GETENT, name)?;
         match self.questions.start(command, about) {
             Ok(()) => Ok(()),
-            Err(_) => Err(io::Error::other("getent, which looks its name up, cannot be started")),
+            Err(_) => Err(io::Error::other(NOT_STARTED)),
         }
     }
 
@@ -87,24 +93,23 @@ impl<'r, R: Processes> LookUps<'r, R> {
     /// Takes the result of a look-up that has ended, if one has.
     pub fn take(&mut self) -> Option<Found> {
         let mut look_up = self.questions.take()?;
-        let reason = if look_up.is_late {
-            "its name is not looked up in time"
-        } else {
-            "its name is not known"
-        };
         Some(Found {
             addresses: addresses_of(self.alloc, &mut look_up),
+            reason: reason_of(&mut look_up),
             name: look_up.about,
-            reason,
         })
     }
 }
 
-/// Returns the command that looks a host up.
-fn getent(alloc: Global, name: &str) -> Result<Command<Global>, AllocError> {
-    let mut command = Command::new(alloc, "getent")?;
-    command.arg("ahosts")?.arg(name)?;
-    Ok(command)
+/// Returns why an ended look-up has no addresses, if it has none.
+fn reason_of<P: OpenProcess>(look_up: &mut Question<P, String>) -> &'static str {
+    if look_up.is_late {
+        "its name is not looked up in time"
+    } else if look_up.is_unasked() {
+        NOT_STARTED
+    } else {
+        "its name is not known"
+    }
 }
 
 /// Returns the addresses that an ended look-up printed.

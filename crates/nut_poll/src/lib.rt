@@ -1,5 +1,6 @@
 //! What the sockets of a server, of a monitor and of a dummy driver share: a connection's end whose reads and writes don't
-//! block, the sockets that may be ready, rounds over them, whole seconds, and lines to an operator that nobody has to read.
+//! block, the sockets that may be ready, rounds over them, whole seconds, programs that are asked and the shell that starts
+//! them, and lines to an operator that nobody has to read.
 #![tactic(auto)]
 
 mod lateness;
@@ -10,6 +11,7 @@ mod ready;
 mod reports;
 mod rounds;
 mod seconds;
+mod shell;
 mod text;
 
 pub use lateness::note_written;
@@ -20,4 +22,5 @@ pub use ready::{Ready, SOCKETS_MAX, may_be_read};
 pub use reports::Reports;
 pub use rounds::Rounds;
 pub use seconds::Seconds;
+pub use shell::shell_command;
 pub use text::text_of;

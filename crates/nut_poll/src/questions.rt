@@ -103,6 +103,15 @@ impl<'r, R: Processes, T: Drop> Questions<'r, R, T> {
 }
 
 impl<P: OpenProcess, T> Question<P, T> {
+    /// Whether the shell that began this question found no program that it could run in its place: it ended with status 126
+    /// or 127.
+    pub fn is_unasked(&mut self) -> bool {
+        match self.child.try_wait() {
+            Ok(Some(status)) => matches!(status.code(), Some(126 | 127)),
+            Ok(None) | Err(_) => false,
+        }
+    }
+
     /// Reads the answer of a question that has ended: the bytes that the process printed, at most as many as this buffer
     /// holds. There is none if the process failed.
     ///

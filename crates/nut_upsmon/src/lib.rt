@@ -13,7 +13,6 @@ mod monitor;
 mod notify_command;
 mod power_down_flag;
 mod reloader;
-mod shell;
 mod shutdown_command;
 mod starting;
 mod stopping;

@@ -2,12 +2,15 @@
 
 use crate::stopping::Stopping;
 use nut_conf::{Monitored, UpsmonConf};
-use nut_poll::{Question, Questions, text_of};
+use nut_poll::{Question, Questions, shell_command, text_of};
 use std::alloc::{AllocError, Global};
 use std::io::Write;
-use std::process::{Command, OpenProcess, Processes};
+use std::process::{OpenProcess, Processes};
 use std::time::{Clock, Duration};
 use std::{str, thread};
+
+/// The script by which the shell becomes the program that asks a server for a UPS.
+const UPSC: &str = "exec upsc \"$1\" battery.runtime.low";
 
 /// How much of an answer is read: more digits than any number of seconds has.
 const ANSWER_MAX: usize = 64;
@@ -193,7 +196,7 @@ impl<'r, R: Processes> LowRuntimes<'r, R> {
 
     /// Begins to ask for a UPS, or gives it back.
     fn ask(&mut self, ups: Ups) -> Result<(), Ups> {
-        match upsc(self.alloc, ups.name.as_str()) {
+        match shell_command(self.alloc, UPSC, ups.name.as_str()) {
             Ok(command) => self.questions.start(command, ups),
             Err(_) => Err(ups),
         }
@@ -274,18 +277,6 @@ fn upses_of(alloc: Global, lines: &[Monitored], generation: u32) -> Result<Vec<U
         }
     }
     Ok(upses)
-}
-
-/// The command that asks a server for this UPS.
-fn upsc(alloc: Global, name: &str) -> Result<Command<Global>, AllocError> {
-    let mut command = Command::new(alloc, "upsc")?;
-    // `and` drops `command` if that failed
-    put_question(&mut command, name).and(Ok(command))
-}
-
-fn put_question(command: &mut Command<Global>, name: &str) -> Result<(), AllocError> {
-    command.arg(name)?.arg("battery.runtime.low")?;
-    Ok(())
 }
 
 /// Returns the seconds that the process printed. `None` unless it ended with status 0.

@@ -1,8 +1,7 @@
 //! NOTIFYCMD: the command that is run with the text of a notice.
 
-use crate::shell::{SHELL, put_script};
 use nut_conf::UpsmonConf;
-use nut_poll::text_of;
+use nut_poll::{shell_command, text_of};
 use std::alloc::{AllocError, Global};
 use std::process::{Child, Command, OpenProcess, Processes};
 use std::{fmt, io};
@@ -123,28 +122,25 @@ fn start<R: Processes>(
     script: &str,
     call: Call<'_>,
 ) -> io::Result<Child<R::Started>> {
-    let mut shell = Command::new(alloc, SHELL)?;
-    let started = start_shell(processes, &mut shell, script, call);
+    let mut shell = shell_command(alloc, script, text_of(call.text))?;
+    let started = start_shell(processes, &mut shell, call);
     // dropped by a call, which keeps the proof of this function short
     drop(shell);
     started
 }
 
-/// Makes a shell run the script with this call.
+/// Starts a shell with this call.
 fn start_shell<R: Processes>(
     processes: &R,
     shell: &mut Command,
-    script: &str,
     call: Call<'_>,
 ) -> io::Result<Child<R::Started>> {
-    put_script(shell, script)?;
-    put_call(shell, call)?;
+    put_variables(shell, call)?;
     shell.spawn(processes)
 }
 
-/// Gives a command the text as its first argument, and the rest in its environment.
-fn put_call(command: &mut Command, call: Call<'_>) -> Result<(), AllocError> {
-    command.arg("sh")?.arg(text_of(call.text))?;
+/// Gives a command the type of a notice and its UPS in its environment.
+fn put_variables(command: &mut Command, call: Call<'_>) -> Result<(), AllocError> {
     command.env("NOTIFYTYPE", text_of(call.kind))?;
     command.env("UPSNAME", text_of(call.ups))?;
     Ok(())

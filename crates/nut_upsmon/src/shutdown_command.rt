@@ -3,9 +3,8 @@
 ghost use Rattle.std.specs.Prelude.{OnOk, IsSome};
 ghost use Rattle.std.specs.Io.KnownBytes.{Appends};
 
-use crate::shell::{SHELL, put_script};
 use linked_list_allocator::LocalHeap;
-use nut_poll::Outlet;
+use nut_poll::{Outlet, shell_command};
 use std::alloc::AllocError;
 use std::io;
 use std::io::{ErrorKind, Write};
@@ -17,7 +16,7 @@ use std::process::{Child, Command, ExitStatus, OpenProcess, Processes, Stdio};
 const SCRIPT: &str = "read -r full \
     && case $full in *out*) exec > /dev/null ;; esac \
     && case $full in *err*) exec 2> /dev/null ;; esac \
-    && exec sh -c \"$1\" < /dev/null";
+    && exec /bin/sh -c \"$1\" < /dev/null";
 
 /// Which streams of upsmon's take nothing at the halt, since nobody reads them. If SHUTDOWNCMD wrote there, it would wait
 /// for a reader that has stopped, or be ended by SIGPIPE if the reader is gone, and the machine would stay up.
@@ -138,28 +137,20 @@ fn no_shell() -> io::Error {
     io::Error::from(ErrorKind::NotFound)
 }
 
-/// Makes the command of a shell that waits to run this text.
+/// Makes the command of a shell that waits on a pipe to run this text.
 fn waiting_shell<'h>(
     heap: &'h LocalHeap,
     text: &str,
 ) -> Result<Command<&'h LocalHeap>, AllocError> {
-    let mut shell = Command::new(heap, SHELL)?;
-    // `and` drops `shell` if that failed
-    put_words(&mut shell, text).and(Ok(shell))
+    let mut shell = shell_command(heap, SCRIPT, text)?;
+    shell.stdin(Stdio::piped());
+    Ok(shell)
 }
 
 /// Ends the input of a shell.
 fn end_input<P: OpenProcess>(mut shell: Child<P>) -> Child<P> {
     shell.stdin = None;
     shell
-}
-
-/// Gives a shell its script, a pipe to wait on, and the command's text as its first argument.
-fn put_words(command: &mut Command<&LocalHeap>, text: &str) -> Result<(), AllocError> {
-    put_script(command, SCRIPT)?;
-    command.stdin(Stdio::piped());
-    command.arg("sh")?.arg(text)?;
-    Ok(())
 }
 
 /// Writes the line that a shell waits for.
