@@ -205,6 +205,19 @@ FILES = {
         (b"MONITOR u@h:0 1 m p primary\n", "1: BadName"),
         (b"MONITOR u@h:65536 1 m p primary\n", "1: BadName"),
         (b"MONITOR u@h_ 1 m p primary\n", "1: BadName"),
+        (b'MONITOR "" 1 m p primary\n', "1: BadName"),
+        (b'MONITOR "a b@h" 1 m p primary\n', "1: BadName"),
+        (b"MONITOR u:5@h 1 m p primary\n", "1: BadName"),
+        (b"MONITOR u/@h 1 m p primary\n", "1: BadName"),
+        (b"MONITOR u@:1 1 m p primary\n", "1: BadName"),
+        (b"MONITOR u@h:1:2 1 m p primary\n", "1: BadName"),
+        (b"MONITOR u@h:x 1 m p primary\n", "1: BadName"),
+        (b"MONITOR u@h:+1 1 m p primary\n", "1: BadName"),
+        (b"MONITOR u@::1 1 m p primary\n", "1: BadName"),
+        (b"MONITOR u@h:0000000001 1 m p primary\n", "1: BadName"),
+        (b"MONITOR u@h:000000001 1 m p primary\nMONITOR u@h:1 1 m p primary\n", "2: Repeated"),
+        (b"MONITOR u@h:65535 1 m p primary\nMONITOR u@127.0.0.1:34930 1 m p primary\n", None),
+        (b"MONITOR A.b_c-9@D.e-8 1 m p primary\n", None),
         (b"MONITOR u@h@i 1 m p primary\n", "1: BadName"),
         (b"MONITOR u@h 1 m p primary\nMONITOR u@h 2 n q secondary\n", "2: Repeated"),
         (b"MONITOR u@h 1 m p primary\nMONITOR u@h:3493 1 m p primary\n", "2: Repeated"),
@@ -264,6 +277,8 @@ FILES = {
         (b"HOSTSYNC 1000001", "1: BadNumber"),
         # limits, at each of them and just past it
         (b"MONITOR " + b"u" * 33 + b"@h 1 m p primary", "1: BadName"),
+        (b"MONITOR " + b"u" * 32 + b"@" + b"h" * 64 + b" 1 m p primary", None),
+        (b"MONITOR u@" + b"h" * 65 + b" 1 m p primary", "1: BadName"),
         (b"MONITOR u@h 1 " + b"m" * 32 + b" p primary", None),
         (b"MONITOR u@h 1 " + b"m" * 33 + b" p primary", "1: PastLimit"),
         (b"MONITOR u@h 1 m " + b"p" * 128 + b" primary", None),
@@ -379,7 +394,7 @@ class Tests:
 
     def test_library_reads_the_examples(self):
         """What library_tests proves of the examples holds of the files that are there now."""
-        with open(os.path.join(ROOT, "crates/library_tests/src/conf/examples.rt")) as file:
+        with open(os.path.join(ROOT, "crates/library_tests/src/examples.rt")) as file:
             texts = dict(EXAMPLE.findall(file.read()))
         expect(sorted(texts), sorted(it for it in FILES if it != "cmdvartab"), "the files that it reads")
         for name, text in texts.items():

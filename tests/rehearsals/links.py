@@ -11,6 +11,7 @@ import sys
 import tempfile
 
 from tests.support.harness import Failed, ensure, expect, run_tests
+from tests.support.form_rows import FORMS, SHORTER_FORMS
 from tests.support.link_rows import ROWS
 from tests.support.model import LINE_MAX, words_of
 from tests.support.player import escaped
@@ -93,6 +94,14 @@ class Tests:
                 seen += 1
         ensure(seen > len(ROWS) // 2, f"only {seen} refusals were answered")
         print(f"   {seen} refusals were answered")
+
+    def test_forms_of_queries(self):
+        """Each form is asked in mixed case, and as it is written."""
+        pairs = [(mixed, capitals) for mixed, capitals, *_ in FORMS + SHORTER_FORMS]
+        pairs += [(capitals, capitals) for _, capitals in pairs]
+        lines = self.stage.play([step for query, _ in pairs for step in asking(query)])
+        for (query, capitals), taken in zip(pairs, lines[2::3]):
+            expect(taken, escaped(capitals + b"\n"), f"{query}, as it is written")
 
     def test_queries_that_are_not_asked(self):
         lines = self.stage.play(

@@ -18,14 +18,15 @@ import tempfile
 import time
 import urllib.parse
 
+from tests.support.form_rows import FORMS, NO_FORMS
 from tests.support.harness import Failed, ensure, expect, refusals, run_tests, unread
 from tests.support.model import Config
 from tests.support.player import Player, conf_steps, escaped, line_of, places, reload_steps
 from tests.support.reload_rows import RELOADS
-from tests.support.server_rows import PROBE, ROOM, ROWS, told
+from tests.support.server_rows import ONLINE, OPEN, PROBE, ROOM, ROWS, STATUS, Row, ask, err, listed, live, told
 from tests.support.schedules import UPSES, USERS, ScheduleMaker, shifted, variants
 from tests.support.stage import Stage
-from tests.support.table_rows import TABLES
+from tests.support.table_rows import NOTHING_NEW, TABLES
 
 # how much more memory a schedule may take if it is played ten times over: far less than a record of it
 GROWTH_MAX_KIB = 256
@@ -270,6 +271,19 @@ class Tests:
             rows = [row.replace(" su700", "", 1) for row in urllib.parse.unquote(taken.decode()).splitlines()]
             found = sorted(row for row in rows if row and not row.startswith(("BEGIN ", "END ")))
             expect(found, table.listed, table.title)
+
+    def test_lines_that_change_nothing(self):
+        """A line of a driver shows that it is alive if its data isn't stale 16 seconds after the word before it."""
+        for line, is_heard in NOTHING_NEW:
+            lists = ask(1, b"LIST VAR su700", listed(b"VAR su700", ONLINE), b"LIST CMD su700", listed(b"CMD su700"))
+            later = ask(1, STATUS, ONLINE if is_heard else err("DATA-STALE"))
+            self.play_row(Row(line, live() + [("moment", 10), *told(line.encode())] + OPEN + lists + [("moment", 16)] + later))
+
+    def test_lines_of_no_form(self):
+        """A form with a word less or more is none."""
+        refused = [(line, "INVALID-ARGUMENT") for _, whole, short in FORMS for line in (short, whole + b" x") if line]
+        steps = [step for line, name in refused + NO_FORMS for step in ask(1, line, err(name))]
+        self.play_row(Row("lines of no form", OPEN + steps))
 
     def test_worked_rows(self):
         for row in ROWS + RELOADS:

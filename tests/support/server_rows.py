@@ -452,6 +452,32 @@ ROWS = [
         + [(("driver-took", 0, 4097), b"TooMuchTaken waits=4096 connected=true")]
         + [(("driver-took", 0, 4096), b"ok waits=0 connected=true")],
     ),
+    Row(
+        "lengths of user names and passwords",
+        OPEN
+        + ask(
+            1,
+            *(b'USERNAME ""', err("INVALID-ARGUMENT"), b"USERNAME " + b"a" * 129, err("INVALID-ARGUMENT")),
+            *(b'PASSWORD ""', err("INVALID-ARGUMENT"), b"PASSWORD " + b"a" * 129, err("INVALID-ARGUMENT")),
+            *(b'LOGIN ""', err("USERNAME-REQUIRED"), b"LOGIN " + b"a" * 400, err("USERNAME-REQUIRED")),
+            *(b"USERNAME " + b"a" * 128, b"OK", b"PASSWORD " + b"a" * 128, b"OK"),
+        )
+        + GUEST
+        + ask(2, b"USERNAME a", b"OK", b"PASSWORD p", b"OK"),
+    ),
+    Row(
+        "texts of names, whose case matters",
+        live(b"SETINFO ups.id x", b"SETINFO UPS.ID x", b"SETINFO test.battery.stop x", b"ADDCMD test.battery.stop", b"ADDCMD ups.id")
+        + OPEN
+        + ask(
+            1,
+            *(b"GET DESC su700 ups.id", b'DESC su700 ups.id "Identifier of the UPS"'),
+            *(b"GET DESC su700 UPS.ID", b'DESC su700 UPS.ID "Description unavailable"'),
+            *(b"GET DESC su700 test.battery.stop", b'DESC su700 test.battery.stop "Description unavailable"'),
+            *(b"GET CMDDESC su700 test.battery.stop", b'CMDDESC su700 test.battery.stop "Stop the battery test"'),
+            *(b"GET CMDDESC su700 ups.id", b'CMDDESC su700 ups.id "Description unavailable"'),
+        ),
+    ),
     Row("no UPS", OPEN + ask(1, b"LIST UPS", listed(b"UPS")), config=Config([], {})),
     Row(
         "an answer that isn't taken",

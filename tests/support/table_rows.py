@@ -63,6 +63,15 @@ TABLES = [
         ],
         variable("a", "50", "RANGE", ranges=[(200, 300)]),
     ),
+    Table(
+        "numbers of ranges, and texts that are none",
+        [
+            *("SETINFO a x", "ADDRANGE a -000000009 007", "ADDRANGE a -999999999 -0", "ADDRANGE a 999999999 999999999"),
+            *each("ADDRANGE a ", ["1000000000", '""', "+1", "-", "--1", "1.5", "1x"], " 999999999"),
+            *("ADDRANGE a 0 1000000000", "ADDRANGE a -1000000000 0", "ADDRANGE a 0 +1"),
+        ],
+        variable("a", "x", "RANGE", ranges=[(-9, 7), (-999_999_999, 0), (999_999_999, 999_999_999)]),
+    ),
     Table("flags of a number", ["setinfo a 20", "SetFlags a Rw nUMBER"], variable("a", "20", rw=True)),
     Table(
         "flags are those of the last line",
@@ -89,7 +98,8 @@ TABLES = [
     Table(
         "lengths at their limit, past it, and none",
         ["SETINFO a x", "SETFLAGS a STRING", "SETAUX a 000000512"]
-        + ["SETAUX a 513", "SETAUX a 0000000001", "SETAUX a -1", 'SETAUX a ""', "SETAUX a 1x"],
+        + ["SETAUX a 513", "SETAUX a 0000000001", "SETAUX a -1", 'SETAUX a ""', "SETAUX a 1x"]
+        + ["SETAUX a +1", "SETAUX a -0", "SETAUX a -", "SETAUX a 1.5", "SETAUX a 1000000000"],
         variable("a", "x", "STRING:512"),
     ),
     Table("a length of 0", ["SETINFO a x", "SETFLAGS a STRING", "SETAUX a 128", "SETAUX a 0"], variable("a", "x", "STRING:0")),
@@ -150,4 +160,33 @@ TABLES = [
         ],
         variable("a", LONG_TEXT, "ENUM", enums=[LONG_TEXT]),
     ),
+]
+
+# lines of a driver that change nothing, as no variable has their name, and whether each counts as a word of the driver
+LONG_FLAGS = "SETFLAGS a " + " ".join(map(str, range(3, 33)))
+NOTHING_NEW = [
+    ("PONG", True),
+    (" \tpong\r# still here", True),
+    ("DELINFO none", True),
+    ("SETAUX none abc", True),
+    ("SETFLAGS none", True),
+    ("SETINFO b! x", True),
+    ("ADDRANGE none 2 1", True),
+    (LONG_FLAGS, True),
+    ("TRACKING 7 x", True),
+    ("", False),
+    (" # DATAOK", False),
+    ("PONG x", False),
+    ("SETINFO a", False),
+    ("SETINFO a b c", False),
+    ("SETINFO a=b", False),
+    ("SETFLAGS", False),
+    ("FOO a b", False),
+    ("DATAO", False),
+    ('SETINFO a "b', False),
+    ('SETINFO a "b"c', False),
+    ("SETINFO a b\\", False),
+    ("SETINFO a \x7f", False),
+    (LONG_FLAGS + " 33", False),
+    ("TRACKING 7", False),
 ]

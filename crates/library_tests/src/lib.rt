@@ -1,17 +1,14 @@
-//! Tests of the libraries: words, tables, messages and configuration files, the server and the monitor with their loops.
+//! Tests of the libraries: the files of `examples` and what they set, and the loops of the server and of the monitor.
 //!
-//! They are in a crate of their own, since a crate that has tests is proved twice, with them and without.
+//! They are in a crate of their own, since a crate that has tests is proved twice, with them and without. Here stands
+//! only what neither a contract nor the tests of the built programs show.
 #![tactic(auto)]
 
 #[cfg(test)]
-mod conf;
+mod examples;
 #[cfg(test)]
 mod monitor;
 #[cfg(test)]
-mod proto;
-#[cfg(test)]
 mod server;
-#[cfg(test)]
-mod state;
 #[cfg(test)]
 mod words;

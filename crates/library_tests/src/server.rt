@@ -1,5 +1,7 @@
-//! A server, and the loop that serves it over a world.
+//! The loop that serves, over worlds: rows from outside, worlds that are slow, late or broken, and reloads.
 
-mod logins;
+mod deeds;
+mod failing;
+mod memory;
+mod reloads;
 mod room;
-mod serve;

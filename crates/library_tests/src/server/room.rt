@@ -9,17 +9,14 @@ use nut_server::{Config, Server};
 use std::alloc::{AllocError, Global};
 use std::test::Fail;
 
-const UPSES: &[u8] = b"[su700]\ndesc = \"Server room\"\n";
+/// The one UPS of most tests.
+pub const UPSES: &[u8] = b"[su700]\ndesc = \"Server room\"\n";
 
 const USERS: &[u8] =
     b"[admin]\npassword = pw\nactions = SET\ninstcmds = all\n[mon]\npassword = m1\nupsmon primary\n";
 
-/// Makes a server of one UPS that was told nothing.
-pub fn fresh_server(alloc: Global) -> Result<Server, Fail>
-    ensures { IfOk result (λ s. s ≡ content s.configuration []) }
-{
-    server_of(alloc, UPSES)
-}
+/// The lines of a driver whose UPS is on line.
+pub const ON_LINE: &[u8] = b"SETINFO ups.status \"OL\"\nDATAOK\nDUMPDONE\n";
 
 /// Makes a server of these UPSes that was told nothing.
 pub fn server_of(alloc: Global, upses: &[u8]) -> Result<Server, Fail>
@@ -43,9 +40,10 @@ pub fn config_of(alloc: Global, upses: &[u8]) -> Result<Config, Fail> {
     }
 }
 
-/// Makes a vector of these rows.
-pub fn rows_of(alloc: Global, rows: &[Row]) -> Result<Vec<Row>, AllocError> {
+/// Makes a vector of these rows and further rows.
+pub fn rows_of(alloc: Global, rows: &[Row], further: &[Row]) -> Result<Vec<Row>, AllocError> {
     let mut copy = Vec::new(alloc);
     copy.extend_from_slice(rows)?;
+    copy.extend_from_slice(further)?;
     Ok(copy)
 }

@@ -1,7 +1,8 @@
-//! The files of `examples`, word for word, and what they set.
+//! The files of `examples`, word for word, and what they set; and what is set where a file says nothing. Faults and limits
+//! are tested on the programs, by `tests/programs/files.py`.
 
 use nut_conf::{
-    Action, Monitored, Notice, NoticeFlags, Role, Ups, UpsConf, UpsdConf, UpsmonConf, User,
+    Action, Monitored, Notice, NoticeFlags, Role, UpsConf, UpsdConf, UpsmonConf, User, UsersConf,
     read_ups, read_upsd, read_upsmon, read_users,
 };
 use std::alloc::Global;
@@ -25,63 +26,49 @@ const UPSMON_CONF: &[u8] =
 /// A UPS's name, driver, port and description.
 type UpsRow = (&'static [u8], &'static [u8], &'static [u8], &'static [u8]);
 
-fn has(ups: Option<&Ups>, row: &UpsRow) -> bool {
-    match ups {
-        Some(ups) => ups.driver() == row.1 && ups.port() == row.2 && ups.desc() == row.3,
-        None => false,
-    }
-}
-
-fn is_named(conf: &UpsConf, number: usize, name: &[u8]) -> bool {
-    match conf.name(number) {
-        Some(own) => own.as_bytes() == name && conf.find(name) == Some(number),
-        None => false,
+/// Whether a UPS of ups.conf is this one.
+fn is_ups(conf: &UpsConf, number: usize, row: &UpsRow) -> bool {
+    match (conf.name(number), conf.get(number)) {
+        (Some(name), Some(ups)) => {
+            name.as_bytes() == row.0
+                && conf.find(row.0) == Some(number)
+                && ups.driver() == row.1
+                && ups.port() == row.2
+                && ups.desc() == row.3
+        }
+        _ => false,
     }
 }
 
 /// Whether ups.conf has exactly these UPSes, in this order.
-fn has_all(conf: &UpsConf, rows: &[UpsRow]) -> bool {
+fn are_upses(conf: &UpsConf, rows: &[UpsRow]) -> bool {
     for (number, row) in rows.iter().enumerate() {
-        if !is_named(conf, number, row.0) || !has(conf.get(number), row) {
+        if !is_ups(conf, number, row) {
             return false;
         }
     }
-    conf.len() == rows.len() && conf.get(rows.len()).is_none() && conf.name(rows.len()).is_none()
+    conf.len() == rows.len()
 }
 
-/// Whether ups.conf has a UPS with none of these names.
-fn lacks(conf: &UpsConf, names: &[&[u8]]) -> bool {
-    for name in names {
-        if conf.find(name).is_some() {
-            return false;
-        }
-    }
-    true
-}
-
-fn ups_conf_has(alloc: Global, file: &[u8], rows: &[UpsRow], absent: &[&[u8]]) -> bool {
+fn ups_conf_sets(alloc: Global, file: &[u8], rows: &[UpsRow]) -> bool {
     match read_ups(alloc, file) {
-        Ok(conf) => !conf.is_empty() && has_all(&conf, rows) && lacks(&conf, absent),
+        Ok(conf) => are_upses(&conf, rows),
         Err(_) => false,
     }
 }
 
-#[test]
-fn ups_conf(rt: HostRuntime) {
-    let rows: [UpsRow; 1] = [(b"su700", b"dummy-ups", b"su700.dev", b"Server room")];
-    let absent: [&[u8]; 3] = [b"su7000", b"su 700", b"a name that is longer than 32 bytes"];
-    assert!(rt; ups_conf_has(rt.alloc(), UPS_CONF, &rows, &absent));
-}
+const OTHER_UPSES: &[u8] = b"[b]\n[a]\ndesc = \"\"\ndriver = x\n[c]\n";
 
 #[test]
-fn order_and_defaults_of_ups_conf(rt: HostRuntime) {
-    let rows: [UpsRow; 3] = [
+fn ups_conf(rt: HostRuntime) {
+    let row: UpsRow = (b"su700", b"dummy-ups", b"su700.dev", b"Server room");
+    assert!(rt; ups_conf_sets(rt.alloc(), UPS_CONF, &[row]));
+    let others: [UpsRow; 3] = [
         (b"b", b"dummy-ups", b"", b"Unavailable"),
         (b"a", b"x", b"", b""),
         (b"c", b"dummy-ups", b"", b"Unavailable"),
     ];
-    let file = b"[b]\n[a]\ndesc = \"\"\ndriver = x\n[c]\n";
-    assert!(rt; ups_conf_has(rt.alloc(), file, &rows, &[b"d"]));
+    assert!(rt; ups_conf_sets(rt.alloc(), OTHER_UPSES, &others));
 }
 
 /// A user's name; a password, and whether it is the user's; the role; whether the user may SET and FSD; a command, and
@@ -106,17 +93,21 @@ fn is_allowed(user: &User, row: &UserRow) -> bool {
 }
 
 /// Whether upsd.users has all these users.
-fn upsd_users_has(alloc: Global, file: &[u8], rows: &[UserRow]) -> bool {
-    let Ok(conf) = read_users(alloc, file) else {
-        return false;
-    };
+fn has_users(conf: &UsersConf, rows: &[UserRow]) -> bool {
     for row in rows {
         match conf.find(row.0) {
             Some(user) if is_allowed(user, row) => {}
             _ => return false,
         }
     }
-    conf.find(b"nobody").is_none() && conf.find(b"").is_none()
+    true
+}
+
+fn upsd_users_sets(alloc: Global, file: &[u8], rows: &[UserRow]) -> bool {
+    match read_users(alloc, file) {
+        Ok(conf) => has_users(&conf, rows),
+        Err(_) => false,
+    }
 }
 
 const USERS: [UserRow; 4] = [
@@ -144,10 +135,7 @@ const USERS: [UserRow; 4] = [
     ),
 ];
 
-#[test]
-fn upsd_users(rt: HostRuntime) {
-    assert!(rt; upsd_users_has(rt.alloc(), UPSD_USERS, &USERS));
-}
+const ONE_USER: &[u8] = b"[a]\nactions = FSD\ninstcmds = load.on\ninstcmds = load.off\n";
 
 const RIGHTS: [UserRow; 3] = [
     (b"a", b"", false, None, false, true, b"load.off", true),
@@ -156,40 +144,31 @@ const RIGHTS: [UserRow; 3] = [
 ];
 
 #[test]
-fn rights_of_users(rt: HostRuntime) {
-    let file = b"[a]\nactions = FSD\ninstcmds = load.on\ninstcmds = load.off\n";
-    assert!(rt; upsd_users_has(rt.alloc(), file, &RIGHTS));
+fn upsd_users(rt: HostRuntime) {
+    assert!(rt; upsd_users_sets(rt.alloc(), UPSD_USERS, &USERS));
+    assert!(rt; upsd_users_sets(rt.alloc(), ONE_USER, &RIGHTS));
 }
 
-/// Whether upsd.conf has exactly these endpoints.
-fn listens(conf: &UpsdConf, endpoints: &[(&[u8], u16)]) -> bool {
-    for (index, (address, port)) in endpoints.iter().enumerate() {
-        match conf.endpoint(index) {
-            Some((own, number)) if own == *address && number == *port => {}
-            _ => return false,
-        }
-    }
-    conf.endpoints() == endpoints.len() && conf.endpoint(endpoints.len()).is_none()
+/// Whether upsd.conf sets this MAXCONN, the default of MAXAGE, and exactly this endpoint.
+fn sets(conf: &UpsdConf, max_conn: u32) -> bool {
+    let endpoint: (&[u8], u16) = (b"127.0.0.1", 3493);
+    conf.max_age() == 15
+        && conf.max_conn() == max_conn
+        && conf.endpoints() == 1
+        && conf.endpoint(0) == Some(endpoint)
 }
 
-fn upsd_conf_has(alloc: Global, file: &[u8], max_conn: u32, endpoints: &[(&[u8], u16)]) -> bool {
+fn upsd_conf_sets(alloc: Global, file: &[u8], max_conn: u32) -> bool {
     match read_upsd(alloc, file) {
-        Ok(conf) => {
-            conf.max_age() == 15 && conf.max_conn() == max_conn && listens(&conf, endpoints)
-        }
+        Ok(conf) => sets(&conf, max_conn),
         Err(_) => false,
     }
 }
 
 #[test]
 fn upsd_conf(rt: HostRuntime) {
-    let endpoints: [(&[u8], u16); 1] = [(b"127.0.0.1", 3493)];
-    assert!(rt; upsd_conf_has(rt.alloc(), UPSD_CONF, 16, &endpoints));
-}
-
-#[test]
-fn defaults_of_upsd_conf(rt: HostRuntime) {
-    assert!(rt; upsd_conf_has(rt.alloc(), b"", 256, &[(b"127.0.0.1", 3493)]));
+    assert!(rt; upsd_conf_sets(rt.alloc(), UPSD_CONF, 16));
+    assert!(rt; upsd_conf_sets(rt.alloc(), b"", 256));
 }
 
 /// A target as it is written, its UPS, host and port, the power value, the user, the password and the role.
@@ -204,54 +183,38 @@ type MonitorRow = (
     Role,
 );
 
-fn watches(monitor: &Monitored, row: &MonitorRow) -> bool {
+fn is_monitor(monitor: &Monitored, row: &MonitorRow) -> bool {
     monitor.written.as_slice() == row.0
         && monitor.target.ups.as_bytes() == row.1
         && monitor.target.host.as_bytes() == row.2
         && monitor.target.port.number == row.3
-}
-
-fn logs_in(monitor: &Monitored, row: &MonitorRow) -> bool {
-    monitor.power.value == row.4
+        && monitor.power.value == row.4
         && monitor.user.as_bytes() == row.5
         && monitor.password.as_bytes() == row.6
         && monitor.role == row.7
 }
 
-/// Whether the first MONITOR line of upsmon.conf is this one.
-fn upsmon_conf_begins(alloc: Global, file: &[u8], row: &MonitorRow) -> bool {
-    let Ok(conf) = read_upsmon(alloc, file) else {
-        return false;
-    };
-    match conf.monitors.lines.as_slice().first() {
-        Some(monitor) => watches(monitor, row) && logs_in(monitor, row),
-        None => false,
+/// Whether the one MONITOR line of upsmon.conf is this one.
+fn watches(conf: &UpsmonConf, row: &MonitorRow) -> bool {
+    match conf.monitors.lines.as_slice() {
+        [monitor] => is_monitor(monitor, row),
+        _ => false,
     }
 }
 
-#[test]
-fn monitors(rt: HostRuntime) {
-    let row: MonitorRow = (
-        b"su700@localhost",
-        b"su700",
-        b"localhost",
-        3493,
-        1,
-        b"monuser",
-        b"m1",
-        Role::Primary,
-    );
-    assert!(rt; upsmon_conf_begins(rt.alloc(), UPSMON_CONF, &row));
-}
+const MONITOR: MonitorRow = (
+    b"su700@localhost",
+    b"su700",
+    b"localhost",
+    3493,
+    1,
+    b"monuser",
+    b"m1",
+    Role::Primary,
+);
 
-#[test]
-fn targets_as_written(rt: HostRuntime) {
-    let row: MonitorRow = (b"u@h:0005", b"u", b"h", 5, 2, b"m", b"p", Role::Secondary);
-    let file = b"MONITOR u@h:0005 2 m p secondary";
-    assert!(rt; upsmon_conf_begins(rt.alloc(), file, &row));
-}
-
-fn notices_are_set(conf: &UpsmonConf) -> bool {
+/// Whether upsmon.conf sets what the example sets of notices and of the halt.
+fn sets_notices(conf: &UpsmonConf) -> bool {
     let flags = conf.flags(Notice::Onbatt);
     conf.message(Notice::Onbatt) == b"UPS %s: mains lost".as_slice()
         && conf.message(Notice::Online) == b"UPS %s on line power".as_slice()
@@ -260,6 +223,8 @@ fn notices_are_set(conf: &UpsmonConf) -> bool {
         && !flags.wall
         && conf.flags(Notice::Online).ignore
         && conf.flags(Notice::Fsd) == NoticeFlags::default_flags()
+        && conf.host_sync() == 20
+        && halts_by(conf, b"echo upsmon would stop this machine now")
 }
 
 fn halts_by(conf: &UpsmonConf, command: &[u8]) -> bool {
@@ -269,21 +234,14 @@ fn halts_by(conf: &UpsmonConf, command: &[u8]) -> bool {
     }
 }
 
-fn notices_are_read(alloc: Global) -> bool {
+fn example_is_read(alloc: Global) -> bool {
     match read_upsmon(alloc, UPSMON_CONF) {
-        Ok(conf) => {
-            notices_are_set(&conf)
-                && conf.host_sync() == 20
-                && halts_by(&conf, b"echo upsmon would stop this machine now")
-        }
+        Ok(conf) => watches(&conf, &MONITOR) && sets_notices(&conf),
         Err(_) => false,
     }
 }
 
-#[test]
-fn notices(rt: HostRuntime) {
-    assert!(rt; notices_are_read(rt.alloc()));
-}
+const OTHER_MONITOR: MonitorRow = (b"u@h:0005", b"u", b"h", 5, 2, b"m", b"p", Role::Secondary);
 
 fn has_defaults(conf: &UpsmonConf) -> bool {
     conf.min_supplies() == 1
@@ -298,15 +256,17 @@ fn has_defaults(conf: &UpsmonConf) -> bool {
 }
 
 fn defaults_are_read(alloc: Global) -> bool {
-    match read_upsmon(alloc, b"MONITOR u@h 1 m p primary") {
-        Ok(conf) => has_defaults(&conf),
+    match read_upsmon(alloc, b"MONITOR u@h:0005 2 m p secondary") {
+        Ok(conf) => watches(&conf, &OTHER_MONITOR) && has_defaults(&conf),
         Err(_) => false,
     }
 }
 
 #[test]
-fn defaults_of_upsmon_conf(rt: HostRuntime) {
+fn upsmon_conf(rt: HostRuntime) {
+    assert!(rt; example_is_read(rt.alloc()));
     assert!(rt; defaults_are_read(rt.alloc()));
+    assert!(rt; all_have_their_texts(&TEXTS));
 }
 
 const TEXTS: [(Notice, &[u8], &[u8]); 9] = [
@@ -344,9 +304,4 @@ fn all_have_their_texts(rows: &[(Notice, &[u8], &[u8])]) -> bool {
         }
     }
     true
-}
-
-#[test]
-fn texts_of_notices(rt: HostRuntime) {
-    assert!(rt; all_have_their_texts(&TEXTS));
 }
