@@ -186,7 +186,8 @@ SCENES = [
         {"ups.id": "x", "ups.status": "OL"},
         [
             link(),
-            says(b"Ping\nping\n", "PONG\nPONG\n"),
+            says(b"Ping\n", "PONG\n"),
+            says(b"DUMPALL\n", dump({"ups.id": "x", "ups.status": "OL"})),
             says(b"dumpall\n", dump({"ups.id": "x", "ups.status": "OL"})),
             says(b"Set ups.id Abc\n", told(ups_id="Abc"), ups_id="Abc"),
             says(b"set ups.ID y\nSET UPS.id y\n"),
