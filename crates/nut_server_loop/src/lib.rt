@@ -10,7 +10,6 @@ mod types;
 mod world;
 
 pub use memory::MemoryWorld;
-pub use nut_io::{Fault, Piece, ServeFault, Written, read_piece, write_some};
 pub use replay::serve_memory;
 pub use serving::serve;
 pub use streams::{Stream, StreamWorld};
