@@ -9,7 +9,6 @@ processor minutes, and leaves the times of each crate where `make check-times` l
 only if no other folder of this machine has the same files built, since `rt` uses its libraries."""
 
 import os
-import resource
 import shutil
 import subprocess
 import sys
@@ -17,26 +16,24 @@ import tempfile
 import time
 
 ROOT = os.path.dirname(os.path.dirname(os.path.abspath(__file__)))
+sys.path.insert(0, ROOT)
+from tests.support.harness import children_time
+
 # The times of the crates in the last `make check`.
 TIMES = os.path.join("bin", "gate-times.txt")
 # The words of a `make check` that uses nothing of earlier runs.
 CHECK = ["check", "ANEW=--anew"]
 
 
-def processor_time():
-    used = resource.getrusage(resource.RUSAGE_CHILDREN)
-    return used.ru_utime + used.ru_stime
-
-
 def measure(processors, folder):
     os.sched_setaffinity(0, sorted(os.sched_getaffinity(0))[:processors])
     subprocess.run(["git", "clone", "--quiet", ROOT, folder], check=True)
-    started, used = time.monotonic(), processor_time()
+    started, used = time.monotonic(), children_time()
     for words in (["upsd"], [], CHECK):
         if words == CHECK:
-            started, used = time.monotonic(), processor_time()
+            started, used = time.monotonic(), children_time()
         ran = subprocess.run(["make", *words], cwd=folder, stdout=subprocess.PIPE, stderr=subprocess.STDOUT, text=True, errors="replace")
-        clock, processor = (time.monotonic() - started) / 60, (processor_time() - used) / 60
+        clock, processor = (time.monotonic() - started) / 60, (children_time() - used) / 60
         print(f"{processors} processors, {' '.join(['make', *words])}: {clock:.0f} minutes, {processor:.0f} of processor", flush=True)
         if ran.returncode or words == CHECK:
             print(ran.stdout[-6000:])

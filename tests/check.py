@@ -11,14 +11,13 @@ it proves all. The last line is 'N passed, M failed'."""
 
 import os
 import re
-import resource
 import subprocess
 import sys
 import tempfile
 import time
 
 from tests.gate import times as gate_times
-from tests.support.harness import ROOT
+from tests.support.harness import ROOT, children_time
 
 # The tests that run beside the rounds of wrong bodies, and the built programs that each is given.
 TESTS = (
@@ -135,8 +134,7 @@ def main(words):
         gate_times.main([])
     else:
         print("no times of crates, since something failed or was proved by an earlier run")
-    used = resource.getrusage(resource.RUSAGE_CHILDREN)
-    clock, processor = (time.monotonic() - started) / 60, (used.ru_utime + used.ru_stime) / 60
+    clock, processor = (time.monotonic() - started) / 60, children_time() / 60
     print(f"{clock:.0f} minutes, {processor:.0f} of processor with the tests of programs")
     if count.failed:
         print("What failed:", *count.failures[-FAILURES_SHOWN:], sep="\n")

@@ -8,13 +8,12 @@ The last line is 'N passed, M failed'."""
 import contextlib
 import itertools
 import os
-import resource
 import shutil
 import subprocess
 import sys
 import tempfile
 
-from tests.support.harness import expect, Failed, Missing, refusal, refusals, ROOT, run_tests, Shimmed, unread
+from tests.support.harness import children_time, expect, Failed, Missing, refusal, refusals, ROOT, run_tests, Shimmed, unread
 from tests.support.room import until
 
 ROOM = ["--stdio", "--ups", "su700=Server room"]
@@ -26,12 +25,6 @@ LIST = b'BEGIN LIST UPS\nUPS su700 "Server room"\nEND LIST UPS\n'
 NUT_DESCRIPTIONS = "/usr/share/nut/cmdvartab"
 DESCRIPTION = b'UPSDESC su700 "Server room"\n'
 GOODBYE = b"OK Goodbye\n"
-
-
-def children_time():
-    """Returns how many seconds of processor time the runs have used that have ended."""
-    used = resource.getrusage(resource.RUSAGE_CHILDREN)
-    return used.ru_utime + used.ru_stime
 
 
 def error(name):

@@ -1,5 +1,5 @@
 """What the tests of built programs share: how a check fails, how calls of a program are made to fail, how tests are run and
-counted, and how much processor time a program takes, which the benches use, too."""
+counted, and how much processor time programs take, which the benches use, too."""
 
 import array
 import collections
@@ -7,6 +7,7 @@ import fcntl
 import functools
 import itertools
 import os
+import resource
 import shutil
 import subprocess
 import termios
@@ -23,6 +24,12 @@ def processor_time(pid):
     with open(f"/proc/{pid}/stat") as file:
         fields = file.read().rsplit(")", 1)[1].split()
     return (int(fields[11]) + int(fields[12])) / os.sysconf("SC_CLK_TCK")
+
+
+def children_time():
+    """Returns how many seconds of processor time the ended children of this process have used, with their own ended children."""
+    used = resource.getrusage(resource.RUSAGE_CHILDREN)
+    return used.ru_utime + used.ru_stime
 
 
 def unread(pipe):
