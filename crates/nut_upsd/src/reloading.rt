@@ -2,18 +2,15 @@
 
 use crate::changes::changes;
 use crate::configuration::{Settings, read_folder};
-use nut_conf::Endpoint;
+use nut_conf::{Endpoint, UpsmonConf};
 use nut_poll::Reports;
-use nut_program::{FileFault, Look, ReloadFile, ReloadReport, Turn, tell_not_reloaded};
+use nut_program::{ConfFile, FileFault, Look, ReloadFile, ReloadReport, Turn, tell_not_reloaded};
 use nut_server::{Config, Server};
 use nut_server_sockets::Reloader;
 use std::alloc::{AllocError, Global};
 use std::io::Write;
 use std::mem;
 use std::rt::Files;
-
-/// A file that the folder has if upsmon reads it, too.
-const BESIDE: &str = "upsmon.conf";
 
 /// upsd answers a request before upsmon does, whose new logins are then by the new users.
 const TURN: Turn = Turn::First;
@@ -47,11 +44,13 @@ impl<'r, F: Files> Reloading<'r, F> {
     ///
     /// [`AllocError`] if memory cannot be allocated.
     pub fn new(files: &'r F, alloc: Global, folder: &'r str) -> Result<Self, AllocError> {
+        // upsmon may have the folder, too, if its file is there
+        let beside = UpsmonConf::file_name();
         Ok(Reloading {
             files,
             alloc,
             folder,
-            file: ReloadFile::new(files, alloc, folder, BESIDE, TURN)?,
+            file: ReloadFile::new(files, alloc, folder, beside, TURN)?,
             endpoints: Vec::new(alloc),
             given: None,
         })
