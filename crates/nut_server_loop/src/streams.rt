@@ -1,7 +1,7 @@
 //! A world over a reader and a writer, with one client.
 
-ghost use Rattle.std.specs.Prelude.{◌≡◌, ◌+◌, ◌-◌, ◌^◌, ◌<◌, ◌⊎◌, ℕ, false, length, None, Ok, IfOk, OnErr, is_ok, if◌then◌else◌};
-ghost use Rattle.std.specs.Io.KnownBytes.{IsAtEnd, Keeps};
+ghost use Rattle.std.specs.Prelude.{◌≡◌, ◌+◌, ◌-◌, ◌^◌, ◌<◌, ◌≤◌, ◌⊎◌, ℕ, true, false, length, take, None, Ok, IfOk, OnErr, is_ok, if◌then◌else◌};
+ghost use Rattle.std.specs.Io.KnownBytes.{Appends, Consumes, IsAtEnd, Keeps};
 ghost use Rattle.nut_server_spec.specs.Acceptance.{may_read, session_of};
 ghost use Rattle.nut_io.specs.Writes.{IsWithin, Takes, late_after};
 ghost use Rattle.nut_server_loop.specs.Record.{tells_next, tells_write, MayCome};
@@ -70,6 +70,14 @@ impl<'a, R: Read, T: Write> StreamWorld<'a, R, T> {
     {
         self.failed
     }
+
+    /// Whether nothing more can come of the client: it is gone, or may not be read any more.
+    fn is_over(&self, server: &Server) -> bool
+        ensures over { result ≡ true → (self.now.stage ≡ Ended) ⊎ (may_read (session_of 1 server.now.sessions) ≡ false) }
+        ensures on { result ≡ false → may_read (session_of 1 server.now.sessions) ≡ true }
+    {
+        self.stage == Stage::Ended || !server.may_read(CLIENT)
+    }
 }
 
 impl<'a, R: Read, T: Write> World for StreamWorld<'a, R, T> {
@@ -112,16 +120,16 @@ impl<'a, R: Read, T: Write> World for StreamWorld<'a, R, T> {
             self.stage = Stage::Present;
             return Ok(Next::Open(address()));
         }
-        if self.stage == Stage::Ended || !server.may_read(CLIENT) {
+        if self.is_over(server) {
             self.stage = Stage::Ended;
             return Ok(Next::End);
         }
-        match read_piece(self.input, piece) {
-            Ok(0) => {
+        match hear(self.input, piece) {
+            Ok(true) => Ok(Next::Bytes(CLIENT)),
+            Ok(false) => {
                 self.stage = Stage::Ended;
                 Ok(Next::End)
             }
-            Ok(_) => Ok(Next::Bytes(CLIENT)),
             Err(_) => {
                 self.failed = Some(Stream::Input);
                 self.faults += 1;
@@ -143,9 +151,9 @@ impl<'a, R: Read, T: Write> World for StreamWorld<'a, R, T> {
         ensures took { IfOk result (λ w. Takes w bytes.now (T.contents self.old.output.now) (T.contents self.new.output.now)) }
         ensures took_none { OnErr result (Keeps (T.contents self.old.output.now) (T.contents self.new.output.now)) }
     {
-        match write_some(self.output, bytes) {
-            Ok(n) if n > 0 => Ok(Written::Took(n)),
-            _ => {
+        match offer(self.output, bytes) {
+            Ok(n) => Ok(Written::Took(n)),
+            Err(_) => {
                 self.failed = Some(Stream::Output);
                 self.faults += 1;
                 Err(Fault)
@@ -165,6 +173,32 @@ impl<'a, R: Read, T: Write> World for StreamWorld<'a, R, T> {
 
     fn close_driver(&mut self, _u: usize) -> Result<(), Fault> {
         Ok(())
+    }
+}
+
+/// Reads a piece, and returns whether bytes came: none come at the end of the input.
+fn hear<R: Read>(input: &mut R, piece: &mut Piece) -> Result<bool, Fault>
+    ensures came { result ≡ Ok true → Consumes (R.remaining input.old) (R.remaining input.new) piece.new.items }
+    ensures none { result ≡ Ok false → Keeps (R.remaining input.old) (R.remaining input.new) }
+    ensures end { result ≡ Ok false → IsAtEnd (R.remaining input.new) }
+    ensures err { OnErr result (Keeps (R.remaining input.old) (R.remaining input.new)) }
+{
+    match read_piece(input, piece) {
+        Ok(n) => Ok(n > 0),
+        Err(_) => Err(Fault),
+    }
+}
+
+/// Writes at least one byte, and returns how many.
+fn offer<T: Write>(output: &mut T, bytes: &[u8]) -> Result<usize, Fault>
+    ensures some { IfOk result (λ n. 0 < n) }
+    ensures bound { IfOk result (λ n. n ≤ length bytes.now) }
+    ensures ok { IfOk result (λ n. Appends (T.contents output.old) (T.contents output.new) (take n bytes.now)) }
+    ensures err { OnErr result (Keeps (T.contents output.old) (T.contents output.new)) }
+{
+    match write_some(output, bytes) {
+        Ok(n) if n > 0 => Ok(n),
+        _ => Err(Fault),
     }
 }
 
