@@ -229,12 +229,16 @@ class Tests:
             expect((status, out, err), wanted, line)
 
     def test_texts_with_faults(self):
-        """A reload reads the texts that were given last, and reports a fault of them as a new server does."""
+        """A new server and a reload report a fault of the texts that were given last, and the server that is there stays."""
         head = [*conf_steps(ROOM), ("open", b"a")]
-        for text in (("ups", b"[su700]\n[su700]\n"), ("users", b"[admin]\nactions = DANCE\n"), ("upsd", b"\nMAXAGE 0\n")):
-            wanted = self.stage.run([*head, text, ("server",)])
-            expect(wanted[0], 1, f"status of a server with {text}")
-            expect(self.stage.run([*head, text, ("reload",), ("open", b"b")]), wanted, f"a reload of {text}")
+        for text, fault in (
+            (("ups", b"[su700]\n[su700]\n"), b"2: Repeated"),
+            (("users", b"[admin]\nactions = DANCE\n"), b"2: UnknownWord"),
+            (("upsd", b"\nMAXAGE 0\n"), b"2: BadNumber"),
+        ):
+            for verb in ("server", "reload"):
+                lines = self.stage.play([*head, text, (verb,), ("open", b"b")])
+                expect(lines[len(head) :], [b"ok", fault, b"ok opened=2"], f"a {verb} with {text}")
         expect(self.stage.run([("reload",)]), (1, b"", b"rehearse: line 1 isn't a step\n"), "a reload of no server")
 
     def test_endless_line(self):

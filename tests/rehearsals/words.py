@@ -114,10 +114,10 @@ class Tests:
 
     def test_what_takes_no_memory(self):
         """If a line has no backslash, all its words are lent from it; a stream allocates nothing at all. So these steps
-        allocate only what the script itself does, of which the longest line comes first."""
-        head = [feed(STREAM[:600]), ("words new",)]
-        plain = [split(line) for line, _ in LINES + FAULTS if b"\\" not in line]
+        allocate only what the script itself does for its longest line and its longest answer, which come first."""
         pieces = [feed(STREAM[at : at + 500]) for at in range(0, len(STREAM), 500)]
+        head = [("# " + "a" * 2 * LINE_MAX,), *pieces, ("words new",)]
+        plain = [split(line) for line, _ in LINES + FAULTS if b"\\" not in line]
         expect(self.stage.allocations(head + plain + pieces), self.stage.allocations(head), "allocations")
         copied = [split(line) for line, words in LINES if b"\\" in line and words]
         ensure(self.stage.allocations(head + copied) > self.stage.allocations(head), "a copied word takes no memory")

@@ -1,11 +1,10 @@
 //! Moves bytes between a server and the driver of its first UPS.
 
-use crate::failure::Failure;
-use crate::played::{Played, wrote};
+use crate::played::Played;
+use crate::text::Text;
 use nut_dummy::{Dummy, DummyFault};
 use nut_server::{Arrival, Refused, Server};
-use std::io;
-use std::io::Write;
+use std::alloc::AllocError;
 
 /// The largest number of pieces that are moved.
 const PIECES_MAX: usize = 100_000;
@@ -80,39 +79,38 @@ fn carry_all(server: &mut Server, dummy: &mut Dummy, size: usize) -> Carried {
 }
 
 /// Lets driver and server take what waits for them, `size` bytes at a time, and writes how that ended.
-pub fn carry<W: Write>(
+pub fn carry(
     server: &mut Option<Server>,
     dummy: &mut Option<Dummy>,
-    size: &str,
-    out: &mut W,
-) -> Result<Played, Failure> {
+    size: Text<'_>,
+    out: &mut String,
+) -> Played {
     match server {
         Some(server) => carry_between(server, dummy, size, out),
-        None => Ok(Played::Nothing),
+        None => None,
     }
 }
 
-/// Moves pieces of this size until none waits or one is refused, and writes which it was.
-fn carry_between<W: Write>(
+fn carry_between(
     server: &mut Server,
     dummy: &mut Option<Dummy>,
-    size: &str,
-    out: &mut W,
-) -> Result<Played, Failure> {
-    match (dummy, size.parse()) {
-        (Some(dummy), Ok(size)) => wrote(
-            show_carried(carry_all(server, dummy, size), out),
-            Played::Step,
-        ),
-        _ => Ok(Played::Nothing),
+    size: Text<'_>,
+    out: &mut String,
+) -> Played {
+    match dummy {
+        Some(dummy) => {
+            let carried = carry_all(server, dummy, size.number()?);
+            Some(show_carried(carried, out))
+        }
+        None => None,
     }
 }
 
 /// Writes what happened to the last piece.
-fn show_carried<W: Write>(carried: Carried, out: &mut W) -> io::Result<()> {
+fn show_carried(carried: Carried, out: &mut String) -> Result<(), AllocError> {
     match carried {
-        Carried::Piece => out.write_all(b"pieces without end"),
-        Carried::Nothing => out.write_all(b"ok"),
+        Carried::Piece => out.push_str("pieces without end"),
+        Carried::Nothing => out.push_str("ok"),
         Carried::RefusedBy(refused) => write!(out, "server {refused:?}"),
         Carried::RefusedByDriver(fault) => write!(out, "driver {fault:?}"),
     }

@@ -1,49 +1,28 @@
 //! Why a script isn't played to its end.
 
-use nut_conf::{ConfFault, FaultKind};
-use nut_monitor::MonitorFault;
-use nut_server::ServerFault;
 use std::alloc::AllocError;
-use std::io;
+use std::fmt::{Display, Formatter};
 use std::io::ErrorKind;
-use thiserror::Error;
+use std::{fmt, io};
 
 /// Why a script isn't played to its end.
-#[derive(Clone, Copy, Debug, Error)]
+#[derive(Clone, Copy)]
 pub enum Failure {
     /// This line of the script, counted from 1, isn't a step.
-    #[error("line {0} isn't a step")]
     Line(u64),
-    /// A configuration file has this fault.
-    #[error("{0}")]
-    File(ConfFault),
     /// Memory could not be allocated, outside of what the engines answer.
-    #[error("out of memory")]
     Memory,
     /// A read or a write failed.
-    #[error("I/O failed")]
     Io,
 }
 
-impl From<ConfFault> for Failure {
-    fn from(fault: ConfFault) -> Self {
-        match fault.kind {
-            FaultKind::Memory => Failure::Memory,
-            _ => Failure::File(fault),
+impl Display for Failure {
+    fn fmt<W: fmt::Write>(&self, f: &mut Formatter<W>) -> fmt::Result {
+        match self {
+            Failure::Line(number) => write!(f, "line {number} isn't a step"),
+            Failure::Memory => f.write_str("out of memory"),
+            Failure::Io => f.write_str("I/O failed"),
         }
-    }
-}
-
-impl From<ServerFault> for Failure {
-    fn from(_: ServerFault) -> Self {
-        Failure::Memory
-    }
-}
-
-impl From<MonitorFault> for Failure {
-    fn from(_: MonitorFault) -> Self {
-        // only memory can be lacking when a monitor is made
-        Failure::Memory
     }
 }
 

@@ -11,39 +11,30 @@
 //!
 //! A call is answered by `ok` or its fault, and then by how many bytes wait.
 
-use crate::failure::Failure;
-use crate::played::{Played, wrote};
-use crate::text::{decode, parted, put, shown};
+use crate::played::{Played, show_waits};
+use crate::text::{Text, put, shown};
 use crate::words::show_word;
 use nut_link::{Fields, Link, LinkFault, Outcome, Rows};
 use nut_proto::read;
 use nut_words::{Words, split};
-use std::alloc::Global;
-use std::io::Write;
-use std::{io, mem};
+use std::alloc::{AllocError, Global};
+use std::mem;
 
 /// Plays a step on a link, and writes the answer.
-pub fn play<W: Write>(
-    alloc: Global,
-    link: &mut Link,
-    text: &str,
-    piece: &mut Vec<u8>,
-    out: &mut W,
-) -> Result<Played, Failure> {
-    let (verb, rest) = parted(text);
-    decode(rest, piece)?;
+pub fn play(alloc: Global, link: &mut Link, text: Text<'_>, out: &mut String) -> Played {
+    let (verb, rest) = text.parted();
     match verb {
-        "take" => wrote(take(link, out), Played::Step),
-        "answer" => wrote(answer(link, out), Played::Step),
-        _ => match call(alloc, link, verb, rest, piece) {
-            Some(answer) => show_answer(answer, link.waiting().len(), out),
-            None => Ok(Played::Nothing),
+        "take" => Some(take(link, out)),
+        "answer" => Some(answer(link, out)),
+        _ => match call(alloc, link, verb, rest) {
+            Some(done) => Some(show_waits(done, link.waiting().len(), out)),
+            None => None,
         },
     }
 }
 
 /// Takes and writes what waits of the query.
-fn take<W: Write>(link: &mut Link, out: &mut W) -> io::Result<()> {
+fn take(link: &mut Link, out: &mut String) -> Result<(), AllocError> {
     let waiting = link.waiting();
     put(waiting, out)?;
     let taken = waiting.len();
@@ -51,39 +42,21 @@ fn take<W: Write>(link: &mut Link, out: &mut W) -> io::Result<()> {
     Ok(())
 }
 
-fn show_answer<W: Write>(
-    answer: Result<(), LinkFault>,
-    waits: usize,
-    out: &mut W,
-) -> Result<Played, Failure> {
-    match answer {
-        Ok(()) => wrote(write!(out, "ok waits={waits}"), Played::Step),
-        Err(fault) => {
-            let is_lack = fault == LinkFault::Memory;
-            wrote(
-                write!(out, "{fault:?} waits={waits}"),
-                Played::with_lack(is_lack),
-            )
-        }
-    }
-}
-
 /// Makes the call that a verb names; `None` if it names none.
 fn call(
     alloc: Global,
     link: &mut Link,
     verb: &str,
-    number: &str,
-    piece: &[u8],
+    rest: Text<'_>,
 ) -> Option<Result<(), LinkFault>> {
     match verb {
         "new" => {
             drop(mem::replace(link, Link::new(alloc)));
             Some(Ok(()))
         }
-        "ask" => ask(alloc, link, piece),
-        "took" => Some(link.took(number.parse().ok()?)),
-        "bytes" => Some(link.feed(piece)),
+        "ask" => ask(alloc, link, rest.bytes),
+        "took" => Some(link.took(rest.number()?)),
+        "bytes" => Some(link.feed(rest.bytes)),
         _ => None,
     }
 }
@@ -104,7 +77,7 @@ fn ask_words(link: &mut Link, words: &Words<'_>) -> Option<Result<(), LinkFault>
 }
 
 /// Takes out and writes the answer.
-fn answer<W: Write>(link: &mut Link, out: &mut W) -> io::Result<()> {
+fn answer(link: &mut Link, out: &mut String) -> Result<(), AllocError> {
     let outcome = link.answer();
     let shown = show_outcome(&outcome, out);
     // dropped by a call, which keeps the proof of this function short
@@ -112,36 +85,36 @@ fn answer<W: Write>(link: &mut Link, out: &mut W) -> io::Result<()> {
     shown
 }
 
-fn show_outcome<W: Write>(outcome: &Option<Outcome>, out: &mut W) -> io::Result<()> {
+fn show_outcome(outcome: &Option<Outcome>, out: &mut String) -> Result<(), AllocError> {
     match outcome {
-        None => out.write_all(b"none"),
-        Some(Outcome::Done) => out.write_all(b"done"),
+        None => out.push_str("none"),
+        Some(Outcome::Done) => out.push_str("done"),
         Some(Outcome::Said(fields)) => show_said(fields, out),
         Some(Outcome::List(rows)) => show_rows(rows, out),
         Some(Outcome::Refused(name)) => write!(out, "refused {}", shown(name.as_bytes())),
     }
 }
 
-fn show_said<W: Write>(fields: &Fields, out: &mut W) -> io::Result<()> {
-    out.write_all(b"said ")?;
+fn show_said(fields: &Fields, out: &mut String) -> Result<(), AllocError> {
+    out.push_str("said ")?;
     show_fields(fields, out)
 }
 
-fn show_rows<W: Write>(rows: &Rows, out: &mut W) -> io::Result<()> {
-    out.write_all(b"list ")?;
+fn show_rows(rows: &Rows, out: &mut String) -> Result<(), AllocError> {
+    out.push_str("list ")?;
     for row in rows.as_slice() {
         show_row(row, out)?;
     }
     Ok(())
 }
 
-fn show_row<W: Write>(row: &Fields, out: &mut W) -> io::Result<()> {
+fn show_row(row: &Fields, out: &mut String) -> Result<(), AllocError> {
     show_fields(row, out)?;
-    out.write_all(b";")
+    out.push_str(";")
 }
 
 /// Writes the words, each followed by `|`.
-fn show_fields<W: Write>(fields: &Fields, out: &mut W) -> io::Result<()> {
+fn show_fields(fields: &Fields, out: &mut String) -> Result<(), AllocError> {
     for word in fields.as_slice() {
         show_word(word.as_bytes(), out)?;
     }

@@ -8,8 +8,8 @@
 //! ups TEXT             the text of ups.conf for the next server or reload
 //! users TEXT           the text of upsd.users for the next server or reload
 //! upsd TEXT            the text of upsd.conf for the next server or reload
-//! server               replaces the server by a new one with these texts
-//! reload               the server reads these texts, and serves on with what they set
+//! server               replaces the server by a new one with these texts, or prints their first fault
+//! reload               the server reads these texts, and serves on with what they set, or prints their first fault
 //! carry N              server and driver of the first UPS take what waits for them, N bytes at a time, until none waits
 //! ```
 //!
@@ -43,7 +43,7 @@ mod watching;
 mod words;
 
 use failure::Failure;
-use played::{Played, wrote};
+use played::Played;
 use stage::Stage;
 
 fn main(rt: HostRuntime) -> ExitCode {
@@ -109,20 +109,23 @@ fn play_lines<R: BufRead, W: Write>(
         if input.read_line(line)? == 0 {
             break;
         }
-        let played = stage.play_line(rt, line.trim_end_matches('\n'), out);
-        end_line(played, number, out)?;
+        let played = stage.play_line(rt, line.trim_end_matches('\n'));
+        end_line(played, number, stage.answer(), out)?;
     }
     Ok(())
 }
 
-/// Ends the answer to the line with this number, which has to be a step.
+/// Writes the answer to the line with this number, which has to be a step.
 fn end_line<W: Write>(
-    played: Result<Played, Failure>,
+    played: Played,
     number: u64,
+    answer: &str,
     out: &mut W,
 ) -> Result<(), Failure> {
-    match played? {
-        Played::Nothing => Err(Failure::Line(number)),
-        Played::Step | Played::Lack => wrote(writeln!(out), ()),
+    match played {
+        Some(written) => written?,
+        None => return Err(Failure::Line(number)),
     }
+    writeln!(out, "{answer}")?;
+    Ok(())
 }

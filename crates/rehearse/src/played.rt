@@ -1,51 +1,63 @@
-//! What happened at a line, and answers that several engines give.
+//! What is written of a step, and answers that several engines give.
 
-use crate::failure::Failure;
 use nut_conf::{ConfFault, FaultKind};
-use std::io::Write;
-use std::{io, mem};
+use std::alloc::AllocError;
+use std::fmt::Debug;
+use std::mem;
 
-/// What happened at a line of a script.
-#[derive(Clone, Copy, PartialEq, Eq)]
-pub enum Played {
-    /// The line isn't a step.
-    Nothing,
-    /// The step was done, or was refused for a reason other than memory.
-    Step,
-    /// Memory could not be allocated.
-    Lack,
+/// Whether the answer to a step could be written; `None` if a line isn't a step. It can't be written if memory for it, or
+/// for the step outside of what an engine answers, cannot be allocated.
+pub type Played = Option<Result<(), AllocError>>;
+
+/// Puts an engine that was made into its place, in which an earlier one may be, and writes that the step was done.
+pub fn put_in<T: Drop>(made: T, place: &mut Option<T>, out: &mut String) -> Result<(), AllocError> {
+    drop(mem::replace(place, Some(made)));
+    out.push_str("ok")
 }
 
-impl Played {
-    /// Returns `Lack` or `Step`, by whether memory could not be allocated.
-    pub fn with_lack(is_lack: bool) -> Self {
-        if is_lack { Played::Lack } else { Played::Step }
+/// Puts an engine into its place if it was made, or writes why it wasn't.
+pub fn put_made<T: Drop, F: Debug + Copy>(
+    made: Result<T, F>,
+    place: &mut Option<T>,
+    out: &mut String,
+) -> Result<(), AllocError> {
+    match made {
+        Ok(made) => put_in(made, place, out),
+        Err(fault) => write!(out, "{fault:?}"),
     }
 }
 
-/// Returns what is told of a write, if it succeeded. A call of this keeps the proofs of its callers short.
-pub fn wrote<T: Copy>(written: io::Result<()>, told: T) -> Result<T, Failure> {
-    written?;
-    Ok(told)
+/// Writes `ok` or the fault of a call.
+pub fn show_done<F: Debug + Copy>(done: Result<(), F>, out: &mut String) -> Result<(), AllocError> {
+    match done {
+        Ok(()) => out.push_str("ok"),
+        Err(fault) => write!(out, "{fault:?}"),
+    }
 }
 
-/// Writes that a step was done.
-pub fn show_ok<W: Write>(out: &mut W) -> Result<Played, Failure> {
-    wrote(out.write_all(b"ok"), Played::Step)
+/// Writes `ok` or the fault of a call, and then how many bytes wait.
+pub fn show_waits<F: Debug + Copy>(
+    done: Result<(), F>,
+    waits: usize,
+    out: &mut String,
+) -> Result<(), AllocError> {
+    show_done(done, out)?;
+    write!(out, " waits={waits}")
 }
 
-/// Puts an engine that was made into its place, in which an earlier one may be, and writes that the step was done.
-pub fn put_in<T: Drop, W: Write>(
-    made: T,
-    place: &mut Option<T>,
-    out: &mut W,
-) -> Result<Played, Failure> {
-    drop(mem::replace(place, Some(made)));
-    show_ok(out)
+/// Writes whether memory for one more thing could be allocated.
+pub fn show_growth(has_grown: bool, out: &mut String) -> Result<(), AllocError> {
+    out.push_str(if has_grown { "ok" } else { "Memory" })
 }
 
-/// Writes why the text of a configuration file sets nothing.
-pub fn show_file_fault<W: Write>(fault: ConfFault, out: &mut W) -> Result<Played, Failure> {
-    let is_lack = fault.kind == FaultKind::Memory;
-    wrote(write!(out, "{fault}"), Played::with_lack(is_lack))
+/// Writes why a file sets nothing.
+///
+/// # Errors
+///
+/// `AllocError` if the reason is a lack of memory.
+pub fn show_file_fault(fault: ConfFault, out: &mut String) -> Result<(), AllocError> {
+    match fault.kind {
+        FaultKind::Memory => Err(AllocError),
+        _ => write!(out, "{fault}"),
+    }
 }

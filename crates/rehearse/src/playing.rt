@@ -2,39 +2,42 @@
 
 ghost use Rattle.std.specs.Prelude.{◌≤◌, IfOk};
 
-use crate::server::{Asked, Peer};
+use crate::played::show_done;
 use crate::text::{put, shown};
-use nut_server::{Arrival, Config, Ended, Refused, Server};
-use std::io;
-use std::io::Write;
+use nut_server::{Arrival, Config, Ended, Server};
+use std::alloc::AllocError;
 
-/// Does what a step asks, and writes the answer.
-pub fn answer<W: Write>(asked: Asked, server: &mut Server, out: &mut W) -> io::Result<()> {
-    match asked {
-        Asked::Take(peer, most) => take(peer, most, server, out),
-        Asked::Next(least) => show_next(server.next_unsettled(least), out),
-        Asked::NextDriver(least) => show_next_driver(server.next_driver_waiting(least), out),
-    }
+/// A peer for which bytes may wait.
+#[derive(Clone, Copy)]
+pub enum Peer {
+    /// The connection with this number.
+    Connection(u64),
+    /// The driver of the UPS with this number.
+    Driver(usize),
 }
 
 /// Writes which connection is next, if one is.
-fn show_next<W: Write>(next: Option<u64>, out: &mut W) -> io::Result<()> {
+pub fn show_next(next: Option<u64>, out: &mut String) -> Result<(), AllocError> {
     match next {
         Some(c) => write!(out, "connection {c}"),
-        None => out.write_all(b"none"),
+        None => out.push_str("none"),
     }
 }
 
 /// Writes the driver of which UPS is next, if one is.
-fn show_next_driver<W: Write>(next: Option<usize>, out: &mut W) -> io::Result<()> {
+pub fn show_next_driver(next: Option<usize>, out: &mut String) -> Result<(), AllocError> {
     match next {
         Some(u) => write!(out, "driver {u}"),
-        None => out.write_all(b"none"),
+        None => out.push_str("none"),
     }
 }
 
 /// Puts a configuration in force, and writes the answer, the server's state of each UPS, and what the reload ends.
-pub fn reload<W: Write>(config: Box<Config>, server: &mut Server, out: &mut W) -> io::Result<()> {
+pub fn reload_with(
+    config: Box<Config>,
+    server: &mut Server,
+    out: &mut String,
+) -> Result<(), AllocError> {
     let ended = server.ended_by(&config);
     let told = tell_reload(config, &ended, server, out);
     // dropped by a call, which keeps the proof of this function short
@@ -42,18 +45,18 @@ pub fn reload<W: Write>(config: Box<Config>, server: &mut Server, out: &mut W) -
     told
 }
 
-fn tell_reload<W: Write>(
+fn tell_reload(
     config: Box<Config>,
     ended: &Ended,
     server: &mut Server,
-    out: &mut W,
-) -> io::Result<()> {
+    out: &mut String,
+) -> Result<(), AllocError> {
     tell(Arrival::Reload(config), server, out)?;
     show_ended(ended, out)
 }
 
 /// Writes what a reload ends.
-fn show_ended<W: Write>(ended: &Ended, out: &mut W) -> io::Result<()> {
+fn show_ended(ended: &Ended, out: &mut String) -> Result<(), AllocError> {
     let (drivers, connections) = (ended.drivers.as_slice(), ended.connections.as_slice());
     write!(out, "; drivers {drivers:?} connections {connections:?}")
 }
@@ -84,21 +87,14 @@ fn origin_of(arrival: &Arrival<'_>) -> Origin {
 }
 
 /// Tells the server an arrival, and writes its answer and then what waits at the place that the arrival came from.
-pub fn tell<W: Write>(arrival: Arrival<'_>, server: &mut Server, out: &mut W) -> io::Result<()> {
+pub fn tell(arrival: Arrival<'_>, server: &mut Server, out: &mut String) -> Result<(), AllocError> {
     let origin = origin_of(&arrival);
-    show_answer(server.arrive(arrival), out)?;
+    show_done(server.arrive(arrival), out)?;
     show_origin(origin, server, out)
 }
 
-fn show_answer<W: Write>(answer: Result<(), Refused>, out: &mut W) -> io::Result<()> {
-    match answer {
-        Ok(()) => out.write_all(b"ok"),
-        Err(refused) => write!(out, "{refused:?}"),
-    }
-}
-
 /// Writes what waits at a place.
-fn show_origin<W: Write>(origin: Origin, server: &Server, out: &mut W) -> io::Result<()> {
+fn show_origin(origin: Origin, server: &Server, out: &mut String) -> Result<(), AllocError> {
     match origin {
         Origin::Clock => show_waits(server, out),
         Origin::Door => show_opened(server.opened(), out),
@@ -108,24 +104,24 @@ fn show_origin<W: Write>(origin: Origin, server: &Server, out: &mut W) -> io::Re
     }
 }
 
-fn show_opened<W: Write>(opened: u64, out: &mut W) -> io::Result<()> {
+fn show_opened(opened: u64, out: &mut String) -> Result<(), AllocError> {
     write!(out, " opened={opened}")
 }
 
 /// Writes how many bytes wait for the driver of each UPS.
-fn show_waits<W: Write>(server: &Server, out: &mut W) -> io::Result<()> {
+fn show_waits(server: &Server, out: &mut String) -> Result<(), AllocError> {
     for u in 0..server.number_of_places() {
         show_count(server.waits_for_driver(u), out)?;
     }
     Ok(())
 }
 
-fn show_count<W: Write>(waits: usize, out: &mut W) -> io::Result<()> {
+fn show_count(waits: usize, out: &mut String) -> Result<(), AllocError> {
     write!(out, " {waits}")
 }
 
 /// Writes the name of each UPS, and the server's state of its driver.
-fn show_upses<W: Write>(server: &Server, out: &mut W) -> io::Result<()> {
+fn show_upses(server: &Server, out: &mut String) -> Result<(), AllocError> {
     for u in 0..server.number_of_places() {
         show_ups(u, server, out)?;
     }
@@ -133,13 +129,13 @@ fn show_upses<W: Write>(server: &Server, out: &mut W) -> io::Result<()> {
 }
 
 /// Writes the name of a UPS, and the server's state of its driver.
-fn show_ups<W: Write>(u: usize, server: &Server, out: &mut W) -> io::Result<()> {
+fn show_ups(u: usize, server: &Server, out: &mut String) -> Result<(), AllocError> {
     write!(out, "; {}", shown(server.ups_name(u).unwrap_or(b"-")))?;
     show_driver(u, server, out)
 }
 
 /// Writes the server's state of a connection.
-fn show_connection<W: Write>(c: u64, server: &Server, out: &mut W) -> io::Result<()> {
+fn show_connection(c: u64, server: &Server, out: &mut String) -> Result<(), AllocError> {
     let (waits, kept) = (server.waits(c), server.kept(c));
     let (reads, leaves) = (server.may_read(c), server.leaves(c));
     write!(
@@ -149,13 +145,18 @@ fn show_connection<W: Write>(c: u64, server: &Server, out: &mut W) -> io::Result
 }
 
 /// Writes the server's state of a driver.
-fn show_driver<W: Write>(u: usize, server: &Server, out: &mut W) -> io::Result<()> {
+fn show_driver(u: usize, server: &Server, out: &mut String) -> Result<(), AllocError> {
     let (waits, connected) = (server.waits_for_driver(u), server.is_connected(u));
     write!(out, " waits={waits} connected={connected}")
 }
 
 /// Takes what waits for a peer, at most `most` bytes, and writes it.
-fn take<W: Write>(peer: Peer, most: usize, server: &mut Server, out: &mut W) -> io::Result<()> {
+pub fn take(
+    peer: Peer,
+    most: usize,
+    server: &mut Server,
+    out: &mut String,
+) -> Result<(), AllocError> {
     let mut left = most;
     for _ in 0..u64::MAX {
         let taken = take_front(peer, left, server, out)?;
@@ -168,12 +169,12 @@ fn take<W: Write>(peer: Peer, most: usize, server: &mut Server, out: &mut W) -> 
 }
 
 /// Takes the first bytes that wait for a peer. Returns how many they were.
-fn take_front<W: Write>(
+fn take_front(
     peer: Peer,
     most: usize,
     server: &mut Server,
-    out: &mut W,
-) -> io::Result<usize>
+    out: &mut String,
+) -> Result<usize, AllocError>
     ensures { IfOk result (λ taken. taken ≤ most) }
 {
     let front = waiting(server, peer);

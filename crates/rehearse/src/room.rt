@@ -10,17 +10,14 @@
 //! A call writes a line for each thing that its steps tell, with the number of the step in the call, and then `ok` or
 //! its fault.
 
-use crate::failure::Failure;
-use crate::played::{Played, put_in, show_file_fault, wrote};
-use crate::server::read_config;
-use crate::stage::Texts;
-use crate::text::{decode, parted, shown};
+use crate::played::{Played, put_made, show_file_fault, show_growth};
+use crate::server::{Texts, read_config};
+use crate::text::{Text, shown};
 use nut_conf::{UpsmonConf, read_upsmon};
 use nut_monitor::{Notice, Phase};
-use nut_play::{Fleet, FleetFault, FleetLog, Logged, News, Step, StepFault, read_step};
-use std::alloc::Global;
-use std::io::Write;
-use std::{io, mem};
+use nut_play::{Fleet, FleetFault, FleetLog, Logged, News, Step, read_step};
+use std::alloc::{AllocError, Global};
+use std::mem;
 
 /// A room, what the next room is made with, and the steps of the next call.
 #[derive(Drop)]
@@ -41,43 +38,36 @@ impl Rooms {
     }
 
     /// Plays a step of a script, and writes the answer.
-    pub fn play<W: Write>(
+    pub fn play(
         &mut self,
         alloc: Global,
         texts: &Texts,
-        text: &str,
-        piece: &mut Vec<u8>,
-        out: &mut W,
-    ) -> Result<Played, Failure> {
-        let (verb, rest) = parted(text);
-        decode(rest, piece)?;
+        text: Text<'_>,
+        out: &mut String,
+    ) -> Played {
+        let (verb, rest) = text.parted();
         match verb {
-            "monitor" => add_monitor(alloc, piece, &mut self.monitors, out),
-            "new" => self.begin(alloc, texts, out),
-            "step" => add_step(alloc, piece, &mut self.schedule, out),
+            "monitor" => Some(add_monitor(alloc, rest.bytes, &mut self.monitors, out)),
+            "new" => Some(self.begin(alloc, texts, out)),
+            "step" => Some(add_step(alloc, rest.bytes, &mut self.schedule, out)),
             "play" => self.call(alloc, out),
-            _ => Ok(Played::Nothing),
+            _ => None,
         }
     }
 
     /// Replaces the room by a new one.
-    fn begin<W: Write>(
-        &mut self,
-        alloc: Global,
-        texts: &Texts,
-        out: &mut W,
-    ) -> Result<Played, Failure> {
+    fn begin(&mut self, alloc: Global, texts: &Texts, out: &mut String) -> Result<(), AllocError> {
         match read_config(alloc, texts) {
             Ok(config) => {
                 let monitors = mem::replace(&mut self.monitors, Vec::new(alloc));
-                put_fleet(Fleet::new(alloc, config, monitors), &mut self.fleet, out)
+                put_made(Fleet::new(alloc, config, monitors), &mut self.fleet, out)
             }
-            Err(fault) => Err(Failure::from(fault)),
+            Err(fault) => show_file_fault(fault, out),
         }
     }
 
     /// Plays the steps of a call, and writes what they tell.
-    fn call<W: Write>(&mut self, alloc: Global, out: &mut W) -> Result<Played, Failure> {
+    fn call(&mut self, alloc: Global, out: &mut String) -> Played {
         let schedule = mem::replace(&mut self.schedule, Vec::new(alloc));
         let played = play_steps(schedule.as_slice(), &mut self.fleet, out);
         // dropped by a call, which keeps the proof of this function short
@@ -86,97 +76,57 @@ impl Rooms {
     }
 }
 
-/// Replaces the room by the new one, or writes why there is none.
-fn put_fleet<W: Write>(
-    made: Result<Fleet, FleetFault>,
-    fleet: &mut Option<Fleet>,
-    out: &mut W,
-) -> Result<Played, Failure> {
-    match made {
-        Ok(made) => put_in(made, fleet, out),
-        Err(fault) => show_fault(fault, out),
-    }
-}
-
 /// Plays these steps in one call, and writes what they tell.
-fn play_steps<W: Write>(
-    schedule: &[Step],
-    fleet: &mut Option<Fleet>,
-    out: &mut W,
-) -> Result<Played, Failure> {
+fn play_steps(schedule: &[Step], fleet: &mut Option<Fleet>, out: &mut String) -> Played {
     match fleet {
-        Some(fleet) => show_call(fleet.play(schedule), out),
-        None => Ok(Played::Nothing),
+        Some(fleet) => Some(show_call(fleet.play(schedule), out)),
+        None => None,
     }
 }
 
 /// Adds a monitor to the next room.
-fn add_monitor<W: Write>(
+fn add_monitor(
     alloc: Global,
     file: &[u8],
     monitors: &mut Vec<UpsmonConf>,
-    out: &mut W,
-) -> Result<Played, Failure> {
+    out: &mut String,
+) -> Result<(), AllocError> {
     match read_upsmon(alloc, file) {
-        Ok(config) => show_growth(push_monitor(monitors, config), out),
-        Err(fault) => show_file_fault(fault, out),
+        Ok(config) => show_growth(monitors.push(config).is_ok(), out),
+        Err(fault) => write!(out, "{fault}"),
     }
 }
 
 /// Adds a step to the next call.
-fn add_step<W: Write>(
+fn add_step(
     alloc: Global,
     line: &[u8],
     schedule: &mut Vec<Step>,
-    out: &mut W,
-) -> Result<Played, Failure> {
+    out: &mut String,
+) -> Result<(), AllocError> {
     match read_step(alloc, line) {
-        Ok(step) => show_growth(push_step(schedule, step), out),
-        Err(fault) => show_step_fault(fault, out),
+        Ok(step) => show_growth(schedule.push(step).is_ok(), out),
+        Err(fault) => write!(out, "{fault:?}"),
     }
 }
 
-fn push_monitor(monitors: &mut Vec<UpsmonConf>, config: UpsmonConf) -> bool {
-    monitors.push(config).is_ok()
-}
-
-fn push_step(schedule: &mut Vec<Step>, step: Step) -> bool {
-    schedule.push(step).is_ok()
-}
-
-/// Writes whether memory for one more thing could be allocated.
-fn show_growth<W: Write>(has_grown: bool, out: &mut W) -> Result<Played, Failure> {
-    let answer: &[u8] = if has_grown { b"ok" } else { b"Memory" };
-    wrote(out.write_all(answer), Played::with_lack(!has_grown))
-}
-
-fn show_step_fault<W: Write>(fault: StepFault, out: &mut W) -> Result<Played, Failure> {
-    let is_lack = fault == StepFault::Memory;
-    wrote(write!(out, "{fault:?}"), Played::with_lack(is_lack))
-}
-
-fn show_fault<W: Write>(fault: FleetFault, out: &mut W) -> Result<Played, Failure> {
-    let is_lack = matches!(fault, FleetFault::Memory(_));
-    wrote(write!(out, "{fault:?}"), Played::with_lack(is_lack))
-}
-
-fn show_call<W: Write>(told: Result<FleetLog, FleetFault>, out: &mut W) -> Result<Played, Failure> {
+fn show_call(told: Result<FleetLog, FleetFault>, out: &mut String) -> Result<(), AllocError> {
     match told {
-        Ok(log) => wrote(show_log(log.as_slice(), out), Played::Step),
-        Err(fault) => show_fault(fault, out),
+        Ok(log) => show_log(log.as_slice(), out),
+        Err(fault) => write!(out, "{fault:?}"),
     }
 }
 
 /// Writes what the steps of a call told.
-fn show_log<W: Write>(log: &[Logged], out: &mut W) -> io::Result<()> {
+fn show_log(log: &[Logged], out: &mut String) -> Result<(), AllocError> {
     for logged in log {
         show_news(logged, out)?;
     }
-    out.write_all(b"ok")
+    out.push_str("ok")
 }
 
 /// Writes something that a step told.
-fn show_news<W: Write>(logged: &Logged, out: &mut W) -> io::Result<()> {
+fn show_news(logged: &Logged, out: &mut String) -> Result<(), AllocError> {
     match logged.news {
         News::Skipped => show_skipped(logged.step, out),
         News::Phase(monitor, phase) => show_phase(logged.step, monitor, phase, out),
@@ -184,27 +134,32 @@ fn show_news<W: Write>(logged: &Logged, out: &mut W) -> io::Result<()> {
     }
 }
 
-fn show_skipped<W: Write>(step: usize, out: &mut W) -> io::Result<()> {
+fn show_skipped(step: usize, out: &mut String) -> Result<(), AllocError> {
     writeln!(out, "{step}: skipped")
 }
 
-fn show_phase<W: Write>(step: usize, monitor: usize, phase: Phase, out: &mut W) -> io::Result<()> {
+fn show_phase(
+    step: usize,
+    monitor: usize,
+    phase: Phase,
+    out: &mut String,
+) -> Result<(), AllocError> {
     writeln!(out, "{step}: monitor {monitor} phase {phase:?}")
 }
 
 /// Writes a notice, and the number of the MONITOR line that it is about, if it is about one.
-fn show_notice<W: Write>(
+fn show_notice(
     step: usize,
     monitor: usize,
     notice: Notice,
-    out: &mut W,
-) -> io::Result<()> {
+    out: &mut String,
+) -> Result<(), AllocError> {
     let kind = shown(notice.kind.word());
     write!(out, "{step}: monitor {monitor} notice {kind}")?;
     end_notice(notice.line, out)
 }
 
-fn end_notice<W: Write>(line: Option<usize>, out: &mut W) -> io::Result<()> {
+fn end_notice(line: Option<usize>, out: &mut String) -> Result<(), AllocError> {
     match line {
         Some(line) => writeln!(out, " {line}"),
         None => writeln!(out),

@@ -21,52 +21,54 @@
 //! reload is answered by that for each number that a UPS has had, with the UPS's name or `-`, and then by the drivers that
 //! it disconnects and the connections that it closes.
 
-use crate::failure::Failure;
-use crate::played::{Played, wrote};
-use crate::playing;
-use crate::stage::Texts;
-use crate::text::{decode, parted};
+use crate::played::{Played, put_in, show_file_fault};
+use crate::playing::{Peer, reload_with, show_next, show_next_driver, take, tell};
+use crate::text::Text;
 use nut_conf::{ConfFault, UpsConf, UpsdConf, UsersConf, read_ups, read_upsd, read_users};
 use nut_server::{Arrival, Config, Server, ServerFault};
-use std::alloc::Global;
-use std::io::Write;
+use std::alloc::{AllocError, Global};
 
-/// A peer for which bytes may wait.
-#[derive(Clone, Copy)]
-pub enum Peer {
-    /// The connection with this number.
-    Connection(u64),
-    /// The driver of the UPS with this number.
-    Driver(usize),
+/// The texts of the configuration files of a server.
+#[derive(Drop)]
+pub struct Texts {
+    pub ups: Vec<u8>,
+    pub users: Vec<u8>,
+    pub upsd: Vec<u8>,
 }
 
-/// What a step asks of a server or of a peer.
-#[derive(Clone, Copy)]
-pub enum Asked {
-    /// The peer takes what waits for it, at most this many bytes.
-    Take(Peer, usize),
-    /// Asks the server for the least connection from this number on for which bytes wait or that leaves.
-    Next(u64),
-    /// Asks the server for the least UPS from this number on for whose driver bytes wait.
-    NextDriver(usize),
-}
-
-/// Makes a server with the texts of the configuration files.
-///
-/// # Errors
-///
-/// The first fault of a file; `Memory` if memory cannot be allocated.
-pub fn begin(alloc: Global, texts: &Texts) -> Result<Server, Failure> {
-    match read_config(alloc, texts) {
-        Ok(config) => made(Server::new(alloc, config)),
-        Err(fault) => Err(Failure::from(fault)),
+impl Texts {
+    /// Starts with empty texts.
+    pub fn new(alloc: Global) -> Self {
+        Texts {
+            ups: Vec::new(alloc),
+            users: Vec::new(alloc),
+            upsd: Vec::new(alloc),
+        }
     }
 }
 
-fn made(server: Result<Server, ServerFault>) -> Result<Server, Failure> {
-    match server {
-        Ok(server) => Ok(server),
-        Err(fault) => Err(Failure::from(fault)),
+/// Replaces the server by a new one with the texts of the configuration files, or writes the first fault of a file.
+fn begin(
+    alloc: Global,
+    texts: &Texts,
+    server: &mut Option<Server>,
+    out: &mut String,
+) -> Result<(), AllocError> {
+    match read_config(alloc, texts) {
+        Ok(config) => put_server(Server::new(alloc, config), server, out),
+        Err(fault) => show_file_fault(fault, out),
+    }
+}
+
+fn put_server(
+    made: Result<Server, ServerFault>,
+    server: &mut Option<Server>,
+    out: &mut String,
+) -> Result<(), AllocError> {
+    match made {
+        Ok(made) => put_in(made, server, out),
+        // only memory can be lacking when a server is made
+        Err(_) => Err(AllocError),
     }
 }
 
@@ -101,164 +103,107 @@ fn with_upsd(
     }
 }
 
-/// Puts the texts of the configuration files in force, and writes the answer.
-///
-/// # Errors
-///
-/// The first fault of a file; `Memory` if memory for what the files set cannot be allocated.
-pub fn reload<W: Write>(
-    alloc: Global,
-    texts: &Texts,
-    server: &mut Server,
-    out: &mut W,
-) -> Result<Played, Failure> {
-    let config = boxed_config(alloc, texts)?;
-    wrote(playing::reload(config, server, out), Played::Step)
-}
-
-/// Reads the texts into memory of their own.
-fn boxed_config(alloc: Global, texts: &Texts) -> Result<Box<Config>, Failure> {
-    match read_config(alloc, texts) {
-        Ok(config) => boxed(alloc, config),
-        Err(fault) => Err(Failure::from(fault)),
-    }
-}
-
-fn boxed(alloc: Global, config: Config) -> Result<Box<Config>, Failure> {
-    match Box::new(alloc, config) {
-        Ok(config) => Ok(config),
-        Err(failed) => {
-            drop(failed);
-            Err(Failure::Memory)
-        }
-    }
-}
-
-/// Plays a step on a server, and writes the answer. The bytes that it tells are put into `piece`.
-pub fn play<W: Write>(
-    server: &mut Option<Server>,
-    line: &str,
-    piece: &mut Vec<u8>,
-    out: &mut W,
-) -> Result<Played, Failure> {
-    let (verb, rest) = parted(line);
-    let (number, more) = parted(rest);
-    decode(if verb == "open" { rest } else { more }, piece)?;
-    let Some(server) = server.as_mut() else {
-        return Ok(Played::Nothing);
-    };
-    match asked_by(verb, number, more) {
-        Some(asked) => wrote(playing::answer(asked, server, out), Played::Step),
-        None => tell(told_by(verb, number, more, piece.as_slice()), server, out),
-    }
-}
-
-/// Tells the server an arrival, if the line is one, and writes the answer.
-fn tell<W: Write>(
-    told: Option<Arrival<'_>>,
-    server: &mut Server,
-    out: &mut W,
-) -> Result<Played, Failure> {
-    match told {
-        Some(arrival) => wrote(playing::tell(arrival, server, out), Played::Step),
-        None => Ok(Played::Nothing),
-    }
-}
-
-/// Returns the arrival that a verb tells, if it tells one.
-fn told_by<'a>(verb: &str, number: &str, more: &str, piece: &'a [u8]) -> Option<Arrival<'a>> {
-    match verb {
-        "moment" => moment_of(number),
-        "open" => Some(Arrival::Open(piece)),
-        "bytes" | "took" | "close" | "fail" => told_by_connection(
-            verb,
-            number.parse().ok()?,
-            more,
-            piece,
-        ),
-        _ => told_by_driver(verb, number.parse().ok()?, more, piece),
-    }
-}
-
-fn moment_of<'a>(seconds: &str) -> Option<Arrival<'a>> {
-    match seconds.parse() {
-        Ok(t) => Some(Arrival::Moment(t)),
-        Err(_) => None,
-    }
-}
-
-/// Returns the arrival from a connection that a verb tells, if it tells one.
-fn told_by_connection<'a>(verb: &str, c: u64, more: &str, piece: &'a [u8]) -> Option<Arrival<'a>> {
-    match verb {
-        "bytes" => Some(Arrival::Bytes(c, piece)),
-        "took" => taken_by_connection(c, more),
-        "close" => Some(Arrival::Close(c)),
-        "fail" => Some(Arrival::WriteFailed(c)),
-        _ => None,
-    }
-}
-
-fn taken_by_connection<'a>(c: u64, number: &str) -> Option<Arrival<'a>> {
-    match number.parse() {
-        Ok(n) => Some(Arrival::Took(c, n)),
-        Err(_) => None,
-    }
-}
-
-/// Returns the arrival from the driver of a UPS that a verb tells, if it tells one.
-fn told_by_driver<'a>(verb: &str, u: usize, more: &str, piece: &'a [u8]) -> Option<Arrival<'a>> {
-    match verb {
-        "up" => Some(Arrival::DriverUp(u)),
-        "driver" => Some(Arrival::DriverBytes(u, piece)),
-        "driver-took" => taken_by_driver(u, more),
-        "down" => Some(Arrival::DriverDown(u)),
-        _ => None,
-    }
-}
-
-fn taken_by_driver<'a>(u: usize, number: &str) -> Option<Arrival<'a>> {
-    match number.parse() {
-        Ok(n) => Some(Arrival::DriverTook(u, n)),
-        Err(_) => None,
-    }
-}
-
-/// Returns what a verb asks of the server or of a peer, if it asks anything.
-fn asked_by(verb: &str, number: &str, more: &str) -> Option<Asked> {
-    match verb {
-        "take" => take_of(connection(number)?, more),
-        "driver-take" => take_of(driver(number)?, more),
-        "next" => Some(Asked::Next(number.parse().ok()?)),
-        "next-driver" => Some(Asked::NextDriver(number.parse().ok()?)),
-        _ => None,
-    }
-}
-
-fn connection(number: &str) -> Option<Peer> {
-    match number.parse() {
-        Ok(c) => Some(Peer::Connection(c)),
-        Err(_) => None,
-    }
-}
-
-fn driver(number: &str) -> Option<Peer> {
-    match number.parse() {
-        Ok(u) => Some(Peer::Driver(u)),
-        Err(_) => None,
-    }
-}
-
-fn take_of(peer: Peer, more: &str) -> Option<Asked> {
-    match most(more) {
-        Some(most) => Some(Asked::Take(peer, most)),
+/// Puts the texts of the configuration files in force, and writes the answer or the first fault of a file.
+fn reload(alloc: Global, texts: &Texts, server: &mut Option<Server>, out: &mut String) -> Played {
+    match server {
+        Some(server) => Some(reload_on(alloc, texts, server, out)),
         None => None,
     }
 }
 
-/// Returns how many bytes are taken at most: all, if the text is empty. `None` if it isn't a number.
-fn most(text: &str) -> Option<usize> {
-    if text.is_empty() {
+fn reload_on(
+    alloc: Global,
+    texts: &Texts,
+    server: &mut Server,
+    out: &mut String,
+) -> Result<(), AllocError> {
+    match read_config(alloc, texts) {
+        Ok(config) => reload_with(boxed(alloc, config)?, server, out),
+        Err(fault) => show_file_fault(fault, out),
+    }
+}
+
+fn boxed(alloc: Global, config: Config) -> Result<Box<Config>, AllocError> {
+    match Box::new(alloc, config) {
+        Ok(config) => Ok(config),
+        Err(failed) => {
+            drop(failed);
+            Err(AllocError)
+        }
+    }
+}
+
+/// Plays a step of a server or of its files, and writes the answer.
+pub fn play(
+    alloc: Global,
+    texts: &mut Texts,
+    server: &mut Option<Server>,
+    text: Text<'_>,
+    out: &mut String,
+) -> Played {
+    let (verb, rest) = text.parted();
+    match verb {
+        "ups" => Some(keep(rest.bytes, &mut texts.ups, out)),
+        "users" => Some(keep(rest.bytes, &mut texts.users, out)),
+        "upsd" => Some(keep(rest.bytes, &mut texts.upsd, out)),
+        "server" => Some(begin(alloc, texts, server, out)),
+        "reload" => reload(alloc, texts, server, out),
+        _ => play_on(server, verb, rest, out),
+    }
+}
+
+/// Keeps a text for a configuration file, and writes the answer.
+fn keep(text: &[u8], file: &mut Vec<u8>, out: &mut String) -> Result<(), AllocError> {
+    file.clear();
+    file.extend_from_slice(text)?;
+    out.push_str("ok")
+}
+
+/// Plays a step on a server that was made.
+fn play_on(server: &mut Option<Server>, verb: &str, rest: Text<'_>, out: &mut String) -> Played {
+    match server {
+        Some(server) if verb == "open" => Some(tell(Arrival::Open(rest.bytes), server, out)),
+        Some(server) => play_numbered(server, verb, rest, out),
+        None => None,
+    }
+}
+
+/// Plays a step that names a connection, a UPS or a moment by its number.
+fn play_numbered(server: &mut Server, verb: &str, rest: Text<'_>, out: &mut String) -> Played {
+    let (number, more) = rest.parted();
+    let n: usize = number.parse().ok()?;
+    match verb {
+        "take" => Some(take(Peer::Connection(n as u64), most(more)?, server, out)),
+        "driver-take" => Some(take(Peer::Driver(n), most(more)?, server, out)),
+        "next" => Some(show_next(server.next_unsettled(n as u64), out)),
+        "next-driver" => Some(show_next_driver(server.next_driver_waiting(n), out)),
+        _ => match arrival_of(verb, n, more) {
+            Some(arrival) => Some(tell(arrival, server, out)),
+            None => None,
+        },
+    }
+}
+
+/// Returns the arrival that a verb tells, if it tells one.
+fn arrival_of<'a>(verb: &str, n: usize, more: Text<'a>) -> Option<Arrival<'a>> {
+    match verb {
+        "moment" => Some(Arrival::Moment(n as u64)),
+        "bytes" => Some(Arrival::Bytes(n as u64, more.bytes)),
+        "took" => Some(Arrival::Took(n as u64, more.number()?)),
+        "close" => Some(Arrival::Close(n as u64)),
+        "fail" => Some(Arrival::WriteFailed(n as u64)),
+        "up" => Some(Arrival::DriverUp(n)),
+        "driver" => Some(Arrival::DriverBytes(n, more.bytes)),
+        "driver-took" => Some(Arrival::DriverTook(n, more.number()?)),
+        "down" => Some(Arrival::DriverDown(n)),
+        _ => None,
+    }
+}
+
+/// Returns how many bytes are taken at most: all, if no number is given. `None` if the text isn't a number.
+fn most(text: Text<'_>) -> Option<usize> {
+    if text.written.is_empty() {
         return Some(usize::MAX);
     }
-    text.parse().ok()
+    text.number()
 }

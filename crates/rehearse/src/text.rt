@@ -4,15 +4,50 @@ use percent_encoding::{
     AsciiSet, CONTROLS, PercentEncode, ascii_set, percent_decode, percent_encode,
 };
 use std::alloc::AllocError;
-use std::io;
-use std::io::Write;
 
 /// The bytes that are printed as `%XX`, beside those past ASCII.
 const ESCAPED: AsciiSet = ascii_set!(CONTROLS.add(b'%'));
 
-/// Returns the first word of a text, and the text behind the blank after it.
-pub fn parted(text: &str) -> (&str, &str) {
-    text.split_once(' ').unwrap_or((text, ""))
+/// What is left of a line of a script.
+#[derive(Clone, Copy)]
+pub struct Text<'a> {
+    /// The text, as it is written.
+    pub written: &'a str,
+    /// The bytes that it means.
+    pub bytes: &'a [u8],
+}
+
+impl<'a> Text<'a> {
+    /// Returns the first word, and the text behind the blank after it. The word is a verb or a number, in which each byte
+    /// means itself.
+    pub fn parted(self) -> (&'a str, Text<'a>) {
+        match self.written.split_once(' ') {
+            Some((word, written)) => (word, behind(word.len(), written, self.bytes)),
+            None => (self.written, NO_TEXT),
+        }
+    }
+
+    /// Returns the number that is written, if one is.
+    pub fn number(self) -> Option<usize> {
+        self.written.parse().ok()
+    }
+}
+
+/// The end of a line.
+const NO_TEXT: Text<'static> = Text {
+    written: "",
+    bytes: b"",
+};
+
+/// Returns the text that is written behind so many bytes and a blank.
+fn behind<'a>(length: usize, written: &'a str, bytes: &'a [u8]) -> Text<'a> {
+    match bytes.split_at_checked(length) {
+        Some((_, [_, bytes @ ..])) => Text { written, bytes },
+        _ => Text {
+            written,
+            bytes: b"",
+        },
+    }
 }
 
 /// Replaces `bytes` by the bytes that a text means.
@@ -31,6 +66,6 @@ pub fn shown(bytes: &[u8]) -> PercentEncode<'_> {
 }
 
 /// Writes bytes as a text.
-pub fn put<W: Write>(bytes: &[u8], out: &mut W) -> io::Result<()> {
-    write!(out, "{}", shown(bytes))
+pub fn put(bytes: &[u8], out: &mut String) -> Result<(), AllocError> {
+    shown(bytes).append_to(out)
 }

@@ -14,201 +14,163 @@
 ghost use Rattle.std.specs.Prelude.{◌≡◌, IfOk, []};
 ghost use Rattle.nut_monitor_spec.specs.Content.{content};
 
-use crate::failure::Failure;
 use crate::monitor::show_notice;
-use crate::played::{Played, wrote};
-use crate::text::{decode, parted, shown};
+use crate::played::{Played, show_file_fault, show_growth};
+use crate::text::{Text, shown};
 use nut_conf::{UpsmonConf, read_upsmon};
 use nut_io::{Piece, ServeFault};
 use nut_monitor::{Monitor, Notice, Phase};
 use nut_monitor_loop::{Given, MemoryMonWorld, Note, watch_memory};
-use std::alloc::Global;
-use std::io::Write;
+use std::alloc::{AllocError, Global};
+use std::mem;
 use std::sync::Wait;
-use std::{io, mem};
 
-/// Plays a step of the loop.
-pub fn play<W: Write>(
+/// Plays a step of the loop. The texts of notices are put into `notice`.
+pub fn play(
     rt: &impl Wait,
     alloc: Global,
     events: &mut Vec<Given>,
-    text: &str,
-    piece: &mut Vec<u8>,
-    out: &mut W,
-) -> Result<Played, Failure> {
-    let (verb, rest) = parted(text);
+    text: Text<'_>,
+    notice: &mut Vec<u8>,
+    out: &mut String,
+) -> Played {
+    let (verb, rest) = text.parted();
     if verb == "run" {
-        decode(rest, piece)?;
         let given = mem::replace(events, Vec::new(alloc));
-        return run(rt, alloc, MemoryMonWorld::new(alloc, given), piece, out);
+        let mut world = MemoryMonWorld::new(alloc, given);
+        let ran = run(rt, alloc, &mut world, rest.bytes, notice, out);
+        // dropped by a call, which keeps the proof of this function short
+        drop(world);
+        return Some(ran);
     }
-    let (number, more) = parted(rest);
-    decode(more, piece)?;
-    match given_by(verb, number, piece) {
-        Some(event) => push(events, event, out),
-        None => Ok(Played::Nothing),
+    match given_by(verb, rest) {
+        Some(event) => Some(push(events, event, out)),
+        None => None,
     }
 }
 
 /// Returns the event that a verb tells, if it tells one.
-fn given_by(verb: &str, number: &str, bytes: &[u8]) -> Option<Given> {
+fn given_by(verb: &str, rest: Text<'_>) -> Option<Given> {
+    let (number, more) = rest.parted();
+    let i = number.parse().ok()?;
     match verb {
-        "moment" => given_moment(number),
-        _ => given_on_link(verb, number.parse().ok()?, bytes),
-    }
-}
-
-fn given_moment(seconds: &str) -> Option<Given> {
-    match seconds.parse() {
-        Ok(t) => Some(Given::Moment(t)),
-        Err(_) => None,
-    }
-}
-
-/// Returns the event on a link that a verb tells, if it tells one.
-fn given_on_link(verb: &str, i: usize, bytes: &[u8]) -> Option<Given> {
-    match verb {
+        "moment" => Some(Given::Moment(i as u64)),
         "linked" => Some(Given::Linked(i)),
-        "bytes" => given_bytes(i, bytes),
+        "bytes" => given_bytes(i, more.bytes),
         "lost" => Some(Given::LinkLost(i)),
         _ => None,
     }
 }
 
+/// Returns the event of these bytes; `None` if there are too many.
 fn given_bytes(i: usize, bytes: &[u8]) -> Option<Given> {
-    match piece_of(bytes) {
-        Some(piece) => Some(Given::LinkBytes(i, piece)),
-        None => None,
-    }
-}
-
-/// Returns the piece of these bytes; `None` if there are too many.
-fn piece_of(bytes: &[u8]) -> Option<Piece> {
     let mut piece = Piece::new();
     match piece.try_extend_from_slice(bytes) {
-        Ok(()) => Some(piece),
+        Ok(()) => Some(Given::LinkBytes(i, piece)),
         Err(_) => None,
     }
 }
 
 /// Queues an event.
-fn push<W: Write>(events: &mut Vec<Given>, event: Given, out: &mut W) -> Result<Played, Failure> {
-    let is_lack = events.push(event).is_err();
-    let answer: &[u8] = if is_lack { b"Memory" } else { b"ok" };
-    wrote(out.write_all(answer), Played::with_lack(is_lack))
+fn push(events: &mut Vec<Given>, event: Given, out: &mut String) -> Result<(), AllocError> {
+    show_growth(events.push(event).is_ok(), out)
 }
 
 /// Makes a monitor with this file, lets it watch a world, and writes what happened.
-fn run<W: Write>(
+fn run(
     rt: &impl Wait,
     alloc: Global,
-    world: MemoryMonWorld,
-    file: &mut Vec<u8>,
-    out: &mut W,
-) -> Result<Played, Failure>
-    requires blank { world.log ≡ [] }
-    requires few { world.faults ≡ 0 }
-{
-    match fresh_monitor(alloc, file) {
-        Ok(monitor) => watch(rt, monitor, world, file, out),
-        Err(failure) => {
-            drop(world);
-            Err(failure)
-        }
-    }
-}
-
-/// Makes a monitor that was told nothing.
-fn fresh_monitor(alloc: Global, file: &[u8]) -> Result<Monitor, Failure>
-    ensures { IfOk result (λ m. m.content ≡ content m.content.configuration []) }
+    world: &mut MemoryMonWorld,
+    file: &[u8],
+    notice: &mut Vec<u8>,
+    out: &mut String,
+) -> Result<(), AllocError>
+    requires blank { world.old.log ≡ [] }
+    requires few { world.old.faults ≡ 0 }
 {
     match read_upsmon(alloc, file) {
-        Ok(config) => made_with(alloc, config),
-        Err(fault) => Err(Failure::from(fault)),
+        Ok(config) => watch(rt, made_with(alloc, config)?, world, notice, out),
+        Err(fault) => show_file_fault(fault, out),
     }
 }
 
 /// Makes a monitor of this configuration that was told nothing.
-fn made_with(alloc: Global, config: UpsmonConf) -> Result<Monitor, Failure>
+fn made_with(alloc: Global, config: UpsmonConf) -> Result<Monitor, AllocError>
     ensures { IfOk result (λ m. m.content ≡ content m.content.configuration []) }
 {
     match Monitor::new(alloc, config) {
         Ok(monitor) => Ok(monitor),
-        Err(fault) => Err(Failure::from(fault)),
+        // only memory can be lacking when a monitor is made
+        Err(_) => Err(AllocError),
     }
 }
 
-/// Lets a monitor watch a world, and writes what happened. `text` is used for the texts of notices.
-fn watch<W: Write>(
+/// Lets a monitor watch a world, and writes what happened.
+fn watch(
     rt: &impl Wait,
     monitor: Monitor,
-    world: MemoryMonWorld,
-    text: &mut Vec<u8>,
-    out: &mut W,
-) -> Result<Played, Failure>
+    world: &mut MemoryMonWorld,
+    notice: &mut Vec<u8>,
+    out: &mut String,
+) -> Result<(), AllocError>
     requires fresh { monitor.content ≡ content monitor.content.configuration [] }
-    requires blank { world.log ≡ [] }
-    requires few { world.faults ≡ 0 }
+    requires blank { world.old.log ≡ [] }
+    requires few { world.old.faults ≡ 0 }
 {
     let mut monitor = monitor;
-    let mut world = world;
-    let led = watch_memory(rt, &mut monitor, &mut world);
-    let shown = show_run(&monitor, world.notes(), led, text, out);
+    let led = watch_memory(rt, &mut monitor, world);
+    let shown = show_run(&monitor, world.notes(), led, notice, out);
     drop(monitor);
-    drop(world);
     shown
 }
 
 /// Writes what happened, and then the phase or the fault.
-fn show_run<W: Write>(
+fn show_run(
     monitor: &Monitor,
     notes: &[Note],
     led: Result<Phase, ServeFault>,
-    text: &mut Vec<u8>,
-    out: &mut W,
-) -> Result<Played, Failure> {
+    notice: &mut Vec<u8>,
+    out: &mut String,
+) -> Result<(), AllocError> {
     for note in notes {
-        show_note(monitor, note, text, out)?;
-        writeln!(out)?;
+        show_note(monitor, note, notice, out)?;
+        out.push_str("\n")?;
     }
     match led {
-        Ok(phase) => wrote(write!(out, "= {phase:?}"), Played::Step),
-        Err(_) => show_waiting(monitor, text, out),
+        Ok(phase) => write!(out, "= {phase:?}"),
+        Err(_) => show_waiting(monitor, notice, out),
     }
 }
 
 /// Writes one thing that happened.
-fn show_note<W: Write>(
+fn show_note(
     monitor: &Monitor,
     note: &Note,
     text: &mut Vec<u8>,
-    out: &mut W,
-) -> Result<(), Failure> {
+    out: &mut String,
+) -> Result<(), AllocError> {
     match note {
-        Note::Gave(given) => wrote(show_given(given, out), ()),
-        Note::Took(i, part) => {
-            let asked = shown(part.as_slice());
-            wrote(write!(out, "link {i} is asked {asked}"), ())
-        }
-        Note::Closed(i) => wrote(write!(out, "link {i} is closed"), ()),
-        Note::Told(notice) => show_behind(b"told ", monitor, *notice, text, out),
+        Note::Gave(given) => show_given(given, out),
+        Note::Took(i, part) => write!(out, "link {i} is asked {}", shown(part.as_slice())),
+        Note::Closed(i) => write!(out, "link {i} is closed"),
+        Note::Told(notice) => show_told("told ", monitor, *notice, text, out),
     }
 }
 
 /// Writes a notice behind these words.
-fn show_behind<W: Write>(
-    words: &[u8],
+fn show_told(
+    words: &str,
     monitor: &Monitor,
     notice: Notice,
     text: &mut Vec<u8>,
-    out: &mut W,
-) -> Result<(), Failure> {
-    out.write_all(words)?;
+    out: &mut String,
+) -> Result<(), AllocError> {
+    out.push_str(words)?;
     show_notice(monitor, notice, text, out)
 }
 
 /// Writes an event.
-fn show_given<W: Write>(given: &Given, out: &mut W) -> io::Result<()> {
+fn show_given(given: &Given, out: &mut String) -> Result<(), AllocError> {
     match given {
         Given::Moment(t) => write!(out, "> moment {t}"),
         Given::Linked(i) => write!(out, "> linked {i}"),
@@ -218,27 +180,23 @@ fn show_given<W: Write>(given: &Given, out: &mut W) -> io::Result<()> {
 }
 
 /// Writes that the world failed, and what waits: how many bytes for each link, and the oldest notice.
-fn show_waiting<W: Write>(
-    monitor: &Monitor,
-    text: &mut Vec<u8>,
-    out: &mut W,
-) -> Result<Played, Failure> {
+fn show_waiting(monitor: &Monitor, text: &mut Vec<u8>, out: &mut String) -> Result<(), AllocError> {
     show_counts(monitor, out)?;
-    if let Some(notice) = monitor.first_notice() {
-        show_behind(b" to be told ", monitor, notice, text, out)?;
+    match monitor.first_notice() {
+        Some(notice) => show_told(" to be told ", monitor, notice, text, out),
+        None => Ok(()),
     }
-    Ok(Played::Lack)
 }
 
 /// Writes that the world failed, and how many bytes wait for each link.
-fn show_counts<W: Write>(monitor: &Monitor, out: &mut W) -> io::Result<()> {
-    out.write_all(b"fault")?;
+fn show_counts(monitor: &Monitor, out: &mut String) -> Result<(), AllocError> {
+    out.push_str("fault")?;
     for i in 0..monitor.lines() {
         show_count(monitor.waiting(i).len(), out)?;
     }
     Ok(())
 }
 
-fn show_count<W: Write>(waits: usize, out: &mut W) -> io::Result<()> {
+fn show_count(waits: usize, out: &mut String) -> Result<(), AllocError> {
     write!(out, " {waits}")
 }

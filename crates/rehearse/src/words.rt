@@ -8,49 +8,34 @@
 //!
 //! Each word is followed by `|`, each line is in brackets, and a line that is too long is `[!]`.
 
-use crate::failure::Failure;
-use crate::played::{Played, show_ok, wrote};
-use crate::text::{decode, parted, shown};
-use nut_words::{Line, LineCutter, WordFault, Words, split};
-use std::alloc::Global;
-use std::io;
-use std::io::Write;
+use crate::played::Played;
+use crate::text::{Text, shown};
+use nut_words::{Line, LineCutter, Words, split};
+use std::alloc::{AllocError, Global};
 
 /// Plays a step on a stream or a line, and writes the answer.
-pub fn play<W: Write>(
-    alloc: Global,
-    cutter: &mut LineCutter,
-    text: &str,
-    piece: &mut Vec<u8>,
-    out: &mut W,
-) -> Result<Played, Failure> {
-    let (verb, rest) = parted(text);
-    decode(rest, piece)?;
+pub fn play(alloc: Global, cutter: &mut LineCutter, text: Text<'_>, out: &mut String) -> Played {
+    let (verb, rest) = text.parted();
     match verb {
-        "split" => show_split(alloc, piece, out),
-        "feed" => wrote(feed(cutter, piece, out), Played::Step),
+        "split" => Some(show_split(alloc, rest.bytes, out)),
+        "feed" => Some(feed(cutter, rest.bytes, out)),
         "new" => {
             *cutter = LineCutter::new();
-            show_ok(out)
+            Some(out.push_str("ok"))
         }
-        _ => Ok(Played::Nothing),
+        _ => None,
     }
 }
 
 /// Splits a line, and writes its words or its fault.
-fn show_split<W: Write>(alloc: Global, line: &[u8], out: &mut W) -> Result<Played, Failure> {
+fn show_split(alloc: Global, line: &[u8], out: &mut String) -> Result<(), AllocError> {
     match split(alloc, line) {
-        Ok(words) => wrote(show_words(&words, out), Played::Step),
-        Err(fault) => show_fault(fault, out),
+        Ok(words) => show_words(&words, out),
+        Err(fault) => write!(out, "{fault:?}"),
     }
 }
 
-fn show_fault<W: Write>(fault: WordFault, out: &mut W) -> Result<Played, Failure> {
-    let is_lack = fault == WordFault::Memory;
-    wrote(write!(out, "{fault:?}"), Played::with_lack(is_lack))
-}
-
-fn show_words<W: Write>(words: &Words<'_>, out: &mut W) -> io::Result<()> {
+fn show_words(words: &Words<'_>, out: &mut String) -> Result<(), AllocError> {
     for index in 0..words.len() {
         show_word(words.get(index), out)?;
     }
@@ -58,12 +43,12 @@ fn show_words<W: Write>(words: &Words<'_>, out: &mut W) -> io::Result<()> {
 }
 
 /// Writes a word, followed by `|`.
-pub fn show_word<W: Write>(word: &[u8], out: &mut W) -> io::Result<()> {
+pub fn show_word(word: &[u8], out: &mut String) -> Result<(), AllocError> {
     write!(out, "{}|", shown(word))
 }
 
 /// Feeds a whole piece, and writes its lines.
-fn feed<W: Write>(cutter: &mut LineCutter, piece: &[u8], out: &mut W) -> io::Result<()> {
+fn feed(cutter: &mut LineCutter, piece: &[u8], out: &mut String) -> Result<(), AllocError> {
     let mut left = piece;
     for _ in 0..piece.len() {
         let (line, used) = cutter.feed(left);
@@ -77,9 +62,9 @@ fn feed<W: Write>(cutter: &mut LineCutter, piece: &[u8], out: &mut W) -> io::Res
     write!(out, " kept={kept}")
 }
 
-fn show_line<W: Write>(line: Line<'_>, out: &mut W) -> io::Result<()> {
+fn show_line(line: Line<'_>, out: &mut String) -> Result<(), AllocError> {
     match line {
         Line::Text(text) => write!(out, "[{}]", shown(text)),
-        Line::TooLong => out.write_all(b"[!]"),
+        Line::TooLong => out.push_str("[!]"),
     }
 }
