@@ -34,6 +34,7 @@ from tests.support.monitored import (
     Watch,
     children_of,
     play,
+    put_program,
 )
 from tests.support.room import SOON, Room, accepted, until
 
@@ -72,9 +73,7 @@ def put_upsc(folder, script):
     os.mkdir(path)
     if script is None:
         return path
-    with open(os.path.join(path, "upsc"), "w") as file:
-        file.write(f"#!/bin/sh\n{script}\n")
-    os.chmod(file.name, 0o755)
+    put_program(os.path.join(path, "upsc"), script)
     return f"{path}:/usr/bin:/bin"
 
 

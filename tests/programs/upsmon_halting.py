@@ -18,7 +18,7 @@ import sys
 import tempfile
 
 from tests.support.harness import ensure, expect, Shimmed
-from tests.support.monitored import FLAG, ON_BATTERY, QUICK, SHUTDOWN, Upstream, Watch, children_of, play
+from tests.support.monitored import FLAG, ON_BATTERY, QUICK, SHUTDOWN, Upstream, Watch, children_of, play, put_program
 from tests.support.room import ONLINE, STATUS, Room, heed_modes, state_of, until
 
 WORD = FLAG.strip()
@@ -415,7 +415,7 @@ class Tests(Shimmed):
             os.mkdir(dead)
             os.mkdir(answers)
             for name, script in (("getent", "echo 127.0.0.1 STREAM"), ("upsc", "echo 1")):
-                self.program(os.path.join(answers, name), script)
+                put_program(os.path.join(answers, name), script)
             path = f"{dead}:{answers}:{os.environ['PATH']}"
             env = {**os.environ, "PATH": path, "LD_PRELOAD": self.shim, "DEAD_FOLDER": dead}
             target = f"su700@ups.example:{server.port}"
@@ -430,11 +430,6 @@ class Tests(Shimmed):
             done = subprocess.run(words, stdin=subprocess.DEVNULL, capture_output=True, timeout=60, env=env)
             warning = f"upsmon: warning: UPS {target}: battery.runtime.low is 1, and this machine stops"
             expect(fronts(done.stderr.decode().splitlines(), [warning]), [warning], "what is told of the UPS")
-
-    def program(self, path, script):
-        """Makes a program out of a script for the shell."""
-        self.file_of(f"#!/bin/sh\n{script}\n".encode())(path)
-        os.chmod(path, 0o755)
 
     def test_shell_that_was_ended(self):
         with self.halting(HALTED, "-q", delay=3) as (_, watch):

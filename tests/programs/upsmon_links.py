@@ -35,6 +35,7 @@ from tests.support.monitored import (
     Watch,
     children_of,
     play,
+    put_program,
 )
 from tests.support.room import Room, has_ipv6, until
 
@@ -161,9 +162,7 @@ class Tests(Shimmed):
         ):
             with tempfile.TemporaryDirectory(dir=self.folder) as names:
                 if script is not None:
-                    with open(os.path.join(names, "getent"), "w") as file:
-                        file.write(f"#!/bin/sh\n{script}\n")
-                    os.chmod(file.name, mode)
+                    put_program(os.path.join(names, "getent"), script, mode)
                 env = {**os.environ, "PATH": names, **settings}
                 with self.watch("MONITOR su700@ups.example 1 mon m1 primary\n", env=env) as watch:
                     until(lambda: reports_of(watch, "su700@ups.example"), "a report")

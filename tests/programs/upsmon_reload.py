@@ -11,7 +11,7 @@ import sys
 import time
 
 from tests.support.harness import expect, Shimmed
-from tests.support.monitored import FLAG, ON_BATTERY, QUICK, SHUTDOWN, Upstream, Watch, children_of, play
+from tests.support.monitored import FLAG, ON_BATTERY, QUICK, SHUTDOWN, Upstream, Watch, children_of, play, put_program
 from tests.support.room import ONLINE, Room, SOON, STATUS, USERS, until
 
 OLD = 'SHUTDOWNCMD "touch FOLDER/old"\n'
@@ -350,9 +350,8 @@ class Tests(Shimmed):
         names = os.path.join(self.folder, "reload-names")
         asked = os.path.join(names, "asked")
         os.mkdir(names)
-        with open(os.path.join(names, "getent"), "w") as file:
-            file.write(f"#!/bin/sh\necho >> {asked}\n[ $(wc -l < {asked}) = 1 ] || exit 2\necho 127.0.0.1 STREAM\n")
-        os.chmod(file.name, 0o755)
+        script = f"echo >> {asked}\n[ $(wc -l < {asked}) = 1 ] || exit 2\necho 127.0.0.1 STREAM"
+        put_program(os.path.join(names, "getent"), script)
         env = {**os.environ, "PATH": f"{names}:{os.environ['PATH']}"}
         with Upstream() as server, Upstream() as other:
             first, second = (f"MONITOR {name}@ups.example:{it.port} 1 mon m1 primary\n" for name, it in (("su700", server), ("su700", other)))

@@ -34,6 +34,13 @@ def play(tests, install="", at_once=1):
         return run_tests(tests([os.path.abspath(it) for it in programs], folder), names, install, at_once)
 
 
+def put_program(path, script, mode=0o755):
+    """Makes a program out of a script for the shell."""
+    with open(path, "w") as file:
+        file.write(f"#!/bin/sh\n{script}\n")
+    os.chmod(path, mode)
+
+
 def children_of(pid):
     """Returns the numbers of the processes that a process started and that weren't waited for."""
     with open(f"/proc/{pid}/task/{pid}/children") as file:
