@@ -38,6 +38,9 @@ PASSED = ("no holes", "depends on a hole", "proved")
 FAILED_BELOW = ("no proof: it calls", "not proved; it calls", "not proved; it stands on")
 # The message of antt about a proof file that names what an edit removed.
 NAMES = re.compile(r"has no field|is not in scope|has no `|was not admitted")
+# A declaration that antt refuses, and how its message begins. A check prints a file to begin with for a function that has open
+# goals, which takes a fifth of its time, but prints none if the function's answers have an error.
+REFUSED_ANSWER, OF_REFUSED_ANSWER = "\nno_file_is_printed : no_file_is_printed\n", "error: `no_file_is_printed`"
 
 
 class Edit:
@@ -108,7 +111,7 @@ class Report:
     """The results of a check for each function, by the function's path in its crate."""
 
     def __init__(self, crate, said, changed):
-        self.name, self.lines = crate.name, said.rstrip("\n").split("\n")
+        self.name, self.lines = crate.name, [it for it in said.rstrip("\n").split("\n") if OF_REFUSED_ANSWER not in it]
         self.ended = self.lines[-1].startswith("only=")
         self.unread = [it for it in self.lines if toolchain().unread(it, changed)]
         self.status, self.goals, goals = {}, {}, []
@@ -165,8 +168,8 @@ class Report:
 class Copy:
     """A copy of a function that stands beside it, under a name of its own."""
 
-    def __init__(self, function, ending, text):
-        self.of, self.parts = function, [*function.parts[:-1], f"{function.parts[-1]}_{ending}"]
+    def __init__(self, function, ending, text, is_edited):
+        self.of, self.parts, self.is_edited = function, [*function.parts[:-1], f"{function.parts[-1]}_{ending}"], is_edited
         first, end = (it - function.start for it in function.name)
         self.text = text[:first] + self.parts[-1].encode() + text[end:]
 
@@ -196,6 +199,9 @@ class Trial:
             self.begin_answers(function)
         for copy in copies:
             self.copy_proof(copy)
+        wanted = {path for edit in edits for path in edit.wanted}
+        for function in [it for it in functions if it.path in wanted] + [it for it in copies if it.is_edited]:
+            self.spoil_answers(function)
         opened = [it for it in functions if it.path not in shown and self.leave_open(it)]
         edited = {it: edit for edit in edits for it in functions if it.path in edit.edited}
         # from the end of each file backwards, so that the places before stay right
@@ -216,6 +222,13 @@ class Trial:
             os.makedirs(proof, exist_ok=True)
             with open(f"{proof}/Answers.antt", "w", encoding="utf-8") as file:
                 file.write("-- no answers\n")
+
+    def spoil_answers(self, function):
+        """Adds a refused answer to those of a function that has to be refused, if it has any: a check then prints less."""
+        file = f"{proof_of(self.folder, function) or ''}/Answers.antt"
+        if os.path.isfile(file):
+            with open(file, "a", encoding="utf-8") as it:
+                it.write(REFUSED_ANSWER)
 
     def copy_proof(self, copy):
         """Gives a copy of a function the proof of that function, under its own name."""
@@ -251,8 +264,10 @@ class Trial:
         with open(path, "wb") as file:
             file.write(text[:start] + words + text[function.end :])
 
-    def apply(self, edit):
-        """Applies an edit of a definition. Returns why, if that is impossible."""
+    def apply(self, edit, functions):
+        """Applies an edit of a definition, which one of these functions has to refuse. Returns why, if that is impossible."""
+        for function in [it for it in functions if it.path in edit.wanted]:
+            self.spoil_answers(function)
         texts, fault = toolchain().read_edit(edit.path, self.folder)
         for path, text in texts.items() if not fault else ():
             self.changed.add(path)
@@ -261,9 +276,10 @@ class Trial:
         return fault
 
     def check(self, wanted, kept):
-        """Checks these functions, on top of what earlier checks of the crate have kept."""
+        """Checks these functions, on top of what earlier checks of the crate have kept if a folder for that is given."""
+        keeping = ["--incremental", kept] if kept else []
         only = [word for path in sorted(wanted) for word in ("--only", path)]
-        flags = ["--jobs", "1", "--allow-holes", "--incremental", kept, *only]
+        flags = ["--jobs", "1", "--allow-holes", *keeping, *only]
         words = check_command(self.crate, flags)
         how = {"stdin": subprocess.DEVNULL, "stdout": subprocess.PIPE, "stderr": subprocess.STDOUT}
         # a check that is killed, most likely for lack of memory, is tried once more
@@ -298,9 +314,9 @@ class Rounds:
         shutil.rmtree(f"{self.folder}/trial", ignore_errors=True)
         return Trial(self.crate, self.functions, shown, f"{self.folder}/trial", edits, copies)
 
-    def check(self, trial, paths):
+    def check(self, trial, paths, keeps=True):
         """Returns the result of a check for these functions."""
-        report = trial.check(paths, f"{self.folder}/kept")
+        report = trial.check(paths, f"{self.folder}/kept" if keeps else None)
         self.seconds += trial.seconds
         return report
 
@@ -328,7 +344,9 @@ class Rounds:
         edited = {it: [self.copy(path, f"edited_{at}", it) for path in sorted(it.wanted)] for at, it in enumerate(copied)}
         copies = [*plain.values(), *itertools.chain(*edited.values())]
         paths = {path for it in placed for path in it.wanted} | {it.path for it in copies} | beside
-        report = self.check(self.trial({path for it in placed for path in it.edited} | beside, placed, copies), paths)
+        trial = self.trial({path for it in placed for path in it.edited} | beside, placed, copies)
+        # a check of many functions that keeps what it has checked tries twice what it refuses
+        report = self.check(trial, paths, keeps=False)
         if not report.ended or report.unread:
             return
         self.passed = {path for path, it in plain.items() if report.passes(it.path)} | {it for it in beside if report.passes(it)}
@@ -376,7 +394,7 @@ class Rounds:
     def copy(self, path, ending, edit=None):
         """Returns a copy of a function, as an edit makes it if one is given."""
         function = next(it for it in self.functions if it.path == path)
-        return Copy(function, ending, edit.item_of(function) if edit else self.text_of(function))
+        return Copy(function, ending, edit.item_of(function) if edit else self.text_of(function), edit is not None)
 
     def control(self):
         """Checks functions whose bodies are edited as they are without the edits, where the first check has shown too little of
@@ -410,7 +428,7 @@ class Rounds:
         shown = {path for it in bodies for path in it.wanted | it.edited} or {it.path for it in self.functions}
         trial = self.trial(shown, bodies)
         for edit in [it for it in edits if it not in bodies]:
-            fault = trial.apply(edit)
+            fault = trial.apply(edit, self.functions)
             if fault:
                 self.say(edit, False, f"BAD EDIT: {fault}")
                 return []

@@ -518,7 +518,7 @@ class Tests(Shimmed):
 
     def test_lack_of_memory(self):
         once = os.path.join(self.folder, "dry")
-        env = {"LD_PRELOAD": self.shim, "REFUSE": "memory", "REFUSE_ONCE": once}
+        env = self.refusing_memory(once)
         with self.room() as room:
             room.dummy()
             room.serve(env=env)
@@ -536,7 +536,7 @@ class Tests(Shimmed):
     def test_clients_without_memory(self):
         """Clients for which there is no memory wait. It is told once, also with -q, and they are served as soon as there is some."""
         once = os.path.join(self.folder, "thirsty")
-        env = {"LD_PRELOAD": self.shim, "REFUSE": "memory", "REFUSE_ONCE": once}
+        env = self.refusing_memory(once)
         told = "upsd: cannot let a client in: out of memory"
         with self.room() as room:
             lines = room.serve("-q", env=env)

@@ -333,10 +333,9 @@ class Tests(Shimmed):
                 self.expect_halt(watch, [it % server.target for it in (ON_BATTERY, BATTERY_LOW)] + [SHUTDOWN])
 
     def test_notify_command_that_cannot_be_started(self):
-        env = {**os.environ, "LD_PRELOAD": self.shim, "REFUSE_STARTS": self.folder}
         with Upstream(status=b"OB LB") as server:
             conf = f"MONITOR {server.target} 1 mon m1 primary\n{QUICK}NOTIFYFLAG ONBATT SYSLOG+EXEC\nNOTIFYCMD true\n"
-            with self.watch(conf, "-q", env=env) as watch:
+            with self.watch(conf, "-q", env=self.refusing_starts(self.folder)) as watch:
                 self.expect_halt(watch, [it % server.target for it in (ON_BATTERY, BATTERY_LOW)] + [SHUTDOWN])
                 said = [line for line in watch.lines("err") if "warning" not in line]
                 expect(len(said), 1, "what is said of it")

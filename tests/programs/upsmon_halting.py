@@ -347,7 +347,7 @@ class Tests(Shimmed):
         none = os.path.join(self.folder, "none-starts")
         self.file_of(b"")(none)
         try:
-            yield none, {**os.environ, "LD_PRELOAD": self.shim, "REFUSE_STARTS": none, **settings}
+            yield none, self.refusing_starts(none, **settings)
         finally:
             with contextlib.suppress(FileNotFoundError):
                 os.remove(none)
@@ -377,7 +377,7 @@ class Tests(Shimmed):
         """Starts an upsmon whose shutdown has begun, and for which no allocation succeeds any more, not even the C
         library's. Returns the file that causes that."""
         gone = os.path.join(self.folder, "gone")
-        env = {**os.environ, "LD_PRELOAD": self.shim, "REFUSE": "memory", "REFUSE_ONCE": gone}
+        env = self.refusing_memory(gone)
         with self.halting(f"POWERDOWNFLAG FOLDER/flag\n{command}", "-q", delay=3, env=env, **streams) as (_, watch):
             watch.until_printed(SHUTDOWN)
             before(watch)

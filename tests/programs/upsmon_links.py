@@ -151,7 +151,7 @@ class Tests(Shimmed):
 
     def test_host_is_looked_up_by_a_program(self):
         """What is told of a host if the program isn't there, can't be run, fails, or can't be started at all."""
-        starts = {"LD_PRELOAD": self.shim, "REFUSE_STARTS": self.folder}
+        starts = self.refusing_starts(self.folder)
         cannot, unknown = "getent, which looks its name up, cannot be started", "its name is not known"
         for script, mode, settings, why in (
             (None, 0, {}, cannot),
@@ -163,10 +163,10 @@ class Tests(Shimmed):
             with tempfile.TemporaryDirectory(dir=self.folder) as names:
                 if script is not None:
                     put_program(os.path.join(names, "getent"), script, mode)
-                env = {**os.environ, "PATH": names, **settings}
+                env = {**os.environ, **settings, "PATH": names}
                 with self.watch("MONITOR su700@ups.example 1 mon m1 primary\n", env=env) as watch:
                     until(lambda: reports_of(watch, "su700@ups.example"), "a report")
-                    expect(reports_of(watch, "su700@ups.example"), [f"no server yet: {why}"], f"{script} {mode:o} {settings}")
+                    expect(reports_of(watch, "su700@ups.example"), [f"no server yet: {why}"], f"{script} {mode:o} refused: {bool(settings)}")
 
     def test_server_that_stands_still(self):
         with self.room() as room:

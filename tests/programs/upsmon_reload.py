@@ -235,8 +235,7 @@ class Tests(Shimmed):
     def test_without_a_shell(self):
         """If the shell of the new SHUTDOWNCMD can't be started, the earlier one goes on waiting."""
         none = os.path.join(self.folder, "reload-none-starts")
-        env = {**os.environ, "LD_PRELOAD": self.shim, "REFUSE_STARTS": none}
-        with Upstream() as server, self.watch(line_of(server) + QUICK + OLD, "-q", env=env) as watch:
+        with Upstream() as server, self.watch(line_of(server) + QUICK + OLD, "-q", env=self.refusing_starts(none)) as watch:
             until_asked(server)
             with open(none, "w"):
                 pass
@@ -252,8 +251,7 @@ class Tests(Shimmed):
     def test_without_memory(self):
         """Without memory upsmon says so and goes on as before. Once there is some, a reload that is asked for anew comes."""
         gone = os.path.join(self.folder, "reload-gone")
-        env = {**os.environ, "LD_PRELOAD": self.shim, "REFUSE": "memory", "REFUSE_ONCE": gone}
-        with Upstream() as server, self.watch(line_of(server) + QUICK + OLD, env=env) as watch:
+        with Upstream() as server, self.watch(line_of(server) + QUICK + OLD, env=self.refusing_memory(gone)) as watch:
             until_asked(server)
             with open(gone, "w"):
                 pass

@@ -11,6 +11,7 @@ import resource
 import shutil
 import subprocess
 import termios
+import threading
 import traceback
 from concurrent import futures
 
@@ -79,12 +80,15 @@ def ensure(holds, what):
 
 
 def build_library(name, folder):
-    """Builds a library that is preloaded into programs from its C file here. Returns its path."""
+    """Builds a library that is preloaded into programs from its C file here. Returns its path. Tests that run beside each other
+    may build the same one."""
     library = os.path.join(folder, f"{name}.so")
+    built = f"{library}-{threading.get_ident()}"
     compiler = shutil.which("cc") or shutil.which("clang")
     if compiler is None:
         raise Missing("a C compiler (cc or clang)")
-    subprocess.run([compiler, "-shared", "-fPIC", "-o", library, os.path.join(HERE, f"{name}.c"), "-ldl"], check=True)
+    subprocess.run([compiler, "-shared", "-fPIC", "-o", built, os.path.join(HERE, f"{name}.c"), "-ldl"], check=True)
+    os.replace(built, library)
     return library
 
 
@@ -100,6 +104,14 @@ class Shimmed:
     @functools.cached_property
     def shim(self):
         return build_shim(self.folder)
+
+    def refusing_starts(self, file, **settings):
+        """Returns the environment of a program that can start no process while this file is there."""
+        return {**os.environ, "LD_PRELOAD": self.shim, "REFUSE_STARTS": file, **settings}
+
+    def refusing_memory(self, file):
+        """Returns the environment of a program for which no allocation succeeds while this file is there."""
+        return {**os.environ, "LD_PRELOAD": self.shim, "REFUSE": "memory", "REFUSE_ONCE": file}
 
 
 def was_reached(count, at):
