@@ -19,7 +19,7 @@ import sys
 import tempfile
 import time
 
-from tests.support.harness import build_library, ensure, expect, processor_time, run_tests
+from tests.support.harness import build_library, cannot_read, ensure, expect, processor_time, run_tests
 from tests.support.room import NOT_CONNECTED, ONLINE, SOON, STATUS, VERSION, Client, Room, accepted, said, stopped, until
 
 # the default of MAXCONN
@@ -368,16 +368,16 @@ class Tests:
     def test_files_that_are_no_scripts(self):
         path = os.path.join(self.folder, "endless.dev")
         at = os.path.join(self.folder, "no-socket")
+        not_plain = cannot_read("dummy-ups", path, path, "not a plain file")
         for make, said in (
-            (lambda: os.symlink("/dev/zero", path), "cannot read"),
-            (lambda: os.mkfifo(path), "cannot read"),
-            (lambda: os.mkdir(path), "cannot read"),
-            (lambda: self.sparse(path, 1 << 34), "more than 16777216 bytes"),
+            (lambda: os.symlink("/dev/zero", path), not_plain),
+            (lambda: os.mkfifo(path), not_plain),
+            (lambda: os.mkdir(path), not_plain),
+            (lambda: self.sparse(path, 1 << 34), f"dummy-ups: {path}: more than 16777216 bytes\n"),
         ):
             make()
             done = subprocess.run([self.programs[1], path, at], capture_output=True, timeout=60)
-            wanted = f"dummy-ups: {path}: {said}\n".encode()
-            expect((done.returncode, done.stdout, done.stderr), (1, b"", wanted), said)
+            expect((done.returncode, done.stdout, done.stderr), (1, b"", said.encode()), said)
             os.rmdir(path) if os.path.isdir(path) else os.remove(path)
         ensure(not os.path.exists(at), "a socket was made")
 

@@ -423,12 +423,20 @@ class Tests:
             expect(self.check(*words), (0, ""), f"mulgefa-check {words}")
         expect(state_of(folder), before, "what it changed")
         os.remove(os.path.join(folder, "upsd.users"))
-        expect(self.check(folder), (1, f"{folder}/upsd.users: cannot read\n"), "a file that isn't there")
+        missing = f"{folder}/upsd.users: cannot read\n{folder}/upsd.users: No such file or directory (os error 2)\n"
+        expect(self.check(folder), (1, missing), "a file that isn't there")
         for name in ("ups.conf", "upsd.conf"):
             os.remove(os.path.join(folder, name))
         expect(self.check(folder), (0, ""), "a machine without a server")
         for words in (("--none",), ("-w",), (folder, folder), ("-i", "-w", folder), ("-w", folder, folder), (os.path.join(folder, "none"),)):
             expect(self.check(*words)[0], 2, f"mulgefa-check {words}")
+
+    def test_check_tells_other_letters(self):
+        """The case of letters counts in the name of a UPS of this machine, as it doesn't for NUT."""
+        monitors = "MONITOR SU700@localhost 1 mon m1 primary\nMONITOR SU700@rack 0 mon m1 secondary\nMONITOR su700@127.0.0.1 0 mon m1 secondary\n"
+        folder = self.nuts_files("letters", upsmon_conf=monitors + "SHUTDOWNCMD true\n")
+        note = "note: a MONITOR line has SU700, and ups.conf has su700: the case of letters counts; see from-nut(7)\n"
+        expect(self.check(folder), (0, note), "what it notes")
 
     def test_check_tells_every_line(self):
         folder = self.nuts_files(

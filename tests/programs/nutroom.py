@@ -187,7 +187,8 @@ class Tests:
         self.refused(missing, f"{missing}: cannot read: No such file or directory")
         self.refused(folder, f"{folder}: cannot read: Is a directory")
         other = self.room(f"machine m1 none.conf delay 0 1\n{LOW}")
-        self.refused(other, f"{os.path.dirname(other)}/none.conf: cannot read")
+        none = f"{os.path.dirname(other)}/none.conf"
+        self.refused(other, f"{none}: cannot read\nnutroom: {none}: No such file or directory (os error 2)")
         other = self.room(f"conf none\n{PAIR}{LOW}")
         self.refused(other, f"{os.path.dirname(other)}/none/ups.conf: cannot read: No such file or directory")
         write(folder, "m2.conf", "MONITOR su700@localhost 1 sec m2 tertiary\n")

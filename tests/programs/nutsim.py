@@ -8,6 +8,7 @@ Schedules are made from fixed seeds, so that each run of this test plays the sam
 
 import collections
 import concurrent.futures
+import errno
 import os
 import re
 import shutil
@@ -16,7 +17,7 @@ import sys
 import tempfile
 import time
 
-from tests.support.harness import ROOT, Failed, ensure, expect, refusals, refusing, run_tests
+from tests.support.harness import ROOT, Failed, cannot_read, ensure, expect, refusals, refusing, run_tests
 from tests.support.model import Config, User, quoted
 from tests.support.player import conf_steps
 from tests.rehearsals.server import greatest_memory
@@ -224,6 +225,11 @@ class Refusals:
         return re.fullmatch(told.get(verb, rb"Memory"), line) is not None
 
 
+def unreadable(file, path, why):
+    """The result of a run that can't read this file."""
+    return 1, b"", cannot_read("nutsim", file, path, why).encode()
+
+
 class Tests:
     def __init__(self, program, rehearse, folder):
         self.program = program
@@ -368,22 +374,23 @@ class Tests:
         missing = os.path.join(room.folder, "none")
         room.monitors[1] = os.path.join(room.folder, "other.conf")
         self.write("turn/other.conf", b"MONITOR su700@localhost 1 mon m1 tertiary\n")
-        expect(self.run(room, missing), (1, b"", f"nutsim: {missing}: cannot read\n".encode()), "no schedule")
-        expect(self.run(room, room.folder), (1, b"", f"nutsim: {room.folder}: cannot read\n".encode()), "a folder")
+        expect(self.run(room, missing), unreadable(missing, missing, errno.ENOENT), "no schedule")
+        expect(self.run(room, room.folder), unreadable(room.folder, room.folder, errno.EISDIR), "a folder")
         schedule = self.write("turn/schedule", b"nonsense\n")
         expect(self.run(room, schedule), (1, b"", b"nutsim: other.conf:1: UnknownWord\n"), "a monitor's file")
         self.write("turn/other.conf", b"\nPOLLFREQALERT 5\n")
         said = b"nutsim: other.conf:2: UnknownDirective\nnutsim: POLLFREQALERT isn't taken here: see from-nut(7)\n"
         expect(self.run(room, schedule), (1, b"", said), "a directive of NUT's in a monitor's file")
         room.monitors[0] = missing
-        expect(self.run(room, schedule), (1, b"", b"nutsim: none: cannot read\n"), "no file of a monitor")
+        expect(self.run(room, schedule), unreadable("none", missing, errno.ENOENT), "no file of a monitor")
         self.write("turn/upsd.conf", b"NONSENSE 1\n")
         said = b"nutsim: upsd.conf:1: UnknownDirective\nnutsim: NONSENSE isn't taken here: see from-nut(7)\n"
         expect(self.run(room, missing), (1, b"", said), "the server's settings")
         self.write("turn/upsd.users", b"upsmon primary\n")
         expect(self.run(room, missing), (1, b"", b"nutsim: upsd.users:1: OutsideSection\n"), "users")
-        os.remove(os.path.join(room.folder, "ups.conf"))
-        expect(self.run(room, missing), (1, b"", b"nutsim: ups.conf: cannot read\n"), "UPSes")
+        path = os.path.join(room.folder, "ups.conf")
+        os.remove(path)
+        expect(self.run(room, missing), unreadable("ups.conf", path, errno.ENOENT), "UPSes")
 
     def test_files_without_a_folder(self):
         room = self.room("bare", ALONE, [PRIMARY])
@@ -434,13 +441,13 @@ class Tests:
         many = [("cut-server", 0, 0)] * 2_000
         for steps, due in ((ALONE_ROW, ALONE_DUE), (many, b"".join(b"%d: skipped\n" % at for at in range(1, len(many) + 1)))):
             path = self.write("streams.sched", b"".join(map(line_of, steps)))
-            told = {b"nutsim: %s: cannot read\n" % it for it in (b"ups.conf", b"upsd.users", b"upsd.conf", path.encode(), b"upsmon-0.conf")}
+            told = {b"nutsim: %s: cannot read" % it for it in (b"ups.conf", b"upsd.users", b"upsd.conf", path.encode(), b"upsmon-0.conf")}
             for at, env, is_reached in refusals(self.shim, "file-read"):
                 status, out, err = self.run(room, path, env=env)
                 if not is_reached():
                     expect((status, out, err), (0, due, b""), "without a refusal")
                     break
-                expect((status, err in told, due.startswith(out)), (1, True, True), f"read {at}: {err!r}, {out!r}")
+                expect((status, err.splitlines()[0] in told, due.startswith(out)), (1, True, True), f"read {at}: {err!r}, {out!r}")
             ensure(at > len(told), f"{at - 1} reads were seen, of {len(told)} files")
             for at, env, is_reached in refusals(self.shim, "write"):
                 status, out, err = self.run(room, path, env=env)

@@ -262,9 +262,11 @@ class Tests(Shimmed):
                 room.write("ups.conf", ONE)
                 os.remove(room.path("upsd.users"))
                 room.reload(None, "upsd: not reloaded: upsd.users: cannot read")
+                room.lines.next(f"upsd: {room.path('upsd.users')}: No such file or directory (os error 2)")
                 # nobody writes to it, so a read would wait for ever
                 os.mkfifo(room.path("upsd.users"))
                 room.reload(None, "upsd: not reloaded: upsd.users: cannot read")
+                room.lines.next(f"upsd: {room.path('upsd.users')}: not a plain file")
                 expect(client.ask(STATUS), ONLINE, "an old client, with a pipe in place of a file")
                 os.remove(room.path("upsd.users"))
                 room.write("upsd.users", USERS)

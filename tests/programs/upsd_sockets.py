@@ -16,7 +16,7 @@ import tempfile
 import threading
 import time
 
-from tests.support.harness import Failed, Missing, apart, expect, processor_time, run_tests
+from tests.support.harness import Failed, Missing, apart, cannot_read, expect, processor_time, run_tests
 from tests.support.room import Client, DEVICE, Lines, NOT_CONNECTED, ONLINE, Room, SOON, STATUS, VERSION
 from tests.support.room import accepted, family_of, first_lines, free_port, has_ipv6, heed_modes, said, until
 
@@ -675,7 +675,10 @@ class Tests:
                     file.write(text)
             between = ":" if said[0].isdigit() else ": "
             found = self.run(dummy, path, at)
-            expect(found, (1, b"", f"dummy-ups: {path}{between}{said}\n".encode()), f"{name}: {text}")
+            told = f"dummy-ups: {path}{between}{said}\n"
+            if said == "cannot read":
+                told = cannot_read("dummy-ups", path, path, errno.ENOENT)
+            expect(found, (1, b"", told.encode()), f"{name}: {text}")
             if text is not None:
                 os.remove(path)
         expect(os.path.exists(at), False, "no socket was made")

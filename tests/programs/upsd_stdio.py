@@ -6,6 +6,7 @@
 The last line is 'N passed, M failed'."""
 
 import contextlib
+import errno
 import itertools
 import os
 import shutil
@@ -13,7 +14,7 @@ import subprocess
 import sys
 import tempfile
 
-from tests.support.harness import children_time, expect, Failed, Missing, refusal, refusals, ROOT, run_tests, Shimmed, unread
+from tests.support.harness import cannot_read, children_time, expect, Failed, Missing, refusal, refusals, ROOT, run_tests, Shimmed, unread
 from tests.support.room import until
 
 ROOM = ["--stdio", "--ups", "su700=Server room"]
@@ -29,6 +30,11 @@ GOODBYE = b"OK Goodbye\n"
 
 def error(name):
     return b"ERR " + name.encode() + b"\n"
+
+
+def unreadable(path, why):
+    """The result of a run that can't read this file."""
+    return 1, b"", cannot_read("upsd", os.path.basename(path), path, why).encode()
 
 
 # requests and the replies due, in turn
@@ -239,30 +245,30 @@ class Tests(Shimmed):
 
     def test_conf_that_cannot_be_read(self):
         for name in ("ups.conf", "upsd.users", "upsd.conf", "cmdvartab"):
-            cannot = (1, b"", f"upsd: {name}: cannot read\n".encode())
             args = self.conf(**{name.replace(".", "_"): None})
-            # only cmdvartab may be left out
-            without = (0, VERSION, b"") if name == "cmdvartab" else cannot
-            expect(self.run(args, b"VER\n"), without, f"no {name}")
             path = os.path.join(args[-1], name)
+            # only cmdvartab may be left out
+            without = (0, VERSION, b"") if name == "cmdvartab" else unreadable(path, errno.ENOENT)
+            expect(self.run(args, b"VER\n"), without, f"no {name}")
+            not_plain = unreadable(path, "not a plain file")
             os.mkdir(path)
-            expect(self.run(args, b"VER\n"), cannot, f"{name} is a folder")
+            expect(self.run(args, b"VER\n"), not_plain, f"{name} is a folder")
             os.rmdir(path)
-            for target, what in ((name, "itself"), ("/dev/zero", "a device")):
+            for target, wanted, what in ((name, unreadable(path, errno.ELOOP), "itself"), ("/dev/zero", not_plain, "a device")):
                 os.symlink(target, path)
-                expect(self.run(args, b"VER\n"), cannot, f"{name} is a link to {what}")
+                expect(self.run(args, b"VER\n"), wanted, f"{name} is a link to {what}")
                 os.remove(path)
             # nobody writes to it, so a read would wait for ever
             os.mkfifo(path)
-            expect(self.run(args, b"VER\n"), cannot, f"{name} is a pipe")
+            expect(self.run(args, b"VER\n"), not_plain, f"{name} is a pipe")
             os.remove(path)
             if os.geteuid() != 0:
                 with open(path, "wb") as file:
                     os.fchmod(file.fileno(), 0)
-                expect(self.run(args, b"VER\n"), cannot, f"{name} may not be read")
-        cannot = (1, b"", b"upsd: ups.conf: cannot read\n")
-        for folder in (os.path.join(self.folder, "no-such-folder"), self.upsd, ""):
-            expect(self.run(["--stdio", "--conf", folder], b"VER\n"), cannot, f"the folder {folder!r}")
+                expect(self.run(args, b"VER\n"), unreadable(path, errno.EACCES), f"{name} may not be read")
+        for folder, why in ((os.path.join(self.folder, "no-such-folder"), errno.ENOENT), (self.upsd, errno.ENOTDIR), ("", errno.ENOENT)):
+            wanted = unreadable(os.path.join(folder, "ups.conf"), why)
+            expect(self.run(["--stdio", "--conf", folder], b"VER\n"), wanted, f"the folder {folder!r}")
 
     def test_descriptions_of_nut(self):
         if not os.path.exists(NUT_DESCRIPTIONS):
@@ -273,10 +279,11 @@ class Tests(Shimmed):
 
     def test_conf_in_order(self):
         bad = b"[a]\n[a]\n"
+        users = os.path.join(self.folder, "conf", "upsd.users")
         for texts, fault in (
             ({"ups_conf": bad, "upsd_users": None, "upsd_conf": None}, b"upsd: ups.conf:2: Repeated\n"),
             ({"upsd_users": bad, "upsd_conf": None}, b"upsd: upsd.users:2: Repeated\n"),
-            ({"upsd_users": None, "upsd_conf": bad}, b"upsd: upsd.users: cannot read\n"),
+            ({"upsd_users": None, "upsd_conf": bad}, unreadable(users, errno.ENOENT)[2]),
             ({"upsd_conf": bad, "cmdvartab": b"VARDESC a"}, b"upsd: upsd.conf:1: UnknownDirective\nupsd: [a] isn't taken here: see from-nut(7)\n"),
         ):
             expect(self.run(self.conf(**texts), b"VER\n"), (1, b"", fault), f"{texts}")
@@ -325,7 +332,7 @@ class Tests(Shimmed):
             expect(self.run(["--check", *words]), (0, b"", b""), f"--check {words}")
         named = {"NUT_CONFPATH": folder}
         expect(self.run(["--check"], env=named), (0, b"", b""), "NUT_CONFPATH")
-        cannot = (1, b"", b"upsd: ups.conf: cannot read\n")
+        cannot = unreadable("/nowhere/ups.conf", errno.ENOENT)
         expect(self.run(["--check", "--conf", "/nowhere"], env=named), cannot, "--conf comes first")
         expect(self.run(["--check"], env={"NUT_CONFPATH": "/nowhere"}), cannot, "a folder that isn't there")
         expect(self.run(["--check"], env={"NUT_CONFPATH": ""}), self.run(["--check", "--conf", "/etc/nut"]), "an empty NUT_CONFPATH")
@@ -374,7 +381,7 @@ class Tests(Shimmed):
     def test_each_read_of_a_file_refused(self):
         told = set()
         for at, (status, out, err) in self.refused_in_turn("file-read", EXAMPLES, b"LIST UPS\n", LIST):
-            expect((status, out, err.endswith(b": cannot read\n")), (1, b"", True), f"read {at}: {err!r}")
+            expect((status, out, b": cannot read\nupsd: " in err), (1, b"", True), f"read {at}: {err!r}")
             told.add(err)
         expect(len(told), 3, "files of which a read failed")
 

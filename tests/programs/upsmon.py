@@ -5,6 +5,7 @@
 
 The last line is 'N passed, M failed'."""
 
+import errno
 import itertools
 import os
 import signal
@@ -13,7 +14,7 @@ import sys
 import tempfile
 import time
 
-from tests.support.harness import Failed, Shimmed, build_library, ensure, expect, refusals
+from tests.support.harness import Failed, Shimmed, build_library, cannot_read, ensure, expect, refusals
 from tests.support.monitored import (
     BATTERY_LOW,
     ESTABLISHED,
@@ -449,7 +450,7 @@ class Tests(Shimmed):
     def test_faults_of_files(self):
         line = "MONITOR su700@h 1 mon m1 primary\n"
         for text, said in (
-            (None, " cannot read"),
+            (None, None),
             ("", "0: PastLimit"),
             (line + "MINSUPPLIES 2\n", "0: PastLimit"),
             ("MONITOR su700 1 mon m1 primary\n", "1: BadName"),
@@ -468,12 +469,14 @@ class Tests(Shimmed):
                 if text is not None:
                     with open(os.path.join(folder, "upsmon.conf"), "w") as file:
                         file.write(text)
-                if "UnknownDirective" in said:
+                if text is not None and "UnknownDirective" in said:
                     said += "\nupsmon: CERTPATH isn't taken here: see from-nut(7)"
+                wanted = f"upsmon: upsmon.conf:{said}\n"
+                if text is None:
+                    wanted = cannot_read("upsmon", "upsmon.conf", os.path.join(folder, "upsmon.conf"), errno.ENOENT)
                 for words in ([], ["--check"], ["-K"]):
                     done = subprocess.run([self.upsmon, "--conf", folder, *words], capture_output=True, timeout=60)
-                    wanted = (1, b"", f"upsmon: upsmon.conf:{said}\n".encode())
-                    expect((done.returncode, done.stdout, done.stderr), wanted, f"{text!r} {words}")
+                    expect((done.returncode, done.stdout, done.stderr.decode()), (1, b"", wanted), f"{text!r} {words}")
 
     def checked(self, conf, *words, env=None, upsc=LASTS_LONG):
         """What 'upsmon --check' gives of such a file, whose folder the words and the environment name by FOLDER, where upsc
@@ -578,8 +581,10 @@ class Tests(Shimmed):
         conf = "MONITOR a@h 1 mon m1 primary\nSHUTDOWNCMD true\n"
         said = "upsmon: stops within 28 s of OB LB if each answer comes within 2 s\n"
         expect(self.checked(conf, "-q", env={"NUT_CONFPATH": "FOLDER"}), (0, said, ""), "NUT_CONFPATH")
-        cannot = (1, "", "upsmon: upsmon.conf: cannot read\n")
-        expect(self.checked(conf, "--conf", "FOLDER/none", env={"NUT_CONFPATH": "FOLDER"}), cannot, "--conf comes first")
+        status, out, err = self.checked(conf, "--conf", "FOLDER/none", env={"NUT_CONFPATH": "FOLDER"})
+        expect((status, out, err.splitlines()[0]), (1, "", "upsmon: upsmon.conf: cannot read"), "--conf comes first")
+        ensure(err.endswith(f"/none/upsmon.conf: No such file or directory (os error {errno.ENOENT})\n"), f"where it looked: {err}")
+        cannot = (1, "", cannot_read("upsmon", "upsmon.conf", "/nowhere/upsmon.conf", errno.ENOENT))
         expect(self.checked(conf, "--conf", "FOLDER", env={"NUT_CONFPATH": "/nowhere"}), (0, said, ""), "--conf alone counts")
         expect(self.checked(conf, "-q", env={"NUT_CONFPATH": "/nowhere"}), cannot, "a folder that isn't there")
         # an empty variable names no folder: the machine's own is used
@@ -587,7 +592,8 @@ class Tests(Shimmed):
         expect(own, self.checked(conf, "--conf", "/etc/nut"), "an empty NUT_CONFPATH")
         with tempfile.TemporaryDirectory(dir=self.folder) as folder:
             done = subprocess.run([self.upsmon], capture_output=True, timeout=60, env={**os.environ, "NUT_CONFPATH": folder})
-            expect((done.returncode, done.stdout, done.stderr.decode()), cannot[:1] + (b"",) + cannot[2:], "a start without --conf")
+            wanted = cannot_read("upsmon", "upsmon.conf", os.path.join(folder, "upsmon.conf"), errno.ENOENT)
+            expect((done.returncode, done.stdout, done.stderr.decode()), (1, b"", wanted), "a start without --conf")
 
     def test_memory_refused(self):
         """Each allocation of a whole run is refused in turn: upsmon ends before it watches anything and reports the lack of

@@ -7,6 +7,7 @@ all the same.
 The last line is 'N passed, M failed'."""
 
 import contextlib
+import errno
 import functools
 import itertools
 import os
@@ -17,7 +18,7 @@ import subprocess
 import sys
 import tempfile
 
-from tests.support.harness import ensure, expect, Shimmed
+from tests.support.harness import cannot_read, ensure, expect, Shimmed
 from tests.support.monitored import FLAG, ON_BATTERY, QUICK, SHUTDOWN, Upstream, Watch, children_of, play, put_program
 from tests.support.room import ONLINE, STATUS, Room, heed_modes, state_of, until
 
@@ -275,13 +276,15 @@ class Tests(Shimmed):
             named = {**os.environ, "NUT_CONFPATH": folder}
             expect(self.key(folder, env=named, words=[]), (0, b"", b""), "NUT_CONFPATH")
             expect(self.key(folder, "POLLFREQ x\n", env=named, words=[]), (1, b"", b"upsmon: upsmon.conf:2: BadNumber\n"), "a fault")
-            cannot = (1, b"", b"upsmon: upsmon.conf: cannot read\n")
-            expect(self.key(folder, words=["--conf", folder + "/none"]), cannot, "no file")
-            os.remove(os.path.join(folder, "upsmon.conf"))
+            told = cannot_read("upsmon", "upsmon.conf", folder + "/none/upsmon.conf", errno.ENOENT)
+            expect(self.key(folder, words=["--conf", folder + "/none"]), (1, b"", told.encode()), "no file")
+            path = os.path.join(folder, "upsmon.conf")
+            os.remove(path)
             # nobody writes to it, so a read would wait for ever
-            os.mkfifo(os.path.join(folder, "upsmon.conf"))
-            expect(self.key(folder), cannot, "a pipe in place of the file")
-            os.remove(os.path.join(folder, "upsmon.conf"))
+            os.mkfifo(path)
+            told = cannot_read("upsmon", "upsmon.conf", path, "not a plain file")
+            expect(self.key(folder), (1, b"", told.encode()), "a pipe in place of the file")
+            os.remove(path)
             os.remove(flag)
             os.mkfifo(flag)
             expect(self.key(folder, conf), (1, b"", b""), "a pipe")

@@ -134,8 +134,8 @@ class Tests(Shimmed):
         expect(reports_of(watch, server.target)[-1], "server connected", "the last report")
         expect(watch.lines().count(LOST % server.target), 1, "how often the loss is told")
 
-    def test_call_begins_with_the_address_that_was_reached(self):
-        """Of the two addresses of `localhost`, the first one never answers."""
+    def test_call_begins_with_the_address_that_served(self):
+        """Of the two addresses of `localhost`, the first one takes no call."""
         if not has_ipv6():
             raise Missing("this machine has no IPv6")
         with Moody(host="::1") as server, deaf(server.port):
@@ -148,6 +148,31 @@ class Tests(Shimmed):
                 until(lambda: server.ends, "it is called again", 30)
                 passed = time.monotonic() - dropped
                 ensure(passed < PATIENCE, f"the first address isn't dialled before it: {passed:.1f} s")
+
+    def test_address_that_never_serves(self):
+        """Of the two addresses of `localhost`, the first one takes each call, and never answers."""
+        if not has_ipv6():
+            raise Missing("this machine has no IPv6")
+        with Moody(host="::1") as server, socket.create_server(("127.0.0.1", server.port)):
+            target = f"su700@localhost:{server.port}"
+            with self.watch(f"MONITOR {target} 1 mon m1 primary\nPOLLFREQ 1\n") as watch:
+                until(lambda: STATUS in server.asked, "the second address is called", LONG + 10)
+                until(lambda: "server connected" in reports_of(watch, target), "that it serves is reported")
+                server.drop()
+                until(lambda: server.ends, "it is called first from now on", PATIENCE)
+
+    def test_name_whose_address_never_serves(self):
+        """The name is looked up again once its address has closed the link."""
+        with tempfile.TemporaryDirectory(dir=self.folder) as names, Closing(host="127.0.0.2") as closing, Moody(
+            port=closing.port, host="127.0.0.3"
+        ) as server:
+            getent, target = os.path.join(names, "getent"), f"su700@{KNOWN}:{closing.port}"
+            put_program(getent, "echo 127.0.0.2 STREAM", 0o755)
+            conf = f"MONITOR {target} 1 mon m1 primary\nPOLLFREQ 1\n"
+            with self.watch(conf, env={**os.environ, "PATH": names}) as watch:
+                until(lambda: reports_of(watch, target), "that the address closes the link is reported")
+                put_program(getent, "echo 127.0.0.3 STREAM", 0o755)
+                until(lambda: STATUS in server.asked, "the new address is called", 30)
 
     def test_host_is_looked_up_by_a_program(self):
         """What is told of a host if the program isn't there, can't be run, fails, or can't be started at all."""

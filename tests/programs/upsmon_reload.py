@@ -119,10 +119,12 @@ class Tests(Shimmed):
             os.remove(watch.path("upsmon.conf"))
             watch.ask()
             watch.until_told(REFUSED + "upsmon.conf: cannot read")
+            watch.until_told(f"upsmon: {watch.path('upsmon.conf')}: No such file or directory (os error 2)")
             # nobody writes to it, so a read would wait for ever
             os.mkfifo(watch.path("upsmon.conf"))
             watch.ask()
             until(lambda: watch.lines("err").count(REFUSED + "upsmon.conf: cannot read") == 2, "a pipe is refused")
+            watch.until_told(f"upsmon: {watch.path('upsmon.conf')}: not a plain file")
             until_asked(server, 2)
             expect(server.asked.count(USERNAME), 1, "how often upsmon logs in")
             server.statuses[b"su700"] = b"OB LB"

@@ -79,6 +79,12 @@ def ensure(holds, what):
         raise Failed(what)
 
 
+def cannot_read(program, file, path, why):
+    """Returns what a program writes of a file that it can't read, why being a text or the number of a system error."""
+    reason = f"{os.strerror(why)} (os error {why})" if isinstance(why, int) else why
+    return f"{program}: {file}: cannot read\n{program}: {path}: {reason}\n"
+
+
 def build_library(name, folder):
     """Builds a library that is preloaded into programs from its C file here. Returns its path. Tests that run beside each other
     may build the same one."""

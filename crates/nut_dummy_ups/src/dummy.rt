@@ -5,7 +5,7 @@ use crate::dummy_driver::DummyDriver;
 use clap::{Arg, Command};
 use mio::net::UnixListener;
 use nut_dummy::{Dummy, Script, ScriptFault, ScriptFaultKind, ScriptKind};
-use nut_program::{Failure, OwnFault, hold_closed_streams, read_file};
+use nut_program::{Failure, OwnFault, hold_closed_streams, read_file, remark_on_unread};
 use std::alloc::{AllocError, Global};
 use std::convert::AsStr;
 use std::io::{ErrorKind, Write};
@@ -23,8 +23,8 @@ const FILE_MAX: u64 = 16_777_216;
 enum DummyUpsFault<'a> {
     /// The file's name doesn't end in `.dev` or `.seq`.
     UnknownKind(&'a str),
-    /// The file doesn't exist, isn't a plain file, may not be read, or a read failed.
-    CannotRead(&'a str),
+    /// The file doesn't exist, isn't a plain file, may not be read, or a read failed. The remark says why.
+    CannotRead(&'a str, Option<String>),
     /// The file is too long.
     TooLong(&'a str),
     /// The file has this fault.
@@ -39,7 +39,7 @@ impl<'a> fmt::Display for DummyUpsFault<'a> {
     fn fmt<W: fmt::Write>(&self, f: &mut fmt::Formatter<W>) -> fmt::Result {
         match self {
             DummyUpsFault::UnknownKind(file) => write!(f, "{file}: unknown kind"),
-            DummyUpsFault::CannotRead(file) => write!(f, "{file}: cannot read"),
+            DummyUpsFault::CannotRead(file, _) => write!(f, "{file}: cannot read"),
             DummyUpsFault::TooLong(file) => write!(f, "{file}: more than {FILE_MAX} bytes"),
             DummyUpsFault::Script(file, fault) => write!(f, "{file}:{fault}"),
             DummyUpsFault::InUse(socket) => write!(f, "{socket}: another driver listens there"),
@@ -51,8 +51,16 @@ impl<'a> fmt::Display for DummyUpsFault<'a> {
 }
 
 impl<'a> OwnFault for DummyUpsFault<'a> {
-    fn unknown_word(&self) -> Option<&str> {
-        None
+    fn remark(&self) -> Option<&str> {
+        match self {
+            DummyUpsFault::CannotRead(_, Some(remark)) => Some(remark.as_str()),
+            DummyUpsFault::CannotRead(_, None)
+            | DummyUpsFault::UnknownKind(_)
+            | DummyUpsFault::TooLong(_)
+            | DummyUpsFault::Script(..)
+            | DummyUpsFault::InUse(_)
+            | DummyUpsFault::Listen(..) => None,
+        }
     }
 }
 
@@ -66,9 +74,10 @@ impl<'a> OwnFault for DummyUpsFault<'a> {
 ///
 /// If clap refuses the words, its text is written to `err`, and the status is 2; the help and the version are written
 /// to `out`, with status 0. Before anything is told to a server, the first of these is written to `err`, with status 1:
-/// `dummy-ups: FILE: unknown kind`; `dummy-ups: FILE: cannot read`; `dummy-ups: FILE: more than 16777216 bytes`; the
-/// first fault of the script, as `dummy-ups: FILE:2: BadName`; `dummy-ups: SOCKET: another driver listens there`;
-/// `dummy-ups: cannot listen on SOCKET: WHY`; or `dummy-ups: out of memory` if memory cannot be allocated before.
+/// `dummy-ups: FILE: unknown kind`; `dummy-ups: FILE: cannot read`, with the reason on a line of its own;
+/// `dummy-ups: FILE: more than 16777216 bytes`; the first fault of the script, as `dummy-ups: FILE:2: BadName`;
+/// `dummy-ups: SOCKET: another driver listens there`; `dummy-ups: cannot listen on SOCKET: WHY`; or
+/// `dummy-ups: out of memory` if memory cannot be allocated before.
 pub fn run_dummy_ups<S: AsStr, O: Write, E: Write>(
     rt: &(impl Wait + Files + Net + Clock),
     alloc: Global,
@@ -156,7 +165,10 @@ fn contents<'a>(
         Ok(bytes) if bytes.len() as u64 <= FILE_MAX => Ok(bytes),
         Ok(_) => Err(Failure::Own(DummyUpsFault::TooLong(file))),
         Err(error) if error.kind() == ErrorKind::OutOfMemory => Err(Failure::Memory),
-        Err(_) => Err(Failure::Own(DummyUpsFault::CannotRead(file))),
+        Err(error) => {
+            let remark = remark_on_unread(alloc, file, &error);
+            Err(Failure::Own(DummyUpsFault::CannotRead(file, remark)))
+        }
     }
 }
 

@@ -13,7 +13,8 @@ use std::net::{IpAddr, Ipv4Addr, Ipv6Addr, Net, SocketAddr};
 /// The most seconds between two look-ups of a host.
 const LONGEST_PAUSE: u8 = 60;
 
-/// A host, a port, and the known addresses of the host.
+/// A host, a port, and the known addresses of the host. The addresses are dialled in rounds: each of them once, one after
+/// the other, until the host serves at one.
 #[derive(Drop)]
 pub struct Host {
     name: String,
@@ -21,7 +22,7 @@ pub struct Host {
     /// Whether the host is a name whose addresses have to be looked up.
     is_named: bool,
     addresses: Vec<IpAddr>,
-    /// How many of the addresses were dialled in this call.
+    /// How many of the addresses were dialled in this round.
     dialled: usize,
     /// Whether the host is to be looked up.
     is_wanted: bool,
@@ -81,7 +82,8 @@ impl Host {
         }
     }
 
-    /// Replaces the known addresses by those that were found, unless none was. The next look-up comes after a pause.
+    /// Replaces the known addresses by those that were found, unless none was, and begins a round with them. The next look-up
+    /// comes after a pause.
     pub fn take_addresses(&mut self, found: &[IpAddr]) {
         self.pause.begin(LONGEST_PAUSE);
         if found.is_empty() {
@@ -92,24 +94,40 @@ impl Host {
             let _ = self.addresses.push(*address);
         }
         self.is_wanted = false;
+        self.dialled = 0;
     }
 
-    /// Notes that the host was reached at the address that was dialled last. The next call begins with it, since an
-    /// address that doesn't answer costs seconds. The pauses between look-ups are short again.
-    pub fn reach(&mut self) {
+    /// Notes that the host serves at the address that was dialled last. The next round begins with it, since an address
+    /// that doesn't answer costs seconds. The pauses between look-ups are short again.
+    pub fn serve(&mut self) {
         self.is_wanted = false;
         self.pause = Pause::none();
         if self.dialled > 1 && self.dialled <= self.addresses.len() {
             self.addresses.swap(0, self.dialled - 1);
         }
-    }
-
-    /// Begins a call, in which all addresses are to be dialled.
-    pub fn begin(&mut self) {
         self.dialled = 0;
     }
 
-    /// Dials the next of the addresses that doesn't refuse at once.
+    /// Begins a round if all addresses were dialled in the last one.
+    pub fn begin(&mut self) {
+        if self.is_round_over() {
+            self.dialled = 0;
+        }
+    }
+
+    /// Notes that a link to the address that was dialled last ended before the host served. A named host is to be looked up
+    /// again if no address is left in this round.
+    pub fn lose(&mut self) {
+        if self.is_round_over() {
+            self.is_wanted = self.is_named;
+        }
+    }
+
+    fn is_round_over(&self) -> bool {
+        self.dialled >= self.addresses.len()
+    }
+
+    /// Dials the next address of the round that doesn't refuse at once.
     ///
     /// # Errors
     ///

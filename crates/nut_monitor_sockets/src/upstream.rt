@@ -144,7 +144,7 @@ impl Upstream {
     }
 
     /// Calls the host if that is due and an address is known, or continues the call. Returns whether the link is now
-    /// made. If an address refuses or doesn't answer in time, the next one is dialled.
+    /// made. If an address refuses or doesn't answer in time, the next one of the round is dialled.
     ///
     /// # Errors
     ///
@@ -184,7 +184,6 @@ impl Upstream {
         match is_answered(link.stream(), waited) {
             Ok(true) => {
                 self.stage = Stage::Up(link, Inquiry::new());
-                self.host.reach();
                 Ok(true)
             }
             Ok(false) => {
@@ -232,7 +231,11 @@ impl Upstream {
     /// link.
     pub fn begins_to_serve(&mut self) -> bool {
         self.is_missed = false;
-        !mem::replace(&mut self.serves, true)
+        let is_first = !mem::replace(&mut self.serves, true);
+        if is_first {
+            self.host.serve();
+        }
+        is_first
     }
 
     /// Whether a query has been outstanding for too long.
@@ -272,7 +275,7 @@ impl Upstream {
     }
 
     /// Closes the link, and returns whether its server has served on it. If it has, the server is called again in the
-    /// next second. Otherwise it is called after a pause, which grows from one loss to the next.
+    /// next second. Otherwise it is called after a pause, which grows from one loss to the next, at its next address.
     pub fn close(&mut self, limits: Limits) -> bool {
         self.stage = Stage::Down;
         let served = mem::replace(&mut self.serves, false);
@@ -281,6 +284,7 @@ impl Upstream {
             self.refusals = Refusals::none();
         } else {
             self.pause.begin(limits.pause);
+            self.host.lose();
         }
         served
     }

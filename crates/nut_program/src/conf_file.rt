@@ -75,12 +75,13 @@ impl ConfFile for Descriptions {
     }
 }
 
-/// Why a file gives no configuration. It is displayed as in `ups.conf: cannot read` or `ups.conf:2: Repeated`.
+/// Why a file gives no configuration. It is displayed as in `ups.conf: cannot read` or `ups.conf:2: Repeated`. What more
+/// there is to say is a remark, unless memory for it cannot be allocated.
 #[derive(Debug, Drop)]
 pub enum FileFault<'a> {
-    /// The file doesn't exist, isn't a plain file, may not be read, or a read failed.
-    CannotRead(&'a str),
-    /// The file has this fault. The word is that of the directive if no line of the file may have it.
+    /// The file doesn't exist, isn't a plain file, may not be read, or a read failed. The remark has its path, and why.
+    CannotRead(&'a str, Option<String>),
+    /// The file has this fault. There is a remark if the fault is the word of a directive that no line of the file may have.
     Conf(&'a str, ConfFault, Option<String>),
     /// Memory could not be allocated.
     Memory,
@@ -89,7 +90,7 @@ pub enum FileFault<'a> {
 impl<'a> fmt::Display for FileFault<'a> {
     fn fmt<W: fmt::Write>(&self, f: &mut fmt::Formatter<W>) -> fmt::Result {
         match self {
-            FileFault::CannotRead(file) => write!(f, "{file}: cannot read"),
+            FileFault::CannotRead(file, _) => write!(f, "{file}: cannot read"),
             FileFault::Conf(file, fault, _) => write!(f, "{file}:{fault}"),
             FileFault::Memory => write!(f, "out of memory"),
         }
@@ -97,12 +98,15 @@ impl<'a> fmt::Display for FileFault<'a> {
 }
 
 impl<'a> FileFault<'a> {
-    /// Returns the word of the directive that no line of the file may have, if that is the fault.
-    pub fn unknown_word(&self) -> Option<&str> {
+    /// Returns what a line of its own is to say besides, such as `/etc/nut/ups.conf: No such file or directory (os error
+    /// 2)`, or `vendorid isn't taken here: see from-nut(7)`.
+    pub fn remark(&self) -> Option<&str> {
         match self {
-            FileFault::Conf(_, _, Some(word)) => Some(word.as_str()),
-            FileFault::Conf(_, _, None) => None,
-            FileFault::CannotRead(_) | FileFault::Memory => None,
+            FileFault::CannotRead(_, Some(remark)) | FileFault::Conf(_, _, Some(remark)) => Some(
+                remark.as_str(),
+            ),
+            FileFault::CannotRead(_, None) | FileFault::Conf(_, _, None) | FileFault::Memory =>
+                None,
         }
     }
 }
@@ -139,10 +143,10 @@ pub fn read_conf_if_there<C: ConfFile>(
     let Ok(path) = Path::new(folder).join(alloc, name) else {
         return Err(FileFault::Memory);
     };
-    match read_file(files, alloc, path, READ_MAX) {
+    match read_file(files, alloc, &path, READ_MAX) {
         Ok(bytes) => Ok(Some(conf_of(alloc, bytes.as_slice(), name)?)),
         Err(error) if error.kind() == ErrorKind::NotFound => Ok(None),
-        Err(error) => Err(unread(error, name)),
+        Err(error) => Err(unread(alloc, path.path_text(), &error, name)),
     }
 }
 
@@ -157,22 +161,33 @@ pub fn read_conf_at<'a, C: ConfFile, P: AsPath>(
     path: P,
     name: &'a str,
 ) -> Result<C, FileFault<'a>> {
-    match read_file(files, alloc, path, READ_MAX) {
+    match read_file(files, alloc, &path, READ_MAX) {
         Ok(bytes) => conf_of(alloc, bytes.as_slice(), name),
-        Err(error) => Err(unread(error, name)),
+        Err(error) => Err(unread(alloc, path.path_text(), &error, name)),
     }
 }
 
 /// Of a file that is too long no more bytes are read than show that.
 const READ_MAX: u64 = FILE_MAX as u64 + 1;
 
-/// Why a file can't be read.
-fn unread(error: io::Error, name: &str) -> FileFault<'_> {
+/// Why the file with this path can't be read.
+fn unread<'a>(alloc: Global, path: &str, error: &io::Error, name: &'a str) -> FileFault<'a> {
     if error.kind() == ErrorKind::OutOfMemory {
         FileFault::Memory
     } else {
-        FileFault::CannotRead(name)
+        FileFault::CannotRead(name, remark_on_unread(alloc, path, error))
     }
+}
+
+/// Says why [`read_file`] failed for the file with this path, as in `/etc/nut/ups.conf: No such file or directory (os error
+/// 2)`. `None` if memory for that cannot be allocated.
+pub fn remark_on_unread(alloc: Global, path: &str, error: &io::Error) -> Option<String> {
+    let remark = if error.kind() == ErrorKind::InvalidInput {
+        format!(in alloc; "{path}: not a plain file")
+    } else {
+        format!(in alloc; "{path}: {error}")
+    };
+    remark.ok()
 }
 
 /// Reads a configuration from the bytes of its file.
@@ -184,11 +199,14 @@ fn conf_of<'a, C: ConfFile>(
     match C::read(alloc, bytes) {
         Ok(conf) => Ok(conf),
         Err(fault) if fault.kind == FaultKind::Memory => Err(FileFault::Memory),
-        Err(fault) => {
-            let word = unknown_word::<C>(alloc, bytes, fault);
-            Err(FileFault::Conf(name, fault, word))
-        }
+        Err(fault) => { Err(FileFault::Conf(name, fault, remark_on::<C>(alloc, bytes, fault))) }
     }
+}
+
+/// Says where to read about the word of a directive at which a file has a fault, if no line of the file may have that word.
+fn remark_on<C: ConfFile>(alloc: Global, bytes: &[u8], fault: ConfFault) -> Option<String> {
+    let word = unknown_word::<C>(alloc, bytes, fault)?;
+    format!(in alloc; "{word} isn't taken here: see from-nut(7)").ok()
 }
 
 /// Returns the bytes of a plain file, of a longer one the first `most`. No other file is opened: a pipe could block the

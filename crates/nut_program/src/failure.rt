@@ -69,30 +69,29 @@ impl<'a, F: From<FileFault<'a>>> From<FileFault<'a>> for Failure<F> {
 
 /// A fault that only one program has. It is displayed after the program's name.
 pub trait OwnFault: Display {
-    /// Returns the word of a directive that no line of a configuration file may have, if that is the fault.
-    fn unknown_word(&self) -> Option<&str>;
+    /// Returns what a line of its own is to say besides, if there is something.
+    fn remark(&self) -> Option<&str>;
 }
 
-/// Writes a fault that only this program has. If it is a word that no line of a file may have, a second line says where
-/// to read about that.
+/// Writes a fault that only this program has, and its remark on a line of its own.
 fn tell_own<F: OwnFault, E: Write>(program: &str, fault: &F, err: &mut E) -> io::Result<()> {
     writeln!(err, "{program}: {fault}")?;
-    tell_unknown(program, fault.unknown_word(), err)
+    tell_remark(program, fault.remark(), err)
 }
 
-/// Writes where to read about a word that no line of a file may have, if there is one.
-fn tell_unknown<E: Write>(program: &str, word: Option<&str>, err: &mut E) -> io::Result<()> {
-    match word {
-        Some(word) => writeln!(err, "{program}: {word} isn't taken here: see from-nut(7)"),
+/// Writes a remark, if there is one.
+fn tell_remark<E: Write>(program: &str, remark: Option<&str>, err: &mut E) -> io::Result<()> {
+    match remark {
+        Some(remark) => writeln!(err, "{program}: {remark}"),
         None => Ok(()),
     }
 }
 
-/// Writes why a program goes on with the configuration that it has, as `PROGRAM: not reloaded: WHY`. What can't be
-/// written is dropped.
+/// Writes why a program goes on with the configuration that it has, as `PROGRAM: not reloaded: WHY`, and the remark of the
+/// fault. What can't be written is dropped.
 pub fn tell_not_reloaded<E: Write>(program: &str, fault: &FileFault<'_>, err: &mut E) {
     let _ = writeln!(err, "{program}: not reloaded: {fault}");
-    let _ = tell_unknown(program, fault.unknown_word(), err);
+    let _ = tell_remark(program, fault.remark(), err);
 }
 
 impl<F: OwnFault> Failure<F> {

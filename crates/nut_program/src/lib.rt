@@ -14,7 +14,9 @@ mod warning;
 
 pub use arguments::refuse_start;
 pub use command_line::{check_option, quiet_option};
-pub use conf_file::{ConfFile, FileFault, read_conf, read_conf_at, read_conf_if_there, read_file};
+pub use conf_file::{
+    ConfFile, FileFault, read_conf, read_conf_at, read_conf_if_there, read_file, remark_on_unread,
+};
 pub use failure::{Failure, OwnFault, tell_not_reloaded};
 pub use folder::conf_folder;
 pub use reload_file::{Look, ReloadFile, Turn};

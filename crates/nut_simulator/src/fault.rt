@@ -8,8 +8,8 @@ use std::fmt;
 pub enum NutsimFault<'a> {
     /// A configuration file, of the server or of a monitor, gives no configuration.
     File(FileFault<'a>),
-    /// This file cannot be read.
-    CannotRead(&'a str),
+    /// This file cannot be read. The remark says why, if that is known.
+    CannotRead(&'a str, Option<String>),
     /// This line of a schedule, counted from 1, isn't a step, or names a monitor, a link or a UPS that isn't in the room.
     BadStep(&'a str, u64),
 }
@@ -18,17 +18,18 @@ impl<'a> fmt::Display for NutsimFault<'a> {
     fn fmt<W: fmt::Write>(&self, f: &mut fmt::Formatter<W>) -> fmt::Result {
         match self {
             NutsimFault::File(fault) => write!(f, "{fault}"),
-            NutsimFault::CannotRead(file) => write!(f, "{file}: cannot read"),
+            NutsimFault::CannotRead(file, _) => write!(f, "{file}: cannot read"),
             NutsimFault::BadStep(schedule, number) => write!(f, "{schedule}:{number}: BadStep"),
         }
     }
 }
 
 impl<'a> OwnFault for NutsimFault<'a> {
-    fn unknown_word(&self) -> Option<&str> {
+    fn remark(&self) -> Option<&str> {
         match self {
-            NutsimFault::File(fault) => fault.unknown_word(),
-            NutsimFault::CannotRead(_) | NutsimFault::BadStep(..) => None,
+            NutsimFault::File(fault) => fault.remark(),
+            NutsimFault::CannotRead(_, Some(remark)) => Some(remark.as_str()),
+            NutsimFault::CannotRead(_, None) | NutsimFault::BadStep(..) => None,
         }
     }
 }

@@ -56,7 +56,7 @@ fn failure_of<'a>(halt: Halt, path: &'a str) -> Failure<NutsimFault<'a>> {
     match halt {
         Halt::BadStep(number) => Failure::Own(NutsimFault::BadStep(path, number)),
         Halt::Memory => Failure::Memory,
-        Halt::Input => Failure::Own(NutsimFault::CannotRead(path)),
+        Halt::Input => Failure::Own(NutsimFault::CannotRead(path, None)),
         Halt::Output => Failure::Io,
     }
 }

@@ -6,7 +6,7 @@ use crate::playing::play_schedule;
 use crate::room::{read_config, read_monitors};
 use nut_conf::UpsmonConf;
 use nut_play::{Fleet, FleetFault};
-use nut_program::Failure;
+use nut_program::{Failure, remark_on_unread};
 use nut_server::Config;
 use std::alloc::Global;
 use std::convert::AsStr;
@@ -29,8 +29,8 @@ use std::rt::Files;
 ///
 /// If clap refuses the words, its text is written to `err`, and the status is 2; the help and the version are written
 /// to `out`, with status 0. Files are read in the order of the command line, and the first fault is written to `err`,
-/// with status 1: `nutsim: FILE: cannot read`, or the first fault of a configuration file, as
-/// `nutsim: ups.conf:2: BadName`, which is named without its folder. For a line that isn't a step, or names a monitor,
+/// with status 1: `nutsim: FILE: cannot read`, with the reason on a line of its own, or the first fault of a configuration
+/// file, as `nutsim: ups.conf:2: BadName`, which is named without its folder. For a line that isn't a step, or names a monitor,
 /// a link or a UPS that doesn't exist, `nutsim: SCHEDULE:K: BadStep` is written, after what the steps before it told.
 /// `nutsim: out of memory` is written if memory cannot be allocated, and `nutsim: I/O failed` if `out` fails.
 pub fn run_nutsim<S: AsStr, O: Write, E: Write + IsTerminal>(
@@ -146,7 +146,10 @@ fn open_schedule<'a, F: Files>(
     match opened(files, alloc, path) {
         Ok(schedule) => Ok(schedule),
         Err(error) if error.kind() == ErrorKind::OutOfMemory => Err(Failure::Memory),
-        Err(_) => Err(Failure::Own(NutsimFault::CannotRead(path))),
+        Err(error) => {
+            let remark = remark_on_unread(alloc, path, &error);
+            Err(Failure::Own(NutsimFault::CannotRead(path, remark)))
+        }
     }
 }
 

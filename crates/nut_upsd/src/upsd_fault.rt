@@ -36,9 +36,9 @@ impl fmt::Display for UpsdFault {
 }
 
 impl OwnFault for UpsdFault {
-    fn unknown_word(&self) -> Option<&str> {
+    fn remark(&self) -> Option<&str> {
         match self {
-            UpsdFault::File(fault) => fault.unknown_word(),
+            UpsdFault::File(fault) => fault.remark(),
             UpsdFault::Ups(_) | UpsdFault::Listen(..) | UpsdFault::Input | UpsdFault::Output =>
                 None,
         }

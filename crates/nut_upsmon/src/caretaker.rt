@@ -5,11 +5,11 @@ use crate::crier::Crier;
 use crate::halt::{Halt, HaltFault};
 use crate::reloader::{Reload, Reloader};
 use crate::starting::tell_start;
+use crate::streams::ErrorLines;
 use crate::watching::Follower;
 use nut_conf::UpsmonConf;
 use nut_monitor::{Monitor, Notice};
 use nut_monitor_sockets::Herald;
-use nut_poll::Outlet;
 use nut_program::{FileFault, ReloadReport, tell_not_reloaded};
 use std::alloc::AllocError;
 use std::io::Write;
@@ -24,31 +24,29 @@ use std::time::Clock;
 /// The halt that a configuration sets is prepared before the earlier one is given up, so there is no moment without. What
 /// the next watch begins with is made even before that: once the change is reported, no lack of memory can end upsmon.
 #[derive(Drop)]
-pub struct Caretaker<'c, 'r, R: Processes, O, E> {
+pub struct Caretaker<'c, 'r, R: Processes> {
     rt: &'r R,
-    err: &'c mut E,
-    crier: &'c mut Crier<'r, R, O>,
+    err: &'c mut ErrorLines,
+    crier: &'c mut Crier<'r, R>,
     halt: &'c mut Halt<'r, 'r, R>,
     reloader: &'c mut Reloader,
     /// What the next watch begins with.
     next: Option<Beginning>,
 }
 
-impl<'c, 'r, R, O, E> Caretaker<'c, 'r, R, O, E>
+impl<'c, 'r, R> Caretaker<'c, 'r, R>
 where
     R: Files + Processes + Clock,
-    O: Outlet + Drop,
-    E: Outlet + Drop,
 {
     /// Returns the caretaker with this crier and this halt, which are of one configuration. What is to be told to the
     /// operator is written to `err`.
     pub fn new(
         rt: &'r R,
-        err: &'c mut E,
-        crier: &'c mut Crier<'r, R, O>,
+        err: &'c mut ErrorLines,
+        crier: &'c mut Crier<'r, R>,
         halt: &'c mut Halt<'r, 'r, R>,
         reloader: &'c mut Reloader,
-    ) -> Caretaker<'c, 'r, R, O, E> {
+    ) -> Caretaker<'c, 'r, R> {
         Caretaker {
             rt,
             err,
@@ -111,11 +109,9 @@ where
     }
 }
 
-impl<'c, 'r, R, O, E> Herald for Caretaker<'c, 'r, R, O, E>
+impl<'c, 'r, R> Herald for Caretaker<'c, 'r, R>
 where
     R: Files + Processes + Clock,
-    O: Outlet + Drop,
-    E: Outlet + Drop,
 {
     fn announce(&mut self, monitor: &Monitor, notice: Notice) {
         self.crier.announce(monitor, notice, self.err);
@@ -130,11 +126,9 @@ where
     }
 }
 
-impl<'c, 'r, R, O, E> Follower for Caretaker<'c, 'r, R, O, E>
+impl<'c, 'r, R> Follower for Caretaker<'c, 'r, R>
 where
     R: Files + Processes + Clock,
-    O: Outlet + Drop,
-    E: Outlet + Drop,
 {
     fn take_next(&mut self) -> Option<Beginning> {
         self.next.take()
@@ -146,10 +140,9 @@ where
 }
 
 /// Starts the shell of a halt. Returns whether it is started. If not, why is told.
-fn make_ready<R, E>(halt: &mut Halt<'_, '_, R>, err: &mut E) -> bool
+fn make_ready<R>(halt: &mut Halt<'_, '_, R>, err: &mut ErrorLines) -> bool
 where
     R: Files + Processes + Clock,
-    E: Write,
 {
     match halt.make_ready() {
         Ok(()) => true,
@@ -162,11 +155,9 @@ where
 }
 
 /// Has a crier tell by another configuration. Returns whether it does. If not, why is told.
-fn change_crier<R, O, E>(crier: &mut Crier<'_, R, O>, config: &UpsmonConf, err: &mut E) -> bool
+fn change_crier<R>(crier: &mut Crier<'_, R>, config: &UpsmonConf, err: &mut ErrorLines) -> bool
 where
     R: Processes,
-    O: Write + Drop,
-    E: Write,
 {
     match crier.restart(config) {
         Ok(()) => true,
@@ -178,16 +169,15 @@ where
 }
 
 /// Puts the halt of another configuration in the place of the former one, and gives that back in `halt`.
-fn exchange<'r, R, E>(
+fn exchange<'r, R>(
     kept: &mut Halt<'r, 'r, R>,
     halt: &mut Halt<'r, 'r, R>,
     former: &UpsmonConf,
     config: &UpsmonConf,
-    err: &mut E,
+    err: &mut ErrorLines,
 )
 where
     R: Files + Processes + Clock,
-    E: Write,
 {
     if former.power_down_flag != config.power_down_flag {
         halt.clear_flag(err);

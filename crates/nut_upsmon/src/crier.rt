@@ -2,6 +2,7 @@
 
 use crate::low_runtime::LowRuntimes;
 use crate::notify_command::{Call, NotifyCommand, script_in};
+use crate::streams::{ErrorLines, OutputLines};
 use nut_conf::{MESSAGE_MAX, TARGET_MAX, UpsmonConf};
 use nut_monitor::{Monitor, Notice};
 use std::alloc::{AllocError, Global};
@@ -17,22 +18,22 @@ const TEXT_MAX: usize = MESSAGE_MAX + TARGET_MAX - 2;
 /// A run of the command that can't be started is let go, which is told, as is a UPS that says LB later than this machine
 /// needs to stop. From the notice of the shutdown on no UPS is asked for that any more.
 #[derive(Drop)]
-pub struct Crier<'a, R: Processes, O> {
+pub struct Crier<'a, R: Processes> {
     alloc: Global,
-    out: O,
+    out: OutputLines,
     text: Vec<u8>,
     command: NotifyCommand<'a, R>,
     runtimes: LowRuntimes<'a, R>,
 }
 
-impl<'a, R: Processes, O: Write + Drop> Crier<'a, R, O> {
+impl<'a, R: Processes> Crier<'a, R> {
     /// Makes a crier that prints on `out`. It allocates room for the longest text.
     pub fn new(
         processes: &'a R,
         alloc: Global,
         config: &UpsmonConf,
-        out: O,
-    ) -> Result<Crier<'a, R, O>, AllocError> {
+        out: OutputLines,
+    ) -> Result<Crier<'a, R>, AllocError> {
         Ok(Crier {
             alloc,
             out,
@@ -60,7 +61,7 @@ impl<'a, R: Processes, O: Write + Drop> Crier<'a, R, O> {
     }
 
     /// Returns what it prints on.
-    pub fn out(&mut self) -> &mut O {
+    pub fn out(&mut self) -> &mut OutputLines {
         &mut self.out
     }
 
@@ -71,7 +72,7 @@ impl<'a, R: Processes, O: Write + Drop> Crier<'a, R, O> {
     }
 
     /// Runs NOTIFYCMD with the text.
-    fn call<E: Write>(&mut self, config: &UpsmonConf, notice: Notice, err: &mut E) {
+    fn call(&mut self, config: &UpsmonConf, notice: Notice, err: &mut ErrorLines) {
         let called = self.command.call(Call {
             kind: notice.kind.word(),
             ups: ups_of(config, notice),
@@ -83,7 +84,7 @@ impl<'a, R: Processes, O: Write + Drop> Crier<'a, R, O> {
     }
 
     /// Receives a notice of this monitor. A run that can't be started is told on `err`.
-    pub fn announce<E: Write>(&mut self, monitor: &Monitor, notice: Notice, err: &mut E) {
+    pub fn announce(&mut self, monitor: &Monitor, notice: Notice, err: &mut ErrorLines) {
         if notice.line.is_none() {
             // Only the notice of the shutdown is about no line. A machine that stops needs no warning of LB.
             self.runtimes.end();
@@ -106,7 +107,7 @@ impl<'a, R: Processes, O: Write + Drop> Crier<'a, R, O> {
     }
 
     /// Forgets the processes that have ended, and goes on asking the UPSes. A UPS that says LB too late is told on `err`.
-    pub fn second<E: Write>(&mut self, err: &mut E) {
+    pub fn second(&mut self, err: &mut ErrorLines) {
         self.command.reap();
         let _ = self.runtimes.step(err);
     }

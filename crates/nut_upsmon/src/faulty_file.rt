@@ -5,14 +5,13 @@
 //! its battery is empty, then no machine starts again.
 
 use crate::power_down_flag::PowerDownFlag;
+use crate::streams::ErrorLines;
 use crate::upsmon_fault::UpsmonFault;
 use nut_conf::{FILE_MAX, FaultKind, UpsmonConf, read_upsmon};
-use nut_poll::LossyLines;
 use nut_program::{ConfFile, Failure, FileFault, read_file};
 use std::alloc::{AllocError, Global};
 use std::io;
-use std::io::Write;
-use std::os::fd::AsRawFd;
+use std::io::Stdout;
 use std::path::Path;
 use std::rt::Files;
 
@@ -26,18 +25,16 @@ const NO_SUPPLIES: &[u8] = b"MINSUPPLIES 0\n";
 ///
 /// The failure itself if it isn't a fault of the file's lines; `Memory` if memory cannot be allocated; `Io` if the file,
 /// which is read once more, can't be.
-pub fn flag_despite<R, O, E>(
+pub fn flag_despite<R>(
     files: &R,
     alloc: Global,
     folder: &str,
     failure: Failure<UpsmonFault>,
-    out: O,
-    told: &mut LossyLines<E>,
+    out: Stdout,
+    told: &mut ErrorLines,
 ) -> Result<Option<PowerDownFlag>, Failure<UpsmonFault>>
 where
     R: Files,
-    O: Write + AsRawFd + Copy,
-    E: Write + AsRawFd + Copy,
 {
     if !is_of_lines(&failure) {
         return Err(failure);
@@ -55,11 +52,7 @@ fn is_of_lines(failure: &Failure<UpsmonFault>) -> bool {
 }
 
 /// Tells a fault of the file.
-fn tell<O, E>(failure: Failure<UpsmonFault>, mut out: O, told: &mut LossyLines<E>)
-where
-    O: Write + AsRawFd + Copy,
-    E: Write + AsRawFd + Copy,
-{
+fn tell(failure: Failure<UpsmonFault>, mut out: Stdout, told: &mut ErrorLines) {
     failure.tell("upsmon", &mut out, told);
 }
 

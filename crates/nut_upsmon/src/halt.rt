@@ -2,9 +2,10 @@
 
 use crate::power_down_flag::{FlagFault, FlagState, PowerDownFlag};
 use crate::shutdown_command::{Full, ShutdownCommand};
+use crate::streams::{ErrorLines, OutputLines};
 use linked_list_allocator::LocalHeap;
 use nut_conf::UpsmonConf;
-use nut_poll::{Outlet, text_of};
+use nut_poll::text_of;
 use std::alloc::{AllocError, Global};
 use std::io::Write;
 use std::process::{Child, ExitStatus, Processes};
@@ -116,7 +117,7 @@ impl<'r, 'h, R: Files + Processes + Clock> Halt<'r, 'h, R> {
     /// Removes POWERDOWNFLAG if an earlier shutdown left it set: otherwise the scripts of the next ordinary shutdown
     /// would have the UPS cut its power. That it was removed is written to `err`. Anything else of that name is
     /// reported and left unchanged.
-    pub fn clear_flag<E: Write>(&self, err: &mut E) {
+    pub fn clear_flag(&self, err: &mut ErrorLines) {
         if let Some(flag) = &self.flag {
             match flag.clear(self.rt) {
                 Ok(state) => tell_found(flag.path(), state, err),
@@ -135,11 +136,11 @@ impl<'r, 'h, R: Files + Processes + Clock> Halt<'r, 'h, R> {
     /// # Errors
     ///
     /// The reason if SHUTDOWNCMD cannot be started or waited for, or ends with a status other than 0.
-    pub fn carry_out<O: Outlet, E: Outlet>(
+    pub fn carry_out(
         &mut self,
         is_flagged: bool,
-        out: &mut O,
-        err: &mut E,
+        out: &mut OutputLines,
+        err: &mut ErrorLines,
     ) -> Result<(), HaltFault> {
         if is_flagged {
             self.set_flag(err);
@@ -151,7 +152,7 @@ impl<'r, 'h, R: Files + Processes + Clock> Halt<'r, 'h, R> {
     }
 
     /// Sets POWERDOWNFLAG, or writes to `err` why it cannot.
-    fn set_flag<E: Write>(&self, err: &mut E) {
+    fn set_flag(&self, err: &mut ErrorLines) {
         if let Some(flag) = &self.flag {
             if let Err(fault) = flag.set(self.rt) {
                 tell_unset(flag.path(), &fault, err);
@@ -161,7 +162,7 @@ impl<'r, 'h, R: Files + Processes + Clock> Halt<'r, 'h, R> {
 }
 
 /// Tells what was found under the name of POWERDOWNFLAG. A flag that was set is removed.
-fn tell_found<E: Write>(path: &str, found: FlagState, err: &mut E) {
+fn tell_found(path: &str, found: FlagState, err: &mut ErrorLines) {
     let _ = match found {
         FlagState::Absent => Ok(()),
         FlagState::Set => writeln!(
@@ -177,7 +178,7 @@ fn tell_found<E: Write>(path: &str, found: FlagState, err: &mut E) {
 }
 
 /// Tells why POWERDOWNFLAG isn't removed.
-fn tell_kept<E: Write>(path: &str, error: &io::Error, err: &mut E) {
+fn tell_kept(path: &str, error: &io::Error, err: &mut ErrorLines) {
     let _ = writeln!(
         err,
         "upsmon: warning: POWERDOWNFLAG {path} cannot be removed: {error}"
@@ -185,7 +186,7 @@ fn tell_kept<E: Write>(path: &str, error: &io::Error, err: &mut E) {
 }
 
 /// Tells why POWERDOWNFLAG isn't set.
-fn tell_unset<E: Write>(path: &str, fault: &FlagFault, err: &mut E) {
+fn tell_unset(path: &str, fault: &FlagFault, err: &mut ErrorLines) {
     let _ = writeln!(err, "upsmon: POWERDOWNFLAG {path} {fault}");
 }
 
@@ -205,11 +206,11 @@ fn shutdown_command<'r, 'h, R: Processes>(
 }
 
 /// Runs a command and waits for its end.
-fn run<R: Processes, O: Outlet, E: Outlet>(
+fn run<R: Processes>(
     clock: &impl Clock,
     command: &mut ShutdownCommand<'_, '_, R>,
-    out: &mut O,
-    err: &mut E,
+    out: &mut OutputLines,
+    err: &mut ErrorLines,
 ) -> Result<(), HaltFault> {
     start(clock, command, out, err)?;
     wait_for(command)
@@ -226,11 +227,11 @@ fn wait_for<R: Processes>(command: &mut ShutdownCommand<'_, '_, R>) -> Result<()
 
 /// Starts a command, trying again if it fails. Why a start fails is written to `err`, unless the try before failed for
 /// the same reason.
-fn start<R: Processes, O: Outlet, E: Outlet>(
+fn start<R: Processes>(
     clock: &impl Clock,
     command: &mut ShutdownCommand<'_, '_, R>,
-    out: &mut O,
-    err: &mut E,
+    out: &mut OutputLines,
+    err: &mut ErrorLines,
 ) -> Result<(), HaltFault> {
     let mut told = None;
     for _ in 0..TRIES {
@@ -249,7 +250,7 @@ fn start<R: Processes, O: Outlet, E: Outlet>(
     command.start(full).map_err(HaltFault::NotStarted)
 }
 
-fn tell_failed_start<E: Write>(error: &io::Error, err: &mut E) {
+fn tell_failed_start(error: &io::Error, err: &mut ErrorLines) {
     let _ = writeln!(
         err,
         "upsmon: SHUTDOWNCMD cannot be started yet: {error}; it is tried for {TRIES} seconds"

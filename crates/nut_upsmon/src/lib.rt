@@ -16,6 +16,7 @@ mod reloader;
 mod shutdown_command;
 mod starting;
 mod stopping;
+mod streams;
 mod upsmon_fault;
 mod warning;
 mod watching;

@@ -1,6 +1,7 @@
 //! Whether the UPSes of a machine say LB early enough for it to stop.
 
 use crate::stopping::Stopping;
+use crate::streams::ErrorLines;
 use nut_conf::{Monitored, UpsmonConf};
 use nut_poll::{Question, Questions, shell_command, text_of};
 use std::alloc::{AllocError, Global};
@@ -124,7 +125,7 @@ impl<'r, R: Processes> LowRuntimes<'r, R> {
 
     /// Takes a step: reports an answer that came, kills questions that take too long, and asks the next. Returns whether
     /// another step is needed.
-    pub fn step<E: Write>(&mut self, err: &mut E) -> bool {
+    pub fn step(&mut self, err: &mut ErrorLines) -> bool {
         if let Some(question) = self.questions.take() {
             self.hear(question, err);
         }
@@ -141,13 +142,13 @@ impl<'r, R: Processes> LowRuntimes<'r, R> {
     }
 
     /// Reports the answer to a question that has ended.
-    fn hear<E: Write>(&mut self, mut question: Question<R::Started, Ups>, err: &mut E) {
+    fn hear(&mut self, mut question: Question<R::Started, Ups>, err: &mut ErrorLines) {
         let answer = answer_of(&mut question);
         self.heed(question.about, answer, err);
     }
 
     /// Tells what is known of a UPS by the answer about it, if it is one of this configuration.
-    fn heed<E: Write>(&mut self, ups: Ups, answer: Option<u64>, err: &mut E) {
+    fn heed(&mut self, ups: Ups, answer: Option<u64>, err: &mut ErrorLines) {
         if ups.generation != self.generation {
             return;
         }
@@ -158,7 +159,7 @@ impl<'r, R: Processes> LowRuntimes<'r, R> {
     }
 
     /// Warns if a UPS reports LB too late.
-    fn compare<E: Write>(&self, ups: &Ups, seconds: u64, err: &mut E) {
+    fn compare(&self, ups: &Ups, seconds: u64, err: &mut ErrorLines) {
         if seconds < self.needed {
             let _ = writeln!(
                 err,
@@ -169,7 +170,7 @@ impl<'r, R: Processes> LowRuntimes<'r, R> {
     }
 
     /// Has a server asked again, unless it was asked often enough.
-    fn ask_again<E: Write>(&mut self, mut ups: Ups, err: &mut E) {
+    fn ask_again(&mut self, mut ups: Ups, err: &mut ErrorLines) {
         ups.tries = ups.tries.saturating_add(1);
         if ups.tries < self.patience.tries {
             let _ = self.left.push(ups);
@@ -179,7 +180,7 @@ impl<'r, R: Processes> LowRuntimes<'r, R> {
     }
 
     /// Asks the next question if it is time.
-    fn ask_next<E: Write>(&mut self, err: &mut E) {
+    fn ask_next(&mut self, err: &mut ErrorLines) {
         if self.pause > 0 {
             self.pause -= 1;
             return;
@@ -208,11 +209,11 @@ impl<'r, R: Processes> LowRuntimes<'r, R> {
 /// # Errors
 ///
 /// [`AllocError`] if memory for their names cannot be allocated.
-pub fn check_low_runtimes<R: Processes + Clock, E: Write>(
+pub fn check_low_runtimes<R: Processes + Clock>(
     rt: &R,
     alloc: Global,
     config: &UpsmonConf,
-    err: &mut E,
+    err: &mut ErrorLines,
 ) -> Result<(), AllocError> {
     let mut runtimes = LowRuntimes::new(rt, alloc, config, CHECK)?;
     ask_all(rt, &mut runtimes, err);
@@ -220,10 +221,10 @@ pub fn check_low_runtimes<R: Processes + Clock, E: Write>(
 }
 
 /// Asks for each of these, waits for the answers, and tells them.
-fn ask_all<R: Processes, E: Write>(
+fn ask_all<R: Processes>(
     clock: &impl Clock,
     runtimes: &mut LowRuntimes<'_, R>,
-    err: &mut E,
+    err: &mut ErrorLines,
 ) {
     for _ in 0..CHECK_STEPS {
         if !runtimes.step(err) {
@@ -241,7 +242,7 @@ fn ask_all<R: Processes, E: Write>(
 }
 
 /// Tells that a UPS isn't known to say LB early enough.
-fn tell_unknown<E: Write>(ups: &Ups, err: &mut E) {
+fn tell_unknown(ups: &Ups, err: &mut ErrorLines) {
     let _ = writeln!(
         err,
         "upsmon: UPS {}: battery.runtime.low isn't known",

@@ -9,13 +9,14 @@ use crate::low_runtime::check_low_runtimes;
 use crate::power_down_flag::{FlagState, PowerDownFlag};
 use crate::reloader::Reloader;
 use crate::stopping::Stopping;
+use crate::streams::{ErrorLines, OutputLines, Streams};
 use crate::upsmon_fault::UpsmonFault;
 use crate::warning::tell_warnings;
 use crate::watching::{WatchFault, watch_in_turn};
 use clap::ArgMatches;
 use linked_list_allocator::LocalHeap;
 use nut_conf::{UpsdConf, UpsmonConf};
-use nut_poll::{LossyLines, Outlet};
+use nut_poll::LossyLines;
 use nut_program::{
     ConfFile, Failure, ReloadFile, Turn, conf_folder, hold_closed_streams, read_conf, refuse_start,
 };
@@ -23,9 +24,8 @@ use std::alloc::{Alloc, AllocError, Global};
 use std::convert::AsStr;
 use std::env::Env;
 use std::io;
-use std::io::Write;
+use std::io::{Stderr, Stdout, Write};
 use std::net::Net;
-use std::os::fd::AsRawFd;
 use std::process::Processes;
 use std::rt::Files;
 use std::sync::Wait;
@@ -34,14 +34,6 @@ use std::time::Clock;
 /// upsmon answers a request after upsd has, so that the server knows the new users and UPSes when upsmon logs in again. A
 /// login that is refused isn't asked for again.
 const TURN: Turn = Turn::Second;
-
-/// The streams that upsmon writes to: standard output and standard error, line by line. A line that isn't taken at once
-/// is dropped.
-#[derive(Clone, Copy)]
-struct Streams<O, E> {
-    out: O,
-    err: E,
-}
 
 /// Runs upsmon. Returns its exit status.
 ///
@@ -71,14 +63,18 @@ struct Streams<O, E> {
 ///
 /// If clap refuses the words, its text is written to `err`, and the status is 2; the help and the version are written
 /// to `out`, with status 0. Before anything is watched, the first of these is written to `err`, with status 1:
-/// `upsmon: upsmon.conf: cannot read`; the file's first fault, as `upsmon: upsmon.conf:2: BadName`;
-/// `upsmon: out of memory`. If waiting for the sockets or reading the clock fails, upsmon ends with
-/// `upsmon: I/O failed` and status 1.
-pub fn run_upsmon<R, S: AsStr, O, E>(rt: &R, alloc: Global, words: &[S], out: O, mut err: E) -> u8
+/// `upsmon: upsmon.conf: cannot read`, and below it the path and the reason; the file's first fault, as
+/// `upsmon: upsmon.conf:2: BadName`; `upsmon: out of memory`. If waiting for the sockets or reading the clock fails,
+/// upsmon ends with `upsmon: I/O failed` and status 1.
+pub fn run_upsmon<R, S: AsStr>(
+    rt: &R,
+    alloc: Global,
+    words: &[S],
+    out: Stdout,
+    mut err: Stderr,
+) -> u8
 where
     R: Wait + Files + Net + Clock + Processes + Env + Alloc,
-    O: Write + AsRawFd + Copy,
-    E: Write + AsRawFd + Copy,
 {
     match LossyLines::new(rt, alloc, "upsmon", err) {
         Ok(mut told) => run_and_tell(rt, alloc, words, Streams { out, err }, &mut told),
@@ -87,17 +83,15 @@ where
 }
 
 /// Does what the words of the command line ask for, and tells why it can't be done. Returns the exit status.
-fn run_and_tell<R, S: AsStr, O, E>(
+fn run_and_tell<R, S: AsStr>(
     rt: &R,
     alloc: Global,
     words: &[S],
-    mut streams: Streams<O, E>,
-    told: &mut LossyLines<E>,
+    mut streams: Streams,
+    told: &mut ErrorLines,
 ) -> u8
 where
     R: Wait + Files + Net + Clock + Processes + Env + Alloc,
-    O: Write + AsRawFd + Copy,
-    E: Write + AsRawFd + Copy,
 {
     match run(rt, alloc, words, streams, told) {
         Ok(status) => status,
@@ -106,34 +100,30 @@ where
 }
 
 /// Does what the words of the command line ask for. Returns the exit status.
-fn run<R, S: AsStr, O, E>(
+fn run<R, S: AsStr>(
     rt: &R,
     alloc: Global,
     words: &[S],
-    streams: Streams<O, E>,
-    told: &mut LossyLines<E>,
+    streams: Streams,
+    told: &mut ErrorLines,
 ) -> Result<u8, Failure<UpsmonFault>>
 where
     R: Wait + Files + Net + Clock + Processes + Env + Alloc,
-    O: Write + AsRawFd + Copy,
-    E: Write + AsRawFd + Copy,
 {
     let matches = upsmon_command(alloc)?.try_get_matches_from(words)?;
     run_matches(rt, alloc, &matches, streams, told)
 }
 
 /// Does what a command line asks for that clap has accepted. Returns the exit status.
-fn run_matches<R, O, E>(
+fn run_matches<R>(
     rt: &R,
     alloc: Global,
     matches: &ArgMatches<'_>,
-    streams: Streams<O, E>,
-    told: &mut LossyLines<E>,
+    streams: Streams,
+    told: &mut ErrorLines,
 ) -> Result<u8, Failure<UpsmonFault>>
 where
     R: Wait + Files + Net + Clock + Processes + Env + Alloc,
-    O: Write + AsRawFd + Copy,
-    E: Write + AsRawFd + Copy,
 {
     if matches.get_flag("killpower") {
         return look_for_flag(rt, alloc, matches, streams.out, told);
@@ -147,17 +137,15 @@ where
 }
 
 /// Returns whether the flag that upsmon.conf names is set, as an exit status: 0 if it is, else 1.
-fn look_for_flag<R, O, E>(
+fn look_for_flag<R>(
     rt: &R,
     alloc: Global,
     matches: &ArgMatches<'_>,
-    out: O,
-    told: &mut LossyLines<E>,
+    out: Stdout,
+    told: &mut ErrorLines,
 ) -> Result<u8, Failure<UpsmonFault>>
 where
     R: Files + Env + Alloc,
-    O: Write + AsRawFd + Copy,
-    E: Write + AsRawFd + Copy,
 {
     let folder = conf_folder(rt, alloc, matches)?;
     look_in_folder(rt, alloc, folder.as_str(), out, told)
@@ -165,17 +153,15 @@ where
 
 /// Returns whether the flag that upsmon.conf in this folder names is set, as an exit status. If a line of the file has a
 /// fault, that is told, and the last line that names a flag and has none counts.
-fn look_in_folder<R, O, E>(
+fn look_in_folder<R>(
     files: &R,
     alloc: Global,
     folder: &str,
-    out: O,
-    told: &mut LossyLines<E>,
+    out: Stdout,
+    told: &mut ErrorLines,
 ) -> Result<u8, Failure<UpsmonFault>>
 where
     R: Files,
-    O: Write + AsRawFd + Copy,
-    E: Write + AsRawFd + Copy,
 {
     let flag = match read_config(files, alloc, folder) {
         Ok(config) => flag_of(alloc, config)?,
@@ -203,34 +189,30 @@ fn flag_status(files: &impl Files, flag: Option<PowerDownFlag>) -> u8 {
 }
 
 /// Checks upsmon.conf in the folder that a command line names.
-fn check_file<R, O, E>(
+fn check_file<R>(
     rt: &R,
     alloc: Global,
     matches: &ArgMatches<'_>,
-    out: O,
-    told: &mut LossyLines<E>,
+    out: Stdout,
+    told: &mut ErrorLines,
 ) -> Result<(), Failure<UpsmonFault>>
 where
     R: Files + Clock + Processes + Env + Alloc,
-    O: Write + AsRawFd + Copy,
-    E: Write + AsRawFd + Copy,
 {
     let folder = conf_folder(rt, alloc, matches)?;
     check_folder(rt, alloc, folder.as_str(), out, told)
 }
 
 /// Reads upsmon.conf in this folder, says of it what a start does, and checks it.
-fn check_folder<R, O, E>(
+fn check_folder<R>(
     rt: &R,
     alloc: Global,
     folder: &str,
-    out: O,
-    told: &mut LossyLines<E>,
+    out: Stdout,
+    told: &mut ErrorLines,
 ) -> Result<(), Failure<UpsmonFault>>
 where
     R: Files + Clock + Processes,
-    O: Write + AsRawFd + Copy,
-    E: Write + AsRawFd + Copy,
 {
     let config = read_folder(rt, alloc, folder, told)?;
     let checked = check_config(rt, alloc, &config, out, told);
@@ -241,17 +223,15 @@ where
 
 /// Writes how soon the machine of a configuration stops, and asks the servers whether their UPSes report LB early enough
 /// for that.
-fn check_config<R, O, E>(
+fn check_config<R>(
     rt: &R,
     alloc: Global,
     config: &UpsmonConf,
-    mut out: O,
-    told: &mut LossyLines<E>,
+    mut out: Stdout,
+    told: &mut ErrorLines,
 ) -> Result<(), Failure<UpsmonFault>>
 where
     R: Clock + Processes,
-    O: Write + AsRawFd + Copy,
-    E: Write + AsRawFd + Copy,
 {
     Stopping::of(config).tell(&mut out)?;
     check_low_runtimes(rt, alloc, config, told)?;
@@ -259,11 +239,11 @@ where
 }
 
 /// Reads upsmon.conf in this folder, and writes what it should set otherwise.
-fn read_folder<R: Files, E: Write + AsRawFd + Copy>(
+fn read_folder<R: Files>(
     rt: &R,
     alloc: Global,
     folder: &str,
-    told: &mut LossyLines<E>,
+    told: &mut ErrorLines,
 ) -> Result<UpsmonConf, Failure<UpsmonFault>> {
     let config = read_config(rt, alloc, folder)?;
     match tell_warnings(rt, alloc, folder, &config, told) {
@@ -277,35 +257,31 @@ fn read_folder<R: Files, E: Write + AsRawFd + Copy>(
 }
 
 /// Watches the UPSes of upsmon.conf until the machine has to be halted, and halts it.
-fn guard<R, O, E>(
+fn guard<R>(
     rt: &R,
     alloc: Global,
     matches: &ArgMatches<'_>,
-    streams: Streams<O, E>,
-    told: &mut LossyLines<E>,
+    streams: Streams,
+    told: &mut ErrorLines,
 ) -> Result<(), Failure<UpsmonFault>>
 where
     R: Wait + Files + Net + Clock + Processes + Env + Alloc,
-    O: Write + AsRawFd + Copy,
-    E: Write + AsRawFd + Copy,
 {
     let folder = conf_folder(rt, alloc, matches)?;
     guard_folder(rt, alloc, folder, matches.get_flag("quiet"), streams, told)
 }
 
 /// Watches the UPSes of upsmon.conf in this folder until the machine has to be halted, and halts it.
-fn guard_folder<R, O, E>(
+fn guard_folder<R>(
     rt: &R,
     alloc: Global,
     folder: String,
     is_quiet: bool,
-    streams: Streams<O, E>,
-    told: &mut LossyLines<E>,
+    streams: Streams,
+    told: &mut ErrorLines,
 ) -> Result<(), Failure<UpsmonFault>>
 where
     R: Wait + Files + Net + Clock + Processes,
-    O: Write + AsRawFd + Copy,
-    E: Write + AsRawFd + Copy,
 {
     // upsd may have the folder, too, if its file is there
     let beside = UpsdConf::file_name();
@@ -318,17 +294,15 @@ where
 }
 
 /// Watches the UPSes of the upsmon.conf that is reloaded here until the machine has to be halted, and halts it.
-fn guard_reloaded<R, O, E>(
+fn guard_reloaded<R>(
     rt: &R,
     alloc: Global,
     reloader: &mut Reloader,
-    streams: Streams<O, E>,
-    told: &mut LossyLines<E>,
+    streams: Streams,
+    told: &mut ErrorLines,
 ) -> Result<(), Failure<UpsmonFault>>
 where
     R: Wait + Files + Net + Clock + Processes,
-    O: Write + AsRawFd + Copy,
-    E: Write + AsRawFd + Copy,
 {
     let config = read_folder(rt, alloc, reloader.folder(), told)?;
     guard_with(rt, alloc, config, reloader, streams, told)?;
@@ -337,18 +311,16 @@ where
 
 /// Watches the UPSes of a configuration until the machine has to be halted, and halts it. The standard streams that are
 /// closed are held meanwhile, so that no socket takes the place of one.
-fn guard_with<R, O, E>(
+fn guard_with<R>(
     rt: &R,
     alloc: Global,
     config: UpsmonConf,
     reloader: &mut Reloader,
-    streams: Streams<O, E>,
-    told: &mut LossyLines<E>,
+    streams: Streams,
+    told: &mut ErrorLines,
 ) -> Result<(), WatchFault>
 where
     R: Wait + Files + Net + Clock + Processes,
-    O: Write + AsRawFd + Copy,
-    E: Write + AsRawFd + Copy,
 {
     let _held = hold_closed_streams(rt, alloc)?;
     guard_in_reserve(rt, alloc, config, reloader, streams, told)
@@ -356,18 +328,16 @@ where
 
 /// Reserves the memory that the halt takes, watches the UPSes of a configuration until the machine has to be halted, and
 /// halts it.
-fn guard_in_reserve<R, O, E>(
+fn guard_in_reserve<R>(
     rt: &R,
     alloc: Global,
     config: UpsmonConf,
     reloader: &mut Reloader,
-    streams: Streams<O, E>,
-    told: &mut LossyLines<E>,
+    streams: Streams,
+    told: &mut ErrorLines,
 ) -> Result<(), WatchFault>
 where
     R: Wait + Files + Net + Clock + Processes,
-    O: Write + AsRawFd + Copy,
-    E: Write + AsRawFd + Copy,
 {
     let heap = halt_heap(alloc)?;
     watch_and_halt(rt, alloc, &heap, config, reloader, streams, told)
@@ -375,19 +345,17 @@ where
 
 /// Prepares the halt, watches the UPSes of a configuration until the machine has to be halted, and halts it. The memory
 /// that the halt takes comes from `heap`.
-fn watch_and_halt<R, O, E>(
+fn watch_and_halt<R>(
     rt: &R,
     alloc: Global,
     heap: &LocalHeap,
     config: UpsmonConf,
     reloader: &mut Reloader,
-    streams: Streams<O, E>,
-    told: &mut LossyLines<E>,
+    streams: Streams,
+    told: &mut ErrorLines,
 ) -> Result<(), WatchFault>
 where
     R: Wait + Files + Net + Clock + Processes,
-    O: Write + AsRawFd + Copy,
-    E: Write + AsRawFd + Copy,
 {
     match ready_halt(rt, alloc, heap, &config, told) {
         Ok(mut halt) => {
@@ -404,19 +372,17 @@ where
 }
 
 /// Prepares what tells notices, watches the UPSes of a configuration until the machine has to be halted, and halts it.
-fn watch_with<'r, R, O, E>(
+fn watch_with<'r, R>(
     rt: &'r R,
     alloc: Global,
     config: UpsmonConf,
     halt: &mut Halt<'r, 'r, R>,
     reloader: &mut Reloader,
-    streams: Streams<O, E>,
-    told: &mut LossyLines<E>,
+    streams: Streams,
+    told: &mut ErrorLines,
 ) -> Result<(), WatchFault>
 where
     R: Wait + Files + Net + Clock + Processes,
-    O: Write + AsRawFd + Copy,
-    E: Write + AsRawFd + Copy,
 {
     match Voice::of(rt, alloc, &config, streams) {
         Ok(mut voice) => {
@@ -434,21 +400,19 @@ where
 }
 
 /// Watches the UPSes of a configuration until the machine has to be halted, and halts it. What happens is told by a
-/// crier and on `err`. The streams are of any kind here, which keeps the proof of this function short.
-fn watch_and_tell<'r, R, O, E>(
+/// crier and on `err`.
+fn watch_and_tell<'r, R>(
     rt: &'r R,
     alloc: Global,
     config: UpsmonConf,
-    crier: &mut Crier<'r, R, O>,
-    err: &mut E,
+    crier: &mut Crier<'r, R>,
+    err: &mut ErrorLines,
     halt: &mut Halt<'r, 'r, R>,
     reloader: &mut Reloader,
-    told: &mut E,
+    told: &mut ErrorLines,
 ) -> Result<(), WatchFault>
 where
     R: Wait + Files + Net + Clock + Processes,
-    O: Outlet + Drop,
-    E: Outlet + Drop,
 {
     let is_quiet = reloader.is_quiet();
     let caretaker = Caretaker::new(rt, err, crier, halt, reloader);
@@ -457,16 +421,15 @@ where
 
 /// Makes the halt that a configuration sets, removes a flag that was left, and starts the shell for SHUTDOWNCMD. If that
 /// can't be started, it is told.
-fn ready_halt<'r, 'h, R, E>(
+fn ready_halt<'r, 'h, R>(
     rt: &'r R,
     alloc: Global,
     heap: &'h LocalHeap,
     config: &UpsmonConf,
-    told: &mut E,
+    told: &mut ErrorLines,
 ) -> Result<Halt<'r, 'h, R>, AllocError>
 where
     R: Files + Clock + Processes,
-    E: Write,
 {
     let mut halt = Halt::prepare(rt, alloc, heap, config)?;
     halt.clear_flag(told);
@@ -477,7 +440,7 @@ where
 }
 
 /// Tells that the shell for SHUTDOWNCMD can't be started, and why.
-fn tell_not_ready<E: Write>(error: &io::Error, told: &mut E) {
+fn tell_not_ready(error: &io::Error, told: &mut ErrorLines) {
     let _ = writeln!(
         told,
         "upsmon: warning: the shell that is to run SHUTDOWNCMD cannot be started yet: {error}"
@@ -487,24 +450,22 @@ fn tell_not_ready<E: Write>(error: &io::Error, told: &mut E) {
 /// What upsmon tells with while it watches: a crier, which prints notices on standard output and runs NOTIFYCMD, and
 /// standard error.
 #[derive(Drop)]
-struct Voice<'r, R: Processes, O, E> {
-    crier: Crier<'r, R, LossyLines<O>>,
-    err: LossyLines<E>,
+struct Voice<'r, R: Processes> {
+    crier: Crier<'r, R>,
+    err: ErrorLines,
 }
 
-impl<'r, R, O, E> Voice<'r, R, O, E>
+impl<'r, R> Voice<'r, R>
 where
     R: Net + Processes,
-    O: Write + AsRawFd + Copy,
-    E: Write + AsRawFd + Copy,
 {
     /// Returns the voice of a configuration.
     fn of(
         rt: &'r R,
         alloc: Global,
         config: &UpsmonConf,
-        streams: Streams<O, E>,
-    ) -> io::Result<Voice<'r, R, O, E>> {
+        streams: Streams,
+    ) -> io::Result<Voice<'r, R>> {
         let crier = crier_of(rt, alloc, config, streams.out)?;
         match LossyLines::new(rt, alloc, "upsmon", streams.err) {
             Ok(err) => Ok(Voice { crier, err }),
@@ -518,15 +479,14 @@ where
 }
 
 /// Makes the crier that prints notices on standard output and runs NOTIFYCMD.
-fn crier_of<'a, R, O>(
+fn crier_of<'a, R>(
     rt: &'a R,
     alloc: Global,
     config: &UpsmonConf,
-    out: O,
-) -> io::Result<Crier<'a, R, LossyLines<O>>>
+    out: Stdout,
+) -> io::Result<Crier<'a, R>>
 where
     R: Net + Processes,
-    O: Write + AsRawFd + Copy,
 {
     let out = LossyLines::new(rt, alloc, "upsmon", out)?;
     Ok(Crier::new(rt, alloc, config, out)?)

@@ -6,6 +6,7 @@ ghost use Rattle.nut_monitor_spec.specs.Decision.{is_critical};
 
 use crate::beginning::Beginning;
 use crate::changes::{Changes, line_of};
+use crate::streams::ErrorLines;
 use crate::warning::tell_warnings;
 use nut_conf::{Monitored, UpsmonConf};
 use nut_monitor::{Known, Monitor, Phase};
@@ -85,17 +86,17 @@ impl Reloader {
     }
 
     /// Returns the reports of upsmon, which are written to `err` unless they are to be quiet.
-    pub fn reports<'e, E: Write>(&self, err: &'e mut E) -> Reports<'e, E> {
+    pub fn reports<'e>(&self, err: &'e mut ErrorLines) -> Reports<'e, ErrorLines> {
         Reports::new("upsmon", err, !self.is_quiet)
     }
 
     /// Reads upsmon.conf if that was asked for and it is upsmon's turn. Returns the configuration that this monitor is to
     /// be replaced for now, if there is one. Why there is none though it was asked for is written to `err`.
-    pub fn second<E: Write>(
+    pub fn second(
         &mut self,
         files: &impl Files,
         monitor: &Monitor,
-        err: &mut E,
+        err: &mut ErrorLines,
     ) -> Option<Reload> {
         let is_asked = self.is_asked(files, err);
         if monitor.phase() != Phase::Watching {
@@ -109,7 +110,7 @@ impl Reloader {
     }
 
     /// Whether a reload was asked for and it is upsmon's turn to make it.
-    fn is_asked<E: Write>(&mut self, files: &impl Files, err: &mut E) -> bool {
+    fn is_asked(&mut self, files: &impl Files, err: &mut ErrorLines) -> bool {
         match self.file.look(files) {
             Look::Nothing => false,
             Look::Asked => true,
@@ -122,14 +123,14 @@ impl Reloader {
     }
 
     /// Refuses what was asked for, or waits: a shutdown has begun.
-    fn refuse<E: Write>(&mut self, is_asked: bool, err: &mut E) {
+    fn refuse(&mut self, is_asked: bool, err: &mut ErrorLines) {
         if self.waiting.take().is_some() || is_asked {
             let _ = writeln!(err, "upsmon: not reloaded: a shutdown has begun");
         }
     }
 
     /// Reads upsmon.conf. If it can't be read, or nothing in it has changed, that is told.
-    fn read<E: Write>(&mut self, files: &impl Files, former: &UpsmonConf, err: &mut E) {
+    fn read(&mut self, files: &impl Files, former: &UpsmonConf, err: &mut ErrorLines) {
         self.is_wait_told = false;
         self.waiting = match self.read_reload(files, former, err) {
             Ok(reload) => self.unless_same(reload, err),
@@ -141,11 +142,11 @@ impl Reloader {
     }
 
     /// Reads upsmon.conf, compares it, and makes what its watch begins with.
-    fn read_reload<E: Write>(
+    fn read_reload(
         &self,
         files: &impl Files,
         former: &UpsmonConf,
-        err: &mut E,
+        err: &mut ErrorLines,
     ) -> Result<Reload, FileFault<'static>> {
         let config = read_conf(files, self.alloc, self.folder())?;
         match self.compare(files, former, &config, err) {
@@ -159,19 +160,19 @@ impl Reloader {
     }
 
     /// Writes what a configuration should set otherwise, and finds what it changes.
-    fn compare<E: Write>(
+    fn compare(
         &self,
         files: &impl Files,
         former: &UpsmonConf,
         config: &UpsmonConf,
-        err: &mut E,
+        err: &mut ErrorLines,
     ) -> Result<Changes, AllocError> {
         tell_warnings(files, self.alloc, self.folder(), config, err)?;
         Changes::between(self.alloc, former, config)
     }
 
     /// Returns a configuration in which something has changed. If nothing has, that is told: the links stay.
-    fn unless_same<E: Write>(&self, reload: Reload, err: &mut E) -> Option<Reload> {
+    fn unless_same(&self, reload: Reload, err: &mut ErrorLines) -> Option<Reload> {
         if reload.changes.are_none() {
             self.reports(err)
                 .tell(ReloadReport::Reloaded("nothing changed"));
@@ -181,7 +182,7 @@ impl Reloader {
     }
 
     /// Returns the configuration that waits, unless it has to go on waiting, which is told once.
-    fn take_waiting<E: Write>(&mut self, monitor: &Monitor, err: &mut E) -> Option<Reload> {
+    fn take_waiting(&mut self, monitor: &Monitor, err: &mut ErrorLines) -> Option<Reload> {
         match first_obstacle(monitor, self.waiting.as_ref()?.config()) {
             Some(obstacle) => {
                 self.tell_wait_once(obstacle, err);
@@ -192,7 +193,7 @@ impl Reloader {
     }
 
     /// Tells that the configuration waits for a UPS, if that wasn't told before.
-    fn tell_wait_once<E: Write>(&mut self, obstacle: Obstacle<'_>, err: &mut E) {
+    fn tell_wait_once(&mut self, obstacle: Obstacle<'_>, err: &mut ErrorLines) {
         if !self.is_wait_told {
             self.is_wait_told = true;
             tell_wait(obstacle, err);
@@ -208,7 +209,7 @@ struct Obstacle<'a> {
 }
 
 /// Writes that a reload waits for a UPS.
-fn tell_wait<E: Write>(obstacle: Obstacle<'_>, err: &mut E) {
+fn tell_wait(obstacle: Obstacle<'_>, err: &mut ErrorLines) {
     let name = text_of(&obstacle.line.written);
     let why = obstacle.why;
     let _ = writeln!(err, "upsmon: not reloaded yet: UPS {name} {why}");

@@ -3,6 +3,7 @@
 ghost use Rattle.std.specs.Prelude.{OnOk, IsSome};
 ghost use Rattle.std.specs.Io.KnownBytes.{Appends};
 
+use crate::streams::{ErrorLines, OutputLines};
 use linked_list_allocator::LocalHeap;
 use nut_poll::{Outlet, shell_command};
 use std::alloc::AllocError;
@@ -30,7 +31,7 @@ pub struct Full {
 
 impl Full {
     /// Asks the system about the two streams.
-    pub fn of<O: Outlet, E: Outlet>(out: &mut O, err: &mut E) -> Full {
+    pub fn of(out: &mut OutputLines, err: &mut ErrorLines) -> Full {
         Full {
             out: !out.takes_line(),
             err: !err.takes_line(),

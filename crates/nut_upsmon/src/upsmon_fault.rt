@@ -24,9 +24,9 @@ impl fmt::Display for UpsmonFault {
 }
 
 impl OwnFault for UpsmonFault {
-    fn unknown_word(&self) -> Option<&str> {
+    fn remark(&self) -> Option<&str> {
         match self {
-            UpsmonFault::File(fault) => fault.unknown_word(),
+            UpsmonFault::File(fault) => fault.remark(),
             UpsmonFault::Halt(_) => None,
         }
     }

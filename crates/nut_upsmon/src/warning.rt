@@ -3,6 +3,7 @@
 ghost use Rattle.std.specs.Prelude.{◌↔◌, ◌≡◌, ◌<◌, IsSome, None};
 ghost use Rattle.nut_conf.specs.Upsmon.{poll_freq_of, dead_time_of, host_sync_of};
 
+use crate::streams::ErrorLines;
 use nut_conf::UpsmonConf;
 use nut_program::{readable_file, warn};
 use std::alloc::{AllocError, Global};
@@ -92,12 +93,12 @@ impl Warning {
 /// # Errors
 ///
 /// [`AllocError`] if memory for the file's path cannot be allocated.
-pub fn tell_warnings<E: Write>(
+pub fn tell_warnings(
     files: &impl Files,
     alloc: Global,
     folder: &str,
     config: &UpsmonConf,
-    err: &mut E,
+    err: &mut ErrorLines,
 ) -> Result<(), AllocError> {
     warn(
         "upsmon",
