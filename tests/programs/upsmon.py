@@ -333,12 +333,36 @@ class Tests(Shimmed):
             with self.watch(conf + "NOTIFYCMD FOLDER/none\n") as watch:
                 self.expect_halt(watch, [it % server.target for it in (ON_BATTERY, BATTERY_LOW)] + [SHUTDOWN])
 
+    def test_what_is_told_of_a_shutdown(self):
+        """What it is for, and whom it doesn't wait for, also with -q."""
+        low, forced = "UPS %s is on battery, and its battery is low", "UPS %s has a forced shutdown"
+        for status, logins, wanted in (
+            (b"OB LB", 1, [low]),
+            (b"OB LB", 3, [low, "other clients that are still logged in to UPS %s: 2"]),
+            (b"FSD OB", 1, [forced]),
+        ):
+            with Upstream(status=status) as server:
+                server.logins = logins
+                with self.watch(f"MONITOR {server.target} 1 mon m1 primary\n{QUICK}SHUTDOWNCMD true\n", "-q") as watch:
+                    expect(watch.status(), 0, "status")
+                    expect(watch.of_shutdown(), [it % server.target for it in wanted], f"{status} {logins}")
+
+    def test_what_is_told_of_a_shutdown_for_a_lost_server(self):
+        with Upstream(status=b"OB") as server:
+            conf = f"MONITOR {server.target} 1 mon m1 primary\n{QUICK}DEADTIME 3\nSHUTDOWNCMD true\n"
+            with self.watch(conf, "-q") as watch:
+                watch.until_printed(ON_BATTERY % server.target)
+                server.close()
+                expect(watch.status(), 0, "status")
+                wanted = [f"UPS {server.target} was on battery when its status was last known", f"FSD on UPS {server.target} was not accepted"]
+                expect(watch.of_shutdown(), wanted, "what is told")
+
     def test_notify_command_that_cannot_be_started(self):
         with Upstream(status=b"OB LB") as server:
             conf = f"MONITOR {server.target} 1 mon m1 primary\n{QUICK}NOTIFYFLAG ONBATT SYSLOG+EXEC\nNOTIFYCMD true\n"
             with self.watch(conf, "-q", env=self.refusing_starts(self.folder)) as watch:
                 self.expect_halt(watch, [it % server.target for it in (ON_BATTERY, BATTERY_LOW)] + [SHUTDOWN])
-                said = [line for line in watch.lines("err") if "warning" not in line]
+                said = [line for line in watch.told() if "warning" not in line]
                 expect(len(said), 1, "what is said of it")
                 expect(said[0].startswith("upsmon: NOTIFYCMD cannot be started: "), True, said[0])
 
@@ -378,7 +402,7 @@ class Tests(Shimmed):
                 conf = f"MONITOR {server.target} 1 mon m1 primary\n{QUICK}POWERDOWNFLAG FOLDER/flag\n"
                 with self.watch(f'{conf}SHUTDOWNCMD "{command}"\n', "-q") as watch:
                     self.expect_halt(watch, [FORCED % server.target, SHUTDOWN], 1)
-                    expect(watch.lines("err"), [f"upsmon: {said}"], command)
+                    expect(watch.told(), [f"upsmon: {said}"], command)
                     expect(watch.read("flag"), FLAG, "POWERDOWNFLAG")
 
     def test_flag_that_cannot_be_written(self):
@@ -387,7 +411,7 @@ class Tests(Shimmed):
             with self.watch(conf + 'SHUTDOWNCMD "touch FOLDER/halted"\n', "-q") as watch:
                 self.expect_halt(watch, [FORCED % server.target, SHUTDOWN])
                 said = f"upsmon: POWERDOWNFLAG {watch.folder}/none/flag cannot be written: "
-                expect([line.startswith(said) for line in watch.lines("err")], [True], "what is said of it")
+                expect([line.startswith(said) for line in watch.told()], [True], "what is said of it")
                 expect(watch.read("halted"), b"", "SHUTDOWNCMD is run all the same")
 
     def test_output_that_is_closed(self):

@@ -209,7 +209,7 @@ class Tests(Shimmed):
                     expect(watch.status(), 0, "status")
                     expect(watch.read("halted"), b"", "SHUTDOWNCMD is run all the same")
                     told = [f"upsmon: warning: POWERDOWNFLAG {flag} {FOREIGN}", f"upsmon: POWERDOWNFLAG {flag} {FOREIGN}"]
-                    expect(watch.lines("err"), told, "what is told")
+                    expect(watch.told(), told, "what is told")
                 expect(self.look(folder), before, f"what lies there: {lay}")
 
     def file_of(self, held):
@@ -394,7 +394,7 @@ class Tests(Shimmed):
     def test_halt_without_memory(self):
         with self.halting_without_memory() as (watch, _):
             expect(watch.status(), 0, "status")
-            expect((watch.read("flag"), watch.read("halted"), watch.lines("err")), (FLAG, b"", []), "the halt")
+            expect((watch.read("flag"), watch.read("halted"), watch.told()), (FLAG, b"", []), "the halt")
 
     def test_halt_without_memory_and_readers(self):
         with FullPipe() as pipe, self.halting_without_memory(command=LOUD, stderr=pipe.writer) as (watch, _):
@@ -425,7 +425,7 @@ class Tests(Shimmed):
             notes = "NOTIFYFLAG SHUTDOWN SYSLOG+EXEC\nNOTIFYCMD \"touch FOLDER/noted; true\"\n"
             conf = f"MONITOR {target} 1 mon m1 primary\nPOLLFREQ 1\nHOSTSYNC 1\nFINALDELAY 0\n{notes}{HALTED}"
             with self.watch(conf, "-q", env=env) as watch:
-                expect((watch.status(), watch.read("halted"), watch.lines("err")), (0, b"", []), "the halt")
+                expect((watch.status(), watch.read("halted"), watch.told()), (0, b"", []), "the halt")
                 until(lambda: watch.read("noted") == b"", "NOTIFYCMD is run")
             with open(os.path.join(folder, "upsmon.conf"), "w") as file:
                 file.write(conf)
@@ -439,7 +439,7 @@ class Tests(Shimmed):
             watch.until_printed(SHUTDOWN)
             self.end_shell(watch)
             expect(watch.status(), 0, "status")
-            expect((watch.read("halted"), watch.lines("err")), (b"", []), "another one runs SHUTDOWNCMD")
+            expect((watch.read("halted"), watch.told()), (b"", []), "another one runs SHUTDOWNCMD")
 
     def end_shell(self, watch):
         """Kills the shell that waits for the halt."""

@@ -21,6 +21,8 @@ LOST = "Communications with UPS %s lost"
 ESTABLISHED = "Communications with UPS %s established"
 UNAVAILABLE = "UPS %s is unavailable"
 SHUTDOWN = "Auto logout and shutdown proceeding"
+# how the lines begin that say on standard error what a shutdown is for and whom it doesn't wait for
+OF_SHUTDOWN = "upsmon: shutdown: "
 # so that each run is short: the status is asked for each second, and no delay is waited for
 QUICK = "POLLFREQ 1\nHOSTSYNC 1\nFINALDELAY 0\n"
 USERS = b"[mon]\npassword = m1\nupsmon primary\n[guest]\npassword = g1\nupsmon secondary\n"
@@ -95,6 +97,14 @@ class Watch:
 
     def lines(self, name="out"):
         return self.read(name).decode().splitlines()
+
+    def told(self):
+        """Returns the lines of standard error, without those that say what a shutdown is for and whom it doesn't wait for."""
+        return [line for line in self.lines("err") if not line.startswith(OF_SHUTDOWN)]
+
+    def of_shutdown(self):
+        """Returns those that do, without their beginning."""
+        return [line[len(OF_SHUTDOWN) :] for line in self.lines("err") if line.startswith(OF_SHUTDOWN)]
 
     def until_printed(self, line, within=SOON):
         until(lambda: line in self.lines() or self.process.poll() is not None, f"upsmon prints {line!r}", within)

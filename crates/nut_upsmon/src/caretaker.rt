@@ -4,11 +4,12 @@ use crate::beginning::Beginning;
 use crate::crier::Crier;
 use crate::halt::{Halt, HaltFault};
 use crate::reloader::{Reload, Reloader};
+use crate::shutdown_report::{tell_beginning, tell_left};
 use crate::starting::tell_start;
 use crate::streams::ErrorLines;
 use crate::watching::Follower;
 use nut_conf::UpsmonConf;
-use nut_monitor::{Monitor, Notice};
+use nut_monitor::{Monitor, Notice, Phase};
 use nut_monitor_sockets::Herald;
 use nut_program::{FileFault, ReloadReport, tell_not_reloaded};
 use std::alloc::AllocError;
@@ -32,6 +33,8 @@ pub struct Caretaker<'c, 'r, R: Processes> {
     reloader: &'c mut Reloader,
     /// What the next watch begins with.
     next: Option<Beginning>,
+    /// Whether it was told that a shutdown has begun.
+    is_ending: bool,
 }
 
 impl<'c, 'r, R> Caretaker<'c, 'r, R>
@@ -54,6 +57,7 @@ where
             halt,
             reloader,
             next: None,
+            is_ending: false,
         }
     }
 
@@ -101,6 +105,14 @@ where
         is_ready
     }
 
+    /// Tells once that a shutdown has begun, and for which UPSes.
+    fn follow(&mut self, monitor: &Monitor) {
+        if !self.is_ending && monitor.phase() != Phase::Watching {
+            self.is_ending = true;
+            tell_beginning(monitor, self.err);
+        }
+    }
+
     /// Reports what a configuration that is taken up changes, and what it sets.
     fn tell(&mut self, reload: &Reload) {
         let reloaded = ReloadReport::Reloaded(reload.changes.as_str());
@@ -114,10 +126,16 @@ where
     R: Files + Processes + Clock,
 {
     fn announce(&mut self, monitor: &Monitor, notice: Notice) {
+        self.follow(monitor);
+        if notice.line.is_none() {
+            // only the notice of the shutdown is about no line
+            tell_left(monitor, self.err);
+        }
         self.crier.announce(monitor, notice, self.err);
     }
 
     fn second(&mut self, monitor: &Monitor) -> bool {
+        self.follow(monitor);
         self.crier.second(self.err);
         match self.reloader.second(self.rt, monitor, self.err) {
             Some(reload) => self.take_up(monitor.config(), reload),

@@ -14,6 +14,7 @@ mod notify_command;
 mod power_down_flag;
 mod reloader;
 mod shutdown_command;
+mod shutdown_report;
 mod starting;
 mod stopping;
 mod streams;
