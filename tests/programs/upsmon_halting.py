@@ -259,7 +259,7 @@ class Tests(Shimmed):
                 expect(watch.status(), 0, "status")
                 expect(watch.read("halted"), b"", "SHUTDOWNCMD is run all the same")
                 wanted = [f"upsmon: warning: POWERDOWNFLAG {flag} cannot be removed: ", f"upsmon: POWERDOWNFLAG {flag} cannot be written: "]
-                expect(fronts(watch.lines("err"), wanted), wanted, "what is told")
+                expect(fronts(watch.told(), wanted), wanted, "what is told")
             expect(self.look(folder), before, "what lies there")
             os.chmod(folder, 0o700)
 
@@ -361,7 +361,7 @@ class Tests(Shimmed):
             os.remove(none)
             expect(watch.status(), 0, "status")
             wanted = [NO_SHELL, NOT_YET]
-            expect(fronts(watch.lines("err"), wanted), wanted, "it is tried again, and told once")
+            expect(fronts(watch.told(), wanted), wanted, "it is tried again, and told once")
             expect(watch.read("halted"), b"", "the halt")
 
     def test_shell_that_never_comes(self):
@@ -371,7 +371,7 @@ class Tests(Shimmed):
             expect(watch.status(), 1, "status")
             expect(watch.read("flag"), FLAG, "POWERDOWNFLAG")
             wanted = [NO_SHELL, NOT_YET, NOT_STARTED]
-            expect(fronts(watch.lines("err"), wanted), wanted, "what is told")
+            expect(fronts(watch.told(), wanted), wanted, "what is told")
             with open(self.shim + ".naps") as file:
                 expect(file.read(), "30\n", "how often it waits for a second")
 
