@@ -353,7 +353,7 @@ class Tests(Shimmed):
             with self.watch(conf, "-q") as watch:
                 watch.until_printed(ON_BATTERY % server.target)
                 server.close()
-                expect(watch.status(), 0, "status")
+                expect(watch.status(20), 0, "status")
                 wanted = [f"UPS {server.target} was on battery when its status was last known", f"FSD on UPS {server.target} was not accepted"]
                 expect(watch.of_shutdown(), wanted, "what is told")
 
