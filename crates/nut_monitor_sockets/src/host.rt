@@ -13,8 +13,8 @@ use std::net::{IpAddr, Ipv4Addr, Ipv6Addr, Net, SocketAddr};
 /// The most seconds between two look-ups of a host.
 const LONGEST_PAUSE: u8 = 60;
 
-/// A host, a port, and the known addresses of the host. The addresses are dialled in rounds: each of them once, one after
-/// the other, until the host serves at one.
+/// A host, a port, and the known addresses of the host. The addresses are dialled in rounds: each of them once, one
+/// after the other, until the host serves at one.
 #[derive(Drop)]
 pub struct Host {
     name: String,
@@ -82,8 +82,8 @@ impl Host {
         }
     }
 
-    /// Replaces the known addresses by those that were found, unless none was, and begins a round with them. The next look-up
-    /// comes after a pause.
+    /// Replaces the known addresses by those that were found, unless none was, and begins a round with them. The next
+    /// look-up comes after a pause.
     pub fn take_addresses(&mut self, found: &[IpAddr]) {
         self.pause.begin(LONGEST_PAUSE);
         if found.is_empty() {
@@ -115,8 +115,8 @@ impl Host {
         }
     }
 
-    /// Notes that a link to the address that was dialled last ended before the host served. A named host is to be looked up
-    /// again if no address is left in this round.
+    /// Notes that a link to the address that was dialled last ended before the host served. A named host is to be
+    /// looked up again if no address is left in this round.
     pub fn lose(&mut self) {
         if self.is_round_over() {
             self.is_wanted = self.is_named;

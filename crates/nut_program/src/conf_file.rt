@@ -75,13 +75,14 @@ impl ConfFile for Descriptions {
     }
 }
 
-/// Why a file gives no configuration. It is displayed as in `ups.conf: cannot read` or `ups.conf:2: Repeated`. What more
-/// there is to say is a remark, unless memory for it cannot be allocated.
+/// Why a file gives no configuration. It is displayed as in `ups.conf: cannot read` or `ups.conf:2: Repeated`. What
+/// more there is to say is a remark, unless memory for it cannot be allocated.
 #[derive(Debug, Drop)]
 pub enum FileFault<'a> {
     /// The file doesn't exist, isn't a plain file, may not be read, or a read failed. The remark has its path, and why.
     CannotRead(&'a str, Option<String>),
-    /// The file has this fault. There is a remark if the fault is the word of a directive that no line of the file may have.
+    /// The file has this fault. There is a remark if the fault is the word of a directive that no line of the file may
+    /// have.
     Conf(&'a str, ConfFault, Option<String>),
     /// Memory could not be allocated.
     Memory,
@@ -98,8 +99,8 @@ impl<'a> fmt::Display for FileFault<'a> {
 }
 
 impl<'a> FileFault<'a> {
-    /// Returns what a line of its own is to say besides, such as `/etc/nut/ups.conf: No such file or directory (os error
-    /// 2)`, or `vendorid isn't taken here: see from-nut(7)`.
+    /// Returns what a line of its own is to say besides, such as `/etc/nut/ups.conf: No such file or directory (os
+    /// error 2)`, or `vendorid isn't taken here: see from-nut(7)`.
     pub fn remark(&self) -> Option<&str> {
         match self {
             FileFault::CannotRead(_, Some(remark)) | FileFault::Conf(_, _, Some(remark)) => Some(
@@ -115,8 +116,8 @@ impl<'a> FileFault<'a> {
 ///
 /// # Errors
 ///
-/// `CannotRead` if the file isn't a plain one or cannot be opened or read, `Conf` with its first fault, `Memory` if memory
-/// cannot be allocated.
+/// `CannotRead` if the file isn't a plain one or cannot be opened or read, `Conf` with its first fault, `Memory` if
+/// memory cannot be allocated.
 pub fn read_conf<C: ConfFile>(
     files: &impl Files,
     alloc: Global,
@@ -179,8 +180,8 @@ fn unread<'a>(alloc: Global, path: &str, error: &io::Error, name: &'a str) -> Fi
     }
 }
 
-/// Says why [`read_file`] failed for the file with this path, as in `/etc/nut/ups.conf: No such file or directory (os error
-/// 2)`. `None` if memory for that cannot be allocated.
+/// Says why [`read_file`] failed for the file with this path, as in `/etc/nut/ups.conf: No such file or directory (os
+/// error 2)`. `None` if memory for that cannot be allocated.
 pub fn remark_on_unread(alloc: Global, path: &str, error: &io::Error) -> Option<String> {
     let remark = if error.kind() == ErrorKind::InvalidInput {
         format!(in alloc; "{path}: not a plain file")
@@ -199,11 +200,12 @@ fn conf_of<'a, C: ConfFile>(
     match C::read(alloc, bytes) {
         Ok(conf) => Ok(conf),
         Err(fault) if fault.kind == FaultKind::Memory => Err(FileFault::Memory),
-        Err(fault) => { Err(FileFault::Conf(name, fault, remark_on::<C>(alloc, bytes, fault))) }
+        Err(fault) => Err(FileFault::Conf(name, fault, remark_on::<C>(alloc, bytes, fault))),
     }
 }
 
-/// Says where to read about the word of a directive at which a file has a fault, if no line of the file may have that word.
+/// Says where to read about the word of a directive at which a file has a fault, if no line of the file may have that
+/// word.
 fn remark_on<C: ConfFile>(alloc: Global, bytes: &[u8], fault: ConfFault) -> Option<String> {
     let word = unknown_word::<C>(alloc, bytes, fault)?;
     format!(in alloc; "{word} isn't taken here: see from-nut(7)").ok()

@@ -87,8 +87,8 @@ fn tell_remark<E: Write>(program: &str, remark: Option<&str>, err: &mut E) -> io
     }
 }
 
-/// Writes why a program goes on with the configuration that it has, as `PROGRAM: not reloaded: WHY`, and the remark of the
-/// fault. What can't be written is dropped.
+/// Writes why a program goes on with the configuration that it has, as `PROGRAM: not reloaded: WHY`, and the remark of
+/// the fault. What can't be written is dropped.
 pub fn tell_not_reloaded<E: Write>(program: &str, fault: &FileFault<'_>, err: &mut E) {
     let _ = writeln!(err, "{program}: not reloaded: {fault}");
     let _ = tell_remark(program, fault.remark(), err);

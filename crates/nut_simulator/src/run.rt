@@ -29,10 +29,11 @@ use std::rt::Files;
 ///
 /// If clap refuses the words, its text is written to `err`, and the status is 2; the help and the version are written
 /// to `out`, with status 0. Files are read in the order of the command line, and the first fault is written to `err`,
-/// with status 1: `nutsim: FILE: cannot read`, with the reason on a line of its own, or the first fault of a configuration
-/// file, as `nutsim: ups.conf:2: BadName`, which is named without its folder. For a line that isn't a step, or names a monitor,
-/// a link or a UPS that doesn't exist, `nutsim: SCHEDULE:K: BadStep` is written, after what the steps before it told.
-/// `nutsim: out of memory` is written if memory cannot be allocated, and `nutsim: I/O failed` if `out` fails.
+/// with status 1: `nutsim: FILE: cannot read`, with the reason on a line of its own, or the first fault of a
+/// configuration file, as `nutsim: ups.conf:2: BadName`, which is named without its folder. For a line that isn't a
+/// step, or names a monitor, a link or a UPS that doesn't exist, `nutsim: SCHEDULE:K: BadStep` is written, after what
+/// the steps before it told. `nutsim: out of memory` is written if memory cannot be allocated, and `nutsim: I/O failed`
+/// if `out` fails.
 pub fn run_nutsim<S: AsStr, O: Write, E: Write + IsTerminal>(
     files: &impl Files,
     alloc: Global,

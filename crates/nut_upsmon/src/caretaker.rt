@@ -19,11 +19,12 @@ use std::process::Processes;
 use std::rt::Files;
 use std::time::Clock;
 
-/// What upsmon does besides watching: it tells notices, keeps the halt of its machine prepared, and takes up a changed
-/// upsmon.conf. For that it ends the watch, and has what the next one begins with.
+/// What upsmon does besides watching: it tells notices and what a shutdown is for, keeps the halt of its machine
+/// prepared, and takes up a changed upsmon.conf. For that it ends the watch, and has what the next one begins with.
 ///
-/// The halt that a configuration sets is prepared before the earlier one is given up, so there is no moment without. What
-/// the next watch begins with is made even before that: once the change is reported, no lack of memory can end upsmon.
+/// The halt that a configuration sets is prepared before the earlier one is given up, so there is no moment without.
+/// What the next watch begins with is made even before that: once the change is reported, no lack of memory can end
+/// upsmon.
 #[derive(Drop)]
 pub struct Caretaker<'c, 'r, R: Processes> {
     rt: &'r R,
