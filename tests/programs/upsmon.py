@@ -556,6 +556,9 @@ class Tests(Shimmed):
             ("echo", unknown % "a@h" + unknown % "b@h:9"),
             ("echo 1e3", unknown % "a@h" + unknown % "b@h:9"),
             ("exec sleep 60", unknown % "a@h" + unknown % "b@h:9"),
+            # it leaves a process that holds its output
+            ("sleep 60 & exit 0", unknown % "a@h" + unknown % "b@h:9"),
+            ("sleep 60 & echo 20", late % ("a@h", 20) + late % ("b@h:9", 20)),
             (None, unknown % "a@h" + unknown % "b@h:9"),
         ):
             begun = time.monotonic()

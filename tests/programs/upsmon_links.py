@@ -183,6 +183,8 @@ class Tests(Shimmed):
             ("echo 127.0.0.1 STREAM", 0o644, {}, cannot),
             ("exit 2", 0o755, {}, unknown),
             ("echo 127.0.0.1 DGRAM", 0o755, {}, unknown),
+            # it leaves a process that holds its output
+            ("/bin/sleep 60 & exit 0", 0o755, {}, unknown),
             ("echo 127.0.0.1 STREAM", 0o755, starts, cannot),
         ):
             with tempfile.TemporaryDirectory(dir=self.folder) as names:

@@ -1,6 +1,6 @@
 //! Look-ups of hosts, which nobody waits for.
 
-use nut_poll::{Question, Questions, shell_command};
+use nut_poll::{Program, Question, Questions};
 use std::alloc::{AllocError, Global};
 use std::net::IpAddr;
 use std::process::{OpenProcess, Processes};
@@ -15,9 +15,6 @@ const PATIENCE: u8 = 5;
 /// The greatest number of bytes that are read of what a look-up prints. An address has at most 80 bytes there, in three
 /// lines.
 const OUTPUT_MAX: usize = 4096;
-
-/// The script by which the shell becomes `getent ahosts HOST`.
-const GETENT: &str = "exec getent ahosts \"$1\"";
 
 /// Why there are no addresses if the look-up can't begin, or the shell finds no `getent`.
 const NOT_STARTED: &str = "getent, which looks its name up, cannot be started";
@@ -73,8 +70,8 @@ impl<'r, R: Processes> LookUps<'r, R> {
     /// If the process can't be started or memory cannot be allocated.
     pub fn start(&mut self, name: &str) -> io::Result<()> {
         let about = String::from_str(self.alloc, name)?;
-        let command = shell_command(self.alloc, GETENT, name)?;
-        match self.questions.start(command, about) {
+        let getent = Program::new(self.alloc, "getent", &["ahosts", name])?;
+        match self.questions.start(getent, about) {
             Ok(()) => Ok(()),
             Err(_) => Err(io::Error::other(NOT_STARTED)),
         }

@@ -17,7 +17,7 @@ mod text;
 pub use lateness::note_written;
 pub use link::{Heard, Link};
 pub use lossy_lines::{LossyLines, Outlet};
-pub use questions::{Question, Questions};
+pub use questions::{Program, Question, Questions};
 pub use ready::{Ready, SOCKETS_MAX, may_be_read};
 pub use reports::Reports;
 pub use rounds::Rounds;

@@ -1,11 +1,38 @@
 //! Questions to other programs, which nobody waits for.
 
-use std::alloc::Global;
+use crate::shell::shell_command;
+use std::alloc::{AllocError, Global};
 use std::io::Read;
 use std::process::{Child, Command, OpenProcess, Processes, Stdio};
 
 /// The greatest number of questions that go on at a time.
 const QUESTIONS_MAX: usize = 8;
+
+/// The script by which the shell becomes the program that is asked. It prints a byte before, so the pipe holds one however
+/// little the program prints: a read of an empty pipe waits for as long as any other process holds its end.
+const ASK: &str = "echo; exec \"$@\"";
+
+/// A program to ask, with its arguments.
+#[derive(Drop)]
+pub struct Program {
+    command: Command<Global>,
+}
+
+impl Program {
+    /// Returns the program of this name, which is looked for on PATH when it is started, with these arguments.
+    ///
+    /// # Errors
+    ///
+    /// [`AllocError`] if memory cannot be allocated.
+    pub fn new(alloc: Global, name: &str, arguments: &[&str]) -> Result<Program, AllocError> {
+        let mut command = shell_command(alloc, ASK, name)?;
+        for argument in arguments {
+            command.arg(argument)?;
+        }
+        command.stdout(Stdio::piped()).stderr(Stdio::null());
+        Ok(Program { command })
+    }
+}
 
 /// A question: a process that prints the answer and ends.
 #[derive(Drop)]
@@ -49,29 +76,38 @@ impl<'r, R: Processes, T: Drop> Questions<'r, R, T> {
         self.going.len() < QUESTIONS_MAX
     }
 
-    /// Begins a question: starts the command, with a pipe for its output.
+    /// Begins a question: starts the program.
     ///
     /// # Errors
     ///
     /// Gives back what was to be asked about if the process can't be started or memory cannot be allocated.
-    pub fn start(&mut self, mut command: Command<Global>, about: T) -> Result<(), T> {
-        if self.going.reserve(1).is_err() {
-            return Err(about);
+    pub fn start(&mut self, mut program: Program, about: T) -> Result<(), T> {
+        let child = self.spawn(&mut program);
+        // dropped by a call, which keeps the proof of this function short
+        drop(program);
+        match child {
+            Some(child) => {
+                self.add(child, about);
+                Ok(())
+            }
+            None => Err(about),
         }
-        command
-            .stdin(Stdio::null())
-            .stdout(Stdio::piped())
-            .stderr(Stdio::null());
-        let Ok(child) = command.spawn(self.processes) else {
-            return Err(about);
-        };
+    }
+
+    /// Starts the process of a question, if there is memory for the question.
+    fn spawn(&mut self, program: &mut Program) -> Option<Child<R::Started>> {
+        self.going.reserve(1).ok()?;
+        program.command.spawn(self.processes).ok()
+    }
+
+    /// Adds a question that has begun.
+    fn add(&mut self, child: Child<R::Started>, about: T) {
         let _ = self.going.push(Question {
             about,
             child,
             age: 0,
             is_late: false,
         });
-        Ok(())
     }
 
     /// Counts a step, and kills the questions that take too long.
@@ -112,11 +148,11 @@ impl<P: OpenProcess, T> Question<P, T> {
         }
     }
 
-    /// Reads the answer of a question that has ended: the bytes that the process printed, at most as many as this buffer
-    /// holds. There is none if the process failed.
+    /// Reads the answer of a question that has ended: the bytes that the program printed, as far as this buffer has room
+    /// for them behind the byte of the shell. There is none if the program failed.
     ///
-    /// A process that has ended prints nothing more, and one read takes what the pipe holds. If it printed nothing and
-    /// another process still holds the pipe, this read waits for that process. `getent` and `upsc` leave none behind.
+    /// A program that has ended prints nothing more. One read takes what the pipe holds, and doesn't wait, because the
+    /// pipe holds at least the byte of the shell.
     pub fn answer<'b>(&mut self, buffer: &'b mut [u8]) -> Option<&'b [u8]> {
         let Ok(Some(status)) = self.child.try_wait() else {
             return None;
@@ -126,7 +162,7 @@ impl<P: OpenProcess, T> Question<P, T> {
         }
         let output = self.child.stdout.as_mut()?;
         let length = output.read(buffer).ok()?;
-        buffer.get(..length)
+        buffer.get(1..length)
     }
 }
 

@@ -3,15 +3,15 @@
 use crate::stopping::Stopping;
 use crate::streams::ErrorLines;
 use nut_conf::{Monitored, UpsmonConf};
-use nut_poll::{Question, Questions, shell_command, text_of};
+use nut_poll::{Program, Question, Questions, text_of};
 use std::alloc::{AllocError, Global};
 use std::io::Write;
 use std::process::{OpenProcess, Processes};
 use std::time::{Clock, Duration};
 use std::{str, thread};
 
-/// The script by which the shell becomes the program that asks a server for a UPS.
-const UPSC: &str = "exec upsc \"$1\" battery.runtime.low";
+/// The variable that says from how many seconds of battery on a UPS reports LB.
+const LOW_RUNTIME: &str = "battery.runtime.low";
 
 /// How much of an answer is read: more digits than any number of seconds has.
 const ANSWER_MAX: usize = 64;
@@ -197,9 +197,9 @@ impl<'r, R: Processes> LowRuntimes<'r, R> {
 
     /// Begins to ask for a UPS, or gives it back.
     fn ask(&mut self, ups: Ups) -> Result<(), Ups> {
-        match shell_command(self.alloc, UPSC, ups.name.as_str()) {
-            Ok(command) => self.questions.start(command, ups),
-            Err(_) => Err(ups),
+        match Program::new(self.alloc, "upsc", &[ups.name.as_str(), LOW_RUNTIME]) {
+            Ok(upsc) => self.questions.start(upsc, ups),
+            Err(AllocError) => Err(ups),
         }
     }
 }
