@@ -531,7 +531,7 @@ class Tests(Shimmed):
             # a UPS that feeds only another machine
             (primary + "MONITOR b@h 0 mon m1 secondary\n", 28),
             ("MONITOR a@h 0 mon m1 primary\nMONITOR b@h 1 mon m1 secondary\nSHUTDOWNCMD true\n", 44),
-            (primary + "POLLFREQ 1000000\nDEADTIME 1000000\nHOSTSYNC 1000000\nFINALDELAY 1000000\n", 3000003),
+            (primary + "POLLFREQ 999998\nDEADTIME 1000000\nHOSTSYNC 1000000\nFINALDELAY 1000000\n", 3000001),
         ):
             wanted = (0, f"upsmon: stops within {seconds} s of OB LB if each answer comes within 2 s\n", "")
             expect(self.checked(conf), wanted, conf)

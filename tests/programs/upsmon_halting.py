@@ -316,16 +316,18 @@ class Tests(Shimmed):
                     expect(err.decode(), f"upsmon: upsmon.conf:{fault}", conf)
 
     def test_warnings(self):
-        asks = "is above"
+        asks, late = "is above", "POLLFREQ %d and 2 s for an answer are above DEADTIME %d"
         for conf, mode, wanted in (
             (HALTED, 0o600, []),
             (HALTED, 0o640, []),
             (HALTED, 0o644, ["upsmon.conf holds passwords, and everybody can read it (mode 644)"]),
             ("", 0o600, ["no SHUTDOWNCMD is set: nothing will stop this machine"]),
-            (HALTED + "POLLFREQ 15\n", 0o600, []),
-            (HALTED + "POLLFREQ 16\n", 0o600, [f"POLLFREQ 16 {asks} DEADTIME 15", f"POLLFREQ 16 {asks} HOSTSYNC 15"]),
+            (HALTED + "POLLFREQ 13\n", 0o600, []),
+            (HALTED + "POLLFREQ 15\n", 0o600, [late % (15, 15)]),
+            (HALTED + "POLLFREQ 16\n", 0o600, [late % (16, 15), f"POLLFREQ 16 {asks} HOSTSYNC 15"]),
             (HALTED + "HOSTSYNC 4\n", 0o600, [f"POLLFREQ 5 {asks} HOSTSYNC 4"]),
-            (HALTED + "DEADTIME 4\n", 0o600, [f"POLLFREQ 5 {asks} DEADTIME 4"]),
+            (HALTED + "DEADTIME 6\n", 0o600, [late % (5, 6)]),
+            (HALTED + "DEADTIME 7\n", 0o600, []),
         ):
             with Upstream() as server, masked(0o666 & ~mode):
                 with self.watch(f"MONITOR {server.target} 1 mon m1 primary\n{conf}", "-q") as watch:

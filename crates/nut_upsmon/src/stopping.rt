@@ -11,11 +11,11 @@ use nut_monitor::has_primary;
 use std::io::Write;
 use std::{fmt, io};
 
-/// The longest time for an answer, in seconds, that the bound assumes.
-const DELAY: u32 = 2;
+/// The longest time for an answer, in seconds, that the bound and warnings assume.
+pub const DELAY: u32 = 2;
 
 /// What an operator is told about how soon this machine stops.
-#[derive(Clone, Copy, Debug, PartialEq, Eq)]
+#[derive(Clone, Copy)]
 pub enum Stopping {
     /// At most this many seconds after so many of its UPSes show OB and LB that the others supply too little.
     Within(u64),

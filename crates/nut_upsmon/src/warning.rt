@@ -1,8 +1,9 @@
 //! What upsmon can be started with but shouldn't be.
 
-ghost use Rattle.std.specs.Prelude.{◌↔◌, ◌≡◌, ◌<◌, IsSome, None};
+ghost use Rattle.std.specs.Prelude.{◌↔◌, ◌≡◌, ◌<◌, ◌+◌, IsSome, None};
 ghost use Rattle.nut_conf.specs.Upsmon.{poll_freq_of, dead_time_of, host_sync_of};
 
+use crate::stopping::DELAY;
 use crate::streams::ErrorLines;
 use nut_conf::UpsmonConf;
 use nut_program::{readable_file, warn};
@@ -12,11 +13,11 @@ use std::io::Write;
 use std::rt::Files;
 
 /// What an operator should set otherwise. Times are in seconds.
-#[derive(Clone, Copy, Debug, PartialEq, Eq)]
+#[derive(Clone, Copy)]
 pub enum Warning {
     /// upsmon has no command to halt the machine with.
     NoShutdownCommand,
-    /// The status is asked for less often than a UPS on battery has to answer.
+    /// A UPS on battery counts as dead before an answer that takes [`DELAY`] seconds comes.
     SlowerThanDeadTime { poll_freq: u32, dead_time: u32 },
     /// The status is asked for less often than the machines of a UPS wait for each other.
     SlowerThanHostSync { poll_freq: u32, host_sync: u32 },
@@ -33,7 +34,7 @@ impl fmt::Display for Warning {
                 dead_time,
             } => write!(
                 f,
-                "POLLFREQ {poll_freq} is above DEADTIME {dead_time}: on battery a UPS will count as dead between two answers"
+                "POLLFREQ {poll_freq} and {DELAY} s for an answer are above DEADTIME {dead_time}: on battery a UPS may count as dead between two answers"
             ),
             Warning::SlowerThanHostSync {
                 poll_freq,
@@ -57,13 +58,13 @@ impl Warning {
         }
     }
 
-    /// Warns if POLLFREQ is greater than DEADTIME.
+    /// Warns if POLLFREQ and the [`DELAY`] of an answer are together greater than DEADTIME.
     pub fn of_dead_time(config: &UpsmonConf) -> Option<Warning>
-        ensures { IsSome result ↔ (dead_time_of config.now < poll_freq_of config.now) }
+        ensures { IsSome result ↔ (dead_time_of config.now < poll_freq_of config.now + 2) }
     {
         let poll_freq = config.poll_freq();
         let dead_time = config.dead_time();
-        if poll_freq <= dead_time {
+        if u64::from(poll_freq) + u64::from(DELAY) <= u64::from(dead_time) {
             return None;
         }
         Some(Warning::SlowerThanDeadTime {
