@@ -4,7 +4,7 @@ use crate::beginning::Beginning;
 use crate::crier::Crier;
 use crate::halt::{Halt, HaltFault};
 use crate::reloader::{Reload, Reloader};
-use crate::shutdown_report::{tell_beginning, tell_left};
+use crate::shutdown_report::tell_beginning;
 use crate::starting::tell_start;
 use crate::streams::ErrorLines;
 use crate::watching::Follower;
@@ -128,10 +128,6 @@ where
 {
     fn announce(&mut self, monitor: &Monitor, notice: Notice) {
         self.follow(monitor);
-        if notice.line.is_none() {
-            // only the notice of the shutdown is about no line
-            tell_left(monitor, self.err);
-        }
         self.crier.announce(monitor, notice, self.err);
     }
 

@@ -2,6 +2,7 @@
 
 use crate::low_runtime::LowRuntimes;
 use crate::notify_command::{Call, NotifyCommand, script_in};
+use crate::shutdown_report::tell_left;
 use crate::streams::{ErrorLines, OutputLines};
 use nut_conf::{MESSAGE_MAX, TARGET_MAX, UpsmonConf};
 use nut_monitor::{Monitor, Notice};
@@ -83,11 +84,13 @@ impl<'a, R: Processes> Crier<'a, R> {
         }
     }
 
-    /// Receives a notice of this monitor. A run that can't be started is told on `err`.
+    /// Receives a notice of this monitor. Told on `err` are a run that can't be started, and whom a shutdown doesn't wait
+    /// for.
     pub fn announce(&mut self, monitor: &Monitor, notice: Notice, err: &mut ErrorLines) {
         if notice.line.is_none() {
             // Only the notice of the shutdown is about no line. A machine that stops needs no warning of LB.
             self.runtimes.end();
+            tell_left(monitor, err);
         }
         let config = monitor.config();
         let flags = config.flags(notice.kind);
