@@ -48,13 +48,11 @@ impl DummyDriver {
         mut listener: UnixListener,
         dummy: Dummy,
     ) -> io::Result<DummyDriver> {
-        let poll = Poll::new(rt)?;
-        poll.registry()
-            .register(&mut listener, LISTENER, Interest::READABLE)?;
+        let (poll, events, seconds) = watch(rt, alloc, &mut listener)?;
         Ok(DummyDriver {
             poll,
-            events: Events::with_capacity(alloc, 8)?,
-            seconds: Seconds::start(rt)?,
+            events,
+            seconds,
             listener,
             link: None,
             dummy,
@@ -146,6 +144,20 @@ fn converse<S: Read + Write>(link: &mut Link<S>, dummy: &mut Dummy, tasks: &mut 
         return true;
     }
     hear(link, dummy, tasks) && offer_waiting(link, dummy)
+}
+
+/// Returns a poll of a listener, and what is needed to wait for its events and for seconds.
+fn watch(
+    rt: &(impl Net + Clock),
+    alloc: Global,
+    listener: &mut UnixListener,
+) -> io::Result<(Poll, Events, Seconds)> {
+    let events = Events::with_capacity(alloc, 8)?;
+    let seconds = Seconds::start(rt)?;
+    let poll = Poll::new(rt)?;
+    poll.registry()
+        .register(listener, LISTENER, Interest::READABLE)?;
+    Ok((poll, events, seconds))
 }
 
 /// Reads one piece, and gives it to the dummy driver. Returns whether the server is still connected.

@@ -14,7 +14,7 @@ const ERROR_NAME_MAX: usize = 64;
 pub type ErrorName = ArrayVec<u8, ERROR_NAME_MAX>;
 
 /// The answer of a server to a query.
-#[derive(Debug, PartialEq, Eq, Drop)]
+#[derive(Drop)]
 pub enum Reply {
     /// The server refuses, with the error of this name.
     Refused(ErrorName),

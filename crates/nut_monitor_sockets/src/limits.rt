@@ -3,7 +3,7 @@
 use nut_monitor::Monitor;
 
 /// The limits on a server. They are shorter if a UPS is on battery, because a battery doesn't wait.
-#[derive(Clone, Copy, Debug, PartialEq, Eq)]
+#[derive(Clone, Copy)]
 pub struct Limits {
     /// How many seconds a query may be outstanding.
     pub answer: u8,

@@ -7,7 +7,7 @@ ghost use Rattle.nut_monitor_loop.specs.declared.types.Next.TheVariants as next;
 use crate::dialler::Dialler;
 use crate::inquiry::Reply;
 use crate::limits::{CALM, Limits};
-use crate::look_ups::LookUps;
+use crate::look_ups::{Found, LookUps};
 use crate::refusals::{comes_and_goes, title};
 use crate::report::Report;
 use crate::upstream::Upstream;
@@ -513,12 +513,16 @@ impl Links {
         look_ups: &mut LookUps<'_, impl Processes>,
         reports: &mut Reports<'_, impl Write>,
     ) {
-        let Some(found) = look_ups.take() else {
-            return;
-        };
-        if self.is_ending {
-            return;
+        let found = look_ups.take();
+        if let Some(found) = &found
+            && !self.is_ending
+        {
+            self.take_found(found, reports);
         }
+    }
+
+    /// Hands the result of a look-up to the links to its host.
+    fn take_found(&mut self, found: &Found, reports: &mut Reports<'_, impl Write>) {
         for (i, upstream) in self.upstreams.iter_mut().enumerate() {
             if upstream.host_name() == found.name.as_str() {
                 self.rounds.ready.insert(Token(i));

@@ -4,7 +4,7 @@ ghost use Rattle.std.specs.Prelude.{◌≡◌, ◌==◌, ◌≤◌, ◌-◌, ◌
 
 /// The pause between two attempts, in seconds. The first is one second, and each further one is twice as long as the
 /// one before, up to a bound.
-#[derive(Clone, Copy, Debug, PartialEq, Eq)]
+#[derive(Clone, Copy)]
 pub struct Pause {
     /// The length of the last pause: 0 if there was none.
     length: u8,

@@ -77,7 +77,7 @@ impl ConfFile for Descriptions {
 
 /// Why a file gives no configuration. It is displayed as in `ups.conf: cannot read` or `ups.conf:2: Repeated`. What
 /// more there is to say is a remark, unless memory for it cannot be allocated.
-#[derive(Debug, Drop)]
+#[derive(Drop)]
 pub enum FileFault<'a> {
     /// The file doesn't exist, isn't a plain file, may not be read, or a read failed. The remark has its path, and why.
     CannotRead(&'a str, Option<String>),

@@ -18,7 +18,7 @@ const OTHERS_READ: u32 = 0o004;
 const PERMISSIONS: u32 = 0o777;
 
 /// A file with passwords, by its name in its folder. Its mode lets everybody read it.
-#[derive(Clone, Copy, Debug, PartialEq, Eq)]
+#[derive(Clone, Copy)]
 pub struct Readable {
     file: &'static str,
     mode: u32,

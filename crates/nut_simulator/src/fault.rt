@@ -4,7 +4,7 @@ use nut_program::{FileFault, OwnFault};
 use std::fmt;
 
 /// The faults that only nutsim has.
-#[derive(Debug, Drop)]
+#[derive(Drop)]
 pub enum NutsimFault<'a> {
     /// A configuration file, of the server or of a monitor, gives no configuration.
     File(FileFault<'a>),

@@ -24,7 +24,7 @@ const LENGTH: usize = 21;
 const MODE: u32 = 0o600;
 
 /// What is found under the flag's name.
-#[derive(Clone, Copy, Debug, PartialEq, Eq)]
+#[derive(Clone, Copy, PartialEq, Eq)]
 pub enum FlagState {
     /// Nothing has its name.
     Absent,
