@@ -7,6 +7,7 @@ If a minute or more has to pass, upsd runs with a faster clock (tests/support/ha
 line is 'N passed, M failed'."""
 
 import contextlib
+import errno
 import functools
 import os
 import resource
@@ -356,6 +357,11 @@ class Tests:
             for _ in range(2):
                 done = subprocess.run(second, capture_output=True, timeout=60)
                 expect((done.returncode, done.stdout, done.stderr), (1, b"", in_use), "a second driver")
+            # one that can't find out whether a driver listens there, for lack of descriptors, leaves the socket alone
+            few = (6, resource.getrlimit(resource.RLIMIT_NOFILE)[1])
+            done = subprocess.run(second, capture_output=True, timeout=60, preexec_fn=lambda: resource.setrlimit(resource.RLIMIT_NOFILE, few))
+            unknown = f"dummy-ups: cannot listen on {path}: {os.strerror(errno.EMFILE)} (os error {errno.EMFILE})\n".encode()
+            expect((done.returncode, done.stdout, done.stderr), (1, b"", unknown), "a second driver without descriptors")
             room.upsd()
             room.until(STATUS, ONLINE)
             first.kill()

@@ -12,10 +12,18 @@ use std::{fs, io};
 const MODE: u32 = 0o660;
 
 /// Whether a process listens at a socket. If its queue of waiting connections is full, the answer comes at once, too.
-pub fn has_listener(net: &impl Net, socket: &str) -> bool {
+///
+/// # Errors
+///
+/// That of the system if it can't tell: the socket may be another user's, or this process has no descriptor left.
+pub fn has_listener(net: &impl Net, socket: &str) -> io::Result<bool> {
     match UnixStream::connect(net, socket) {
-        Ok(_) => true,
-        Err(error) => error.kind() == ErrorKind::WouldBlock,
+        Ok(_) => Ok(true),
+        Err(error) => match error.kind() {
+            ErrorKind::WouldBlock => Ok(true),
+            ErrorKind::NotFound | ErrorKind::ConnectionRefused => Ok(false),
+            _ => Err(error),
+        },
     }
 }
 

@@ -188,10 +188,12 @@ fn listen<'a>(
     rt: &(impl Files + Net),
     socket: &'a str,
 ) -> Result<UnixListener, Failure<DummyUpsFault<'a>>> {
-    if has_listener(rt, socket) {
-        return Err(Failure::Own(DummyUpsFault::InUse(socket)));
-    }
-    match listen_at(rt, socket) {
+    let listener = match has_listener(rt, socket) {
+        Ok(true) => return Err(Failure::Own(DummyUpsFault::InUse(socket))),
+        Ok(false) => listen_at(rt, socket),
+        Err(error) => Err(error),
+    };
+    match listener {
         Ok(listener) => Ok(listener),
         Err(error) => Err(Failure::Own(DummyUpsFault::Listen(socket, error))),
     }
