@@ -11,6 +11,7 @@ import errno
 import functools
 import itertools
 import os
+import shlex
 import signal
 import socket
 import stat
@@ -18,7 +19,7 @@ import subprocess
 import sys
 import tempfile
 
-from tests.support.harness import cannot_read, ensure, expect, Shimmed
+from tests.support.harness import apart, cannot_read, ensure, expect, ROOT, Shimmed
 from tests.support.monitored import FLAG, ON_BATTERY, QUICK, SHUTDOWN, Upstream, Watch, children_of, play, put_program
 from tests.support.room import ONLINE, STATUS, Room, heed_modes, state_of, until
 
@@ -27,6 +28,7 @@ HALTED = 'SHUTDOWNCMD "touch FOLDER/halted"\n'
 # how much a command writes to each of its streams, which is more than a pipe holds
 MUCH = 200000
 LOUD = f'SHUTDOWNCMD "head -c {MUCH} /dev/zero; head -c {MUCH} /dev/zero >&2; touch FOLDER/halted"\n'
+ECHOED = 'SHUTDOWNCMD "echo a; echo b >&2; touch FOLDER/halted"\n'
 FOREIGN = "is not a flag of upsmon, and is left as it is"
 NO_SHELL = "upsmon: warning: the shell that is to run SHUTDOWNCMD cannot be started yet: "
 NOT_YET = "upsmon: SHUTDOWNCMD cannot be started yet: "
@@ -94,11 +96,12 @@ class Tests(Shimmed):
         return Watch(self.upsmon, self.folder, conf, *words, **options)
 
     @contextlib.contextmanager
-    def halting(self, conf, *words, delay=0, **options):
-        """Starts an upsmon that halts soon, as the primary of a UPS with a forced shutdown."""
+    def halting(self, conf, *words, delay=0, program=None, **options):
+        """Starts an upsmon, or this program, that halts soon, as the primary of a UPS with a forced shutdown."""
         with Upstream(status=b"FSD") as server:
             times = f"POLLFREQ 1\nHOSTSYNC 1\nFINALDELAY {delay}\n"
-            with self.watch(f"MONITOR {server.target} 1 mon m1 primary\n{times}{conf}", *words, **options) as watch:
+            conf = f"MONITOR {server.target} 1 mon m1 primary\n{times}{conf}"
+            with Watch(program or self.upsmon, self.folder, conf, *words, **options) as watch:
                 yield server, watch
 
     def key(self, folder, conf=None, **options):
@@ -435,6 +438,28 @@ class Tests(Shimmed):
             done = subprocess.run(words, stdin=subprocess.DEVNULL, capture_output=True, timeout=60, env=env)
             warning = f"upsmon: warning: UPS {target}: battery.runtime.low is 1, and this machine stops"
             expect(fronts(done.stderr.decode().splitlines(), [warning]), [warning], "what is told of the UPS")
+
+    def test_halt_without_dev_null(self):
+        """SHUTDOWNCMD runs although /dev/null isn't there, with streams that take nothing and with others."""
+        command = [*apart("--mount", "sh", "-c", 'mount -t tmpfs tmpfs /dev && exec "$0" "$@"'), self.upsmon]
+        with FullPipe() as out, FullPipe() as err:
+            for streams in ({}, {"stdout": out.writer}, {"stderr": err.writer}, {"stdout": out.writer, "stderr": err.writer}):
+                with self.halting(ECHOED, "-q", program=self.wrapped("without-null", command), **streams) as (_, watch):
+                    expect((watch.status(), watch.read("halted")), (0, b""), f"the halt with {list(streams)} full")
+
+    def test_commands_that_use_the_terminal(self):
+        """They stop neither themselves nor upsmon, which runs in the background of that terminal."""
+        command = [sys.executable, os.path.join(ROOT, "tests/support/on_terminal.py"), self.upsmon]
+        conf = 'NOTIFYFLAG FSD EXEC\nNOTIFYCMD "stty -echo < /dev/tty; touch FOLDER/noted; true"\n'
+        conf += 'SHUTDOWNCMD "stty echo < /dev/tty && touch FOLDER/halted"\n'
+        with self.halting(conf, "-q", program=self.wrapped("on-terminal", command)) as (_, watch):
+            expect((watch.status(), watch.read("halted"), watch.read("noted")), (0, b"", b""), "the halt")
+
+    def wrapped(self, name, command):
+        """Returns the path of a program that runs this command with its own arguments behind."""
+        path = os.path.join(self.folder, name)
+        put_program(path, f'exec {shlex.join(command)} "$@"')
+        return path
 
     def test_shell_that_was_ended(self):
         with self.halting(HALTED, "-q", delay=3) as (_, watch):

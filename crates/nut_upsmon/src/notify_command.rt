@@ -109,10 +109,11 @@ pub fn script_in(alloc: Global, config: &UpsmonConf) -> Result<Option<String>, A
 }
 
 /// Returns the command with the text of a notice as its first argument. The shell inserts the text itself, so that no
-/// byte of it is read as a command.
+/// byte of it is read as a command. As SHUTDOWNCMD, the command ignores the signals that would stop it, and upsmon with
+/// it, if it uses the terminal.
 fn script_of(alloc: Global, command: &[u8]) -> Result<String, AllocError> {
     let command = text_of(command);
-    format!(in alloc; "{command} \"$1\"")
+    format!(in alloc; "trap '' TTIN TTOU; {command} \"$1\"")
 }
 
 /// Starts a shell that runs the script with this call.
