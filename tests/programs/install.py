@@ -438,6 +438,17 @@ class Tests:
         note = "note: a MONITOR line has SU700, and ups.conf has su700: the case of letters counts; see from-nut(7)\n"
         expect(self.check(folder), (0, note), "what it notes")
 
+    def test_check_tells_a_port_behind_a_colon(self):
+        """Such a line is taken until the server starts, which doesn't know that address."""
+        lines = 'LISTEN 127.0.0.1:24938\nLISTEN ::1\n LISTEN "rack:24" # its port\nLISTEN ::1 24\nLISTEN rack\n'
+        folder = self.nuts_files("colon", upsd_conf=lines)
+        told = f"{folder}/upsd.conf:1: BadName: LISTEN 127.0.0.1:24938\n    change it to: LISTEN 127.0.0.1 24938\n"
+        told += f'{folder}/upsd.conf:3: BadName: LISTEN "rack:24" # its port\n    change it to: LISTEN "rack" 24 # its port\n'
+        expect(self.check(folder), (1, told), "what it tells")
+        to = os.path.join(self.folder, "colon-changed")
+        expect(self.check("-w", to, folder), (0, told), "mulgefa-check -w")
+        expect(self.check(to), (0, ""), "mulgefa-check of what it wrote")
+
     def test_check_tells_every_line(self):
         folder = self.nuts_files(
             "told",
