@@ -438,6 +438,28 @@ class Tests:
         note = "note: a MONITOR line has SU700, and ups.conf has su700: the case of letters counts; see from-nut(7)\n"
         expect(self.check(folder), (0, note), "what it notes")
 
+    def test_check_shows_no_passwords(self):
+        """Neither those of lines that are taken nor those of others."""
+        users = "[mon]\n Password = secret1\n pasword = secret2\n password secret3\n upsmon master\n"
+        monitors = 'Monitor a@h 1 mon secret4 master\nMONTOR a@h 1 mon secret5 primary\nMONITOR a@h 1 mon "secret 6"\nCERTIDENT a "secret7"\n'
+        folder = self.nuts_files("secrets", upsd_users=users, upsd_conf='certident "a b" "secret8"\n', upsmon_conf=monitors)
+        status, said = self.check(folder)
+        expect((status, "secret" in said.replace(folder, "")), (1, False), said)
+        shown = [line.split(": ", 2)[2] for line in said.splitlines() if line.startswith(folder)]
+        ensure({"Password = ..", "pasword = ..", "password ..", "upsmon master", "certident .."} <= set(shown), f"what it shows: {shown}")
+
+    def test_check_without_what_it_reads(self):
+        folder = self.nuts_files("unreadable")
+        os.remove(os.path.join(folder, "upsd.conf"))
+        os.mkdir(os.path.join(folder, "upsd.conf"))
+        expect(self.check(folder), (2, f"mulgefa-check: {folder}/upsd.conf: cannot read\n"), "a file that can't be read")
+        alone = os.path.join(self.folder, "alone", "bin")
+        os.makedirs(alone)
+        shutil.copy(os.path.join(ROOT, "packaging/mulgefa-check"), alone)
+        done = subprocess.run([os.path.join(alone, "mulgefa-check"), self.nuts_files("for-none")], stdin=subprocess.DEVNULL, capture_output=True, timeout=60)
+        said = b"mulgefa-check: no program is there that reads these files\n"
+        expect((done.returncode, done.stdout, done.stderr), (2, b"", said), "no program")
+
     def test_check_tells_a_port_behind_a_colon(self):
         """Such a line is taken until the server starts, which doesn't know that address."""
         lines = 'LISTEN 127.0.0.1:24938\nLISTEN ::1\n LISTEN "rack:24" # its port\nLISTEN ::1 24\nLISTEN rack\n'
