@@ -68,7 +68,7 @@ impl<'a> OwnFault for DummyUpsFault<'a> {
 ///
 /// `words` are those of the command line `dummy-ups FILE SOCKET`, the program's name first. The script in FILE is told,
 /// from now on, to one server at a time, which connects at SOCKET; a file of that name is removed if no other driver
-/// listens at it. The end of its name says what kind a script is: `.dev` is told once, `.seq` round after round. The
+/// listens at it. The end of FILE says what kind the script is: `.dev` is told once, `.seq` round after round. The
 /// program ends if waiting for the socket or reading the clock fails; then `dummy-ups: I/O failed` is written, and the
 /// status is 1.
 ///

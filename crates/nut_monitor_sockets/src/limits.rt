@@ -7,7 +7,7 @@ use nut_monitor::Monitor;
 pub struct Limits {
     /// How many seconds a query may be outstanding.
     pub answer: u8,
-    /// The most seconds between two calls of a server that closes its connections.
+    /// The most seconds between two calls of a server whose links end before it serves.
     pub pause: u8,
 }
 

@@ -302,8 +302,7 @@ impl Links {
         }
     }
 
-    /// Whether missed seconds may be told at once: no server is about to say what they would be judged by, or nothing
-    /// is judged any more.
+    /// Whether missed seconds may be told at once: no server still has time to answer, or a shutdown has begun.
     fn may_catch_up(&self) -> bool {
         let limits = self.limits;
         self.is_ending || !self.upstreams.iter().any(|it| it.holds_clock(limits))
@@ -584,8 +583,8 @@ fn is_after_opening(query: Query) -> bool {
     }
 }
 
-/// Reports that a server refused a query. A refusal that lasts is told even if reports aren't wanted: as long as the link
-/// lasts, this UPS isn't watched as upsmon.conf says.
+/// Reports that a server refused a query. A refusal of another query than for the status is told even if reports aren't
+/// wanted: this UPS isn't watched as upsmon.conf says.
 fn tell_refusal(name: &str, query: Query, reply: &Reply, reports: &mut Reports<'_, impl Write>) {
     let refused = Report::Refused(name, title(query), text_of(reply.error()));
     if comes_and_goes(query) {

@@ -12,8 +12,8 @@ pub const ADDRESSES_MAX: usize = 16;
 /// How many seconds a look-up may take.
 const PATIENCE: u8 = 5;
 
-/// The greatest number of bytes that are read of what a look-up prints. An address has at most 80 bytes there, in three
-/// lines.
+/// The greatest number of bytes that are read of what a look-up prints. An address has less than 150 bytes there, in
+/// three lines, without the host's name, which only the first line of all has.
 const OUTPUT_MAX: usize = 4096;
 
 /// Why there are no addresses if the look-up can't begin, or the shell finds no `getent`.

@@ -38,9 +38,10 @@ use std::time::Clock;
 /// each only when no server is about to answer: so no server is judged by what it couldn't say. A shutdown that begins
 /// then counts its own seconds.
 ///
-/// Notices go to a herald, which is also told that a second has passed: once of those that follow at once. The world ends
-/// when the herald says so, and may then begin anew for another monitor. Only `next` returns a fault, that of the wait for
-/// the sockets or of the clock: a failure of one link concerns no other. The world keeps no record.
+/// Notices go to a herald, which is also told that a second has passed: once for several missed seconds that follow one
+/// another at once. The world ends when the herald says so, and may then begin anew for another monitor. Only `next`
+/// returns a fault, that of the wait for the sockets or of the clock: a failure of one link concerns no other. The
+/// world keeps no record.
 #[derive(Drop)]
 pub struct MioMonWorld<'r, 'e, R: Processes, H, E> {
     links: Links,
@@ -81,7 +82,7 @@ impl<'r, 'e, R: Net + Clock + Processes, H: Herald, E: Write> MioMonWorld<'r, 'e
     }
 
     /// Begins for a monitor with these links: their servers are called, and all earlier links are closed. The addresses
-    /// of hosts stay known, and look-ups that are under way go on. It needs neither memory nor a descriptor.
+    /// of hosts stay known, and look-ups that are under way go on. A lack of memory or descriptors is no error here.
     ///
     /// # Errors
     ///

@@ -1,4 +1,4 @@
-//! Refusals of a server, each of which is reported once.
+//! Refusals of a server, each of which is reported once until a link ends on which the server served.
 
 use crate::inquiry::{ErrorName, Reply};
 use nut_monitor::Query;
@@ -27,8 +27,8 @@ impl Refusals {
         self.status.is_some()
     }
 
-    /// Notes the answer to a query, and returns whether it is to be reported. Of each query the first refusal is; of
-    /// the status, each refusal that differs from the answer before.
+    /// Notes the answer to a query, and returns whether it is to be reported. The first refusal of each query is,
+    /// except of NUMLOGINS; of the status, each refusal that differs from the answer before.
     pub fn note(&mut self, query: Query, reply: &Reply) -> bool {
         match query {
             Query::Status => self.note_status(reply),
@@ -72,8 +72,8 @@ fn copy_of(error: &ErrorName) -> ErrorName {
     copy
 }
 
-/// Whether a refusal of this query may end while the link lasts. That of the status may, and if it stays, a notice tells
-/// of it. The others stay: the server doesn't know the user or the UPS, or doesn't let this user do it.
+/// Whether reports of a refusal of this query are left out with `-q`. Those of the status are: if it stays refused, a
+/// notice tells of it. The others say that the server doesn't know the user or the UPS, or doesn't let this user do it.
 pub fn comes_and_goes(query: Query) -> bool {
     match query {
         Query::Status | Query::NumLogins => true,

@@ -48,7 +48,7 @@ pub struct Upstream {
     refusals: Refusals,
     /// How many seconds the server has owed a status.
     owed: u8,
-    /// Whether a call has failed since the server last served.
+    /// Whether it was noted, since the server last served, that there is no server.
     is_missed: bool,
 }
 

@@ -15,6 +15,10 @@ const SHELL: &str = "/bin/sh";
 ///
 /// A program that the script names is looked for by the shell. So if a folder of PATH doesn't answer, the shell waits, and
 /// not the process that starts the command.
+///
+/// # Errors
+///
+/// [`AllocError`] if memory cannot be allocated.
 pub fn shell_command<A: Allocator + Clone>(
     alloc: A,
     script: &str,

@@ -87,7 +87,8 @@ impl Door {
     }
 }
 
-/// Whether an accept failed because of the client that waited, so that the next one may be accepted at once.
+/// Whether an accept failed for a reason that concerns only the client that waited, or passes, so that another may be
+/// tried at once.
 pub fn concerns_one(error: &io::Error) -> bool {
     matches!(
         error.kind(),

@@ -423,7 +423,7 @@ impl Sockets {
 
     /// Begins a second: silent clients, the reloader and all drivers are to be looked at. If more than one second and
     /// more than a third of MAXAGE passed at once, the drivers are sent PING now, and clients wait until they have
-    /// answered.
+    /// answered, two seconds at most.
     fn begin_second(
         &mut self,
         server: &Server,

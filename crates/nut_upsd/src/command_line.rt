@@ -18,6 +18,10 @@ pub fn matches_of<'a, S: AsStr>(
 }
 
 /// Returns the command line of `upsd --stdio`.
+///
+/// # Errors
+///
+/// [`AllocError`] if memory cannot be allocated.
 pub fn stdio_command<'a>(alloc: Global) -> Result<Command<'a>, AllocError> {
     let args = with(Ok(Vec::new(alloc)), Ok(stdio(alloc).required(true)));
     let args = with(args, conf(alloc));
@@ -25,6 +29,10 @@ pub fn stdio_command<'a>(alloc: Global) -> Result<Command<'a>, AllocError> {
 }
 
 /// Returns the command line of upsd: `upsd --stdio`, `upsd --conf DIR -s SOCKDIR` and `upsd --check`.
+///
+/// # Errors
+///
+/// [`AllocError`] if memory cannot be allocated.
 pub fn upsd_command<'a>(alloc: Global) -> Result<Command<'a>, AllocError> {
     let args = with(Ok(Vec::new(alloc)), conf(alloc));
     let args = with(args, sockets(alloc));

@@ -73,6 +73,10 @@ fn put<T: Drop>(
 }
 
 /// Reads the files of `--conf`, or without it the UPSes of `--ups`.
+///
+/// # Errors
+///
+/// The first fault of the files or of `--ups`, or a lack of memory.
 pub fn read_options(
     files: &impl Files,
     alloc: Global,

@@ -183,7 +183,8 @@ where
     }
 }
 
-/// Puts the halt of another configuration in the place of the former one, and gives that back in `halt`.
+/// Puts the halt of another configuration in the place of the former one, and gives that back in `halt`. If it names
+/// another POWERDOWNFLAG, one that an earlier shutdown left there is removed.
 fn exchange<'r, R>(
     kept: &mut Halt<'r, 'r, R>,
     halt: &mut Halt<'r, 'r, R>,

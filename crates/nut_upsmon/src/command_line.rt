@@ -5,6 +5,10 @@ use nut_program::{check_option, quiet_option};
 use std::alloc::{AllocError, Global};
 
 /// Returns the command line of upsmon: to watch, to check its file, and to look for POWERDOWNFLAG.
+///
+/// # Errors
+///
+/// [`AllocError`] if memory cannot be allocated.
 pub fn upsmon_command<'a>(alloc: Global) -> Result<Command<'a>, AllocError> {
     let kill_power = kill_power(alloc)?;
     let command = Command::new(alloc, "upsmon")

@@ -29,6 +29,10 @@ pub struct Crier<'a, R: Processes> {
 
 impl<'a, R: Processes> Crier<'a, R> {
     /// Makes a crier that prints on `out`. It allocates room for the longest text.
+    ///
+    /// # Errors
+    ///
+    /// [`AllocError`] if memory cannot be allocated.
     pub fn new(
         processes: &'a R,
         alloc: Global,
@@ -84,8 +88,8 @@ impl<'a, R: Processes> Crier<'a, R> {
         }
     }
 
-    /// Receives a notice of this monitor. Told on `err` are a run that can't be started, and whom a shutdown doesn't wait
-    /// for.
+    /// Receives a notice of this monitor. Told on `err` are a run that can't be started, and at the notice of the
+    /// shutdown how many other clients are still logged in.
     pub fn announce(&mut self, monitor: &Monitor, notice: Notice, err: &mut ErrorLines) {
         if notice.line.is_none() {
             // Only the notice of the shutdown is about no line. A machine that stops needs no warning of LB.

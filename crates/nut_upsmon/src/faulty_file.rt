@@ -103,6 +103,10 @@ fn flag_of_file(alloc: Global, file: &[u8]) -> Result<Option<PowerDownFlag>, All
 }
 
 /// Returns the flag that a configuration names, if it names one.
+///
+/// # Errors
+///
+/// [`AllocError`] if memory cannot be allocated.
 pub fn flag_of(alloc: Global, config: UpsmonConf) -> Result<Option<PowerDownFlag>, AllocError> {
     let flag = PowerDownFlag::of(alloc, &config);
     // dropped by a call, which keeps the proof of this function short

@@ -71,6 +71,10 @@ pub struct Halt<'r, 'h, R: Processes> {
 
 impl<'r, 'h, R: Files + Processes + Clock> Halt<'r, 'h, R> {
     /// Makes the halt that upsmon.conf sets, without the steps that it doesn't set.
+    ///
+    /// # Errors
+    ///
+    /// [`AllocError`] if memory cannot be allocated.
     pub fn prepare(
         rt: &'r R,
         alloc: Global,
@@ -87,6 +91,10 @@ impl<'r, 'h, R: Files + Processes + Clock> Halt<'r, 'h, R> {
     }
 
     /// Makes the halt that another configuration sets, with the memory of the same heap. This one stays as it is.
+    ///
+    /// # Errors
+    ///
+    /// [`AllocError`] if memory cannot be allocated.
     pub fn prepare_other(&self, config: &UpsmonConf) -> Result<Halt<'r, 'h, R>, AllocError> {
         Halt::prepare(self.rt, self.alloc, self.heap, config)
     }

@@ -62,8 +62,8 @@ struct Ups {
 }
 
 /// Asks for `battery.runtime.low` of each UPS that feeds this machine, and warns if a UPS reports LB later than this
-/// machine needs to stop. Each question is a process of its own, `upsc UPS battery.runtime.low`, which is killed after
-/// five seconds: nobody waits for a server.
+/// machine needs to stop. Each question is a process of its own, `upsc UPS battery.runtime.low`, which is killed once
+/// it has taken more than five seconds: nobody waits for a server.
 #[derive(Drop)]
 pub struct LowRuntimes<'r, R: Processes> {
     alloc: Global,
@@ -80,6 +80,10 @@ pub struct LowRuntimes<'r, R: Processes> {
 
 impl<'r, R: Processes> LowRuntimes<'r, R> {
     /// Returns the questions that a monitor with this configuration asks while it watches.
+    ///
+    /// # Errors
+    ///
+    /// [`AllocError`] if memory cannot be allocated.
     pub fn watched(
         processes: &'r R,
         alloc: Global,
@@ -141,7 +145,7 @@ impl<'r, R: Processes> LowRuntimes<'r, R> {
         self.questions.end();
     }
 
-    /// Reports the answer to a question that has ended.
+    /// Takes the answer to a question that has ended.
     fn hear(&mut self, mut question: Question<R::Started, Ups>, err: &mut ErrorLines) {
         let answer = answer_of(&mut question);
         self.heed(question.about, answer, err);
@@ -204,7 +208,8 @@ impl<'r, R: Processes> LowRuntimes<'r, R> {
     }
 }
 
-/// Asks for each UPS of a configuration once, waits for the answers, at most ten seconds in all, and tells them.
+/// Asks once for each UPS that feeds the machine of a configuration, waits for the answers, at most ten seconds in all,
+/// and warns of each UPS that says LB too late or isn't known.
 ///
 /// # Errors
 ///
@@ -220,7 +225,7 @@ pub fn check_low_runtimes<R: Processes + Clock>(
     Ok(())
 }
 
-/// Asks for each of these, waits for the answers, and tells them.
+/// Asks for each of these, waits for the answers, and warns by them.
 fn ask_all<R: Processes>(
     clock: &impl Clock,
     runtimes: &mut LowRuntimes<'_, R>,

@@ -37,20 +37,21 @@ const TURN: Turn = Turn::Second;
 
 /// Runs upsmon. Returns its exit status.
 ///
-/// `words` are those of the command line `upsmon [--conf DIR] [-q] [--check]` or `upsmon [--conf DIR] -K`, the program's
-/// name first. It watches the UPSes of upsmon.conf until the machine has to be halted. The file is in the folder DIR, or
-/// else in that of the variable NUT_CONFPATH, or in `/etc/nut`. If a server isn't linked, upsmon tries to connect again
-/// each second. A notice is printed on `out` as one line if its flags have SYSLOG or WALL, and NOTIFYCMD is run with it
-/// if they have EXEC; with IGNORE neither is done. At the halt all links are closed, POWERDOWNFLAG is set if a MONITOR
-/// line is primary, and then SHUTDOWNCMD is run. All that this takes is prepared before anything is watched. The status
-/// is 0 if SHUTDOWNCMD ended with 0 or there is none, else 1. A POWERDOWNFLAG that an earlier shutdown left is removed
-/// at the start.
+/// `words` are those of the command line `upsmon [--conf DIR] [-q] [--check]` or `upsmon [--conf DIR] -K`, the
+/// program's name first. It watches the UPSes of upsmon.conf until the machine has to be halted. The file is in the
+/// folder DIR, or else in that of the variable NUT_CONFPATH, or in `/etc/nut`. If a server isn't linked, upsmon tries
+/// to connect again each second, or after longer pauses if links end before the server serves. A notice is printed on
+/// `out` as one line if its flags have SYSLOG or WALL, and NOTIFYCMD is run with it if they have EXEC; with IGNORE
+/// neither is done. At the halt all links are closed, POWERDOWNFLAG is set if a MONITOR line is primary, and then
+/// SHUTDOWNCMD is run. All that this takes is prepared before anything is watched, except a shell that can't be started
+/// yet, which is told. The status is 0 if SHUTDOWNCMD ended with 0 or there is none, else 1. A POWERDOWNFLAG that an
+/// earlier shutdown left is removed at the start, or when a reload names it.
 ///
-/// With `-K` nothing is watched: the status is 0 if POWERDOWNFLAG is set, else 1. If the file can be read, but a line has
-/// a fault, that is written to `err`, and the last line POWERDOWNFLAG without a fault counts. With `--check` nothing is
-/// watched either: upsmon reads upsmon.conf, writes what a start writes of it, prints on `out` how soon this machine
-/// stops, and asks the servers whether their UPSes report LB early enough for that. The status is 0 if the file has no
-/// fault.
+/// With `-K` nothing is watched: the status is 0 if POWERDOWNFLAG is set, else 1. If the file can be read, but a line
+/// has a fault, that is written to `err`, and the last line POWERDOWNFLAG without a fault counts. With `--check`
+/// nothing is watched either: upsmon reads upsmon.conf, writes what it should set otherwise, prints on `out` how soon
+/// this machine stops, and asks the servers whether their UPSes report LB early enough for that. The status is 0 if the
+/// file has no fault.
 ///
 /// When somebody makes the file `reload` in the folder, upsmon reads upsmon.conf again. If the file has a fault, the halt
 /// that it sets can't be prepared, or a shutdown has begun, upsmon says so on `err` and watches as before. A UPS that
@@ -203,7 +204,7 @@ where
     check_folder(rt, alloc, folder.as_str(), out, told)
 }
 
-/// Reads upsmon.conf in this folder, says of it what a start does, and checks it.
+/// Reads upsmon.conf in this folder, writes what it should set otherwise, and checks it.
 fn check_folder<R>(
     rt: &R,
     alloc: Global,

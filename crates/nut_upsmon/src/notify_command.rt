@@ -50,6 +50,10 @@ pub struct NotifyCommand<'r, R: Processes> {
 
 impl<'r, R: Processes> NotifyCommand<'r, R> {
     /// Makes the command that upsmon.conf sets. It allocates room for the runs.
+    ///
+    /// # Errors
+    ///
+    /// [`AllocError`] if memory cannot be allocated.
     pub fn new(
         processes: &'r R,
         alloc: Global,
@@ -101,6 +105,10 @@ impl<'r, R: Processes> NotifyCommand<'r, R> {
 }
 
 /// Returns the script of the command that upsmon.conf sets, if it sets one.
+///
+/// # Errors
+///
+/// [`AllocError`] if memory cannot be allocated.
 pub fn script_in(alloc: Global, config: &UpsmonConf) -> Result<Option<String>, AllocError> {
     match &config.notify_cmd {
         Some(command) => Ok(Some(script_of(alloc, command.as_bytes())?)),
@@ -108,7 +116,7 @@ pub fn script_in(alloc: Global, config: &UpsmonConf) -> Result<Option<String>, A
     }
 }
 
-/// Returns the command with the text of a notice as its first argument. The shell inserts the text itself, so that no
+/// Returns the command with the text of a notice as its last argument. The shell inserts the text itself, so that no
 /// byte of it is read as a command. As SHUTDOWNCMD, the command ignores the signals that would stop it, and upsmon with
 /// it, if it uses the terminal.
 fn script_of(alloc: Global, command: &[u8]) -> Result<String, AllocError> {

@@ -67,6 +67,10 @@ pub struct PowerDownFlag {
 
 impl PowerDownFlag {
     /// Returns the flag that upsmon.conf names, if it names one.
+    ///
+    /// # Errors
+    ///
+    /// [`AllocError`] if memory cannot be allocated.
     pub fn of(alloc: Global, config: &UpsmonConf) -> Result<Option<PowerDownFlag>, AllocError> {
         let Some(path) = &config.power_down_flag else {
             return Ok(None);
@@ -126,13 +130,13 @@ impl PowerDownFlag {
         Ok(found)
     }
 
-    /// Writes the file: a new one beside it, whose name ends in `.new`, replaces it once it is complete. Anything of the
+    /// Writes the file: a new one beside it, whose name ends in `.new`, replaces it once it is complete. A file of the
     /// new one's name is removed first. It allocates nothing, and doesn't wait until the file is on the disk.
     ///
     /// # Errors
     ///
-    /// `Foreign` if something else has its name, `NotWritten` if it cannot be written. What was there is then
-    /// unchanged.
+    /// `Foreign` if something else has its name, `NotWritten` if it cannot be written, or what is there cannot be found
+    /// out. What was there is then unchanged.
     pub fn set(&self, files: &impl Files) -> Result<(), FlagFault> {
         if self.state(files)? == FlagState::Foreign {
             return Err(FlagFault::Foreign);

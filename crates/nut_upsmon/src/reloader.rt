@@ -63,7 +63,8 @@ pub struct Reloader {
 }
 
 impl Reloader {
-    /// Returns the reloader of the folder of a file. It reports nothing but failures if it is to be quiet.
+    /// Returns the reloader of the folder of a file. If it is to be quiet, it says only what should be set otherwise,
+    /// and why nothing is reloaded.
     pub fn new(alloc: Global, folder: String, file: ReloadFile, is_quiet: bool) -> Reloader {
         Reloader {
             alloc,
@@ -80,7 +81,7 @@ impl Reloader {
         self.folder.as_str()
     }
 
-    /// Whether nothing but failures is reported.
+    /// Whether it is to be quiet.
     pub fn is_quiet(&self) -> bool {
         self.is_quiet
     }
@@ -90,8 +91,8 @@ impl Reloader {
         Reports::new("upsmon", err, !self.is_quiet)
     }
 
-    /// Reads upsmon.conf if that was asked for and it is upsmon's turn. Returns the configuration that this monitor is to
-    /// be replaced for now, if there is one. Why there is none though it was asked for is written to `err`.
+    /// Reads upsmon.conf if that was asked for and it is upsmon's turn. Returns the configuration to go on with, if
+    /// there is one now. Why there is none though it was asked for is written to `err`.
     pub fn second(
         &mut self,
         files: &impl Files,
@@ -122,7 +123,7 @@ impl Reloader {
         }
     }
 
-    /// Refuses what was asked for, or waits: a shutdown has begun.
+    /// Refuses the reload that was asked for or that waits, since a shutdown has begun.
     fn refuse(&mut self, is_asked: bool, err: &mut ErrorLines) {
         if self.waiting.take().is_some() || is_asked {
             let _ = writeln!(err, "upsmon: not reloaded: a shutdown has begun");

@@ -67,6 +67,10 @@ pub struct ShutdownCommand<'r, 'h, R: Processes> {
 
 impl<'r, 'h, R: Processes> ShutdownCommand<'r, 'h, R> {
     /// Makes the command with this text. No shell waits to run it yet.
+    ///
+    /// # Errors
+    ///
+    /// [`AllocError`] if memory cannot be allocated.
     pub fn new(
         processes: &'r R,
         heap: &'h LocalHeap,

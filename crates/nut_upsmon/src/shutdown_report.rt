@@ -17,7 +17,8 @@ pub fn tell_beginning(monitor: &Monitor, err: &mut ErrorLines) {
     }
 }
 
-/// Tells which other machines a primary doesn't wait for any more, as the notice of the shutdown is given.
+/// Tells, as the notice of the shutdown is given, how many other clients are still logged in to each UPS of which this
+/// machine is the primary, or that FSD wasn't accepted.
 pub fn tell_left(monitor: &Monitor, err: &mut ErrorLines) {
     for (i, line) in monitor.config().monitors.lines.iter().enumerate() {
         if line.role == Role::Primary
@@ -28,7 +29,7 @@ pub fn tell_left(monitor: &Monitor, err: &mut ErrorLines) {
     }
 }
 
-/// Tells which other machines of this UPS a primary doesn't wait for.
+/// Tells how many other clients are still logged in to this UPS, or that FSD wasn't accepted.
 fn tell_left_of(line: &Monitored, known: Known, err: &mut ErrorLines) {
     let name = text_of(&line.written);
     let others = known.logins.unwrap_or(0).saturating_sub(1);

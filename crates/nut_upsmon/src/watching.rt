@@ -59,11 +59,12 @@ impl From<HaltFault> for WatchFault {
 }
 
 /// Watches the UPSes of one configuration after the other over sockets, until the machine has to be halted, and halts
-/// it. Reports to the operator on `err` unless that is to be quiet.
+/// it. Reports to the operator on `err`, and if that is to be quiet, only refusals that no notice tells of.
 ///
 /// # Errors
 ///
-/// `Io` if no sockets are available, or waiting for them or reading the clock fails; `Halt` if the machine isn't halted.
+/// `Io` if memory or a poll isn't available, or waiting for the sockets or reading the clock fails; `Halt` if the
+/// machine isn't halted.
 pub fn watch_in_turn<'r, R, H, E>(
     rt: &'r R,
     alloc: Global,
