@@ -70,12 +70,12 @@ is_there() {
 # The caller's files are those that are under their names: a folder or a file takes its own once nothing more is to be done.
 first_configuration() (
     examples=$1
-    folder=$2
+    folder=${2%/}
     shift 2
     script=
     new=
     trap 'rm -rf ${script:+"$script"} ${new:+"$new"}' EXIT
-    trap 'exit 1' HUP INT TERM
+    trap 'exit 1' HUP INT PIPE TERM
     umask 077
     if [ ! -d "$folder" ]; then
         (umask 022 && install -d "$(dirname "$folder")")

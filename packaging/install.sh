@@ -12,6 +12,7 @@
 # programs) and PART (server or client, where only what belongs to that package is meant). Without a PROGRAM all those of
 # BIN are meant.
 set -eu
+unset CDPATH
 cd "$(dirname "$0")/.."
 . packaging/configure.sh
 
@@ -48,6 +49,10 @@ esac
 
 if [ $# -eq 0 ]; then
     set -- $(ls "$BIN")
+    if [ $# -eq 0 ]; then
+        echo "$0: $BIN: no programs are there" >&2
+        exit 1
+    fi
 fi
 
 # part_of TARGET: the package that a file belongs to, by its name. What both packages need is the client's, since the server's

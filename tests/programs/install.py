@@ -14,7 +14,7 @@ import subprocess
 import sys
 import tempfile
 
-from tests.support.harness import ensure, expect, Failed, Missing, needed, ROOT, run_tests
+from tests.support.harness import apart, ensure, expect, Failed, Missing, needed, ROOT, run_tests
 
 SERVERS = ("upsd", "upsmon")
 DRIVERS = ("dummy-ups",)
@@ -442,11 +442,14 @@ class Tests:
         """Neither those of lines that are taken nor those of others."""
         users = "[mon]\n Password = secret1\n pasword = secret2\n password secret3\n upsmon master\n"
         monitors = 'Monitor a@h 1 mon secret4 master\nMONTOR a@h 1 mon secret5 primary\nMONITOR a@h 1 mon "secret 6"\nCERTIDENT a "secret7"\n'
-        folder = self.nuts_files("secrets", upsd_users=users, upsd_conf='certident "a b" "secret8"\n', upsmon_conf=monitors)
+        monitors += "MONITOR a@h 1 mon \\\nsecret9 primary\nMONITOR a@h secretA primary\nMONITOR a@h mon secretB primary # secretC\n"
+        drivers = "[r]\n driver = snmp-ups\n community = secretD\n authPassword=secretE\n# \u00fc password = secretF\n"
+        folder = self.nuts_files("secrets", upsd_users=users, upsd_conf='certident "a b" "secret8"\n', upsmon_conf=monitors, ups_conf=drivers)
         status, said = self.check(folder)
         expect((status, "secret" in said.replace(folder, "")), (1, False), said)
         shown = [line.split(": ", 2)[2] for line in said.splitlines() if line.startswith(folder)]
-        ensure({"Password = ..", "pasword = ..", "password ..", "upsmon master", "certident .."} <= set(shown), f"what it shows: {shown}")
+        wanted = {"Password = ..", "pasword = ..", "password ..", "upsmon master", "certident ..", "community = ..", "authPassword = ..", "# .."}
+        expect(wanted - set(shown), set(), f"what it shows: {shown}")
 
     def test_check_without_what_it_reads(self):
         folder = self.nuts_files("unreadable")
@@ -459,6 +462,17 @@ class Tests:
         done = subprocess.run([os.path.join(alone, "mulgefa-check"), self.nuts_files("for-none")], stdin=subprocess.DEVNULL, capture_output=True, timeout=60)
         said = b"mulgefa-check: no program is there that reads these files\n"
         expect((done.returncode, done.stdout, done.stderr), (2, b"", said), "no program")
+
+    def test_check_in_a_full_folder(self):
+        """A copy that can't be written whole changes nothing."""
+        small = os.path.join(self.folder, "small")
+        os.mkdir(small)
+        mount = apart("--mount", "sh", "-c", 'mount -t tmpfs -o size=16k none "$0" && TMPDIR="$0" exec "$@"', small)
+        folder = self.nuts_files("full", ups_conf="maxretry = 3\n" + "# what is in the rack\n" * 300)
+        before = state_of(folder)
+        prefix = self.installed("checked-full")
+        done = subprocess.run([*mount, os.path.join(prefix, "sbin/mulgefa-check"), "-i", folder], stdin=subprocess.DEVNULL, capture_output=True, timeout=60)
+        expect((done.returncode, state_of(folder)), (2, before), done.stderr.decode())
 
     def test_check_tells_a_port_behind_a_colon(self):
         """Such a line is taken until the server starts, which doesn't know that address."""
@@ -495,17 +509,17 @@ class Tests:
             "    change it to: actions = FSD",
             "upsd.users:7: UnknownWord: upsmon slave # ours",
             "    change it to: upsmon secondary # ours",
-            "upsd.conf:1: Unreadable: #\u00a0a comment",
-            "    change it to: #??a comment",
+            "upsd.conf:1: Unreadable: # ..",
+            "    change it to: # ..",
             "upsd.conf:3: UnknownDirective: STATEPATH /run/nut",
             "    take it out: not taken: the option -s names the folder of the sockets, and the unit has it",
             "note: the driver usbhid-ups is NUT's, and isn't part of these packages; see from-nut(7)",
             "upsmon.conf:1: UnknownDirective: RUN_AS_USER nut",
             "    take it out: not taken: there is one process, which the unit runs as root",
-            "upsmon.conf:2: BadName: MONITOR apc 1 mon .. master",
-            "    change it to: MONITOR apc@localhost 1 mon .. primary",
-            "upsmon.conf:3: UnknownWord: MONITOR apc@rack 0 guest .. slave",
-            "    change it to: MONITOR apc@rack 0 guest .. secondary",
+            "upsmon.conf:2: BadName: MONITOR apc 1 .. master",
+            "    change it to: MONITOR apc@localhost 1 .. primary",
+            "upsmon.conf:3: UnknownWord: MONITOR apc@rack 0 .. slave",
+            "    change it to: MONITOR apc@rack 0 .. secondary",
             "note: upssched is NUT's, and isn't part of these packages; see from-nut(7)",
         ]
         status, said = self.check(folder)
