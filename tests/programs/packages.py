@@ -316,6 +316,17 @@ class Tests:
             expect(sorted(found), services, f"what is enabled with MODE={mode}")
             root.do("dpkg --purge mulgefa-server mulgefa-client")
 
+    def test_drop_in_of_nut(self):
+        """A unit that would heed what was made for NUT's isn't started, and the packages say so."""
+        root = self.fresh("drop-in")
+        os.mkdir(root.path("/etc/nut"))
+        root.write("/etc/nut/nut.conf", "MODE=netserver\n")
+        os.mkdir(root.path("/etc/systemd/system/nut-monitor.service.d"))
+        root.write("/etc/systemd/system/nut-monitor.service.d/override.conf", "[Service]\nExecStart=\nExecStart=/sbin/upsmon -F\n")
+        said = root.do("dpkg -i /root/mulgefa-*.deb")
+        told = "mulgefa-upsmon.service isn't started, since what was made for NUT's unit applies to it: /etc/systemd/system/nut-monitor.service.d"
+        expect([line for line in said.splitlines() if "isn't started" in line], [told], "what is told")
+
     def test_service_that_was_disabled(self):
         """A package that was removed and comes back enables nothing, and says so where nut.conf names its service."""
         root = self.fresh("again")
