@@ -87,11 +87,10 @@ libraries_of() {
 
 # filled FILE TARGET: a file of packaging/deb with what differs from package to package.
 filled() {
-    nuts=$(while read -r of name _; do [ "$of" != "$package" ] || echo "$name"; done < packaging/deb/names-of-units)
     sed -e "s|@PACKAGE@|$package|g" -e "s|@VERSION@|$version|g" -e "s|@ARCHITECTURE@|$architecture|g" \
         -e "s|@MAINTAINER@|$maintainer|g" -e "s|@LIBRARIES@|${libraries:+, $libraries}|g" -e "s|@SIZE@|${size-}|g" \
         -e "s|@UNIT@|$UNIT|g" -e "s|@UNITS@|$UNITS|g" -e "s|@PROGRAM@|$PROGRAM|g" -e "s|@FILES@|$FILES|g" \
-        -e "s|@MODES@|$MODES|g" -e "s|@NUTS@|$(echo $nuts)|g" -e "s|@DATE@|$(date -u -R -d "@$SOURCE_DATE_EPOCH")|g" "packaging/deb/$1" > "$2"
+        -e "s|@MODES@|$MODES|g" -e "s|@NUTS@|$nuts|g" -e "s|@DATE@|$(date -u -R -d "@$SOURCE_DATE_EPOCH")|g" "packaging/deb/$1" > "$2"
 }
 
 # make_deb PART PROGRAM..
@@ -105,8 +104,10 @@ make_deb() {
     install -d "$tree/lib/systemd"
     mv "$tree/usr/lib/systemd/system" "$tree/lib/systemd/system"
     rmdir "$tree/usr/lib/systemd"
+    nuts=
     while read -r of name unit; do
         if [ "$of" = "$package" ]; then
+            nuts="$nuts $name"
             ln -s "$unit" "$tree/lib/systemd/system/$name"
             sed -i '/^Conflicts=nut-\(server\|monitor\)\.service$/d' "$tree/lib/systemd/system/$unit"
         fi

@@ -484,6 +484,9 @@ class Tests:
         to = os.path.join(self.folder, "colon-changed")
         expect(self.check("-w", to, folder), (0, told), "mulgefa-check -w")
         expect(self.check(to), (0, ""), "mulgefa-check of what it wrote")
+        folder = self.nuts_files("colons", upsd_conf="LISTEN 2001:470::1 99999\n")
+        told = f"{folder}/upsd.conf:1: BadNumber: LISTEN 2001:470::1 99999\n    upsd.conf(5) says what may stand there\n"
+        expect(self.check(folder), (1, told), "an address that has colons itself")
 
     def test_check_tells_every_line(self):
         folder = self.nuts_files(
