@@ -18,7 +18,6 @@ use nut_monitor::{Monitor, Phase, Query};
 use nut_monitor_loop::Next;
 use nut_poll::{Heard, Ready, Reports, Rounds, SOCKETS_MAX, Seconds, text_of};
 use std::alloc::{AllocError, Global};
-use std::io::Write;
 use std::net::Net;
 use std::process::Processes;
 use std::time::{Clock, Duration};
@@ -68,13 +67,13 @@ impl NewLinks {
 
 /// What the links are watched with, which the program gives.
 #[derive(Drop)]
-pub struct Services<'r, 'e, R: Processes, E> {
+pub struct Services<'r, 'e, R: Processes> {
     /// The system.
     pub rt: &'r R,
     /// The look-ups of hosts.
     pub look_ups: LookUps<'r, R>,
     /// Where servers are reported.
-    pub reports: Reports<'e, E>,
+    pub reports: Reports<'e>,
 }
 
 /// The links to the servers of the MONITOR lines, by the numbers of the lines, and a clock. The token of a link is its
@@ -119,9 +118,9 @@ impl Links {
     /// # Errors
     ///
     /// The error of the clock. Nothing has changed then.
-    pub fn begin<R: Clock + Processes, E: Write>(
+    pub fn begin<R: Clock + Processes>(
         &mut self,
-        services: &mut Services<'_, '_, R, E>,
+        services: &mut Services<'_, '_, R>,
         links: NewLinks,
     ) -> io::Result<()> {
         match Seconds::start(services.rt) {
@@ -169,9 +168,9 @@ impl Links {
     /// # Errors
     ///
     /// The error of the wait or of the clock.
-    pub fn next<R: Net + Clock + Processes, E: Write>(
+    pub fn next<R: Net + Clock + Processes>(
         &mut self,
-        services: &mut Services<'_, '_, R, E>,
+        services: &mut Services<'_, '_, R>,
         monitor: &Monitor,
         piece: &mut Piece,
     ) -> io::Result<Next>
@@ -200,12 +199,7 @@ impl Links {
     }
 
     /// Offers bytes to the server of a link. The monitor keeps a link that it writes to, so it has read the last piece.
-    pub fn offer(
-        &mut self,
-        i: usize,
-        bytes: &[u8],
-        reports: &mut Reports<'_, impl Write>,
-    ) -> Written
+    pub fn offer(&mut self, i: usize, bytes: &[u8], reports: &mut Reports<'_>) -> Written
         ensures { IsWithin result (length bytes.now) }
     {
         if self.link_of_handed() == Some(i) {
@@ -218,7 +212,7 @@ impl Links {
     }
 
     /// Closes a link. If the monitor was just given a piece from it, that piece is the reason.
-    pub fn close(&mut self, i: usize, reports: &mut Reports<'_, impl Write>) {
+    pub fn close(&mut self, i: usize, reports: &mut Reports<'_>) {
         if self.link_of_handed() == Some(i) {
             self.judge(false, reports);
             self.end(i, Loss::Unread, reports);
@@ -240,7 +234,7 @@ impl Links {
 
     /// Reports the answer in the piece that was given to the monitor last, now that it is known whether the monitor
     /// read it.
-    fn judge(&mut self, is_read: bool, reports: &mut Reports<'_, impl Write>)
+    fn judge(&mut self, is_read: bool, reports: &mut Reports<'_>)
         ensures { self.new.handed ≡ None }
     {
         let Some(Handed { link, answer }) = self.handed.take() else {
@@ -260,7 +254,7 @@ impl Links {
         query: Query,
         reply: &Reply,
         is_read: bool,
-        reports: &mut Reports<'_, impl Write>,
+        reports: &mut Reports<'_>,
     )
         ensures { self.new.handed ≡ self.old.handed }
     {
@@ -278,7 +272,7 @@ impl Links {
 
     /// Closes a link and reports it: a server that has served is lost, and of any other it is reported once that there
     /// is no server yet.
-    fn end(&mut self, i: usize, loss: Loss, reports: &mut Reports<'_, impl Write>) {
+    fn end(&mut self, i: usize, loss: Loss, reports: &mut Reports<'_>) {
         let Some(upstream) = self.upstreams.get_mut(i) else {
             return;
         };
@@ -314,7 +308,7 @@ impl Links {
         monitor: &Monitor,
         piece: &mut Piece,
         net: &impl Net,
-        reports: &mut Reports<'_, impl Write>,
+        reports: &mut Reports<'_>,
     ) -> Option<Next>
         ensures goes_on { IfSome result (λ n. n ≢ next.End) }
     {
@@ -334,7 +328,7 @@ impl Links {
         i: usize,
         piece: &mut Piece,
         net: &impl Net,
-        reports: &mut Reports<'_, impl Write>,
+        reports: &mut Reports<'_>,
     ) -> Option<Next>
         ensures goes_on { IfSome result (λ n. n ≢ next.End) }
     {
@@ -355,7 +349,7 @@ impl Links {
         monitor: &Monitor,
         i: usize,
         piece: &mut Piece,
-        reports: &mut Reports<'_, impl Write>,
+        reports: &mut Reports<'_>,
     ) -> Option<Next>
         ensures goes_on { IfSome result (λ n. n ≢ next.End) }
     {
@@ -408,12 +402,7 @@ impl Links {
 
     /// Calls the server of a link, or continues the call. When the link is made, what the server has sent already is to
     /// be read.
-    fn reach(
-        &mut self,
-        i: usize,
-        net: &impl Net,
-        reports: &mut Reports<'_, impl Write>,
-    ) -> Option<Next>
+    fn reach(&mut self, i: usize, net: &impl Net, reports: &mut Reports<'_>) -> Option<Next>
         ensures goes_on { IfSome result (λ n. n ≢ next.End) }
     {
         let upstream = self.upstreams.get_mut(i)?;
@@ -437,10 +426,10 @@ impl Links {
     }
 
     /// Waits until an event comes or a second is over, or not at all if there is more to do, and begins the next round.
-    fn wait<R: Clock + Processes, E: Write>(
+    fn wait<R: Clock + Processes>(
         &mut self,
         monitor: &Monitor,
-        services: &mut Services<'_, '_, R, E>,
+        services: &mut Services<'_, '_, R>,
     ) -> io::Result<()> {
         if self.rounds.look_at_clock(services.rt)? {
             self.second(monitor, &mut services.look_ups, &mut services.reports);
@@ -475,7 +464,7 @@ impl Links {
         &mut self,
         monitor: &Monitor,
         look_ups: &mut LookUps<'_, impl Processes>,
-        reports: &mut Reports<'_, impl Write>,
+        reports: &mut Reports<'_>,
     ) {
         self.has_moved_on = true;
         self.limits = Limits::of(monitor);
@@ -489,11 +478,7 @@ impl Links {
     }
 
     /// Begins one look-up, if any is due.
-    fn look_up(
-        &mut self,
-        look_ups: &mut LookUps<'_, impl Processes>,
-        reports: &mut Reports<'_, impl Write>,
-    ) {
+    fn look_up(&mut self, look_ups: &mut LookUps<'_, impl Processes>, reports: &mut Reports<'_>) {
         let Some(i) = next_look_up(&self.upstreams, look_ups) else {
             return;
         };
@@ -510,7 +495,7 @@ impl Links {
     fn take_look_up(
         &mut self,
         look_ups: &mut LookUps<'_, impl Processes>,
-        reports: &mut Reports<'_, impl Write>,
+        reports: &mut Reports<'_>,
     ) {
         let found = look_ups.take();
         if let Some(found) = &found
@@ -521,7 +506,7 @@ impl Links {
     }
 
     /// Hands the result of a look-up to the links to its host.
-    fn take_found(&mut self, found: &Found, reports: &mut Reports<'_, impl Write>) {
+    fn take_found(&mut self, found: &Found, reports: &mut Reports<'_>) {
         for (i, upstream) in self.upstreams.iter_mut().enumerate() {
             if upstream.host_name() == found.name.as_str() {
                 self.rounds.ready.insert(Token(i));
@@ -585,7 +570,7 @@ fn is_after_opening(query: Query) -> bool {
 
 /// Reports that a server refused a query. A refusal of another query than for the status is told even if reports aren't
 /// wanted: this UPS isn't watched as upsmon.conf says.
-fn tell_refusal(name: &str, query: Query, reply: &Reply, reports: &mut Reports<'_, impl Write>) {
+fn tell_refusal(name: &str, query: Query, reply: &Reply, reports: &mut Reports<'_>) {
     let refused = Report::Refused(name, title(query), text_of(reply.error()));
     if comes_and_goes(query) {
         reports.tell(refused);
@@ -595,11 +580,7 @@ fn tell_refusal(name: &str, query: Query, reply: &Reply, reports: &mut Reports<'
 }
 
 /// Reports that a server can't be reached, unless that was reported since it last served.
-fn tell_unreachable(
-    upstream: &mut Upstream,
-    error: io::Error,
-    reports: &mut Reports<'_, impl Write>,
-) {
+fn tell_unreachable(upstream: &mut Upstream, error: io::Error, reports: &mut Reports<'_>) {
     if upstream.misses() {
         reports.tell(Report::Unreachable(upstream.name(), error));
     }

@@ -17,7 +17,6 @@ use nut_monitor_loop::{MonWorld, Next};
 use nut_poll::{Reports, note_written};
 use std::alloc::Global;
 use std::io;
-use std::io::Write;
 use std::net::Net;
 use std::process::Processes;
 use std::time::Clock;
@@ -43,16 +42,16 @@ use std::time::Clock;
 /// returns a fault, that of the wait for the sockets or of the clock: a failure of one link concerns no other. The
 /// world keeps no record.
 #[derive(Drop)]
-pub struct MioMonWorld<'r, 'e, R: Processes, H, E> {
+pub struct MioMonWorld<'r, 'e, R: Processes, H> {
     links: Links,
-    services: Services<'r, 'e, R, E>,
+    services: Services<'r, 'e, R>,
     herald: H,
     late: ArrayVec<u64, MONITORS_MAX>,
     faults: u64,
     has_ended: bool,
 }
 
-impl<'r, 'e, R: Net + Clock + Processes, H: Herald, E: Write> MioMonWorld<'r, 'e, R, H, E> {
+impl<'r, 'e, R: Net + Clock + Processes, H: Herald> MioMonWorld<'r, 'e, R, H> {
     /// Returns a world that has no links yet. Reports say when servers come and go.
     ///
     /// # Errors
@@ -62,8 +61,8 @@ impl<'r, 'e, R: Net + Clock + Processes, H: Herald, E: Write> MioMonWorld<'r, 'e
         rt: &'r R,
         alloc: Global,
         herald: H,
-        reports: Reports<'e, E>,
-    ) -> io::Result<MioMonWorld<'r, 'e, R, H, E>>
+        reports: Reports<'e>,
+    ) -> io::Result<MioMonWorld<'r, 'e, R, H>>
         ensures { IfOk result (λ w. w.faults ≡ 0) }
     {
         let links = Links::none(rt, alloc)?;
@@ -110,8 +109,7 @@ impl<'r, 'e, R: Net + Clock + Processes, H: Herald, E: Write> MioMonWorld<'r, 'e
 
 ghost use Rattle.std.specs.Prelude.{◌≢◌, ◌<◌, ◌≤◌, IfOk, IfSome, Some, Ok, true};
 
-impl<'r, 'e, R: Net + Clock + Processes, H: Herald, E: Write> MonWorld
-    for MioMonWorld<'r, 'e, R, H, E> {
+impl<'r, 'e, R: Net + Clock + Processes, H: Herald> MonWorld for MioMonWorld<'r, 'e, R, H> {
     ghost log = { λ w. untold_watch };
 
     ghost late = { λ w i. is_noted w.late.items i };

@@ -16,7 +16,7 @@ mod text;
 
 pub use lateness::note_written;
 pub use link::{Heard, Link};
-pub use lossy_lines::{LossyLines, Outlet};
+pub use lossy_lines::{ErrorLines, LossyLines, Outlet, OutputLines};
 pub use questions::{Program, Question, Questions};
 pub use ready::{Ready, SOCKETS_MAX, may_be_read};
 pub use reports::Reports;

@@ -9,7 +9,7 @@ use mio::unix::SourceFd;
 use mio::{Events, Interest, Poll, Token};
 use std::alloc::Global;
 use std::io;
-use std::io::{ErrorKind, Write};
+use std::io::{ErrorKind, Stderr, Stdout, Write};
 use std::net::Net;
 use std::os::fd::AsRawFd;
 use std::time::Duration;
@@ -47,6 +47,12 @@ pub struct LossyLines<S> {
     /// How many lines were dropped since one was taken.
     lost: u64,
 }
+
+/// Standard output, line by line. A line that isn't taken at once is dropped.
+pub type OutputLines = LossyLines<Stdout>;
+
+/// Standard error, line by line. A line that isn't taken at once is dropped.
+pub type ErrorLines = LossyLines<Stderr>;
 
 impl<S: Write + AsRawFd + Drop> LossyLines<S> {
     /// Returns the lines of this program on a stream.

@@ -1,19 +1,20 @@
 //! The lines by which a daemon reports to its operator.
 
+use crate::lossy_lines::ErrorLines;
 use std::fmt::Display;
 use std::io::Write;
 
 /// The reports of a daemon, each of one line, if they are wanted.
 #[derive(Drop)]
-pub struct Reports<'a, E> {
+pub struct Reports<'a> {
     program: &'static str,
-    err: &'a mut E,
+    err: &'a mut ErrorLines,
     are_wanted: bool,
 }
 
-impl<'a, E: Write> Reports<'a, E> {
+impl<'a> Reports<'a> {
     /// Returns the reports of this program, which are written to `err` if they are wanted.
-    pub fn new(program: &'static str, err: &'a mut E, are_wanted: bool) -> Reports<'a, E> {
+    pub fn new(program: &'static str, err: &'a mut ErrorLines, are_wanted: bool) -> Reports<'a> {
         Reports {
             program,
             err,
@@ -34,7 +35,7 @@ impl<'a, E: Write> Reports<'a, E> {
     }
 
     /// Returns where reports are written, for what is told whether or not they are wanted.
-    pub fn err(&mut self) -> &mut E {
+    pub fn err(&mut self) -> &mut ErrorLines {
         self.err
     }
 }

@@ -7,7 +7,7 @@ use nut_poll::Reports;
 use nut_server::Server;
 use nut_server_spec::OPENED_MAX;
 use std::io;
-use std::io::{ErrorKind, Write};
+use std::io::ErrorKind;
 
 /// Which causes that keep clients out were reported since a client was let in. At most one report is made in a second,
 /// so that clients that come and go don't fill a log.
@@ -47,14 +47,14 @@ impl Hindrances {
     }
 
     /// Reports that the server refused a client.
-    pub fn tell_refusal<E: Write>(&mut self, server: &Server, reports: &mut Reports<'_, E>) {
+    pub fn tell_refusal(&mut self, server: &Server, reports: &mut Reports<'_>) {
         if note(&mut self.has_told_refusal, &mut self.has_told) {
             reports.warn(refusal_by(server));
         }
     }
 
     /// Reports an error for which no client can be let in.
-    pub fn tell_error<E: Write>(&mut self, error: io::Error, reports: &mut Reports<'_, E>) {
+    pub fn tell_error(&mut self, error: io::Error, reports: &mut Reports<'_>) {
         let is_due = if error.kind() == ErrorKind::OutOfMemory {
             note(&mut self.has_told_memory, &mut self.has_told)
         } else {

@@ -19,7 +19,6 @@ use nut_server::Server;
 use nut_server_loop::{Next, World};
 use std::alloc::Global;
 use std::io;
-use std::io::Write;
 use std::net::Net;
 use std::time::Clock;
 
@@ -36,15 +35,15 @@ const LATE_MAX: usize = CONNECTIONS_MAX as usize;
 /// The world never ends. Only `next` returns a fault, that of the wait for the sockets or of the clock: a failure of
 /// one socket concerns no other. The world keeps no record.
 #[derive(Drop)]
-pub struct MioWorld<'r, 'e, R, E, L> {
+pub struct MioWorld<'r, 'e, R, L> {
     sockets: Sockets,
-    services: Services<'r, 'e, R, E, L>,
+    services: Services<'r, 'e, R, L>,
     late: ArrayVec<u64, LATE_MAX>,
     late_drivers: ArrayVec<u64, UPSES_MAX>,
     faults: u64,
 }
 
-impl<'r, 'e, R: Net + Clock, E: Write, L: Reloader + Drop> MioWorld<'r, 'e, R, E, L> {
+impl<'r, 'e, R: Net + Clock, L: Reloader + Drop> MioWorld<'r, 'e, R, L> {
     /// Returns the world of these listeners and these drivers, which asks this reloader for new configurations. Reports
     /// say when drivers come and go, and what keeps clients out.
     ///
@@ -56,9 +55,9 @@ impl<'r, 'e, R: Net + Clock, E: Write, L: Reloader + Drop> MioWorld<'r, 'e, R, E
         alloc: Global,
         listeners: Vec<TcpListener>,
         drivers: Drivers,
-        reports: Reports<'e, E>,
+        reports: Reports<'e>,
         reloader: L,
-    ) -> io::Result<MioWorld<'r, 'e, R, E, L>>
+    ) -> io::Result<MioWorld<'r, 'e, R, L>>
         ensures { IfOk result (λ w. w.faults ≡ 0) }
     {
         let sockets = Sockets::new(rt, alloc, listeners, drivers)?;
@@ -78,7 +77,7 @@ impl<'r, 'e, R: Net + Clock, E: Write, L: Reloader + Drop> MioWorld<'r, 'e, R, E
 
 ghost use Rattle.std.specs.Prelude.{◌≢◌, ◌<◌, ◌≤◌, IfOk, IfSome, Some, Ok};
 
-impl<'r, 'e, R: Net + Clock, E: Write, L: Reloader + Drop> World for MioWorld<'r, 'e, R, E, L> {
+impl<'r, 'e, R: Net + Clock, L: Reloader + Drop> World for MioWorld<'r, 'e, R, L> {
     ghost log = { λ w. untold };
 
     ghost late = { λ w c. is_noted w.late.items c };

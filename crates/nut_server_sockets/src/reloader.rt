@@ -2,18 +2,13 @@
 
 use nut_poll::Reports;
 use nut_server::{Config, Server};
-use std::io::Write;
 
 /// Gives new configurations to a server.
 pub trait Reloader {
     /// Returns a new configuration, if one was asked for since the last call. If it can't be read, reports why and returns
     /// `None`. The call is made once a second.
-    fn look<E: Write>(
-        &mut self,
-        server: &Server,
-        reports: &mut Reports<'_, E>,
-    ) -> Option<Box<Config>>;
+    fn look(&mut self, server: &Server, reports: &mut Reports<'_>) -> Option<Box<Config>>;
 
     /// Tells what became of the configuration that was given last, once the server has accepted or refused it.
-    fn tell<E: Write>(&mut self, server: &Server, reports: &mut Reports<'_, E>);
+    fn tell(&mut self, server: &Server, reports: &mut Reports<'_>);
 }

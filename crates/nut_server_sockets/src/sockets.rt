@@ -32,11 +32,11 @@ const PIECES: usize = 1024;
 
 /// What the sockets are watched with, which the program gives.
 #[derive(Drop)]
-pub struct Services<'r, 'e, R, E, L> {
+pub struct Services<'r, 'e, R, L> {
     /// The system.
     pub rt: &'r R,
     /// Where drivers and clients are reported.
-    pub reports: Reports<'e, E>,
+    pub reports: Reports<'e>,
     /// Where new configurations come from.
     pub reloader: L,
 }
@@ -100,9 +100,9 @@ impl Sockets {
     /// # Errors
     ///
     /// The error of the wait or of the clock.
-    pub fn next<R: Net + Clock, E: Write, L: Reloader>(
+    pub fn next<R: Net + Clock, L: Reloader>(
         &mut self,
-        services: &mut Services<'_, '_, R, E, L>,
+        services: &mut Services<'_, '_, R, L>,
         server: &Server,
         piece: &mut Piece,
     ) -> io::Result<Next>
@@ -157,7 +157,7 @@ impl Sockets {
     }
 
     /// Closes the link to the driver of a UPS, and reports it.
-    pub fn close_driver(&mut self, u: usize, reports: &mut Reports<'_, impl Write>) {
+    pub fn close_driver(&mut self, u: usize, reports: &mut Reports<'_>) {
         if let Some(driver) = self.drivers.get_mut(u) {
             driver.close();
             reports.tell(Report::Lost(driver.name()));
@@ -166,7 +166,7 @@ impl Sockets {
 
     /// Keeps the socket of a connection that the server accepted, and closes that of one that it refused. Returns the
     /// number of a connection that the server accepted and whose socket can't be kept.
-    fn seat(&mut self, server: &Server, reports: &mut Reports<'_, impl Write>) -> Option<u64> {
+    fn seat(&mut self, server: &Server, reports: &mut Reports<'_>) -> Option<u64> {
         if self.door.is_refused(server) {
             self.hindrances.tell_refusal(server, reports);
         }
@@ -177,12 +177,7 @@ impl Sockets {
     }
 
     /// Keeps the socket of a connection. Returns its number if that is impossible.
-    fn keep(
-        &mut self,
-        number: u64,
-        guest: Guest,
-        reports: &mut Reports<'_, impl Write>,
-    ) -> Option<u64> {
+    fn keep(&mut self, number: u64, guest: Guest, reports: &mut Reports<'_>) -> Option<u64> {
         match self.clients.add(self.rounds.registry(), number, guest) {
             Ok(()) => {
                 self.hindrances.end();
@@ -196,7 +191,7 @@ impl Sockets {
     }
 
     /// Closes the socket of a client that was silent for too long. Returns the number of its connection.
-    fn shed(&mut self, server: &Server, reports: &mut Reports<'_, impl Write>) -> Option<u64> {
+    fn shed(&mut self, server: &Server, reports: &mut Reports<'_>) -> Option<u64> {
         if !self.sheds {
             return None;
         }
@@ -214,7 +209,7 @@ impl Sockets {
         &mut self,
         server: &Server,
         reloader: &mut impl Reloader,
-        reports: &mut Reports<'_, impl Write>,
+        reports: &mut Reports<'_>,
     ) -> Option<Box<Config>> {
         if !self.asks {
             return None;
@@ -231,7 +226,7 @@ impl Sockets {
         &mut self,
         server: &Server,
         reloader: &mut impl Reloader,
-        reports: &mut Reports<'_, impl Write>,
+        reports: &mut Reports<'_>,
     ) {
         if self.has_given {
             self.has_given = false;
@@ -247,7 +242,7 @@ impl Sockets {
         server: &Server,
         piece: &mut Piece,
         net: &impl Net,
-        reports: &mut Reports<'_, impl Write>,
+        reports: &mut Reports<'_>,
     ) -> Option<Next>
         ensures may { IfSome result (λ n. MayCome n server.now) }
         ensures goes_on { IfSome result (λ n. n ≢ next.End) }
@@ -272,7 +267,7 @@ impl Sockets {
         source: Source,
         piece: &mut Piece,
         net: &impl Net,
-        reports: &mut Reports<'_, impl Write>,
+        reports: &mut Reports<'_>,
     ) -> Option<Next>
         ensures may { IfSome result (λ n. MayCome n server.now) }
         ensures goes_on { IfSome result (λ n. n ≢ next.End) }
@@ -289,7 +284,7 @@ impl Sockets {
         &mut self,
         piece: &mut Piece,
         net: &impl Net,
-        reports: &mut Reports<'_, impl Write>,
+        reports: &mut Reports<'_>,
     ) -> Option<Next>
         ensures may { (s : Content) → IfSome result (λ n. MayCome n s) }
         ensures goes_on { IfSome result (λ n. n ≢ next.End) }
@@ -315,7 +310,7 @@ impl Sockets {
         &mut self,
         server: &Server,
         i: usize,
-        reports: &mut Reports<'_, impl Write>,
+        reports: &mut Reports<'_>,
     ) -> Option<Next>
         ensures may { IfSome result (λ n. MayCome n server.now) }
         ensures goes_on { IfSome result (λ n. n ≢ next.End) }
@@ -347,7 +342,7 @@ impl Sockets {
         u: usize,
         piece: &mut Piece,
         net: &impl Net,
-        reports: &mut Reports<'_, impl Write>,
+        reports: &mut Reports<'_>,
     ) -> Option<Next>
         ensures may { (s : Content) → IfSome result (λ n. MayCome n s) }
         ensures goes_on { IfSome result (λ n. n ≢ next.End) }
@@ -424,12 +419,7 @@ impl Sockets {
     /// Begins a second: silent clients, the reloader and all drivers are to be looked at. If more than one second and
     /// more than a third of MAXAGE passed at once, the drivers are sent PING now, and clients wait until they have
     /// answered, two seconds at most.
-    fn begin_second(
-        &mut self,
-        server: &Server,
-        moment: u64,
-        reports: &mut Reports<'_, impl Write>,
-    ) {
+    fn begin_second(&mut self, server: &Server, moment: u64, reports: &mut Reports<'_>) {
         let passed = moment.saturating_sub(self.moment);
         self.moment = moment;
         self.clients.second();
@@ -449,7 +439,7 @@ impl Sockets {
     }
 
     /// Reports the UPSes whose data have become stale since the last second, or are no longer stale.
-    fn tell_staleness(&mut self, server: &Server, reports: &mut Reports<'_, impl Write>) {
+    fn tell_staleness(&mut self, server: &Server, reports: &mut Reports<'_>) {
         for u in 0..self.drivers.len() {
             if let Some(driver) = self.drivers.get_mut(u) {
                 let is_stale = server.is_stale(u);

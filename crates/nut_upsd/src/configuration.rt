@@ -4,10 +4,10 @@ use crate::read_ups_options;
 use crate::upsd_fault::{UpsdFault, ups_failure};
 use clap::ArgMatches;
 use nut_conf::{Descriptions, UpsConf, UpsdConf, UsersConf};
+use nut_poll::ErrorLines;
 use nut_program::{Failure, FileFault, read_conf, read_conf_if_there, readable_file, warn};
 use nut_server::Config;
 use std::alloc::Global;
-use std::io::Write;
 use std::rt::Files;
 
 /// What ups.conf, upsd.users and upsd.conf set, and cmdvartab, if it is there.
@@ -118,11 +118,11 @@ fn read_settings(
 /// # Errors
 ///
 /// The first fault of a file; [`FileFault::Memory`] if memory cannot be allocated.
-pub fn read_folder<E: Write>(
+pub fn read_folder(
     files: &impl Files,
     alloc: Global,
     folder: &str,
-    err: &mut E,
+    err: &mut ErrorLines,
 ) -> Result<Settings, FileFault<'static>> {
     let settings = read_settings(files, alloc, folder)?;
     let warned = warn_if_readable(files, alloc, folder, err);
@@ -131,11 +131,11 @@ pub fn read_folder<E: Write>(
 }
 
 /// Warns if everybody can read the passwords of upsd.users.
-fn warn_if_readable<E: Write>(
+fn warn_if_readable(
     files: &impl Files,
     alloc: Global,
     folder: &str,
-    err: &mut E,
+    err: &mut ErrorLines,
 ) -> Result<(), FileFault<'static>> {
     match readable_file::<UsersConf>(files, alloc, folder) {
         Ok(readable) => {

@@ -13,7 +13,7 @@ use crate::upsd_fault::{UpsdFault, exit_status};
 use clap::ArgMatches;
 use mio::net::TcpListener;
 use nut_io::ServeFault;
-use nut_poll::Reports;
+use nut_poll::{ErrorLines, Reports};
 use nut_program::{Failure, conf_folder, hold_closed_streams};
 use nut_server::{Config, Server};
 use nut_server_loop::{World, serve};
@@ -50,38 +50,38 @@ use std::time::Clock;
 /// `upsd: cannot listen on ADDRESS:PORT: WHY` is written, and the status is 1.
 ///
 /// [`run_stdio`]: crate::run_stdio
-pub fn run_upsd<S: AsStr, I: Read, O: Write, E: Write>(
+pub fn run_upsd<S: AsStr, I: Read, O: Write>(
     rt: &(impl Wait + Files + Net + Clock + Env + Alloc),
     alloc: Global,
     words: &[S],
     input: &mut I,
     out: &mut O,
-    err: &mut E,
+    err: &mut ErrorLines,
 ) -> u8 {
     let served = run(rt, alloc, words, input, out, err);
     exit_status(served, out, err)
 }
 
-fn run<S: AsStr, I: Read, O: Write, E: Write>(
+fn run<S: AsStr, I: Read, O: Write>(
     rt: &(impl Wait + Files + Net + Clock + Env + Alloc),
     alloc: Global,
     words: &[S],
     input: &mut I,
     out: &mut O,
-    err: &mut E,
+    err: &mut ErrorLines,
 ) -> Result<(), Failure<UpsdFault>> {
     let matches = matches_of(upsd_command(alloc), words)?;
     run_matches(rt, alloc, &matches, input, out, err)
 }
 
 /// Does what a command line asks for that clap has accepted.
-fn run_matches<I: Read, O: Write, E: Write>(
+fn run_matches<I: Read, O: Write>(
     rt: &(impl Wait + Files + Net + Clock + Env + Alloc),
     alloc: Global,
     matches: &ArgMatches<'_>,
     input: &mut I,
     out: &mut O,
-    err: &mut E,
+    err: &mut ErrorLines,
 ) -> Result<(), Failure<UpsdFault>> {
     if matches.get_flag("check") {
         return check_files(rt, alloc, matches, err);
@@ -94,22 +94,22 @@ fn run_matches<I: Read, O: Write, E: Write>(
 
 /// Reads the files of the folder that the command line or the environment names, and writes of them what a start
 /// writes.
-fn check_files<R: Files + Env + Alloc, E: Write>(
+fn check_files<R: Files + Env + Alloc>(
     rt: &R,
     alloc: Global,
     matches: &ArgMatches<'_>,
-    err: &mut E,
+    err: &mut ErrorLines,
 ) -> Result<(), Failure<UpsdFault>> {
     let folder = conf_folder(rt, alloc, matches)?;
     check_folder(rt, alloc, folder.as_str(), err)
 }
 
 /// Reads the files of this folder, and writes of them what a start writes.
-fn check_folder<E: Write>(
+fn check_folder(
     files: &impl Files,
     alloc: Global,
     folder: &str,
-    err: &mut E,
+    err: &mut ErrorLines,
 ) -> Result<(), Failure<UpsdFault>> {
     // dropped by a call, which keeps the proof of this function short
     drop(read_folder(files, alloc, folder, err)?);
@@ -138,11 +138,11 @@ impl<'m> Options<'m> {
 
 /// Serves clients over sockets, and reports to the operator on `err` unless that is to be quiet. Returns only with a
 /// fault: of the files, of a listener, of memory, or of the world.
-fn serve_sockets<R: Wait + Files + Net + Clock, E: Write>(
+fn serve_sockets<R: Wait + Files + Net + Clock>(
     rt: &R,
     alloc: Global,
     options: &Options<'_>,
-    err: &mut E,
+    err: &mut ErrorLines,
 ) -> Result<(), Failure<UpsdFault>> {
     let reloading = Reloading::new(rt, alloc, options.conf)?;
     let (settings, reloading) = paired(reloading.read(err), reloading)?;
@@ -150,13 +150,13 @@ fn serve_sockets<R: Wait + Files + Net + Clock, E: Write>(
 }
 
 /// Serves clients with these settings. The standard streams that are closed are held meanwhile.
-fn serve_settings<R: Wait + Files + Net + Clock, E: Write>(
+fn serve_settings<R: Wait + Files + Net + Clock>(
     rt: &R,
     alloc: Global,
     settings: Settings,
     reloading: Reloading<'_, R>,
     options: &Options<'_>,
-    err: &mut E,
+    err: &mut ErrorLines,
 ) -> Result<(), Failure<UpsdFault>> {
     let held = hold_closed_streams(rt, alloc);
     let (_held, (settings, reloading)) = paired(held, (settings, reloading))?;
@@ -164,13 +164,13 @@ fn serve_settings<R: Wait + Files + Net + Clock, E: Write>(
 }
 
 /// Listens at the addresses of these settings, and serves clients with them.
-fn listen_and_serve<R: Wait + Files + Net + Clock, E: Write>(
+fn listen_and_serve<R: Wait + Files + Net + Clock>(
     rt: &R,
     alloc: Global,
     settings: Settings,
     reloading: Reloading<'_, R>,
     options: &Options<'_>,
-    err: &mut E,
+    err: &mut ErrorLines,
 ) -> Result<(), Failure<UpsdFault>> {
     let listeners = listen(rt, alloc, &settings.upsd);
     let (listeners, (settings, mut reloading)) = paired(listeners, (settings, reloading))?;
@@ -185,14 +185,14 @@ fn paired<A: Drop, B: Drop, F: Drop>(made: Result<A, F>, value: B) -> Result<(A,
 }
 
 /// Serves all clients that connect to the listeners with this configuration, and then with those of the reloader.
-fn serve_config<R: Wait + Net + Clock, L: Reloader + Drop, E: Write>(
+fn serve_config<R: Wait + Net + Clock, L: Reloader + Drop>(
     rt: &R,
     alloc: Global,
     config: Config,
     listeners: Vec<TcpListener>,
     reloader: L,
     options: &Options<'_>,
-    err: &mut E,
+    err: &mut ErrorLines,
 ) -> Result<(), Failure<UpsdFault>> {
     let Ok(mut server) = Server::new(alloc, config) else {
         return Err(Failure::Memory);
@@ -204,14 +204,14 @@ fn serve_config<R: Wait + Net + Clock, L: Reloader + Drop, E: Write>(
 }
 
 /// Serves all clients that connect to the listeners, first with the configuration that the server has.
-fn serve_listeners<R: Wait + Net + Clock, L: Reloader + Drop, E: Write>(
+fn serve_listeners<R: Wait + Net + Clock, L: Reloader + Drop>(
     rt: &R,
     alloc: Global,
     server: &mut Server,
     listeners: Vec<TcpListener>,
     reloader: L,
     options: &Options<'_>,
-    err: &mut E,
+    err: &mut ErrorLines,
 ) -> Result<(), Failure<UpsdFault>>
     requires { server.old ≡ content server.old.configuration [] }
 {
@@ -245,11 +245,7 @@ fn serve_world<W: World + Drop>(
 }
 
 /// Reports the addresses listened on and the UPSes served.
-fn tell_start<E: Write>(
-    listeners: &[TcpListener],
-    drivers: &Drivers,
-    reports: &mut Reports<'_, E>,
-) {
+fn tell_start(listeners: &[TcpListener], drivers: &Drivers, reports: &mut Reports<'_>) {
     for listener in listeners {
         if let Ok(address) = listener.local_addr() {
             reports.tell(Report::Listening(address));

@@ -3,12 +3,11 @@
 use crate::changes::changes;
 use crate::configuration::{Settings, read_folder};
 use nut_conf::{Endpoint, UpsmonConf};
-use nut_poll::Reports;
+use nut_poll::{ErrorLines, Reports};
 use nut_program::{ConfFile, FileFault, Look, ReloadFile, ReloadReport, Turn, tell_not_reloaded};
 use nut_server::{Config, Server};
 use nut_server_sockets::Reloader;
 use std::alloc::{AllocError, Global};
-use std::io::Write;
 use std::mem;
 use std::rt::Files;
 
@@ -61,7 +60,7 @@ impl<'r, F: Files> Reloading<'r, F> {
     /// # Errors
     ///
     /// Those of [`read_folder`].
-    pub fn read<E: Write>(&self, err: &mut E) -> Result<Settings, FileFault<'static>> {
+    pub fn read(&self, err: &mut ErrorLines) -> Result<Settings, FileFault<'static>> {
         read_folder(self.files, self.alloc, self.folder, err)
     }
 
@@ -72,10 +71,10 @@ impl<'r, F: Files> Reloading<'r, F> {
     }
 
     /// Reads the files, and notes what differs from the configuration of a server.
-    fn read_again<E: Write>(
+    fn read_again(
         &mut self,
         server: &Server,
-        err: &mut E,
+        err: &mut ErrorLines,
     ) -> Result<Box<Config>, FileFault<'static>> {
         let settings = self.read(err)?;
         match self.give(server, settings) {
@@ -108,11 +107,7 @@ impl<'r, F: Files> Reloading<'r, F> {
 }
 
 impl<'r, F: Files> Reloader for Reloading<'r, F> {
-    fn look<E: Write>(
-        &mut self,
-        server: &Server,
-        reports: &mut Reports<'_, E>,
-    ) -> Option<Box<Config>> {
+    fn look(&mut self, server: &Server, reports: &mut Reports<'_>) -> Option<Box<Config>> {
         match self.file.look(self.files) {
             Look::Nothing => return None,
             Look::Asked => {}
@@ -129,7 +124,7 @@ impl<'r, F: Files> Reloader for Reloading<'r, F> {
 
     /// A server refuses a configuration only if it has more UPSes than there have been at a time and memory for them is
     /// lacking. So it has accepted one if it has as many UPSes.
-    fn tell<E: Write>(&mut self, server: &Server, reports: &mut Reports<'_, E>) {
+    fn tell(&mut self, server: &Server, reports: &mut Reports<'_>) {
         let Some(given) = self.given.take() else {
             return;
         };

@@ -3,9 +3,9 @@
 use crate::low_runtime::LowRuntimes;
 use crate::notify_command::{Call, NotifyCommand, script_in};
 use crate::shutdown_report::tell_left;
-use crate::streams::{ErrorLines, OutputLines};
 use nut_conf::{MESSAGE_MAX, TARGET_MAX, UpsmonConf};
 use nut_monitor::{Monitor, Notice};
+use nut_poll::{ErrorLines, OutputLines};
 use std::alloc::{AllocError, Global};
 use std::io::Write;
 use std::process::{Child, Processes};

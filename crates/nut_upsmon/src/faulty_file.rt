@@ -5,9 +5,9 @@
 //! its battery is empty, then no machine starts again.
 
 use crate::power_down_flag::PowerDownFlag;
-use crate::streams::ErrorLines;
 use crate::upsmon_fault::UpsmonFault;
 use nut_conf::{FILE_MAX, FaultKind, UpsmonConf, read_upsmon};
+use nut_poll::ErrorLines;
 use nut_program::{ConfFile, Failure, FileFault, read_file};
 use std::alloc::{AllocError, Global};
 use std::io;

@@ -2,10 +2,9 @@
 
 use crate::power_down_flag::{FlagFault, FlagState, PowerDownFlag};
 use crate::shutdown_command::{Full, ShutdownCommand};
-use crate::streams::{ErrorLines, OutputLines};
 use linked_list_allocator::LocalHeap;
 use nut_conf::UpsmonConf;
-use nut_poll::text_of;
+use nut_poll::{ErrorLines, OutputLines, text_of};
 use std::alloc::{AllocError, Global};
 use std::io::Write;
 use std::process::{Child, ExitStatus, Processes};

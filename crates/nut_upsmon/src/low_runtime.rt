@@ -1,9 +1,8 @@
 //! Whether the UPSes of a machine say LB early enough for it to stop.
 
 use crate::stopping::Stopping;
-use crate::streams::ErrorLines;
 use nut_conf::{Monitored, UpsmonConf};
-use nut_poll::{Program, Question, Questions, text_of};
+use nut_poll::{ErrorLines, Program, Question, Questions, text_of};
 use std::alloc::{AllocError, Global};
 use std::io::Write;
 use std::process::{OpenProcess, Processes};

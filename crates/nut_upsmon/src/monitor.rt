@@ -9,14 +9,14 @@ use crate::low_runtime::check_low_runtimes;
 use crate::power_down_flag::{FlagState, PowerDownFlag};
 use crate::reloader::Reloader;
 use crate::stopping::Stopping;
-use crate::streams::{ErrorLines, OutputLines, Streams};
+use crate::streams::Streams;
 use crate::upsmon_fault::UpsmonFault;
 use crate::warning::tell_warnings;
 use crate::watching::{WatchFault, watch_in_turn};
 use clap::ArgMatches;
 use linked_list_allocator::LocalHeap;
 use nut_conf::{UpsdConf, UpsmonConf};
-use nut_poll::LossyLines;
+use nut_poll::{ErrorLines, LossyLines, OutputLines};
 use nut_program::{
     ConfFile, Failure, ReloadFile, Turn, conf_folder, hold_closed_streams, read_conf, refuse_start,
 };

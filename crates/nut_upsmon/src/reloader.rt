@@ -6,11 +6,10 @@ ghost use Rattle.nut_monitor_spec.specs.Decision.{is_critical};
 
 use crate::beginning::Beginning;
 use crate::changes::{Changes, line_of};
-use crate::streams::ErrorLines;
 use crate::warning::tell_warnings;
 use nut_conf::{Monitored, UpsmonConf};
 use nut_monitor::{Known, Monitor, Phase};
-use nut_poll::{Reports, text_of};
+use nut_poll::{ErrorLines, Reports, text_of};
 use nut_program::{FileFault, Look, ReloadFile, ReloadReport, read_conf, tell_not_reloaded};
 use std::alloc::{AllocError, Global};
 use std::io::Write;
@@ -87,7 +86,7 @@ impl Reloader {
     }
 
     /// Returns the reports of upsmon, which are written to `err` unless they are to be quiet.
-    pub fn reports<'e>(&self, err: &'e mut ErrorLines) -> Reports<'e, ErrorLines> {
+    pub fn reports<'e>(&self, err: &'e mut ErrorLines) -> Reports<'e> {
         Reports::new("upsmon", err, !self.is_quiet)
     }
 

@@ -3,9 +3,8 @@
 ghost use Rattle.std.specs.Prelude.{OnOk, IsSome};
 ghost use Rattle.std.specs.Io.KnownBytes.{Appends};
 
-use crate::streams::{ErrorLines, OutputLines};
 use linked_list_allocator::LocalHeap;
-use nut_poll::{Outlet, shell_command};
+use nut_poll::{ErrorLines, Outlet, OutputLines, shell_command};
 use std::alloc::AllocError;
 use std::io;
 use std::io::{ErrorKind, Write};

@@ -1,10 +1,9 @@
 //! What the operator is told of a shutdown besides its notice.
 
-use crate::streams::ErrorLines;
 use nut_conf::{Monitored, Role};
 use nut_monitor::{Known, Monitor};
 use nut_monitor_spec::Communication;
-use nut_poll::text_of;
+use nut_poll::{ErrorLines, text_of};
 use std::io::Write;
 
 /// Tells what is known of the UPSes that a shutdown may be for, as it begins.

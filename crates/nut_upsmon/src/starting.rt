@@ -2,12 +2,11 @@
 
 use crate::stopping::Stopping;
 use nut_conf::{Role, UpsmonConf};
-use nut_poll::{Reports, text_of};
+use nut_poll::{ErrorLines, Reports, text_of};
 use std::fmt;
-use std::io::Write;
 
 /// Reports which UPSes are watched, and how soon this machine stops, unless that is to be quiet.
-pub fn tell_start<E: Write>(config: &UpsmonConf, is_quiet: bool, err: &mut E) {
+pub fn tell_start(config: &UpsmonConf, is_quiet: bool, err: &mut ErrorLines) {
     if is_quiet {
         return;
     }
@@ -16,7 +15,7 @@ pub fn tell_start<E: Write>(config: &UpsmonConf, is_quiet: bool, err: &mut E) {
 }
 
 /// Reports which UPSes are watched.
-fn tell_watched<E: Write>(config: &UpsmonConf, reports: &mut Reports<'_, E>) {
+fn tell_watched(config: &UpsmonConf, reports: &mut Reports<'_>) {
     for monitored in &config.monitors.lines {
         reports.tell(Watched {
             target: text_of(&monitored.written),

@@ -4,8 +4,8 @@ ghost use Rattle.std.specs.Prelude.{◌↔◌, ◌≡◌, ◌<◌, ◌+◌, IsSo
 ghost use Rattle.nut_conf.specs.Upsmon.{poll_freq_of, dead_time_of, host_sync_of};
 
 use crate::stopping::DELAY;
-use crate::streams::ErrorLines;
 use nut_conf::UpsmonConf;
+use nut_poll::ErrorLines;
 use nut_program::{readable_file, warn};
 use std::alloc::{AllocError, Global};
 use std::fmt;

@@ -9,10 +9,10 @@ use nut_conf::UpsmonConf;
 use nut_monitor::Phase;
 use nut_monitor_loop::{MonWorld, watch};
 use nut_monitor_sockets::{Herald, MioMonWorld};
-use nut_poll::Reports;
+use nut_poll::{ErrorLines, Reports};
 use std::alloc::{AllocError, Global};
 use std::io;
-use std::io::{ErrorKind, Write};
+use std::io::ErrorKind;
 use std::net::Net;
 use std::process::Processes;
 use std::sync::Wait;
@@ -65,18 +65,17 @@ impl From<HaltFault> for WatchFault {
 ///
 /// `Io` if memory or a poll isn't available, or waiting for the sockets or reading the clock fails; `Halt` if the
 /// machine isn't halted.
-pub fn watch_in_turn<'r, R, H, E>(
+pub fn watch_in_turn<'r, R, H>(
     rt: &'r R,
     alloc: Global,
     first: UpsmonConf,
     herald: H,
     is_quiet: bool,
-    err: &mut E,
+    err: &mut ErrorLines,
 ) -> Result<(), WatchFault>
 where
     R: Wait + Net + Clock + Processes,
     H: Follower,
-    E: Write,
 {
     tell_start(&first, is_quiet, err);
     let reports = Reports::new("upsmon", err, !is_quiet);
@@ -95,31 +94,29 @@ where
 }
 
 /// Watches in this world, first the UPSes of this configuration, and halts the machine.
-fn watch_from<'r, 'e, R, H, E>(
+fn watch_from<'r, 'e, R, H>(
     rt: &'r R,
     alloc: Global,
     first: UpsmonConf,
-    world: &mut MioMonWorld<'r, 'e, R, H, E>,
+    world: &mut MioMonWorld<'r, 'e, R, H>,
 ) -> Result<(), WatchFault>
 where
     R: Wait + Net + Clock + Processes,
     H: Follower,
-    E: Write,
 {
     let beginning = Beginning::of(alloc, first)?;
     watch_all(rt, beginning, world)
 }
 
 /// Watches in this world, first from this beginning, and halts the machine.
-fn watch_all<'r, 'e, R, H, E>(
+fn watch_all<'r, 'e, R, H>(
     rt: &'r R,
     first: Beginning,
-    world: &mut MioMonWorld<'r, 'e, R, H, E>,
+    world: &mut MioMonWorld<'r, 'e, R, H>,
 ) -> Result<(), WatchFault>
 where
     R: Wait + Net + Clock + Processes,
     H: Follower,
-    E: Write,
 {
     let mut beginning = first;
     for _ in rt.forever() {
@@ -133,15 +130,14 @@ where
 
 /// Watches until the machine has to be halted, and halts it; or until a changed configuration is taken up. Returns what
 /// the watch of that begins with.
-fn watch_once<'r, 'e, R, H, E>(
+fn watch_once<'r, 'e, R, H>(
     rt: &'r R,
     beginning: Beginning,
-    world: &mut MioMonWorld<'r, 'e, R, H, E>,
+    world: &mut MioMonWorld<'r, 'e, R, H>,
 ) -> Result<Option<Beginning>, WatchFault>
 where
     R: Wait + Net + Clock + Processes,
     H: Follower,
-    E: Write,
 {
     match begin_watch(rt, beginning, world) {
         Ok(Phase::Halted { flag }) => {
@@ -160,13 +156,10 @@ where
 /// # Errors
 ///
 /// `Other` if there is nothing: then the watch ended without a reason.
-fn next_beginning<'r, 'e, R, H, E>(
-    world: &mut MioMonWorld<'r, 'e, R, H, E>,
-) -> io::Result<Beginning>
+fn next_beginning<'r, 'e, R, H>(world: &mut MioMonWorld<'r, 'e, R, H>) -> io::Result<Beginning>
 where
     R: Net + Clock + Processes,
     H: Follower,
-    E: Write,
 {
     match world.herald().take_next() {
         Some(beginning) => Ok(beginning),
@@ -179,15 +172,14 @@ where
 /// # Errors
 ///
 /// That of the clock, or `Other` if waiting for the sockets or reading the clock fails.
-fn begin_watch<'r, 'e, R, H, E>(
+fn begin_watch<'r, 'e, R, H>(
     rt: &'r R,
     beginning: Beginning,
-    world: &mut MioMonWorld<'r, 'e, R, H, E>,
+    world: &mut MioMonWorld<'r, 'e, R, H>,
 ) -> io::Result<Phase>
 where
     R: Wait + Net + Clock + Processes,
     H: Follower,
-    E: Write,
 {
     let Beginning { monitor, links } = beginning;
     match world.begin(links) {

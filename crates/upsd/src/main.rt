@@ -1,8 +1,7 @@
 //! The server of UPSes.
 #![tactic(auto)]
 
-use nut_poll::LossyLines;
-use std::io::Stderr;
+use nut_poll::{ErrorLines, LossyLines};
 use std::process::ExitCode;
 use std::{env, io};
 
@@ -22,7 +21,7 @@ fn main(rt: HostRuntime) -> ExitCode {
 }
 
 /// Returns the words of the command line, the program's name first, and standard error.
-fn start(rt: &HostRuntime) -> io::Result<(Vec<String>, LossyLines<Stderr>)> {
+fn start(rt: &HostRuntime) -> io::Result<(Vec<String>, ErrorLines)> {
     let words = env::args(rt)?.collect(rt.alloc())?;
     let err = LossyLines::new(rt, rt.alloc(), "upsd", rt.stderr())?;
     Ok((words, err))
