@@ -14,7 +14,7 @@ use std::alloc::Global;
 use std::mem;
 
 /// How far an exchange has come.
-#[derive(Debug, Drop)]
+#[derive(Drop)]
 pub enum Stage {
     /// No query was asked, or its answer was taken out.
     Idle,
@@ -25,7 +25,7 @@ pub enum Stage {
 }
 
 /// How far an exchange has come, and the fault with which it failed, if it did.
-#[derive(Debug, Drop)]
+#[derive(Drop)]
 pub struct Exchange {
     pub(crate) stage: Stage,
     pub(crate) fault: Option<LinkFault>,

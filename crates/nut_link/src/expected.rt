@@ -28,7 +28,7 @@ pub enum More {
 }
 
 /// The answer that a query expects, unless it is refused.
-#[derive(Debug, Drop)]
+#[derive(Drop)]
 pub enum Expected {
     /// `OK`, whatever follows.
     Success,

@@ -10,7 +10,7 @@ use nut_words::LINE_MAX;
 use std::marker::Model;
 
 /// A word of at most [`LINE_MAX`] bytes, since no line has more.
-#[derive(Debug, Drop)]
+#[derive(Drop)]
 pub struct Name {
     bytes: ArrayVec<u8, LINE_MAX>,
 }
@@ -52,7 +52,7 @@ impl Default for Name {
 }
 
 /// The words with which an answer begins: those of the query behind GET or LIST. There are at most three.
-#[derive(Debug, Drop)]
+#[derive(Drop)]
 pub struct Heading {
     words: ArrayVec<Name, 3>,
 }

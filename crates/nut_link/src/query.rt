@@ -21,7 +21,7 @@ use std::mem;
 
 /// A query that was asked: what it expects, its line and how much of that the server took, and the rows of its list so
 /// far once the list has begun.
-#[derive(Debug, Drop)]
+#[derive(Drop)]
 pub struct Query {
     expected: Expected,
     line: ArrayVec<u8, QUERY_MAX>,

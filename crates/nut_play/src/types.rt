@@ -6,7 +6,7 @@ use thiserror::Error;
 /// One step of a schedule. Monitors are counted from 0, UPSes by their places in ups.conf, and the links of a monitor by the
 /// places of its MONITOR lines. A step that moves bytes moves as many as are there, but no more than its last number and no
 /// more than [`PIECE_MAX`](nut_words::PIECE_MAX).
-#[derive(Debug, Drop)]
+#[derive(Drop)]
 pub enum Step {
     /// The server's clock shows this many seconds since the start.
     ServerClock(u64),
@@ -75,5 +75,5 @@ pub enum FleetFault {
 }
 
 /// Memory could not be allocated.
-#[derive(Clone, Copy, Debug, PartialEq, Eq)]
+#[derive(Clone, Copy, PartialEq, Eq)]
 pub(crate) struct Lack;

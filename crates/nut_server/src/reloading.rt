@@ -8,7 +8,7 @@ ghost use Rattle.nut_server.specs.inside.Fates.{fate_in, fate_is};
 use crate::numbering::Numbering;
 
 /// What a reload makes of the UPS with a number.
-#[derive(Clone, Copy, Debug, PartialEq, Eq)]
+#[derive(Clone, Copy, PartialEq, Eq)]
 pub enum Fate {
     /// It stays as it is.
     Kept,

@@ -20,7 +20,7 @@ const CLIENT: u64 = 1;
 const ADDRESS: &[u8] = b"stdio";
 
 /// The stage of the one client: about to connect, connected, or gone.
-#[derive(Clone, Copy, Debug, PartialEq, Eq)]
+#[derive(Clone, Copy, PartialEq, Eq)]
 enum Stage {
     Arriving,
     Present,
