@@ -340,6 +340,16 @@ impl Server {
         }
     }
 
+    /// Whether a shutdown of a UPS was forced (FSD), so its clients are told that it is: false if there is no such UPS.
+    pub fn is_forced(&self, u: usize) -> bool
+        ensures { result ≡ option_map_or (λ s. s.device.forced) (supply_of u self.now.supplies) false }
+    {
+        match self.devices.get(u) {
+            Some(device) => device.is_forced(),
+            None => false,
+        }
+    }
+
     /// How many bytes wait for the driver of a UPS, at most [`ASKS_MAX`]: 0 where there is no such UPS.
     pub fn waits_for_driver(&self, u: usize) -> usize
         ensures value { result ≡ length (asks_of u self.now.supplies) }

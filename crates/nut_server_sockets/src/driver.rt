@@ -28,6 +28,8 @@ pub struct Driver {
     is_awaited: bool,
     /// Whether the data of the UPS were stale when that was last noted since the driver was connected.
     is_stale: bool,
+    /// Whether a shutdown of the UPS was forced when that was last noted.
+    is_forced: bool,
 }
 
 impl Driver {
@@ -52,6 +54,7 @@ impl Driver {
             missed: None,
             is_awaited: false,
             is_stale: false,
+            is_forced: false,
         })
     }
 
@@ -104,6 +107,11 @@ impl Driver {
             self.is_stale = is_stale;
         }
         has_changed
+    }
+
+    /// Notes whether a shutdown of the UPS was forced. Returns whether it was since that was last noted.
+    pub fn note_forced(&mut self, is_forced: bool) -> bool {
+        !mem::replace(&mut self.is_forced, is_forced) && is_forced
     }
 
     /// Makes clients wait until the driver says something, if it is connected.

@@ -426,6 +426,7 @@ impl Sockets {
         self.hindrances.second();
         self.drivers.catch_up(server);
         self.tell_staleness(server, reports);
+        self.tell_forced(server, reports);
         self.sheds = true;
         self.asks = true;
         self.roll = 0;
@@ -445,6 +446,17 @@ impl Sockets {
                 let is_stale = server.is_stale(u);
                 if driver.note_staleness(is_stale) {
                     reports.tell(staleness(driver.name(), is_stale));
+                }
+            }
+        }
+    }
+
+    /// Reports the UPSes of which a shutdown was forced in the last second.
+    fn tell_forced(&mut self, server: &Server, reports: &mut Reports<'_>) {
+        for u in 0..self.drivers.len() {
+            if let Some(driver) = self.drivers.get_mut(u) {
+                if driver.note_forced(server.is_forced(u)) {
+                    reports.tell(Report::Forced(driver.name()));
                 }
             }
         }
