@@ -456,7 +456,7 @@ impl Sockets {
         for u in 0..self.drivers.len() {
             if let Some(driver) = self.drivers.get_mut(u) {
                 if driver.note_forced(server.is_forced(u)) {
-                    reports.tell(Report::Forced(driver.name()));
+                    reports.warn(Report::Forced(driver.name()));
                 }
             }
         }
