@@ -596,6 +596,25 @@ class Tests:
             told = [line for line in lines.lines if ": data is " in line]
             expect(told, [stale, fresh] * (len(told) // 2), "each change is told once")
 
+    def test_a_forced_shutdown_is_told(self):
+        forced = "upsd: UPS su700: shutdown is forced (FSD)"
+        with self.room() as room:
+            lines = Lines(room.upsd("-q"))
+            driver = room.dummy()
+            room.until(STATUS, ONLINE)
+            with room.client() as client:
+                client.log_in(b"mon", b"m1")
+                expect(client.ask(b"FSD su700\n"), b"OK FSD-SET\n", "FSD")
+                lines.next(forced)
+                # neither another FSD nor a driver that comes back is news
+                expect(client.ask(b"FSD su700\n"), b"OK FSD-SET\n", "FSD once more")
+                driver.kill()
+                room.until(STATUS, NOT_CONNECTED)
+                room.dummy()
+                room.until(STATUS, b'VAR su700 ups.status "FSD OL"\n')
+                time.sleep(2.5)
+            expect(lines.lines, [forced], "what is told")
+
     def test_quiet(self):
         with self.room() as room:
             upsd = room.upsd("-q")
