@@ -2,7 +2,7 @@
 
 use crate::driver_socket::{has_listener, listen_at};
 use crate::dummy_driver::DummyDriver;
-use clap::{Arg, Command};
+use clap::{Arg, ArgMatches, Command};
 use mio::net::UnixListener;
 use nut_dummy::{Dummy, Script, ScriptFault, ScriptFaultKind, ScriptKind};
 use nut_program::{Failure, OwnFault, hold_closed_streams, read_file, remark_on_unread};
@@ -97,6 +97,16 @@ fn run<'a, S: AsStr>(
     words: &'a [S],
 ) -> Result<(), Failure<DummyUpsFault<'a>>> {
     let matches = command(alloc)?.try_get_matches_from(words)?;
+    run_matches(rt, alloc, &matches)
+}
+
+/// Does what a command line asks for that clap has accepted. The standard streams that are closed are held meanwhile.
+fn run_matches<'a>(
+    rt: &(impl Wait + Files + Net + Clock),
+    alloc: Global,
+    matches: &ArgMatches<'a>,
+) -> Result<(), Failure<DummyUpsFault<'a>>> {
+    let _held = hold_closed_streams(rt, alloc)?;
     let file = matches.get_str("file").unwrap_or("");
     let socket = matches.get_str("socket").unwrap_or("");
     tell_file(rt, alloc, file, socket)
@@ -113,25 +123,32 @@ fn tell_file<'a>(
     let Ok(dummy) = Dummy::new(alloc, script, 0) else {
         return Err(Failure::Memory);
     };
-    tell(rt, alloc, dummy, socket)
+    match listen(rt, socket) {
+        Ok(listener) => Ok(tell(rt, alloc, listener, dummy)?),
+        Err(failure) => {
+            // dropped by a call, which keeps the proof of this function short
+            drop(dummy);
+            Err(failure)
+        }
+    }
 }
 
-/// Runs a dummy driver at a socket.
-fn tell<'a>(
-    rt: &(impl Wait + Files + Net + Clock),
+/// Runs a dummy driver whose servers connect to this listener, until a wait fails.
+fn tell(
+    rt: &(impl Wait + Net + Clock),
     alloc: Global,
+    listener: UnixListener,
     dummy: Dummy,
-    socket: &'a str,
-) -> Result<(), Failure<DummyUpsFault<'a>>> {
-    let _held = hold_closed_streams(rt, alloc)?;
-    let listener = listen(rt, socket)?;
-    let driver = DummyDriver::new(rt, alloc, listener, dummy)?;
-    turn_for_ever(rt, driver)?;
-    Ok(())
+) -> io::Result<()> {
+    let mut driver = DummyDriver::new(rt, alloc, listener, dummy)?;
+    let told = turn_for_ever(rt, &mut driver);
+    // dropped by a call, which keeps the proof of this function short
+    drop(driver);
+    told
 }
 
 /// Lets a driver do what there is to do, until a wait fails.
-fn turn_for_ever(rt: &(impl Wait + Clock), mut driver: DummyDriver) -> io::Result<()> {
+fn turn_for_ever(rt: &(impl Wait + Clock), driver: &mut DummyDriver) -> io::Result<()> {
     for _ in rt.forever() {
         driver.turn(rt)?;
     }
