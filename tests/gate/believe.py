@@ -34,8 +34,10 @@ PROMISES = (
         ("nut_dummy", None, ("Script.read", "Dummy.new", "Dummy.server_bytes", "looks_back", "dump_is_the_table")),)),
     ("A room", "`Fleet::new`, `Fleet::play` and `rooms_hold`: what every schedule of one server and its monitors leads to", (
         ("nut_play", None, ("Fleet.new", "Fleet.play", "rooms_hold")),)),
-    ("A room in time", "`room_stops_in_time`: how soon a room with one UPS stops", (
-        ("nut_in_time", None, ("room_stops_in_time",)),)),
+    ("A room in time", "the laws of docs/room.md: by when machines begin to stop and are halted, and when none is", (
+        ("nut_in_time", None, (
+            "shutdowns_begin_in_time", "machines_halt_in_time", "hostsync_suffices", "nobody_halts_in_vain", "the_last_ups_counts",
+            "room_stops_in_time")),)),
     ("Lines of a schedule", "`read_step`: the step that a line says", (
         ("nut_play", "reading.rt", ("read_step",)),)),
 )

@@ -80,7 +80,7 @@ options_of (Some wanted) name =
 abbrev pub is_given : List ℕ → List Row → Bool
 is_given id rows = option_map_or (λ v. bytes_eq v (codes "true")) (first_of id rows) false
 
--- The flags for names, descriptions, clients and an object exclude each other, and a variable.
+-- The flags for names, descriptions, clients and an object exclude each other, and each of them excludes a variable.
 abbrev pub upsc_wanted : Bool → Bool → Bool → Bool → Option (List ℕ) → Option Wanted
 upsc_wanted false false false false None = Some wanteds.Variables
 upsc_wanted false false false false (Some variable) = Some (wanteds.Value variable)

@@ -49,7 +49,8 @@ on_words next (outcomes.Refused name) = Fails (failures.Refused name)
 on_words next outcomes.Done = Fails failures.BadAnswer
 on_words next (outcomes.List rows) = Fails failures.BadAnswer
 
--- Continues once the server answered OK. A refusal ends the tool. No other outcome belongs to such a request.
+-- Continues once the server answered OK, with the number of a tracked request or without one. A refusal ends the tool. A
+-- list is no answer to such a request.
 abbrev pub on_done : Script → Outcome → Script
 on_done next outcomes.Done = next
 on_done next (outcomes.Refused name) = Fails (failures.Refused name)

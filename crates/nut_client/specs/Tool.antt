@@ -96,7 +96,7 @@ is_over (Waits e next) = false
 is_over (Printed text) = true
 is_over (Failed failure) = true
 
--- Of these bytes at most PIECE_MAX come after some by which a run still waits.
+-- The bytes are some after which the run still waits, and then at most PIECE_MAX more.
 pub record LastRead (run : List ℕ → Run) (bytes : List ℕ) : Type 0 where
   pub early : List ℕ
   pub late : List ℕ

@@ -21,7 +21,7 @@ pub record IsBorne (setup : Setup) (pace : Pace) (m : ℕ) (fine : ℕ → Bool)
   pub enough : (monitor_of setup m).min_supplies ≤ power_where fine (monitor_of setup m).lines
   pub patient : (monitor_of setup m).poll_freq + pace.skip + pace.delay ≤ (monitor_of setup m).dead_time
 
--- Then no shutdown begins after the monitor knows that.
+-- While lines that supply enough are borne, no shutdown begins later than `seen_by`.
 abbrev pub NoneBeginsLater : Setup → List Step → Type 0
 NoneBeginsLater setup schedule = (pace : Pace) (m : ℕ) (fine : ℕ → Bool) (start : List Step) →
     let configuration : Configuration = monitor_of setup m in
@@ -29,7 +29,7 @@ NoneBeginsLater setup schedule = (pace : Pace) (m : ℕ) (fine : ℕ → Bool) (
     IsBorne setup pace m fine start schedule → has_begun configuration past ≡ true →
     clock (begun configuration past) ≤ seen_by configuration pace (clock (seen_at setup m start))
 
--- So a shutdown that hasn't begun by then never begins.
+-- A shutdown that hasn't begun when the clock is past `seen_by` doesn't begin as long as these lines are borne.
 abbrev pub NoneBeginsAnyMore : Setup → List Step → Type 0
 NoneBeginsAnyMore setup schedule = (pace : Pace) (m : ℕ) (fine : ℕ → Bool) (start middle : List Step) →
     let configuration : Configuration = monitor_of setup m in
@@ -37,15 +37,16 @@ NoneBeginsAnyMore setup schedule = (pace : Pace) (m : ℕ) (fine : ℕ → Bool)
     seen_by configuration pace (clock (seen_at setup m start)) < clock (seen_at setup m middle) →
     has_begun configuration (seen_at setup m middle) ≡ false → has_begun configuration (seen_at setup m schedule) ≡ false
 
--- Up to `start` the UPS of line i was shown with no other words either, and the last status, if there is one, is young
--- enough to wait for the next.
+-- Up to `start` the UPS of line i was never shown with words that aren't bearable. The last status at `start`, if there
+-- is one, isn't older than DEADTIME at `seen_by`.
 pub record WasBorne (setup : Setup) (pace : Pace) (m i : ℕ) (start : List Step) : Type 0 where
   pub shown : (early : List Step) (words : List (List ℕ)) → IsFront early start →
       shown_at setup early (line_of setup m i).ups ≡ Some words → is_bearable words ≡ true
   pub young : is_some (status i (seen_at setup m start)) ≡ true →
       seen_by (monitor_of setup m) pace (clock (seen_at setup m start)) ≤ polled i (seen_at setup m start) + (monitor_of setup m).dead_time
 
--- And no shutdown begins at all if that was so before.
+-- If `WasBorne` holds of these lines at `start`, `seen_by` from 0 is no longer than DEADTIME, and no shutdown has begun,
+-- then none begins while they are borne.
 abbrev pub NoneBegins : Setup → List Step → Type 0
 NoneBegins setup schedule = (pace : Pace) (m : ℕ) (fine : ℕ → Bool) (start : List Step) →
     let configuration : Configuration = monitor_of setup m in

@@ -4,7 +4,7 @@ use Rattle.std.specs.Io.KnownBytes.{Appends, Keeps}
 use Rattle.nut_io.specs.declared.types.Written.{Written}
 use Rattle.nut_io.specs.declared.types.Written.TheVariants.{Took, Later, Failed}
 
--- A write takes at least one byte and at most those that were offered.
+-- A write that takes bytes takes at least one, and no more than were offered.
 abbrev pub IsWithin : Written → ℕ → Type 0
 IsWithin (Took n) offered = (0 < n) × (n ≤ offered)
 IsWithin Later offered = Unit {0}

@@ -24,8 +24,8 @@ abbrev pub keeps_read : Result Answer AnswerFault → Bool
 keeps_read (Ok answer) = keeps_words answer
 keeps_read (Err fault) = false
 
--- Whether a line may allocate: it has a backslash, or it names an error or gives a number, or it is none of `OK` and the
--- beginning and the end of a list.
+-- Whether a line may allocate: it isn't too long, and it has a backslash, or it reads as a row, as an error, or as an `OK`
+-- with a number.
 abbrev pub may_take_memory : LineText → Bool
 may_take_memory (Text text) = has_backslash text || keeps_read (answer_in text)
 may_take_memory TooLong = false

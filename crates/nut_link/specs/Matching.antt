@@ -35,7 +35,7 @@ listing (queries.Client ups) = expects.Listing (codes "CLIENT" ∷ ups ∷ []) 1
 
 -- What a request expects. A GET: the words behind GET and one more, which for NUMLOGINS is a number; for TYPE one or
 -- more. The commands that are answered `OK`: that, for SET VAR and INSTCMD perhaps with the number under which they are
--- tracked. VER, NETVER and HELP: any line.
+-- tracked. VER, NETVER and HELP: any line. STARTTLS: only a refusal.
 abbrev pub expected : Request → Expected
 expected (requests.GetNumLogins ups) = expects.Line (codes "NUMLOGINS" ∷ ups ∷ []) mores.Number
 expected (requests.GetUpsDesc ups) = expects.Line (codes "UPSDESC" ∷ ups ∷ []) mores.One

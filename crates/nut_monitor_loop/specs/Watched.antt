@@ -68,7 +68,7 @@ Told first [] owed = owed ≡ None
 Told first (step ∷ steps) owed =
     (before : Option ℕ) × Told first steps before × Stands first (history_of steps) before step.entry step.event owed
 
--- the bytes that were taken of link i, after this entry
+-- the bytes that were taken of the writes to link i, after this entry
 abbrev pub taken_by : ℕ → Entry → List ℕ → List ℕ
 taken_by i (TookBytes j bytes) before = if j == i then before ++ bytes else before
 taken_by i entry before = before
@@ -77,7 +77,7 @@ abbrev pub since_made : ℕ → Option Event → List ℕ → List ℕ
 since_made i None before = before
 since_made i (Some e) before = since_linked [] i e before
 
--- the bytes that the world took of link i since it was made
+-- the bytes that the world took of the writes to link i since it was made
 abbrev pub taken : ℕ → List Step → List ℕ
 taken i [] = []
 taken i (step ∷ steps) = taken_by i step.entry (since_made i step.event (taken i steps))
@@ -89,7 +89,7 @@ handed (WasTold notice ∷ r) = handed r ++ notice ∷ []
 handed (entry ∷ r) = handed r
 
 -- There are steps whose entries are those that the world tells, if it tells any, such that: the monitor has the content
--- of their history; the bytes that the world took of each link since it was made are those that were sent on it; and
+-- of their history; the bytes that the world took of the writes to each link since it was made are those that were sent on it; and
 -- the notices that the world was handed, followed by those that wait, are the notices of the history.
 pub record Watched (first : Configuration) (log : Option (List Entry)) (s : Content) (owed : Option ℕ) : Type 0 where
   pub steps : List Step

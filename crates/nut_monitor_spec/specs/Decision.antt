@@ -49,14 +49,16 @@ abbrev pub each_primary : (ℕ → Bool) → List Line → Bool
 each_primary test [] = true
 each_primary test (line ∷ lines) = (not line.primary || test 0) && each_primary (λ i. test (suc i)) lines
 
--- At most one client is logged in, by the last answer: nobody but this monitor. False if there was no answer.
+-- By the last answer at most one client is logged in. It is this monitor if its own LOGIN was accepted. False if there
+-- was no answer.
 abbrev pub is_alone : Option ℕ → Bool
 is_alone None = false
 is_alone (Some logins) = nat_le logins 1
 
 -- ---- what an answer changes
 
--- whether a status lacks OB or LB
+-- Whether a status lacks OB or LB. CAL doesn't count: after a calibration on a low battery a secondary doesn't wait for
+-- HOSTSYNC anew.
 abbrev pub is_calm : List (List ℕ) → Bool
 is_calm words = not ((flags_of words).on_battery && (flags_of words).low_battery)
 
@@ -134,8 +136,8 @@ phase_at configuration clock begun None = if is_some begun then Forcing else Wat
 phase_at configuration clock begun (Some ended) =
     if nat_lt clock (ended + configuration.final_delay) then Final else Halted (has_primary configuration.lines)
 
--- Forcing is over once nobody else is logged in to any UPS of which this machine is the primary, or once more than
--- HOSTSYNC has passed since the shutdown began.
+-- Forcing is over once the last count of logins is at most 1 for each UPS of which this machine is the primary, or once
+-- more than HOSTSYNC has passed since the shutdown began.
 abbrev pub is_over_by : Configuration → ℕ → Bool → Option ℕ → Bool
 is_over_by configuration clock alone None = false
 is_over_by configuration clock alone (Some begun) = alone || is_past configuration.host_sync clock begun
@@ -175,6 +177,7 @@ interval configuration Status = configuration.poll_freq
 interval configuration Fsd = 1
 interval configuration NumLogins = 1
 
+-- Both are the same one of the queries that are put again and again. An opening query isn't put again on a link.
 abbrev pub is_same : Query → Query → Bool
 is_same Status Status = true
 is_same Fsd Fsd = true

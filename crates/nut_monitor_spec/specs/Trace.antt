@@ -1,5 +1,5 @@
--- The past of a monitor: each event with what it brought, the newest first, and what the past says. To ask for a
--- moment, a definition gives the past as it was then: a tail of the list.
+-- The past of a monitor: each event with what it brought, the newest first, and what the past says. A definition that
+-- looks for a moment returns the past as it was at that moment, which is a tail of the list.
 use Rattle.std.specs.Prelude.{ℕ, suc, ◌==◌, ◌+◌, max, nat_lt, Bool, true, false, not, ◌&&◌, if◌then◌else◌, List, [], ◌∷◌, ◌++◌, length, take, drop, Option, Some, None, is_some, is_none}
 use Rattle.std.specs.List.{list_any}
 use Rattle.std.specs.Option.{option_map}
@@ -292,7 +292,7 @@ begun configuration past = earliest (is_short configuration) past
 abbrev pub has_begun : Configuration → List Entry → Bool
 has_begun configuration past = is_any (begun configuration past)
 
--- nobody else is logged in to any UPS of which this machine is the primary, by the last answer for each of these lines
+-- For each primary line the last count of logins is at most 1. True if no line is primary.
 abbrev pub alone : Configuration → List Entry → Bool
 alone configuration past = each_primary (λ i. is_alone (logins i past)) configuration.lines
 

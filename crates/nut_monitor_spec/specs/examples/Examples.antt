@@ -61,7 +61,7 @@ were_accepted configuration [] = true
 were_accepted configuration (event ∷ events) =
     were_accepted configuration events && is_none (refusal (content configuration events) event)
 
--- ---- rooms
+-- ---- configurations
 
 -- the defaults, with these MONITOR lines
 abbrev pub room : List Line → Configuration
@@ -92,11 +92,11 @@ secondary_room = room (su700 false ∷ [])
 abbrev pub two_primaries : Configuration
 two_primaries = room (su700 true ∷ su900 true ∷ [])
 
--- a room in which a UPS may be silent for 1,000,000 seconds before NOCOMM
+-- a configuration by which a UPS may be silent for 1,000,000 seconds before NOCOMM
 abbrev pub patient_room : Configuration
 patient_room = record secondary_room { no_comm_warn_time = 1_000_000 }
 
--- a room with two supplies, of which one is enough
+-- a configuration with two supplies, of which one is enough
 abbrev pub two_supplies : Configuration
 two_supplies = room (su700 false ∷ su900 false ∷ [])
 
@@ -223,7 +223,7 @@ pub record CommunicationExamples : Type 0 where
 
 -- ---- what is critical, and the shutdown
 
--- rooms with two UPSes, and moments just before and just after a limit
+-- configurations with two UPSes, and moments just before and just after a limit
 pub record RoomExamples : Type 0 where
   pub dead_not_yet : phase_after primary_room (primary_hears (codes "OB CAL") ++ at_moment 15 ∷ []) ≡ Watching
   pub dead : phase_after primary_room (primary_hears (codes "OB CAL") ++ at_moment 16 ∷ []) ≡ Forcing
@@ -259,11 +259,11 @@ pub record RoomExamples : Type 0 where
 
 -- ---- edges
 
--- a room in which the machine is halted as soon as SHUTDOWN was given
+-- a configuration by which the machine is halted as soon as SHUTDOWN was given
 abbrev pub hasty_room : Configuration
 hasty_room = record primary_room { final_delay = 0 }
 
--- a room in which both supplies are needed
+-- a configuration by which both supplies are needed
 abbrev pub both_supplies : Configuration
 both_supplies = record two_supplies { min_supplies = 2 }
 

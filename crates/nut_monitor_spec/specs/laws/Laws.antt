@@ -119,7 +119,8 @@ OthersStay =
 abbrev pub IsWritable : Line → Type 0
 IsWritable line = (query : Query) → is_writable (request line query) ≡ true
 
--- A link keeps no more than one query of at most QUERY_MAX bytes, and LINE_MAX bytes of an unfinished line.
+-- If the queries of a MONITOR line are writable, its link keeps no more than one query of at most QUERY_MAX bytes, and
+-- LINE_MAX bytes of an unfinished line.
 abbrev pub LinksAreBounded : Type 0
 LinksAreBounded =
     (configuration : Configuration) (events : List Event) (i : ℕ) (w : Watch) (v : LinkValue) → IsAccepted configuration events →

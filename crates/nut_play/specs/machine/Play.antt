@@ -10,7 +10,7 @@ use Rattle.nut_play.specs.Lack.{may_lack}
 use Rattle.nut_play.specs.Kept.{Kept, fleet_of}
 use Rattle.nut_play.specs.machine.Next.{is_played, next, said, fits}
 
--- what a step tells: these news if it was played, else that it was skipped
+-- what a step tells: this news if it was played, else that it was skipped
 abbrev pub told_if : Bool → List News → List News
 told_if true news = news
 told_if false news = Skipped ∷ []
