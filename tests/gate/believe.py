@@ -49,6 +49,10 @@ which they rest on each other, the definitions that its clauses lead to: a path 
 `crates/nut_words/specs/Lines.antt`. Lines are those of a definition with its comment. Words of the toolchain's own library
 (lists, numbers, options) aren't listed, and types and constants of the code are listed apart.
 
+Two files are second forms of shorter ones, and are listed since the clauses cite them. Whoever believes `nut_words: Spelling` needn't
+believe `nut_words: Reader`, except `has_backslash`, `with_backslash` and `Gives` (law `spelled_is_meant`). Whoever believes
+`nut_state: LookBack` needn't believe `nut_state: Step`, except `line_adds` (law `every_table_holds`).
+
 This page is written by `python3 -m tests.gate.believe --write`, and the tests see that it is up to date.
 """
 

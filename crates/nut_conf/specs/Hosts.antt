@@ -8,7 +8,7 @@ use Rattle.nut_conf.specs.declared.limits.TheConstants.{HOST_MAX}
 abbrev pub is_host_byte : ℕ → Bool
 is_host_byte c = is_ascii_alphanumeric c || c == 46 || c == 45
 
--- 1 to HOST_MAX of them: the name of a host that is dialled, or its address
+-- whether the bytes name a host to dial, or are its address: 1 to HOST_MAX bytes that `is_host_byte` allows
 abbrev pub is_host : List ℕ → Bool
 is_host bytes = nat_le 1 (length bytes) && nat_le (length bytes) HOST_MAX && list_all is_host_byte bytes
 
@@ -16,6 +16,6 @@ is_host bytes = nat_le 1 (length bytes) && nat_le (length bytes) HOST_MAX && lis
 abbrev pub is_address_byte : ℕ → Bool
 is_address_byte c = is_host_byte c || c == 58
 
--- 1 to HOST_MAX of them: the address on which a server listens
+-- whether the bytes are an address to listen at: 1 to HOST_MAX bytes that `is_address_byte` allows
 abbrev pub is_address : List ℕ → Bool
 is_address bytes = nat_le 1 (length bytes) && nat_le (length bytes) HOST_MAX && list_all is_address_byte bytes

@@ -73,11 +73,11 @@ desc_of u = option_map_or (λ t. t.bytes.items) u.desc (codes "Unavailable")
 abbrev pub names_of : UpsConf → List (List ℕ)
 names_of c = names_in (keys c.ups.by_name)
 
--- the number of the UPS with this name, counted from 0 in the order of the file
+-- the place of the UPS with this name, counted from 0 in the order of the file
 abbrev pub number_of : List ℕ → UpsConf → Option ℕ
 number_of name c = position (bytes_eq name) (names_of c)
 
--- the UPS with this number
+-- the UPS at this place
 abbrev pub ups_at : UpsConf → ℕ → Option Ups
 ups_at c number = slice_get (values c.ups.by_name) number
 

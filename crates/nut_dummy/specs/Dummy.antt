@@ -61,7 +61,8 @@ linked s = record s { linked = true; rest = Text []; teller = relinked s.teller 
 abbrev pub cut : Content → Content
 cut s = record s { linked = false; rest = Text []; teller = relinked s.teller }
 
--- Time never runs back. Values that became due since the last moment are told.
+-- Time never runs back. Of each variable the newest value that became due since the last moment takes effect. It is told
+-- if it differs from the one before and DUMPALL was asked.
 abbrev pub passed : ℕ → Content → Content
 passed t s = record s {
   clock = max s.clock t;

@@ -64,7 +64,7 @@ pub record IsDump (variables : List Variable) (bytes : List ℕ) : Type 0 where
   pub variables_ascend : IsAscending (map (λ v. v.name) variables)
   pub commands_ascend : IsAscending (map command_name all_commands)
   -- They lead from an empty table to the driver's own: the variables that have a value, ascending, each with its flags,
-  -- number, enum values and ranges, and all commands; the dump is done, and the data are current.
+  -- aux, enum values and ranges, and all commands; the dump is done, and the data are current.
   pub is_table : LeadTo (table_of variables) bytes
 
 -- The new bytes that wait are a dump of the variables that are then held.

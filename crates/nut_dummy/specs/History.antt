@@ -34,8 +34,8 @@ has_asked (Dumps ∷ past) = true
 has_asked (Pongs ∷ past) = has_asked past
 has_asked (Fails number ∷ past) = has_asked past
 
--- The value of a variable: the newest of its steps that became due, the SETs and the commands, in the order of the
--- deeds; before any, the one that is due at the start.
+-- The value of a variable: the newest of its steps that became due, of its SETs that were obeyed, and of the commands
+-- that set it; before any, the one due at the start.
 abbrev pub value : Timeline → List Deed → Option (List ℕ)
 value t [] = at_start t.steps
 value t (Fresh ∷ past) = value t past

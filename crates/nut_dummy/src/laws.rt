@@ -15,7 +15,7 @@ pub fn looks_back()
 {}
 
 /// States a law and does nothing when called: each line that the driver tells is read as what it says. The line of a
-/// value is heard as that value; the lines that limit a variable as exactly its flags, number, enum values and ranges;
+/// value is heard as that value; the lines that limit a variable as exactly its flags, aux, enum values and ranges;
 /// and the end of a dump as all commands, current data and a dump that is done.
 pub fn told_lines_are_heard()
     ensures { ToldLinesAreHeard }

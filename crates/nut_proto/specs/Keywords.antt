@@ -1,4 +1,4 @@
--- The command words of the network protocol (RFC 9271).
+-- The command words that this server takes: those of RFC 9271 without its second names, such as PROTVER.
 use Rattle.std.specs.Prelude.{ℕ, Bool, List, [], ◌∷◌, Option, Some, None, codes, find}
 use Rattle.std.specs.Str.{bytes_eq, str_eq_ignore_ascii_case}
 use Rattle.nut_proto.specs.declared.keyword.Command.{Command}

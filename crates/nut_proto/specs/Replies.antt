@@ -1,4 +1,4 @@
--- The answers of the server, as lines (RFC 9271).
+-- The replies of the server, as lines (RFC 9271).
 use Rattle.std.specs.Prelude.{ℕ, Bool, List, [], ◌∷◌, codes, map, if◌then◌else◌}
 use Rattle.nut_proto.specs.declared.reply.Reply.{Reply}
 use Rattle.nut_proto.specs.declared.reply.Reply.TheVariants as replies
@@ -11,12 +11,12 @@ use Rattle.nut_proto.specs.Lines.{line}
 use Rattle.nut_proto.specs.Refusals.{refusal_name}
 use Rattle.nut_proto.specs.Tracking.{status_word, switch_word}
 
--- the answer to VER
+-- the reply to VER
 abbrev pub version_parts : List Part
 version_parts =
     Word (codes "Network") ∷ Word (codes "UPS") ∷ Word (codes "Tools") ∷ Word (codes "upsd") ∷ Word (codes "profile") ∷ Word (codes "1.3") ∷ []
 
--- the answer to HELP
+-- the reply to HELP
 abbrev pub commands_parts : List Part
 commands_parts = Word (codes "Commands:") ∷ map (λ command. Word (command_name command)) all_commands
 
@@ -27,7 +27,7 @@ kind_part kinds.Range = Word (codes "RANGE")
 kind_part (kinds.String limit) = StringOf limit
 kind_part kinds.Number = Word (codes "NUMBER")
 
--- the answer to GET TYPE: it holds `RW` if the variable may be set
+-- the reply to GET TYPE: it holds `RW` if the variable may be set
 abbrev pub type_parts : List ℕ → List ℕ → Bool → VariableKind → List Part
 type_parts ups variable writable kind =
     if writable

@@ -56,7 +56,7 @@ abbrev pub command_texts_of : Option Descriptions → List (List ℕ × List ℕ
 command_texts_of (Some d) = rows_of d.commands
 command_texts_of None = []
 
--- what three files set, and the fourth, if it is there
+-- the configuration that ups.conf, upsd.users and upsd.conf set, with the texts of cmdvartab if there is that file
 abbrev pub configuration_of : UpsConf → UsersConf → UpsdConf → Option Descriptions → Configuration
 configuration_of ups users upsd descriptions = record {
   upses = upses_of ups;

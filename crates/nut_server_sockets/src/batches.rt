@@ -28,7 +28,7 @@ impl Place {
 
 /// Cuts what a client sends after each line that may be answered by a list.
 ///
-/// The longest list has 578,146 bytes, and every other answer is one line. So the server has to keep, for a client that
+/// A list has at most 578,146 bytes, and every other answer is one line. So the server has to keep, for a client that
 /// takes nothing, at most one list and the answers to the short lines of one piece. Those answers together have less
 /// than 64 KiB.
 #[derive(Drop)]

@@ -32,7 +32,8 @@ open_refusal s address =
     if not (is_address address) then Some BadAddress else
     if not (nat_lt (length s.sessions) s.configuration.most_connections && nat_lt s.opened OPENED_MAX) then Some Full else None
 
--- Of an open connection come pieces of at most PIECE_MAX bytes, and none while answers wait for it.
+-- Why a piece of a connection is refused: the connection isn't open, the piece has more than PIECE_MAX bytes, or bytes
+-- wait for the connection.
 abbrev pub bytes_refusal : List ℕ → Option Session → Option Refused
 bytes_refusal piece None = Some NoSuchConnection
 bytes_refusal piece (Some k) =
@@ -54,7 +55,8 @@ abbrev pub up_refusal : Bool → Option Refused
 up_refusal true = None
 up_refusal false = Some NotConnected
 
--- Of a connected driver come pieces of at most PIECE_MAX bytes.
+-- Why a piece of a driver is refused: there is no such UPS, its driver isn't connected, or the piece has more than
+-- PIECE_MAX bytes.
 abbrev pub report_refusal : List ℕ → Option Supply → Option Refused
 report_refusal piece None = Some NotConnected
 report_refusal piece (Some d) =
@@ -112,8 +114,8 @@ abbrev pub behind_report : ℕ → List ℕ → ℕ → List Event → List Even
 behind_report u piece zero h = h
 behind_report u piece (suc k) h = DriverBytes u (front (suc k) piece) ∷ h
 
--- The history after memory ran out behind k lines of a piece of c: the connection is closed. Behind k lines of a piece of the
--- driver of u: it is gone.
+-- The history after memory ran out behind k lines of a piece: of c, which is then closed; or of the driver of u, which is
+-- then disconnected.
 abbrev pub lost : ℕ → List ℕ → ℕ → List Event → List Event
 lost c piece k h = Close c ∷ behind c piece k h
 

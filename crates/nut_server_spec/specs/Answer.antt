@@ -153,9 +153,9 @@ has_right right password (Some user) = has_password password user && right user
 abbrev pub with_credentials : Caller → (List ℕ → List ℕ → Answer) → Answer
 with_credentials k next = require refusals.UsernameRequired k.user (λ user. require refusals.PasswordRequired k.password (next user))
 
--- The next step of a request that changes something, with the number of the UPS. The tests in their order: the client
--- gave a user name, it gave a password, there is a UPS of this name, and there is such a user with this password and this
--- right.
+-- The next step of SET VAR, INSTCMD, LOGIN, PRIMARY and FSD, with the number of the UPS. The tests in their order: the
+-- client gave a user name, it gave a password, there is a UPS of this name, and there is such a user with this password
+-- and this right.
 abbrev pub with_right : Scene → Caller → (User → Bool) → List ℕ → (ℕ → Answer) → Answer
 with_right s k right name next = with_credentials k (λ user password.
     on_ups s name (λ u. check refusals.AccessDenied (has_right right password (user_named user s.configuration.users)) (next u)))

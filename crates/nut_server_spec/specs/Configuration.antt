@@ -36,7 +36,7 @@ pub record Configuration : Type 0 where
 abbrev pub ups_named : List ℕ → List Ups → Option Ups
 ups_named name upses = find (λ u. bytes_eq u.name name) upses
 
--- the number of the first UPS with this name, counted from 0 in the order of the file
+-- the place of the first UPS with this name, counted from 0 in the order of the file
 abbrev pub number_of_ups : List ℕ → List Ups → Option ℕ
 number_of_ups name upses = position (λ u. bytes_eq u.name name) upses
 

@@ -68,12 +68,12 @@ numbering_of s = with_numbers s.configuration.upses s.numbers
 abbrev pub past : Configuration → List Event → List Entry
 past first h = trace first (steps h)
 
--- The bytes that c was sent: the first of the answers due, as many bytes as it took. The law `sent_is_received` says
--- that it took these bytes.
+-- The bytes that c was sent: of all bytes due, as many from the beginning as c took. The law `sent_is_received` says that
+-- these are the bytes that c took.
 abbrev pub sent : Configuration → ℕ → List Event → List ℕ
 sent first c h = take (taken c h) (due c (past first h))
 
--- The bytes that wait for c: the answers due, without the bytes that it took. Used of open connections only: nothing
+-- The bytes that wait for c: the answers due, without the bytes that it took. Used only for open connections: nothing
 -- waits for a closed one.
 abbrev pub waits : Configuration → ℕ → List Event → List ℕ
 waits first c h = drop (taken c h) (due c (past first h))

@@ -30,8 +30,8 @@ absent = record { connected = false; table = empty; heard_at = 0; pinged_at = No
 abbrev pub is_past : ℕ → ℕ → ℕ → Bool
 is_past seconds clock moment = nat_lt (moment + seconds) clock
 
--- Whether the data are stale: the driver hasn't finished its dump, or its newest DATAOK or DATASTALE isn't DATAOK, or
--- no line was heard for more than MAXAGE seconds.
+-- Whether the data are stale: the driver hasn't finished its dump; or it has said neither DATAOK nor DATASTALE, or
+-- DATASTALE last; or no line was heard for more than MAXAGE seconds.
 abbrev pub is_stale : ℕ → ℕ → Device → Bool
 is_stale max_age clock d = not d.table.dump_done || not d.table.data_ok || is_past max_age clock d.heard_at
 

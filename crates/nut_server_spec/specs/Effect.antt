@@ -9,7 +9,8 @@ use Rattle.nut_server_spec.specs.Numbering.{Numbering, number_of}
 use Rattle.nut_server_spec.specs.Command.{Command, Asks}
 use Rattle.nut_server_spec.specs.Answer.{Answer, Line, text_of}
 
--- Each function here gives a value after a line, from the line's command, its answer and the value before.
+-- Each function whose name ends in `then` gives a value after a line, from the line's command, its answer and the value
+-- before.
 
 -- the user name of a connection: that of the USERNAME that was answered OK
 abbrev pub user_then : Command → Answer → Option (List ℕ) → Option (List ℕ)

@@ -83,7 +83,7 @@ abbrev pub with_reports : ℕ → List LineText → List Step → List Step
 with_reports u [] s = s
 with_reports u (line ∷ lines) s = with_reports u lines (Reported u line ∷ s)
 
--- The steps of a history, the newest first. A piece becomes the lines that it completes.
+-- The steps of a history, the newest first. A piece becomes the lines that it completes. What a client took is no step.
 abbrev pub steps : List Event → List Step
 steps [] = []
 steps (Moment t ∷ h) = Clock t ∷ steps h

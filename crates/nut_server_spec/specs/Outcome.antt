@@ -24,8 +24,8 @@ is_blank Blank = true
 is_blank (Malformed refusal) = false
 is_blank (Asks request) = false
 
--- Whether a client's line may allocate memory: the connection is open, hasn't logged out, and the line isn't blank or
--- holds a backslash.
+-- Whether a client's line may allocate memory: the connection is open and hasn't logged out, and the line says something
+-- or has a backslash.
 abbrev pub line_takes : LineText → Option Session → Bool
 line_takes line None = false
 line_takes line (Some k) = not k.logged_out && (not (is_blank (command_of line)) || with_backslash line)
@@ -58,8 +58,8 @@ session_in first h c = session_of c (content first h).sessions
 abbrev pub supply_in : Configuration → List Event → ℕ → Option Supply
 supply_in first h u = supply_of u (content first h).supplies
 
--- The line with the number k, counted from 0, of those that a piece completes may take memory, behind the lines before it:
--- a piece of c, and one of the driver of u.
+-- The line with the number k, counted from 0, of those that a piece completes may take memory, after the k lines before
+-- it were done. `MayRunOut` is for a piece of c, `MayRunOutOf` for one of the driver of u.
 abbrev pub MayRunOut : Configuration → List Event → ℕ → List ℕ → ℕ → Type 0
 MayRunOut first h c piece k =
     let lines : List LineText = lines_after (unfinished_of (session_in first h c)) piece in

@@ -1,5 +1,5 @@
--- The past: each step with its answer and its requests to drivers, the newest first, and what the past says. Each
--- function here finds the newest entry that decides a value; all other entries leave the value as it was.
+-- The past: each step with its answer and its requests to drivers, the newest first. Each function of a past here gives
+-- a value by the newest entry and the value of the past before it.
 use Rattle.std.specs.Prelude.{ℕ, ◌==◌, ◌+◌, max, Bool, true, false, not, if◌then◌else◌, List, [], ◌∷◌, ◌++◌, length, map, filter, take, drop, Option, Some, None, is_some}
 use Rattle.nut_words.specs.Lines.{LineText, Text, TooLong}
 use Rattle.nut_state.specs.Change.{heard}
@@ -269,8 +269,8 @@ abbrev pub driver_taken : ℕ → List Entry → ℕ
 driver_taken u [] = 0
 driver_taken u (e ∷ past) = by_fate (e.fate u) 0 (λ before. before) (drained_after u e.step (driver_taken u past))
 
--- the bytes that the driver of u was sent since it was connected: the first of the requests due, as many bytes as it
--- took
+-- the bytes that the driver of u was sent since it was connected: of all bytes due, as many from the beginning as the
+-- driver took
 abbrev pub driver_sent : ℕ → List Entry → List ℕ
 driver_sent u past = take (driver_taken u past) (driver_due u past)
 

@@ -180,7 +180,7 @@ pub fn connections_are_few()
 {}
 
 /// States a law and does nothing when called: if the configuration is within the limits that its files have, no answer to
-/// one line is longer than 578,146 bytes, which is that to a LIST VAR of as many variables as a table holds.
+/// one line is longer than 578,146 bytes, which is a bound for a LIST VAR of as many variables as a table holds.
 pub fn answers_are_bounded()
     ensures { AnswersAreBounded }
 {

@@ -12,7 +12,8 @@ use Rattle.nut_state.specs.declared.verb.Verb.TheVariants.{SetInfo, DelInfo, Add
 use Rattle.nut_state.specs.Number.{range_of}
 use Rattle.nut_state.specs.Verb.{says, verb_of, takes}
 
--- A change that a line asks for. `None` stands for a range or a number that can't be read.
+-- A change that a line asks for. `None` stands for a number that can't be read, or for a range with such a number or with
+-- its minimum above its maximum.
 pub data Change : Type 0 where
   set_info : (name value : List ℕ) → Change
   del_info : (name : List ℕ) → Change

@@ -121,7 +121,7 @@ is_command name changes = unwrap_or (latest (command_set name) changes) false
 abbrev pub is_dumped : List Change → Bool
 is_dumped changes = list_any dumps changes
 
--- Whether the newest DATAOK or DATASTALE is a DATAOK.
+-- Whether the newest DATAOK or DATASTALE is a DATAOK; false if there is neither.
 abbrev pub is_current : List Change → Bool
 is_current changes = unwrap_or (latest data_set changes) false
 

@@ -2,7 +2,7 @@
 --
 -- This is the table line by line, as the code keeps it. The law `every_table_holds` says that `table_of` holds what
 -- looking back over the lines says, and that `accepts` and `adds` agree with `is_accepted` and `adds_to`. Who believes
--- `LookBack` needn't believe this file.
+-- `LookBack` needn't believe this file, except `line_adds`.
 use Rattle.std.specs.Prelude.{ℕ, ◌&&◌, ◌||◌, Bool, true, false, not, List, [], ◌∷◌, ◌++◌, Option, Some, None, if◌then◌else◌, filter, is_some, length, nat_lt, nat_le, option_map, unwrap_or}
 use Rattle.std.specs.Option.{option_map_or, option_to_list}
 use Rattle.std.specs.Str.{bytes_eq}

@@ -1,4 +1,4 @@
--- The changes of the definitions that the code's changes are.
+-- For private functions, nothing here has to be believed: the changes of the definitions that the code's changes are.
 use Rattle.nut_dummy.specs.Teller as T
 use Rattle.nut_dummy.specs.declared.variable.Change.{Change}
 use Rattle.nut_dummy.specs.declared.variable.Change.TheVariants as change

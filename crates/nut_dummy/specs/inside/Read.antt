@@ -1,4 +1,4 @@
--- The items of the definitions that the code's items are.
+-- For private functions, nothing here has to be believed: the items of the definitions that the code's items are.
 use Rattle.nut_dummy.specs.Item as said
 use Rattle.nut_dummy.specs.declared.item.Item.{Item}
 use Rattle.nut_dummy.specs.declared.item.Item.TheVariants as items

@@ -21,7 +21,7 @@ IsVariable row = IsName NAME_MAX row.0 × (length row.1 ≤ VALUE_MAX)
 abbrev pub variable_rows : List ℕ → List (List ℕ × List ℕ) → List ℕ
 variable_rows ups rows = flat_map (λ row. reply_line (replies.Var ups row.0 row.1)) rows
 
--- the whole reply to LIST VAR
+-- the whole answer to LIST VAR
 abbrev pub variable_list : List ℕ → List (List ℕ × List ℕ) → List ℕ
 variable_list ups rows = begin_line (queries.Var ups) ++ (variable_rows ups rows ++ end_line (queries.Var ups))
 
@@ -30,14 +30,14 @@ variable_list ups rows = begin_line (queries.Var ups) ++ (variable_rows ups rows
 abbrev pub RowsAreBounded : Type 0
 RowsAreBounded = (ups name value : List ℕ) → IsName UPS_NAME_MAX ups → IsVariable (name, value) → length (reply_line (replies.Var ups name value)) ≤ 1129
 
--- The reply to LIST VAR, of at most ROWS_MAX variables, has at most 578,142 bytes.
+-- The answer to LIST VAR, of at most ROWS_MAX variables, has at most 578,142 bytes.
 abbrev pub ListsAreBounded : Type 0
 ListsAreBounded =
     (ups : List ℕ) (rows : List (List ℕ × List ℕ)) →
     IsName UPS_NAME_MAX ups → AllByRecursion IsVariable rows → length rows ≤ ROWS_MAX → length (variable_list ups rows) ≤ 578142
 
 -- If the name of the UPS can be written bare and has at most 32 bytes, and there are at most 512 variables, each within
--- its limits, the reply to LIST VAR with `FSD ` put before one value has at most 578,146 bytes.
+-- its limits, the answer to LIST VAR with `FSD ` put before one value has at most 578,146 bytes.
 abbrev pub ForcedListsAreBounded : Type 0
 ForcedListsAreBounded =
     (ups name value : List ℕ) (before after : List (List ℕ × List ℕ)) →

@@ -1,4 +1,4 @@
--- The rights of users.
+-- For private functions, nothing here has to be believed: the rights of users.
 use Rattle.std.specs.Prelude.{Bool}
 use Rattle.nut_server_spec.specs.Configuration.{User, may_command}
 use Rattle.nut_server_spec.specs.Answer.{may_set, may_log_in, may_be_primary, may_force}

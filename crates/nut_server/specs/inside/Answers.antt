@@ -1,4 +1,5 @@
--- The answers and rows of the definitions that those of the code represent.
+-- For private functions, nothing here has to be believed: the answers and rows of the definitions that those of the
+-- code represent.
 use Rattle.std.specs.Prelude.{List, map, filter, Result, Ok, Err}
 use Rattle.nut_proto.specs.declared.refusal.Refusal.{Refusal}
 use Rattle.nut_proto.specs.declared.reply.Reply.{Reply}

@@ -1,4 +1,5 @@
--- What the decision on a request has to be: its answer, and its effect.
+-- For private functions, nothing here has to be believed: what the decision on a request has to be: its answer, and
+-- its effect.
 use Rattle.std.specs.Prelude.{ℕ, ◌≡◌, ◌<◌, List, length, Option, Some, Result, Ok, Err}
 use Rattle.nut_proto.specs.declared.refusal.Refusal.{Refusal}
 use Rattle.nut_proto.specs.declared.reply.Reply.{Reply}

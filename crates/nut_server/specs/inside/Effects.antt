@@ -1,4 +1,4 @@
--- What a request changes, apart from its answer.
+-- For private functions, nothing here has to be believed: what a request changes, apart from its answer.
 use Rattle.std.specs.Prelude.{ℕ, ◌≤◌, ◌<◌, ◌≡◌, true, List, ◌++◌, length, slice_index_or, Option, Some, None}
 use Rattle.nut_words.specs.declared.limits.TheConstants.{CREDENTIAL_MAX}
 use Rattle.nut_proto.specs.declared.request.Request.TheVariants as requests

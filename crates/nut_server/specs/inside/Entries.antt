@@ -1,4 +1,5 @@
--- How the open connections are kept: in the slots of a slab, with a sorted list of keys.
+-- For private functions, nothing here has to be believed: how the open connections are kept: in the slots of a slab,
+-- with a sorted list of keys.
 use Rattle.std.specs.Prelude.{◌≡◌, ◌≤◌, ℕ, List, [], ◌∷◌, count_by, filter_map, length, map, Some, vec_capacity}
 use Rattle.nut_conf.specs.declared.limits.TheConstants.{CONNECTIONS_MAX}
 use Rattle.slab.specs.Slab.{Slab, get, slab_len}

@@ -1,4 +1,5 @@
--- What a reload makes of UPSes, in the terms of the definitions.
+-- For private functions, nothing here has to be believed: what a reload makes of UPSes, in the terms of the
+-- definitions.
 use Rattle.std.specs.Prelude.{ℕ}
 use Rattle.nut_server_spec.specs.Numbering as N
 use Rattle.nut_server.specs.declared.reloading.Fate.{Fate}

@@ -1,4 +1,5 @@
--- What a line makes of what hears it, apart from its unfinished line.
+-- For private functions, nothing here has to be believed: what a line makes of what hears it, apart from its
+-- unfinished line.
 use Rattle.std.specs.Prelude.{ℕ, Option, Some, None}
 use Rattle.nut_words.specs.Lines.{LineText}
 use Rattle.nut_server_spec.specs.Acceptance.{session_of}

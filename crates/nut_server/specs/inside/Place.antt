@@ -1,4 +1,4 @@
--- The place of a connection in a list of sessions.
+-- For private functions, nothing here has to be believed: the place of a connection in a list of sessions.
 use Rattle.std.specs.Prelude.{ℕ, zero, suc, ◌≡◌, false, true, ◌==◌, ◌<◌, length, slice_get, List, [], ◌∷◌}
 use Rattle.nut_server_spec.specs.Content.{Session}
 use Rattle.nut_server_spec.specs.Acceptance.{session_of}

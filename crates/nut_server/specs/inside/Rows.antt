@@ -1,4 +1,5 @@
--- The texts of the rows of LIST RW and LIST CLIENT, which leave out some of what they walk over.
+-- For private functions, nothing here has to be believed: the texts of the rows of LIST RW and LIST CLIENT, which
+-- leave out some of what they walk over.
 use Rattle.std.specs.Prelude.{ℕ, List, [], if◌then◌else◌}
 use Rattle.nut_state.specs.Table.{Entry}
 use Rattle.nut_proto.specs.declared.reply.Reply.TheVariants as replies

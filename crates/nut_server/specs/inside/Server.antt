@@ -1,4 +1,4 @@
--- What always holds of the fields of a server.
+-- For private functions, nothing here has to be believed: what always holds of the fields of a server.
 use Rattle.std.specs.Prelude.{◌<◌, ◌≤◌, length}
 use Rattle.std.specs.List.{AllByRecursion}
 use Rattle.nut_conf.specs.declared.limits.TheConstants.{CONNECTIONS_MAX, UPSES_MAX}

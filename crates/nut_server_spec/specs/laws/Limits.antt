@@ -22,7 +22,8 @@ pub record IsUpsWithin (ups : Ups) : Type 0 where
 abbrev pub IsTextWithin : List ℕ × List ℕ → Type 0
 IsTextWithin row = length row.1 ≤ 128
 
--- At most UPSES_MAX UPSes, and at most CONNECTIONS_MAX connections at once: so much the files may hold.
+-- The limits of the files: at most UPSES_MAX UPSes, each within its limits; at most CONNECTIONS_MAX connections at once;
+-- and each text of a variable or a command within its limit.
 pub record IsWithin (configuration : Configuration) : Type 0 where
   pub upses : length configuration.upses ≤ UPSES_MAX
   pub each_ups : AllByRecursion IsUpsWithin configuration.upses
@@ -36,7 +37,7 @@ AreWithin first [] = IsWithin first
 AreWithin first (Reload configuration ∷ h) = IsWithin configuration × AreWithin first h
 AreWithin first (e ∷ h) = AreWithin first h
 
--- the longest answer to one line, a LIST VAR of VARIABLES_MAX variables
+-- a bound for the answer to one line: that for a LIST VAR of VARIABLES_MAX variables with `FSD ` before one value
 abbrev pub longest_answer : ℕ
 longest_answer = 578_146
 
@@ -50,7 +51,8 @@ pub record AnswersAreBounded : Type 0 where
       (first : Configuration) (h : List Event) (c : ℕ) (line : LineText) → AreWithin first h → IsAccepted first h →
       length (text_of (answer_to first (past first h) c line)) ≤ longest_answer
 
--- A piece ends at most half as many lines that are answered as it has bytes. So many longest answers may wait for a client.
+-- The bytes of 256 answers of this length. A piece of at most 512 bytes completes at most 256 lines that are answered: the
+-- first may have begun in an earlier piece, and each other line has a byte before its line feed.
 abbrev pub most_waits : ℕ
 most_waits = 148_005_376
 

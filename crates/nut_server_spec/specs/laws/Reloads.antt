@@ -55,7 +55,8 @@ NamesAreDistinct first [] = AreNamedApart first.upses
 NamesAreDistinct first (Reload configuration ∷ h) = AreNamedApart configuration.upses × NamesAreDistinct first h
 NamesAreDistinct first (e ∷ h) = NamesAreDistinct first h
 
--- After every history each UPS has one number, and no two UPSes have the same.
+-- After every history each UPS has one number. If names are distinct in all configurations of the history, no two UPSes
+-- have the same number.
 pub record NumbersAreDistinct : Type 0 where
   pub each : (first : Configuration) (h : List Event) → length (content first h).numbers ≡ length (content first h).configuration.upses
   pub distinct :
@@ -63,7 +64,8 @@ pub record NumbersAreDistinct : Type 0 where
 
 -- ---- what stays
 
--- What a reload makes of each UPS, by its name and its number.
+-- What a reload makes of each UPS, by its name and its number, if names are distinct in all configurations of the
+-- history.
 pub record UpsesStay : Type 0 where
   -- Where both configurations have the name, and with the same driver, all that is known of the UPS stays.
   pub same_driver :

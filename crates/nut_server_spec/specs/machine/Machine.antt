@@ -1,5 +1,6 @@
 -- The server as a machine over its content: how an accepted event changes the content. The machine doesn't keep the
--- past. The law `machine_keeps_content` says that it keeps the content of every history.
+-- past. The law `machine_keeps_content` says that it keeps the content of every history. Who believes `Content` needn't
+-- believe this file.
 use Rattle.std.specs.Prelude.{ℕ, zero, suc, true, not, ◌==◌, ◌≡◌, max, if◌then◌else◌, ◌+◌, ◌-◌, List, [], ◌∷◌, ◌++◌, filter, length, map, drop, Option, Some, None}
 use Rattle.nut_words.specs.Bytes.{line_feed}
 use Rattle.nut_words.specs.Lines.{LineText, Text, TooLong, joined}

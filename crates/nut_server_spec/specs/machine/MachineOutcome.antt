@@ -1,4 +1,5 @@
--- How the machine answers an event, and the content after it: the twin of `Outcome`, whose histories it doesn't know.
+-- How the machine answers an event, and the content after it: the twin of `Outcome`, whose histories it doesn't know. Who
+-- believes `Outcome` needn't believe this file.
 use Rattle.std.specs.Prelude.{◌≡◌, ℕ, ◌<◌, length, false, IsTrue, List, slice_get, Option, Some, None, Result, Ok, Err}
 use Rattle.std.specs.Option.{option_map_or}
 use Rattle.nut_words.specs.Lines.{LineText, lines_after}
