@@ -12,6 +12,5 @@ pub mod Target
 pub mod Notices
 pub mod Upsmon
 pub mod Descriptions
-pub mod Spares
 pub mod laws
 pub mod inside

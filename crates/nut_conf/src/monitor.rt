@@ -63,7 +63,7 @@ fn read_written(bytes: &[u8]) -> Result<(ArrayVec<u8, TARGET_MAX>, Target), Faul
 
 impl FromValues for Monitored {
     ghost use Rattle.nut_conf.specs.Upsmon.{monitor_setting, monitor_value};
-    ghost use Rattle.nut_conf.specs.Spares.{monitor_value_spares};
+    ghost use Rattle.nut_conf.specs.inside.Spares.{monitor_value_spares};
 
     ghost setting = { monitor_setting };
 

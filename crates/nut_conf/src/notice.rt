@@ -123,7 +123,7 @@ pub fn text_of(texts: &[NoticeText], notice: Notice) -> Option<&NoticeText>
 
 impl FromValues for NoticeText {
     ghost use Rattle.nut_conf.specs.Notices.{message_setting, message_value};
-    ghost use Rattle.nut_conf.specs.Spares.{message_value_spares};
+    ghost use Rattle.nut_conf.specs.inside.Spares.{message_value_spares};
 
     ghost setting = { message_setting };
 
@@ -256,7 +256,7 @@ pub fn handling_of(handlings: &[NoticeHandling], notice: Notice) -> Option<&Noti
 
 impl FromValues for NoticeHandling {
     ghost use Rattle.nut_conf.specs.Notices.{handling_setting, flags_value};
-    ghost use Rattle.nut_conf.specs.Spares.{flags_value_spares};
+    ghost use Rattle.nut_conf.specs.inside.Spares.{flags_value_spares};
 
     ghost setting = { handling_setting };
 

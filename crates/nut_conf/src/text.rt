@@ -138,7 +138,7 @@ impl Port {
 
 impl<const MOST: usize> FromValues for Name<MOST> {
     ghost use Rattle.nut_conf.specs.Settings.{Text, name_value};
-    ghost use Rattle.nut_conf.specs.Spares.{name_value_spares};
+    ghost use Rattle.nut_conf.specs.inside.Spares.{name_value_spares};
 
     ghost setting = { λ n. Text n.bytes.items };
 
@@ -153,7 +153,7 @@ impl<const MOST: usize> FromValues for Name<MOST> {
 
 impl<const LEAST: usize, const MOST: usize> FromValues for Text<LEAST, MOST> {
     ghost use Rattle.nut_conf.specs.Settings.{Text as TextSetting, text_value};
-    ghost use Rattle.nut_conf.specs.Spares.{text_value_spares};
+    ghost use Rattle.nut_conf.specs.inside.Spares.{text_value_spares};
 
     ghost setting = { λ t. TextSetting t.bytes.items };
 
@@ -168,7 +168,7 @@ impl<const LEAST: usize, const MOST: usize> FromValues for Text<LEAST, MOST> {
 
 impl<const LEAST: u32, const MOST: u32> FromValues for Number<LEAST, MOST> {
     ghost use Rattle.nut_conf.specs.Settings.{Number as NumberSetting, number_value};
-    ghost use Rattle.nut_conf.specs.Spares.{number_value_spares};
+    ghost use Rattle.nut_conf.specs.inside.Spares.{number_value_spares};
 
     ghost setting = { λ n. NumberSetting n.value };
 

@@ -30,7 +30,7 @@ struct Described {
 impl FromValues for Described {
     ghost use Rattle.nut_conf.specs.Settings.{Description};
     ghost use Rattle.nut_conf.specs.Descriptions.{description_value};
-    ghost use Rattle.nut_conf.specs.Spares.{description_value_spares};
+    ghost use Rattle.nut_conf.specs.inside.Spares.{description_value_spares};
 
     ghost setting = { λ d. Description d.name.bytes.items d.text.bytes.items };
 

@@ -130,7 +130,7 @@ fn address(bytes: &[u8]) -> Result<Address, FaultKind>
 
 impl FromValues for Endpoint {
     ghost use Rattle.nut_conf.specs.Upsd.{endpoint_setting, listen_value};
-    ghost use Rattle.nut_conf.specs.Spares.{listen_value_spares};
+    ghost use Rattle.nut_conf.specs.inside.Spares.{listen_value_spares};
 
     ghost setting = { endpoint_setting };
 

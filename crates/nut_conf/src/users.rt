@@ -167,7 +167,7 @@ impl UserDirective {
 impl FromValues for Action {
     ghost use Rattle.std.specs.Prelude.{[], ◌∷◌, codes};
     ghost use Rattle.nut_conf.specs.Users.{action_setting, action_value};
-    ghost use Rattle.nut_conf.specs.Spares.{word_value_spares};
+    ghost use Rattle.nut_conf.specs.inside.Spares.{word_value_spares};
 
     ghost setting = { action_setting };
 
@@ -195,7 +195,7 @@ fn is_all(word: &[u8]) -> bool
 
 impl FromValues for Commands {
     ghost use Rattle.nut_conf.specs.Users.{commands_setting, commands_value};
-    ghost use Rattle.nut_conf.specs.Spares.{commands_value_spares};
+    ghost use Rattle.nut_conf.specs.inside.Spares.{commands_value_spares};
 
     ghost setting = { commands_setting };
 
@@ -240,7 +240,7 @@ impl Role {
 impl FromValues for Role {
     ghost use Rattle.std.specs.Prelude.{[], ◌∷◌, codes};
     ghost use Rattle.nut_conf.specs.Users.{role_setting, role_value};
-    ghost use Rattle.nut_conf.specs.Spares.{word_value_spares};
+    ghost use Rattle.nut_conf.specs.inside.Spares.{word_value_spares};
 
     ghost setting = { role_setting };
 
