@@ -13,7 +13,7 @@ use Rattle.nut_monitor_spec.specs.declared.Phase.{Phase}
 use Rattle.nut_monitor_spec.specs.declared.Phase.TheVariants.{Watching, Forcing, Halted}
 use Rattle.nut_monitor_spec.specs.declared.Query.TheVariants.{Login, Status}
 use Rattle.nut_monitor_spec.specs.Configuration.{Configuration, Line, has_primary, line_in}
-use Rattle.nut_monitor_spec.specs.Decision.{phase_at}
+use Rattle.nut_monitor_spec.specs.Decision.{is_halted, phase_at}
 use Rattle.nut_monitor_spec.specs.Event.{Event, NoticeTaken}
 use Rattle.nut_monitor_spec.specs.Query.{logins_in}
 use Rattle.nut_monitor_spec.specs.Trace.{Asked, Entry, gives, clock, moment_of, latest, earliest, is_any, last_in, queries, phase, begun, has_begun, is_short, ended, has_ended, is_over_at, notices_waiting, entry_of, trace}
@@ -30,7 +30,7 @@ use Rattle.nut_fleet.proofs.Steps.{some-there, spoken, zero-closed}
 use Rattle.nut_fleet.proofs.Worlds.{sound}
 use Rattle.nut_fleet.proofs.Unreloaded.{no-reload}
 use Rattle.nut_in_time.specs.Pace.{Pace, FromOn, IsPolled, IsSteady, IsWatched, Says, seen_at, shown_at}
-use Rattle.nut_in_time.specs.InTime.{IsHaltedBy, has_fsd, is_halted, is_low, seen_by, turn}
+use Rattle.nut_in_time.specs.InTime.{IsHaltedBy, has_fsd, is_low, seen_by, turn}
 use Rattle.nut_in_time.specs.Room.{IsGrant, IsReady, IsRoom, IsStopping, KeepsStep, RoomStopsInTime, forced_in, host_sync_for, is_forced, is_stopped, other_halted_in, primary_halted_in}
 use Rattle.nut_in_time.proofs.Beginning.{forced-begin_in_time}
 use Rattle.nut_in_time.proofs.Climbing.{climb, forth, front-of}

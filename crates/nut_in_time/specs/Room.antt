@@ -8,6 +8,7 @@ use Rattle.nut_server_spec.specs.Trace.{forced}
 use Rattle.nut_monitor_spec.specs.declared.Query.{Query}
 use Rattle.nut_monitor_spec.specs.declared.Query.TheVariants.{Login, Primary}
 use Rattle.nut_monitor_spec.specs.Configuration.{Configuration, Line}
+use Rattle.nut_monitor_spec.specs.Decision.{is_halted}
 use Rattle.nut_monitor_spec.specs.Trace.{clock, has_begun, has_ended, phase}
 use Rattle.nut_fleet.specs.Schedule.{Step, IsFront}
 use Rattle.nut_fleet.specs.World.{Setup, is_open, line_of, monitor_of, world}
@@ -15,7 +16,7 @@ use Rattle.nut_fleet.specs.Exchange.{Exchange, exchanges}
 use Rattle.nut_fleet.specs.Fleet.{Exists}
 use Rattle.nut_fleet.specs.Shown.{query_line}
 use Rattle.nut_in_time.specs.Pace.{Pace, FromOn, IsPolled, IsSteady, KeepsPace, Says, seen_at, shown_at}
-use Rattle.nut_in_time.specs.InTime.{has_fsd, is_halted, is_low, turn}
+use Rattle.nut_in_time.specs.InTime.{has_fsd, is_low, turn}
 
 -- ---- the room
 

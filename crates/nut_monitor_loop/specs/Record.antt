@@ -1,8 +1,6 @@
 -- What a world tells of itself: a list of entries, the newest first.
 use Rattle.std.specs.Prelude.{◌≡◌, ◌<◌, ℕ, Bool, true, false, List, ◌∷◌, length, take, Option, Some, None, option_map}
 use Rattle.nut_monitor_spec.specs.declared.Notice.{Notice}
-use Rattle.nut_monitor_spec.specs.declared.Phase.{Phase}
-use Rattle.nut_monitor_spec.specs.declared.Phase.TheVariants.{Watching, Forcing, Final, Halted}
 use Rattle.nut_monitor_spec.specs.Event.{Event}
 use Rattle.nut_monitor_spec.specs.Event as event
 use Rattle.nut_monitor_spec.specs.Content.{Watch, Content}
@@ -65,10 +63,3 @@ IsSettled late watches i = 0 < length (waiting_of i watches) → late i ≡ true
 -- every link with waiting bytes is late
 abbrev pub NothingIsWithheld : (ℕ → Bool) → Content → Type 0
 NothingIsWithheld late s = (i : ℕ) → IsSettled late s.watches i
-
--- the monitor has decided that its machine has to be halted
-abbrev pub is_halted : Phase → Bool
-is_halted Watching = false
-is_halted Forcing = false
-is_halted Final = false
-is_halted (Halted flag) = true

@@ -5,7 +5,7 @@ use Rattle.nut_monitor_spec.specs.Configuration.{Configuration}
 use Rattle.nut_monitor_spec.specs.Trace.{trace, sent, notices}
 use Rattle.nut_monitor_spec.specs.Content.{Content}
 use Rattle.nut_monitor_spec.specs.Acceptance.{Tells}
-use Rattle.nut_monitor_loop.specs.Record.{is_halted}
+use Rattle.nut_monitor_spec.specs.Decision.{is_halted}
 use Rattle.nut_monitor_loop.specs.Watched.{Step, entries_of, history_of, Told, taken, handed}
 use Rattle.nut_monitor_loop.specs.Memory.{MemoryState, event_of, given_in}
 

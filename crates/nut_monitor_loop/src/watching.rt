@@ -3,8 +3,9 @@
 ghost use Rattle.std.specs.Prelude.{◌≡◌, ◌≢◌, ◌⊎◌, ◌+◌, ◌-◌, ◌^◌, ◌<◌, ℕ, true, false, List, [], length, slice_get, Option, Some, None, Ok, IfSome, IfOk, OnOk, OnErr, is_ok, option_map, if◌then◌else◌};
 ghost use Rattle.nut_monitor_spec.specs.Configuration.{Configuration};
 ghost use Rattle.nut_monitor_spec.specs.Content.{content, phase_of};
+ghost use Rattle.nut_monitor_spec.specs.Decision.{is_halted};
 ghost use Rattle.nut_monitor.specs.Events.{event_of as told_as};
-ghost use Rattle.nut_monitor_loop.specs.Record.{waiting_of, IsSettled, NothingIsWithheld, is_halted, event_given};
+ghost use Rattle.nut_monitor_loop.specs.Record.{waiting_of, IsSettled, NothingIsWithheld, event_given};
 ghost use Rattle.nut_monitor_loop.specs.Watched.{Watched, WatchedBefore, sender, lost_of};
 ghost use Rattle.nut_monitor_loop.specs.inside.Kept.{OnlyAt, StaysLate, KeepsLate, Less, Settles, Unbroken};
 

@@ -2,8 +2,9 @@
 
 ghost use Rattle.std.specs.Prelude.{◌≡◌, ◌+◌, ◌-◌, ◌^◌, ◌<◌, ℕ, Bool, true, false, List, [], length, Option, Ok, IfOk, OnOk, OnErr, is_ok, if◌then◌else◌};
 ghost use Rattle.nut_monitor_spec.specs.Content.{phase_of};
+ghost use Rattle.nut_monitor_spec.specs.Decision.{is_halted};
 ghost use Rattle.nut_io.specs.Writes.{IsWithin, late_after};
-ghost use Rattle.nut_monitor_loop.specs.Record.{Entry, WasClosed, WasTold, tells, tells_next, tells_write, NothingIsWithheld, is_halted};
+ghost use Rattle.nut_monitor_loop.specs.Record.{Entry, WasClosed, WasTold, tells, tells_next, tells_write, NothingIsWithheld};
 
 use crate::Next;
 use nut_io::{Fault, Piece, Written};

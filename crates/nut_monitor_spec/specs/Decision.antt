@@ -136,6 +136,13 @@ phase_at configuration clock begun None = if is_some begun then Forcing else Wat
 phase_at configuration clock begun (Some ended) =
     if nat_lt clock (ended + configuration.final_delay) then Final else Halted (has_primary configuration.lines)
 
+-- the monitor has decided that its machine has to be halted
+abbrev pub is_halted : Phase → Bool
+is_halted Watching = false
+is_halted Forcing = false
+is_halted Final = false
+is_halted (Halted flag) = true
+
 -- Forcing is over once the last count of logins is at most 1 for each UPS of which this machine is the primary, or once
 -- more than HOSTSYNC has passed since the shutdown began.
 abbrev pub is_over_by : Configuration → ℕ → Bool → Option ℕ → Bool
