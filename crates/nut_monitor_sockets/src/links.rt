@@ -472,13 +472,16 @@ impl Links {
             upstream.second(self.limits);
         }
         look_ups.second();
-        if !self.is_ending && look_ups.has_room() {
+        if !self.is_ending {
             self.look_up(look_ups, reports);
         }
     }
 
-    /// Begins one look-up, if any is due.
+    /// Begins one look-up, if any is due and another one may begin.
     fn look_up(&mut self, look_ups: &mut LookUps<'_, impl Processes>, reports: &mut Reports<'_>) {
+        if !look_ups.has_room() {
+            return;
+        }
         let Some(i) = next_look_up(&self.upstreams, look_ups) else {
             return;
         };

@@ -67,7 +67,7 @@ impl<'r, R: Processes> LookUps<'r, R> {
     ///
     /// # Errors
     ///
-    /// If the process can't be started or memory cannot be allocated.
+    /// If no other look-up may begin, the process can't be started or memory cannot be allocated.
     pub fn start(&mut self, name: &str) -> io::Result<()> {
         let about = String::from_str(self.alloc, name)?;
         let getent = Program::new(self.alloc, "getent", &["ahosts", name])?;

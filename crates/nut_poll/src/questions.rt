@@ -1,5 +1,7 @@
 //! Questions to other programs, which nobody waits for.
 
+ghost use Rattle.std.specs.Prelude.{◌≡◌, ◌<◌, ◌≤◌, ◌+◌, max, true, vec_len, IsSome};
+
 use crate::shell::shell_command;
 use std::alloc::{AllocError, Global};
 use std::io::Read;
@@ -72,7 +74,9 @@ impl<'r, R: Processes, T: Drop> Questions<'r, R, T> {
     }
 
     /// Whether another question may begin.
-    pub fn has_room(&self) -> bool {
+    pub fn has_room(&self) -> bool
+        ensures { result ≡ true → vec_len self.now.going < QUESTIONS_MAX }
+    {
         self.going.len() < QUESTIONS_MAX
     }
 
@@ -80,8 +84,11 @@ impl<'r, R: Processes, T: Drop> Questions<'r, R, T> {
     ///
     /// # Errors
     ///
-    /// Gives back what was to be asked about if the process can't be started or memory cannot be allocated.
-    pub fn start(&mut self, mut program: Program, about: T) -> Result<(), T> {
+    /// Gives back what was to be asked about if there is no room, the process can't be started or memory cannot be
+    /// allocated.
+    pub fn start(&mut self, mut program: Program, about: T) -> Result<(), T>
+        ensures { vec_len self.new.going ≤ max (vec_len self.old.going) QUESTIONS_MAX }
+    {
         let child = self.spawn(&mut program);
         // dropped by a call, which keeps the proof of this function short
         drop(program);
@@ -94,14 +101,22 @@ impl<'r, R: Processes, T: Drop> Questions<'r, R, T> {
         }
     }
 
-    /// Starts the process of a question, if there is memory for the question.
-    fn spawn(&mut self, program: &mut Program) -> Option<Child<R::Started>> {
+    /// Starts the process of a question, if there is room and memory for the question.
+    fn spawn(&mut self, program: &mut Program) -> Option<Child<R::Started>>
+        ensures same { vec_len self.new.going ≡ vec_len self.old.going }
+        ensures room { IsSome result → vec_len self.old.going < QUESTIONS_MAX }
+    {
+        if !self.has_room() {
+            return None;
+        }
         self.going.reserve(1).ok()?;
         program.command.spawn(self.processes).ok()
     }
 
     /// Adds a question that has begun.
-    fn add(&mut self, child: Child<R::Started>, about: T) {
+    fn add(&mut self, child: Child<R::Started>, about: T)
+        ensures { vec_len self.new.going ≤ vec_len self.old.going + 1 }
+    {
         let _ = self.going.push(Question {
             about,
             child,
