@@ -350,6 +350,28 @@ class Tests(Shimmed):
                 expect(watch.status(20), 0, "status")
                 ensure(time.monotonic() - begun > 3, "HOSTSYNC and FINALDELAY pass")
 
+    def test_stall_in_a_shutdown(self):
+        """A monitor that is stopped while it waits for the others gives them HOSTSYNC once it goes on, and then FINALDELAY; one
+        that is stopped after the notice SHUTDOWN waits no longer than FINALDELAY."""
+        with Moody(status=b"FSD") as server:
+            server.logins = 2
+            conf = f"MONITOR {server.target} 1 mon m1 primary\nPOLLFREQ 1\nHOSTSYNC 4\nFINALDELAY 3\n"
+            with self.watch(conf) as watch:
+                until(lambda: b"FSD su700\n" in server.asked, "FSD is asked for")
+                with watch.stopped():
+                    time.sleep(8)
+                begun = time.monotonic()
+                watch.until_printed(SHUTDOWN)
+                told = time.monotonic()
+                ensure(told - begun > 2.5, f"HOSTSYNC passes after the stall: {told - begun}")
+                expect(watch.status(20), 0, "status")
+                ensure(time.monotonic() - told > 1.5, "FINALDELAY passes after the notice")
+            with self.watch(conf.replace("HOSTSYNC 4\nFINALDELAY 3", "HOSTSYNC 1\nFINALDELAY 6")) as watch:
+                watch.until_printed(SHUTDOWN)
+                with watch.stopped():
+                    time.sleep(7)
+                expect(watch.status(2), 0, "status right after FINALDELAY")
+
     def test_dead_name_server(self):
         """This program plays the test again in a network of its own, whose name server never answers."""
         command = apart("--mount", "--net")

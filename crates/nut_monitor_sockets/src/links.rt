@@ -287,16 +287,23 @@ impl Links {
     }
 
     /// Follows the phase of the monitor. A shutdown counts its own seconds, so seconds that were missed before it are
-    /// forgotten, and no look-up helps it any more.
+    /// forgotten, and no look-up helps it any more. In Forcing the servers may stand still with this process, so that the
+    /// other machines hear nothing: seconds that are missed then are forgotten, too. If the others did hear and are logged
+    /// out, Forcing is over without these seconds.
     fn follow(&mut self, monitor: &Monitor, look_ups: &mut LookUps<'_, impl Processes>) {
-        if !self.is_ending && !matches!(monitor.phase(), Phase::Watching) {
-            self.is_ending = true;
+        let phase = monitor.phase();
+        let begins = !self.is_ending && phase != Phase::Watching;
+        if begins || phase == Phase::Forcing {
             self.rounds.seconds.forget_missed();
+        }
+        if begins {
+            self.is_ending = true;
             look_ups.end();
         }
     }
 
-    /// Whether missed seconds may be told at once: no server still has time to answer, or a shutdown has begun.
+    /// Whether missed seconds may be told at once: no server still has time to answer, or a shutdown has begun. In Final
+    /// nobody is asked any more, and the notice SHUTDOWN was given before.
     fn may_catch_up(&self) -> bool {
         let limits = self.limits;
         self.is_ending || !self.upstreams.iter().any(|it| it.holds_clock(limits))

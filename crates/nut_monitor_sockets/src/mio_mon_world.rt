@@ -35,7 +35,7 @@ use std::time::Clock;
 /// A `Moment` comes each second, counted from the start, however much the servers send, after what had arrived by the
 /// end of that second was heard. Seconds that were missed, because this process was stopped, follow one at a time, and
 /// each only when no server is about to answer: so no server is judged by what it couldn't say. A shutdown that begins
-/// then counts its own seconds.
+/// then counts its own seconds, and forgets those that are missed while it waits for other machines.
 ///
 /// Notices go to a herald, which is also told that a second has passed: once for several missed seconds that follow one
 /// another at once. The world ends when the herald says so, and may then begin anew for another monitor. Only `next`
