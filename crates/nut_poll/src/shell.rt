@@ -10,6 +10,16 @@ use std::process::{Command, Stdio};
 /// answer.
 const SHELL: &str = "/bin/sh";
 
+/// The script of a command of the operator's, with this literal behind its first words. By these the script and what it
+/// runs ignore the signals TTIN and TTOU, which would stop a command in the background that uses its terminal, and with it
+/// the program that started it, since that is in the same process group.
+#[macro_export]
+macro_rules! unstopped {
+    ($rest:literal) => {
+        concat!("trap '' TTIN TTOU; ", $rest)
+    };
+}
+
 /// Returns the command by which the shell runs a script without input: `/bin/sh -c SCRIPT sh ARGUMENT`. The argument is
 /// `$1` there, and no byte of it is read as a command.
 ///

@@ -1,13 +1,16 @@
 //! NOTIFYCMD: the command that is run with the text of a notice.
 
 use nut_conf::UpsmonConf;
-use nut_poll::{shell_command, text_of};
+use nut_poll::{shell_command, text_of, unstopped};
 use std::alloc::{AllocError, Global};
 use std::process::{Child, Command, OpenProcess, Processes};
 use std::{fmt, io};
 
 /// The largest number of commands that run at a time.
 const RUNNING_MAX: usize = 64;
+
+/// What the script begins with.
+const BEGINNING: &str = unstopped!("");
 
 /// What a command is told about a notice.
 #[derive(Clone, Copy)]
@@ -117,11 +120,10 @@ pub fn script_in(alloc: Global, config: &UpsmonConf) -> Result<Option<String>, A
 }
 
 /// Returns the command with the text of a notice as its last argument. The shell inserts the text itself, so that no
-/// byte of it is read as a command. As SHUTDOWNCMD, the command ignores the signals that would stop it, and upsmon with
-/// it, if it uses the terminal.
+/// byte of it is read as a command.
 fn script_of(alloc: Global, command: &[u8]) -> Result<String, AllocError> {
     let command = text_of(command);
-    format!(in alloc; "trap '' TTIN TTOU; {command} \"$1\"")
+    format!(in alloc; "{BEGINNING}{command} \"$1\"")
 }
 
 /// Starts a shell that runs the script with this call.

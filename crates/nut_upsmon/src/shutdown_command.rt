@@ -4,7 +4,7 @@ ghost use Rattle.std.specs.Prelude.{OnOk, IsSome};
 ghost use Rattle.std.specs.Io.KnownBytes.{Appends};
 
 use linked_list_allocator::LocalHeap;
-use nut_poll::{ErrorLines, Outlet, OutputLines, shell_command};
+use nut_poll::{ErrorLines, Outlet, OutputLines, shell_command, unstopped};
 use std::alloc::AllocError;
 use std::io;
 use std::io::{ErrorKind, Write};
@@ -16,13 +16,12 @@ use std::process::{Child, Command, ExitStatus, OpenProcess, Processes, Stdio};
 ///
 /// SHUTDOWNCMD runs even if /dev/null can't be opened: such a stream is closed then. Standard error is closed before, so
 /// that the shell doesn't say what it can't open on a stream that takes nothing.
-///
-/// A command in the background that uses its terminal is stopped by the signals TTIN and TTOU, and with it upsmon, which
-/// is in the same process group. So commands ignore them.
-const SCRIPT: &str = "trap '' TTIN TTOU; read -r full && { \
+const SCRIPT: &str = unstopped!(
+    "read -r full && { \
     case $full in *err*) exec 2>&-; command exec 2> /dev/null ;; esac; \
     case $full in *out*) exec >&-; command exec > /dev/null ;; esac; \
-    command exec /bin/sh -c \"$1\" < /dev/null || exec /bin/sh -c \"$1\" <&-; }";
+    command exec /bin/sh -c \"$1\" < /dev/null || exec /bin/sh -c \"$1\" <&-; }"
+);
 
 /// Which streams of upsmon's take nothing at the halt, since nobody reads them. If SHUTDOWNCMD wrote there, it would wait
 /// for a reader that has stopped, or be ended by SIGPIPE if the reader is gone, and the machine would stay up.
