@@ -189,7 +189,7 @@ class Tests(Shimmed):
             conf = f"MONITOR {server.target} 1 guest g1 secondary\n{QUICK}POWERDOWNFLAG FOLDER/flag\n"
             with self.watch(conf) as watch:
                 self.expect_halt(watch, [ON_BATTERY % server.target, BATTERY_LOW % server.target, SHUTDOWN])
-                expect(watch.read("flag"), None, "a secondary writes no POWERDOWNFLAG")
+                expect((watch.read("flag"), watch.read("flag.new")), (None, None), "a secondary writes no POWERDOWNFLAG")
 
     def test_final_delay(self):
         with Upstream(status=b"FSD OL") as server:
@@ -410,8 +410,9 @@ class Tests(Shimmed):
             conf = f"MONITOR {server.target} 1 mon m1 primary\n{QUICK}POWERDOWNFLAG FOLDER/none/flag\n"
             with self.watch(conf + 'SHUTDOWNCMD "touch FOLDER/halted"\n', "-q") as watch:
                 self.expect_halt(watch, [FORCED % server.target, SHUTDOWN])
-                said = f"upsmon: POWERDOWNFLAG {watch.folder}/none/flag cannot be written: "
-                expect([line.startswith(said) for line in watch.told()], [True], "what is said of it")
+                said = f"POWERDOWNFLAG {watch.folder}/none/flag cannot be written: "
+                fronts = (f"upsmon: warning: {said}", f"upsmon: {said}")
+                expect(list(map(str.startswith, watch.told(), fronts)), [True, True], "what is said of it")
                 expect(watch.read("halted"), b"", "SHUTDOWNCMD is run all the same")
 
     def test_output_that_is_closed(self):

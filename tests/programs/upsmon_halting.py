@@ -251,6 +251,52 @@ class Tests(Shimmed):
             expect(oct(stat.S_IMODE(os.stat(flag).st_mode)), "0o600", "the flag's mode")
             expect(os.path.exists(flag + ".new"), False, "the new file")
 
+    def test_flag_is_ready(self):
+        """The new file is there before the halt, and no flag yet. If something else has its name at the halt, or nothing, it is
+        written then."""
+        for change in (lambda new: None, os.remove, self.file_of(b"upsm"), self.pipe_at):
+            with tempfile.TemporaryDirectory(dir=self.folder) as folder:
+                flag = os.path.join(folder, "flag")
+                with self.halting(f"POWERDOWNFLAG {flag}\n{HALTED}", "-q", delay=1) as (_, watch):
+                    watch.until_printed(SHUTDOWN)
+                    expect(set(self.look(folder)), {"flag.new"}, "what lies there before the halt")
+                    expect(self.key(watch.folder)[0], 1, "the flag isn't set")
+                    change(flag + ".new")
+                    expect((watch.status(), watch.told()), (0, []), "the halt")
+                with open(flag, "rb") as file:
+                    expect(file.read(), FLAG, "what the flag holds")
+                expect(set(self.look(folder)), {"flag"}, "what lies there after the halt")
+
+    def pipe_at(self, path):
+        os.remove(path)
+        os.mkfifo(path)
+
+    def test_flag_on_a_full_disk(self):
+        """The flag is set though its disk became full after the start."""
+        disk = os.path.join(self.folder, "disk")
+        os.mkdir(disk)
+        # room for its folder and two files
+        mount = f'mount -t tmpfs -o nr_inodes=3 tmpfs {disk} && exec "$0" "$@"'
+        program = self.wrapped("on-a-full-disk", [*apart("--mount", "sh", "-c", mount), self.upsmon])
+        conf = f'NOTIFYFLAG FSD EXEC\nNOTIFYCMD "touch {disk}/a; touch {disk}/b 2> FOLDER/full; true"\n'
+        conf += f'POWERDOWNFLAG {disk}/flag\nSHUTDOWNCMD "cat {disk}/flag > FOLDER/halted"\n'
+        with self.halting(conf, "-q", delay=2, program=program) as (_, watch):
+            expect((watch.status(), watch.told()), (0, []), "the halt")
+            ensure(b"No space left" in watch.read("full"), "the disk is full")
+            expect(watch.read("halted"), FLAG, "what the flag holds")
+
+    def test_flag_that_cannot_be_written(self):
+        """It is told at the start, and at the halt."""
+        with tempfile.TemporaryDirectory(dir=self.folder) as folder:
+            flag = os.path.join(folder, "flag")
+            os.chmod(folder, 0o500)
+            with self.halting(f"POWERDOWNFLAG {flag}\n{HALTED}", "-q", preexec_fn=heed_modes) as (_, watch):
+                expect(watch.status(), 0, "status")
+                expect(watch.read("halted"), b"", "SHUTDOWNCMD is run all the same")
+                wanted = [f"upsmon: {warning}POWERDOWNFLAG {flag} cannot be written: " for warning in ("warning: ", "")]
+                expect(fronts(watch.told(), wanted), wanted, "what is told")
+            os.chmod(folder, 0o700)
+
     def test_flag_that_cannot_be_removed(self):
         """A flag of an earlier shutdown in a folder in which upsmon may not write: it stays, and the machine is halted."""
         with tempfile.TemporaryDirectory(dir=self.folder) as folder:

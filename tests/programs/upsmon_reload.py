@@ -168,8 +168,15 @@ class Tests(Shimmed):
             watch.until_reloaded("POWERDOWNFLAG changed")
             watch.until_told(f"upsmon: POWERDOWNFLAG {watch.path('b')} of an earlier shutdown is removed")
             expect(watch.read("b"), None, "a flag of another name")
+            watch.reload(line_of(server) + QUICK + NEW + "POWERDOWNFLAG FOLDER/none/b\n")
+            warning = f"upsmon: warning: POWERDOWNFLAG {watch.path('none/b')} cannot be written: No such file or directory (os error 2)"
+            watch.until_told(warning)
+            os.mkdir(watch.path("none"))
+            watch.reload(line_of(server) + QUICK + OLD + "POWERDOWNFLAG FOLDER/none/b\n")
+            watch.until_reloaded("SHUTDOWNCMD changed")
+            expect(watch.lines("err").count(warning), 1, "that it can't be written")
             server.statuses[b"su700"] = b"OB LB"
-            expect((watch.status(), watch.read("b")), (0, FLAG), "status, and the flag")
+            expect((watch.status(), watch.read("none/b")), (0, FLAG), "status, and the flag")
 
     def test_on_battery(self):
         """A reload waits until the UPS is back on line, and says so once."""

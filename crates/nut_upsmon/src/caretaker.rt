@@ -184,7 +184,8 @@ where
 }
 
 /// Puts the halt of another configuration in the place of the former one, and gives that back in `halt`. If it names
-/// another POWERDOWNFLAG, one that an earlier shutdown left there is removed.
+/// another POWERDOWNFLAG, one that an earlier shutdown left there is removed. Its new file is written anew in any case,
+/// so that an operator sees whether what was told of it is mended.
 fn exchange<'r, R>(
     kept: &mut Halt<'r, 'r, R>,
     halt: &mut Halt<'r, 'r, R>,
@@ -198,5 +199,6 @@ where
     if former.power_down_flag != config.power_down_flag {
         halt.clear_flag(err);
     }
+    halt.ready_flag(config, err);
     mem::swap(kept, halt);
 }

@@ -4,6 +4,7 @@ use crate::power_down_flag::{FlagFault, FlagState, PowerDownFlag};
 use crate::shutdown_command::{Full, ShutdownCommand};
 use linked_list_allocator::LocalHeap;
 use nut_conf::UpsmonConf;
+use nut_monitor::has_primary;
 use nut_poll::{ErrorLines, OutputLines, text_of};
 use std::alloc::{AllocError, Global};
 use std::io::Write;
@@ -128,7 +129,20 @@ impl<'r, 'h, R: Files + Processes + Clock> Halt<'r, 'h, R> {
         if let Some(flag) = &self.flag {
             match flag.clear(self.rt) {
                 Ok(state) => tell_found(flag.path(), state, err),
-                Err(error) => tell_kept(flag.path(), &error, err),
+                Err(error) => tell_failed("removed", flag.path(), &error, err),
+            }
+        }
+    }
+
+    /// Writes the new file that is to become POWERDOWNFLAG, if this configuration, which the halt was made for, has a
+    /// primary line. If that fails, it is tried again at the halt, and why it fails is written to `err`: there is time
+    /// to mend it. Nothing is done, or told, if the flag can't be set for what [`Halt::clear_flag`] has told.
+    pub fn ready_flag(&self, config: &UpsmonConf, err: &mut ErrorLines) {
+        if let Some(flag) = &self.flag
+            && has_primary(config)
+        {
+            if let Err(error) = flag.make_ready(self.rt) {
+                tell_failed("written", flag.path(), &error, err);
             }
         }
     }
@@ -184,11 +198,11 @@ fn tell_found(path: &str, found: FlagState, err: &mut ErrorLines) {
     };
 }
 
-/// Tells why POWERDOWNFLAG isn't removed.
-fn tell_kept(path: &str, error: &io::Error, err: &mut ErrorLines) {
+/// Tells why POWERDOWNFLAG isn't removed, or couldn't be written if the machine were to be halted now.
+fn tell_failed(what: &str, path: &str, error: &io::Error, err: &mut ErrorLines) {
     let _ = writeln!(
         err,
-        "upsmon: warning: POWERDOWNFLAG {path} cannot be removed: {error}"
+        "upsmon: warning: POWERDOWNFLAG {path} cannot be {what}: {error}"
     );
 }
 

@@ -420,8 +420,8 @@ where
     watch_in_turn(rt, alloc, config, caretaker, is_quiet, told)
 }
 
-/// Makes the halt that a configuration sets, removes a flag that was left, and starts the shell for SHUTDOWNCMD. If that
-/// can't be started, it is told.
+/// Makes the halt that a configuration sets, removes a flag that was left, makes the next one ready, and starts the shell
+/// for SHUTDOWNCMD. If that can't be started, it is told.
 fn ready_halt<'r, 'h, R>(
     rt: &'r R,
     alloc: Global,
@@ -434,6 +434,7 @@ where
 {
     let mut halt = Halt::prepare(rt, alloc, heap, config)?;
     halt.clear_flag(told);
+    halt.ready_flag(config, told);
     if let Err(error) = halt.make_ready() {
         tell_not_ready(&error, told);
     }

@@ -87,34 +87,13 @@ impl PowerDownFlag {
         self.path.as_str()
     }
 
-    /// Returns what is found under its name. Only a plain file is opened, so that no pipe blocks and no link is
-    /// followed.
+    /// Returns what is found under its name.
     ///
     /// # Errors
     ///
     /// If that cannot be found out, for example in a folder that may not be searched.
     pub fn state(&self, files: &impl Files) -> io::Result<FlagState> {
-        let found = match fs::symlink_metadata(files, self.path()) {
-            Ok(found) => found,
-            Err(error) if error.kind() == ErrorKind::NotFound => return Ok(FlagState::Absent),
-            Err(error) => return Err(error),
-        };
-        if found.is_file() && self.holds_flag(files, found.len())? {
-            Ok(FlagState::Set)
-        } else {
-            Ok(FlagState::Foreign)
-        }
-    }
-
-    /// Whether the file, of this length, is a flag.
-    fn holds_flag(&self, files: &impl Files, length: u64) -> io::Result<bool> {
-        if length > LENGTH as u64 {
-            return Ok(false);
-        }
-        let mut bytes = [0; LENGTH];
-        let bytes = &mut bytes[..length as usize];
-        File::open(files, self.path())?.read_exact(bytes)?;
-        Ok(is_flag(bytes))
+        state_of(files, self.path())
     }
 
     /// Removes the file if it is the flag. Returns what was found.
@@ -130,8 +109,21 @@ impl PowerDownFlag {
         Ok(found)
     }
 
-    /// Writes the file: a new one beside it, whose name ends in `.new`, replaces it once it is complete. A file of the
-    /// new one's name is removed first. It allocates nothing, and doesn't wait until the file is on the disk.
+    /// Writes the new file that is to become the flag, beside it, unless something has the flag's name already, or that
+    /// cannot be found out.
+    ///
+    /// # Errors
+    ///
+    /// If it cannot be written.
+    pub fn make_ready(&self, files: &impl Files) -> io::Result<()> {
+        match self.state(files) {
+            Ok(FlagState::Absent) => self.write_fresh(files),
+            Ok(FlagState::Set | FlagState::Foreign) | Err(_) => Ok(()),
+        }
+    }
+
+    /// Sets the flag: the new file beside it, whose name ends in `.new`, takes its name. If that isn't ready, it is
+    /// written first. It allocates nothing, and doesn't wait until the file is on the disk.
     ///
     /// # Errors
     ///
@@ -141,14 +133,21 @@ impl PowerDownFlag {
         if self.state(files)? == FlagState::Foreign {
             return Err(FlagFault::Foreign);
         }
-        let _ = fs::remove_file(files, self.fresh.as_str());
-        self.write_fresh(files)?;
+        if !self.is_ready(files) {
+            self.write_fresh(files)?;
+        }
         fs::rename(files, self.fresh.as_str(), self.path())?;
         Ok(())
     }
 
-    /// Writes the new file beside it.
+    /// Whether the new file is complete.
+    fn is_ready(&self, files: &impl Files) -> bool {
+        matches!(state_of(files, self.fresh.as_str()), Ok(FlagState::Set))
+    }
+
+    /// Writes the new file. A file of its name is removed first.
     fn write_fresh(&self, files: &impl Files) -> io::Result<()> {
+        let _ = fs::remove_file(files, self.fresh.as_str());
         let mut file = OpenOptions::new()
             .write(true)
             .create_new(true)
@@ -156,6 +155,31 @@ impl PowerDownFlag {
             .open(files, self.fresh.as_str())?;
         file.write_all(LINE)
     }
+}
+
+/// Returns what is found under a name. Only a plain file is opened, so that no pipe blocks and no link is followed.
+fn state_of(files: &impl Files, path: &str) -> io::Result<FlagState> {
+    let found = match fs::symlink_metadata(files, path) {
+        Ok(found) => found,
+        Err(error) if error.kind() == ErrorKind::NotFound => return Ok(FlagState::Absent),
+        Err(error) => return Err(error),
+    };
+    if found.is_file() && holds_flag(files, path, found.len())? {
+        Ok(FlagState::Set)
+    } else {
+        Ok(FlagState::Foreign)
+    }
+}
+
+/// Whether the file of this name and length is a flag.
+fn holds_flag(files: &impl Files, path: &str, length: u64) -> io::Result<bool> {
+    if length > LENGTH as u64 {
+        return Ok(false);
+    }
+    let mut bytes = [0; LENGTH];
+    let bytes = &mut bytes[..length as usize];
+    File::open(files, path)?.read_exact(bytes)?;
+    Ok(is_flag(bytes))
 }
 
 /// Whether these are the bytes of a flag.
