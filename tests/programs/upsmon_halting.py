@@ -498,7 +498,8 @@ class Tests(Shimmed):
         command = [sys.executable, os.path.join(ROOT, "tests/support/on_terminal.py"), self.upsmon]
         conf = 'NOTIFYFLAG FSD EXEC\nNOTIFYCMD "stty -echo < /dev/tty; touch FOLDER/noted; true"\n'
         conf += 'SHUTDOWNCMD "stty echo < /dev/tty && touch FOLDER/halted"\n'
-        with self.halting(conf, "-q", program=self.wrapped("on-terminal", command)) as (_, watch):
+        # a delay, since stty fails if another one changes the terminal meanwhile
+        with self.halting(conf, "-q", delay=1, program=self.wrapped("on-terminal", command)) as (_, watch):
             expect((watch.status(), watch.read("halted"), watch.read("noted")), (0, b"", b""), "the halt")
 
     def wrapped(self, name, command):
