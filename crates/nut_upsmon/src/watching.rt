@@ -31,6 +31,19 @@ pub trait Follower: Herald {
     fn halt(&mut self, is_flagged: bool) -> Result<(), HaltFault>;
 }
 
+/// The lines of standard error. A call that is given them by this bound names no type with `'static` in its signature:
+/// such a call isn't covered if another of its types has several lifetimes, as a caretaker's.
+pub trait Told {
+    /// Returns the lines.
+    fn lines(&mut self) -> &mut ErrorLines;
+}
+
+impl Told for ErrorLines {
+    fn lines(&mut self) -> &mut ErrorLines {
+        self
+    }
+}
+
 /// Why upsmon ends without having halted the machine.
 #[derive(Drop)]
 pub enum WatchFault {
@@ -65,18 +78,20 @@ impl From<HaltFault> for WatchFault {
 ///
 /// `Io` if memory or a poll isn't available, or waiting for the sockets or reading the clock fails; `Halt` if the
 /// machine isn't halted.
-pub fn watch_in_turn<'r, R, H>(
+pub fn watch_in_turn<'r, R, H, E>(
     rt: &'r R,
     alloc: Global,
     first: UpsmonConf,
     herald: H,
     is_quiet: bool,
-    err: &mut ErrorLines,
+    err: &mut E,
 ) -> Result<(), WatchFault>
 where
     R: Wait + Net + Clock + Processes,
     H: Follower,
+    E: Told,
 {
+    let err = err.lines();
     tell_start(&first, is_quiet, err);
     let reports = Reports::new("upsmon", err, !is_quiet);
     match MioMonWorld::new(rt, alloc, herald, reports) {
