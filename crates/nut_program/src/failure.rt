@@ -87,10 +87,16 @@ fn tell_remark<E: Write>(program: &str, remark: Option<&str>, err: &mut E) -> io
     }
 }
 
-/// Writes why a program goes on with the configuration that it has, as `PROGRAM: not reloaded: WHY`, and the remark of
-/// the fault. What can't be written is dropped.
-pub fn tell_not_reloaded<E: Write>(program: &str, fault: &FileFault<'_>, err: &mut E) {
-    let _ = writeln!(err, "{program}: not reloaded: {fault}");
+/// Writes why a program goes on with the configuration that it has, as `PROGRAM: not reloaded: WHY`. What can't be written
+/// is dropped.
+pub fn tell_not_reloaded<T: Display, E: Write>(program: &str, why: &T, err: &mut E) {
+    let _ = writeln!(err, "{program}: not reloaded: {why}");
+}
+
+/// Writes that a program goes on with the configuration that it has because of the fault of a file, and the remark of the
+/// fault. What can't be written is dropped.
+pub fn tell_unread<E: Write>(program: &str, fault: &FileFault<'_>, err: &mut E) {
+    tell_not_reloaded(program, fault, err);
     let _ = tell_remark(program, fault.remark(), err);
 }
 

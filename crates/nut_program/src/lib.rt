@@ -17,7 +17,7 @@ pub use command_line::{check_option, quiet_option};
 pub use conf_file::{
     ConfFile, FileFault, read_conf, read_conf_at, read_conf_if_there, read_file, remark_on_unread,
 };
-pub use failure::{Failure, OwnFault, tell_not_reloaded};
+pub use failure::{Failure, OwnFault, tell_not_reloaded, tell_unread};
 pub use folder::conf_folder;
 pub use reload_file::{Look, ReloadFile, Turn};
 pub use reload_report::ReloadReport;

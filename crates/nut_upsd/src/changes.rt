@@ -8,8 +8,8 @@ use nut_server::{Config, Ups};
 use std::alloc::{AllocError, Global};
 
 /// Returns what a new configuration changes: the UPSes that are added, those that are removed, and those that differ,
-/// each in the order of its file; and then the users, MAXAGE, MAXCONN and cmdvartab, if they differ. `listens_elsewhere`
-/// says that the LISTEN lines aren't those of the start.
+/// each in the order of its file; and then the order of those that stay, the users, MAXAGE, MAXCONN and cmdvartab, if they
+/// differ. `listens_elsewhere` says that the LISTEN lines aren't those of the start. The text is empty if nothing changes.
 ///
 /// # Errors
 ///
@@ -80,14 +80,11 @@ impl List {
 
     /// Returns all items, or an error if memory was refused to one.
     fn into_text(self) -> Result<String, AllocError> {
-        let mut text = self.text;
-        if !self.is_whole {
-            return Err(AllocError);
+        if self.is_whole {
+            Ok(self.text)
+        } else {
+            Err(AllocError)
         }
-        if text.is_empty() {
-            text.push_str("nothing changed")?;
-        }
-        Ok(text)
     }
 }
 

@@ -4,7 +4,7 @@ use crate::changes::changes;
 use crate::configuration::{Settings, read_folder};
 use nut_conf::{Endpoint, UpsmonConf};
 use nut_poll::{ErrorLines, Reports};
-use nut_program::{ConfFile, FileFault, Look, ReloadFile, ReloadReport, Turn, tell_not_reloaded};
+use nut_program::{ConfFile, FileFault, Look, ReloadFile, ReloadReport, Turn, tell_unread};
 use nut_server::{Config, Server};
 use nut_server_sockets::Reloader;
 use std::alloc::{AllocError, Global};
@@ -32,7 +32,7 @@ pub struct Reloading<'r, F> {
 struct Given {
     /// How many UPSes it has.
     upses: usize,
-    /// What it changes.
+    /// What it changes; empty if nothing.
     changes: String,
 }
 
@@ -116,7 +116,7 @@ impl<'r, F: Files> Reloader for Reloading<'r, F> {
         match self.read_again(server, reports.err()) {
             Ok(config) => Some(config),
             Err(fault) => {
-                tell_not_reloaded("upsd", &fault, reports.err());
+                tell_unread("upsd", &fault, reports.err());
                 None
             }
         }
@@ -131,7 +131,7 @@ impl<'r, F: Files> Reloader for Reloading<'r, F> {
         if server.config().number_of_upses() == given.upses {
             reports.tell(ReloadReport::Reloaded(given.changes.as_str()));
         } else {
-            tell_not_reloaded("upsd", &FileFault::Memory, reports.err());
+            tell_unread("upsd", &FileFault::Memory, reports.err());
         }
     }
 }

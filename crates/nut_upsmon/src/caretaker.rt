@@ -11,9 +11,8 @@ use nut_conf::UpsmonConf;
 use nut_monitor::{Monitor, Notice, Phase};
 use nut_monitor_sockets::Herald;
 use nut_poll::ErrorLines;
-use nut_program::{FileFault, ReloadReport, tell_not_reloaded};
+use nut_program::{FileFault, ReloadReport, tell_not_reloaded, tell_unread};
 use std::alloc::AllocError;
-use std::io::Write;
 use std::mem;
 use std::process::Processes;
 use std::rt::Files;
@@ -81,7 +80,7 @@ where
         match self.halt.prepare_other(config) {
             Ok(halt) => self.change_to(halt, former, config),
             Err(AllocError) => {
-                tell_not_reloaded("upsmon", &FileFault::Memory, self.err);
+                tell_unread("upsmon", &FileFault::Memory, self.err);
                 false
             }
         }
@@ -163,7 +162,7 @@ where
         Ok(()) => true,
         Err(error) => {
             let fault = HaltFault::NotStarted(error);
-            let _ = writeln!(err, "upsmon: not reloaded: {fault}");
+            tell_not_reloaded("upsmon", &fault, err);
             false
         }
     }
@@ -177,7 +176,7 @@ where
     match crier.restart(config) {
         Ok(()) => true,
         Err(AllocError) => {
-            tell_not_reloaded("upsmon", &FileFault::Memory, err);
+            tell_unread("upsmon", &FileFault::Memory, err);
             false
         }
     }

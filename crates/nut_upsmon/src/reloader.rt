@@ -10,7 +10,9 @@ use crate::warning::tell_warnings;
 use nut_conf::{Monitored, UpsmonConf};
 use nut_monitor::{Known, Monitor, Phase};
 use nut_poll::{ErrorLines, Reports, text_of};
-use nut_program::{FileFault, Look, ReloadFile, ReloadReport, read_conf, tell_not_reloaded};
+use nut_program::{
+    FileFault, Look, ReloadFile, ReloadReport, read_conf, tell_not_reloaded, tell_unread,
+};
 use std::alloc::{AllocError, Global};
 use std::io::Write;
 use std::rt::Files;
@@ -125,7 +127,7 @@ impl Reloader {
     /// Refuses the reload that was asked for or that waits, since a shutdown has begun.
     fn refuse(&mut self, is_asked: bool, err: &mut ErrorLines) {
         if self.waiting.take().is_some() || is_asked {
-            let _ = writeln!(err, "upsmon: not reloaded: a shutdown has begun");
+            tell_not_reloaded("upsmon", &"a shutdown has begun", err);
         }
     }
 
@@ -135,7 +137,7 @@ impl Reloader {
         self.waiting = match self.read_reload(files, former, err) {
             Ok(reload) => self.unless_same(reload, err),
             Err(fault) => {
-                tell_not_reloaded("upsmon", &fault, err);
+                tell_unread("upsmon", &fault, err);
                 None
             }
         };
@@ -174,8 +176,8 @@ impl Reloader {
     /// Returns a configuration in which something has changed. If nothing has, that is told: the links stay.
     fn unless_same(&self, reload: Reload, err: &mut ErrorLines) -> Option<Reload> {
         if reload.changes.are_none() {
-            self.reports(err)
-                .tell(ReloadReport::Reloaded("nothing changed"));
+            let changes = reload.changes.as_str();
+            self.reports(err).tell(ReloadReport::Reloaded(changes));
             return None;
         }
         Some(reload)
