@@ -22,6 +22,7 @@ ONE = b'[su700]\ndesc = "Server room"\n'
 TWO = ONE + b"[old]\n"
 MONITOR = b"[mon]\npassword = m1\nupsmon primary\n"
 NOTHING = "upsd: reloaded: nothing changed"
+ORDER = "upsd: reloaded: order of UPSes"
 # a moment in which upsd looks for the file at least twice, in seconds
 LOOKS = 2.5
 # how many allocations in turn no reload has met before the rest are taken to come after it
@@ -181,8 +182,23 @@ class Tests(Shimmed):
                 expect(client.ask(b"FSD su700\n"), b"OK FSD-SET\n", "FSD")
                 forced = client.ask(STATUS)
                 ensure(b"FSD" in forced, f"the status after FSD is {forced!r}")
-                room.reload(b"[old]\n" + ONE, NOTHING)
+                room.reload(b"[old]\n" + ONE, ORDER)
                 expect(client.ask(STATUS), forced, "the status after a reload")
+
+    def test_order_of_upses(self):
+        """It is said if those that stay are in another order. One that comes or goes between them changes nothing of theirs."""
+        with self.room(ups=TWO) as room:
+            room.serve()
+            for names, said in (
+                (["old", "su700"], ORDER),
+                (["old", "su700"], NOTHING),
+                (["a", "old", "b", "su700"], "upsd: reloaded: UPS a added, UPS b added"),
+                (["a", "b", "su700", "old"], ORDER),
+                (["old", "su700"], "upsd: reloaded: UPS a removed, UPS b removed, order of UPSes"),
+                (["su700", "c"], "upsd: reloaded: UPS c added, UPS old removed"),
+            ):
+                room.reload(b"".join(ONE if name == "su700" else b"[%s]\n" % name.encode() for name in names), said)
+                expect(room.upses(), names, said)
 
     def test_same_link_to_a_driver_that_stays(self):
         with self.room(ups=TWO) as room, room.driver() as listener:

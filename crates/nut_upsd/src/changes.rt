@@ -115,8 +115,11 @@ fn list_different(old: &Config, new: &Config, list: &mut List) {
     }
 }
 
-/// Lists what differs besides the UPSes and the LISTEN lines.
+/// Lists what differs besides the UPSes themselves and the LISTEN lines.
 fn list_others(alloc: Global, old: &Config, new: &Config, list: &mut List) {
+    if have_other_order(old, new) {
+        list.add(&["order of UPSes"]);
+    }
     if have_other_users(old.users(), new.users()) {
         list.add(&["users"]);
     }
@@ -141,6 +144,26 @@ fn difference(old: &Ups<'_>, new: &Ups<'_>) -> Option<&'static str>
         (true, false) => Some("description"),
         (false, false) => Some("driver and description"),
     }
+}
+
+/// Whether the UPSes that both configurations have stand in another order, in which LIST UPS shows them.
+fn have_other_order(old: &Config, new: &Config) -> bool {
+    let mut least = 0;
+    for u in 0..new.number_of_upses() {
+        let Some(place) = place_in(old, new, u) else {
+            continue;
+        };
+        if place < least {
+            return true;
+        }
+        least = place;
+    }
+    false
+}
+
+/// Returns the place in one configuration of the UPS that has this place in another, if it has one there.
+fn place_in(config: &Config, other: &Config, u: usize) -> Option<usize> {
+    config.find_ups(other.ups_at(u)?.name)
 }
 
 /// Whether the users of two configurations differ, or their order.
