@@ -18,7 +18,10 @@ import time
 
 from tests.support.harness import Failed, Missing, apart, cannot_read, expect, processor_time, run_tests
 from tests.support.room import Client, DEVICE, Lines, NOT_CONNECTED, ONLINE, Room, SOON, STATUS, VERSION
-from tests.support.room import accepted, family_of, first_lines, free_port, has_ipv6, heed_modes, said, until
+from tests.support.room import accepted, family_of, first_lines, free_port, has_ipv6, heed_modes, raise_loopback, said, until
+
+# the setting of a network that keeps IPv4 out of a socket of IPv6
+ONLY_IPV6 = "/proc/sys/net/ipv6/bindv6only"
 
 
 def with_hosts(path):
@@ -31,8 +34,15 @@ def why(error):
     return f"{os.strerror(error)} (os error {error})"
 
 
+def put_listeners(room, hosts):
+    """Has a room's upsd listen at these hosts alone, at the room's port."""
+    with open(room.path("upsd.conf"), "w") as file:
+        file.writelines(f"LISTEN {host} {room.port}\n" for host in hosts)
+
+
 class Tests:
     def __init__(self, upsd, dummy, upsrw, upscmd, folder):
+        self.all_programs = (upsd, dummy, upsrw, upscmd)
         self.programs = (upsd, dummy)
         self.upsrw, self.upscmd = upsrw, upscmd
         self.folder = folder
@@ -271,8 +281,7 @@ class Tests:
             other.bind(("127.0.0.1", room.port))
             other.listen()
             for hosts, taken in ((("127.0.0.2", "127.0.0.1"), "127.0.0.1"), (("127.0.0.1", "0.0.0.0"), "0.0.0.0")):
-                with open(room.path("upsd.conf"), "w") as file:
-                    file.writelines(f"LISTEN {host} {room.port}\n" for host in hosts)
+                put_listeners(room, hosts)
                 found = self.run(self.programs[0], "--conf", room.folder, "-s", room.folder)
                 said = f"upsd: cannot listen on {taken}:{room.port}: {why(errno.EADDRINUSE)}\n".encode()
                 expect(found, (1, b"", said), f"{hosts}")
@@ -308,8 +317,7 @@ class Tests:
         self.each_in_use("twofold", addresses, words)
         # a listener of its own has the first address
         with self.room() as room:
-            with open(room.path("upsd.conf"), "w") as file:
-                file.writelines(f"LISTEN {host} {room.port}\n" for host in ("twofold", addresses[0]))
+            put_listeners(room, ("twofold", addresses[0]))
             upsd = room.start([*words, self.programs[0], "--conf", room.folder, "-s", room.folder])
             listener, other = first_lines(upsd, 2)
             expect(listener, f"upsd: listening on {addresses[0]}:{room.port}", "where it listens")
@@ -370,8 +378,7 @@ class Tests:
     def one_listener(self, lines, at, clients):
         """Starts upsd with LISTEN lines for these hosts. It listens at one address alone, and serves clients at others."""
         with self.room() as room:
-            with open(room.path("upsd.conf"), "w") as file:
-                file.writelines(f"LISTEN {host} {room.port}\n" for host in lines)
+            put_listeners(room, lines)
             upsd = room.start([self.programs[0], "--conf", room.folder, "-s", room.folder])
             listener, other = first_lines(upsd, 2)
             expect(listener, f"upsd: listening on {at}:{room.port}", f"{lines}")
@@ -410,6 +417,19 @@ class Tests:
             for host in ("127.0.0.1", "::1"):
                 with Client((host, room.port)) as client:
                     expect(client.ask(b"VER\n"), VERSION, host)
+
+    def test_listeners_of_ipv6_alone(self):
+        """This program plays the test again in a network of its own, where a socket of IPv6 takes no clients of IPv4."""
+        if not has_ipv6():
+            raise Missing("this machine has no IPv6")
+        command = apart("--net")
+        status, _, err = self.run(*command, "sh", "-c", f"echo 1 >{ONLY_IPV6}")
+        if status:
+            raise Missing(f"the network can't be set up: {err.decode().strip()}")
+        inside = [sys.executable, "-m", "tests.programs.upsd_sockets", "--inside", self.folder, *self.all_programs]
+        status, out, err = self.run(*command, *inside)
+        if status:
+            raise Failed((out + err).decode().strip())
 
     def test_same_host_at_two_ports(self):
         port = free_port()
@@ -764,7 +784,41 @@ class Tests:
                 expect(server.ask(b"PING\n"), b"PONG\n", "the next server")
 
 
+class Inside(Tests):
+    """The test that is played in a network where a socket of IPv6 takes no clients of IPv4."""
+
+    def play(self):
+        raise_loopback()
+        with open(ONLY_IPV6, "w") as file:
+            file.write("1")
+        self.one_listener(["::", "::"], "[::]", ["::1"])
+        for other in ("127.0.0.1", "0.0.0.0"):
+            self.play_beside(other)
+            self.play_in_use(other)
+
+    def play_beside(self, other):
+        """Listens at every address of IPv6, and at this one of IPv4 or at all of them."""
+        with self.room() as room:
+            found = self.listening(room, f"{other} {room.port}", f":: {room.port}")
+            expect(found, ["::", other], "where it listens")
+            for host in ("127.0.0.1", "::1"):
+                with Client((host, room.port)) as client:
+                    expect(client.ask(b"VER\n"), VERSION, f"{host}, beside {other}")
+
+    def play_in_use(self, other):
+        """Another program listens by IPv4. A listener of IPv6 doesn't stand for the one that is missing."""
+        with self.room() as room, socket.create_server(("127.0.0.1", room.port)):
+            put_listeners(room, ("::", other))
+            found = self.run(self.programs[0], "--conf", room.folder, "-s", room.folder)
+            said = f"upsd: cannot listen on {other}:{room.port}: {why(errno.EADDRINUSE)}\n".encode()
+            expect(found, (1, b"", said), f"{other} in use beside ::")
+
+
 def main():
+    if sys.argv[1] == "--inside":
+        folder, *programs = sys.argv[2:]
+        Inside(*programs, folder).play()
+        return 0
     programs, names = map(os.path.abspath, sys.argv[1:5]), sys.argv[5:]
     # 256 clients, and what else is open
     resource.setrlimit(resource.RLIMIT_NOFILE, (1024, resource.getrlimit(resource.RLIMIT_NOFILE)[1]))

@@ -7,11 +7,9 @@ for a while.
 The last line is 'N passed, M failed'."""
 
 import contextlib
-import fcntl
 import os
 import signal
 import socket
-import struct
 import subprocess
 import sys
 import tempfile
@@ -37,7 +35,7 @@ from tests.support.monitored import (
     play,
     put_program,
 )
-from tests.support.room import Room, has_ipv6, until
+from tests.support.room import Room, has_ipv6, raise_loopback, until
 
 STATUS = b"GET VAR su700 ups.status\n"
 # how long a server may take for an answer while a UPS is on battery and while none is, and for a connection, in seconds
@@ -407,15 +405,6 @@ class NameServer:
         """From now on no name is known without the name server."""
         with open(self.hosts, "w"):
             pass
-
-
-def raise_loopback():
-    """Brings up the loopback interface of this namespace."""
-    get_flags, set_flags, up = 0x8913, 0x8914, 1
-    with socket.socket(socket.AF_INET, socket.SOCK_DGRAM) as any_socket:
-        request = struct.pack("16sh14x", b"lo", 0)
-        flags = struct.unpack("16sh14x", fcntl.ioctl(any_socket, get_flags, request))[1]
-        fcntl.ioctl(any_socket, set_flags, struct.pack("16sh14x", b"lo", flags | up))
 
 
 class Inside(Tests):

@@ -1,5 +1,6 @@
 //! The addresses at which clients connect.
 
+use crate::dual_stack::takes_ipv4;
 use crate::upsd_fault::UpsdFault;
 use libc::EAFNOSUPPORT;
 use mio::net::TcpListener;
@@ -150,15 +151,17 @@ fn unless_served(
 
 /// Whether one of these listeners serves clients at this address.
 fn is_served(listeners: &[TcpListener], address: SocketAddr) -> bool {
-    listeners.iter().any(
-        |listener| matches!(listener.local_addr(), Ok(at) if includes(at, address)),
-    )
+    listeners.iter().any(|listener| serves(listener, address))
 }
 
-/// Whether a listener at the first address serves clients at the second one: the ports are the same, and so are the
-/// addresses, or the first is every address of that kind.
-fn includes(at: SocketAddr, address: SocketAddr) -> bool {
-    let (listener, one) = (at.ip().to_canonical(), address.ip().to_canonical());
-    let is_every = listener.is_unspecified() && (listener.is_ipv6() || one.is_ipv4());
-    at.port() == address.port() && (is_every || listener == one)
+/// Whether a listener serves clients at this address: the ports are the same, and so are the addresses, or the listener's
+/// is every address of that kind.
+fn serves(listener: &TcpListener, address: SocketAddr) -> bool {
+    let Ok(at) = listener.local_addr() else {
+        return false;
+    };
+    let (own, one) = (at.ip().to_canonical(), address.ip().to_canonical());
+    let is_every = own.is_unspecified()
+        && (own.is_ipv4() == one.is_ipv4() || own.is_ipv6() && takes_ipv4(listener));
+    at.port() == address.port() && (is_every || own == one)
 }
