@@ -25,6 +25,15 @@ struct Arrival {
     opened: u64,
 }
 
+/// What became of the client that was accepted last.
+#[derive(Drop)]
+pub enum Answer {
+    /// The server accepted the connection and gave it this number.
+    Accepted(u64, Guest),
+    /// The server refused the connection. The socket is closed.
+    Refused,
+}
+
 /// The listeners of a server.
 #[derive(Drop)]
 pub struct Door {
@@ -67,23 +76,15 @@ impl Door {
         Ok(address)
     }
 
-    /// Whether the server refused the connection of the client that was accepted last.
-    pub fn is_refused(&self, server: &Server) -> bool {
-        match &self.arrival {
-            Some(arrival) => server.opened() <= arrival.opened,
-            None => false,
-        }
-    }
-
-    /// Returns the client that was accepted last and the number of its connection. If the server refused the
-    /// connection, closes the socket and returns `None`.
-    pub fn seat(&mut self, server: &Server) -> Option<(u64, Guest)> {
+    /// Returns what became of the client that was accepted last, if that is new.
+    pub fn answer(&mut self, server: &Server) -> Option<Answer> {
         let Arrival { guest, opened } = self.arrival.take()?;
         let number = server.opened();
-        if number <= opened {
-            return None;
+        if number > opened {
+            Some(Answer::Accepted(number, guest))
+        } else {
+            Some(Answer::Refused)
         }
-        Some((number, guest))
     }
 }
 

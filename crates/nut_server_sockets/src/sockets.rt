@@ -7,7 +7,7 @@ ghost use Rattle.nut_server_loop.specs.declared.types.Next.TheVariants as next;
 ghost use Rattle.nut_server_spec.specs.Content.{Content};
 
 use crate::clients::Clients;
-use crate::door::{Door, Guest, concerns_one};
+use crate::door::{Answer, Door, Guest, concerns_one};
 use crate::drivers::Drivers;
 use crate::hindrances::Hindrances;
 use crate::reloader::Reloader;
@@ -164,15 +164,15 @@ impl Sockets {
         }
     }
 
-    /// Keeps the socket of a connection that the server accepted, and closes that of one that it refused. Returns the
-    /// number of a connection that the server accepted and whose socket can't be kept.
+    /// Keeps the socket of a connection that the server accepted, and reports that it refused one. Returns the number of a
+    /// connection that the server accepted and whose socket can't be kept.
     fn seat(&mut self, server: &Server, reports: &mut Reports<'_>) -> Option<u64> {
-        if self.door.is_refused(server) {
-            self.hindrances.tell_refusal(server, reports);
-        }
-        match self.door.seat(server) {
-            Some((number, guest)) => self.keep(number, guest, reports),
-            None => None,
+        match self.door.answer(server)? {
+            Answer::Accepted(number, guest) => self.keep(number, guest, reports),
+            Answer::Refused => {
+                self.hindrances.tell_refusal(server, reports);
+                None
+            }
         }
     }
 
