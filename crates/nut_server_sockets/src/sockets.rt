@@ -439,7 +439,9 @@ impl Sockets {
         }
     }
 
-    /// Reports the UPSes whose data have become stale since the last second, or are no longer stale.
+    /// Reports the UPSes whose data have become stale since the last second, or are no longer stale. What passes within a
+    /// second isn't told: the data of each driver are stale from its connection to the end of its first dump, and a driver
+    /// that changed its mind with every line would fill the log.
     fn tell_staleness(&mut self, server: &Server, reports: &mut Reports<'_>) {
         for u in 0..self.drivers.len() {
             if let Some(driver) = self.drivers.get_mut(u) {
