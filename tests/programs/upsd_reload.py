@@ -224,6 +224,7 @@ class Tests(Shimmed):
                 expect(client.ask(b"LOGIN su700\n"), b"OK\n", "LOGIN")
                 room.reload(ONE + b"driver = other\n", "upsd: reloaded: UPS su700: driver")
                 expect(link.recv(100), b"", "the old driver is disconnected")
+                expect(room.lines.count("upsd: UPS su700: driver disconnected by the reload"), 1, "it is told")
                 with play_driver(other, b"OB"):
                     room.until(STATUS, b'VAR su700 ups.status "OB"\n')
                     expect(client.ask(b"GET NUMLOGINS su700\n"), b"NUMLOGINS su700 1\n", "the login stays")
@@ -570,6 +571,33 @@ class Tests(Shimmed):
                 for client in clients:
                     expect(client.ask(b"VER\n"), VERSION, "one that waited")
             expect(lines.lines, [told], "what is told")
+
+    def test_connections_closed_for_lack_of_memory(self):
+        """It is told, of clients at most once a second, and of those that leave by themselves never."""
+        once = os.path.join(self.folder, "parched")
+        driver_told, client_told = "upsd: UPS su700: driver disconnected: out of memory", "upsd: client 127.0.0.1 closed: out of memory"
+        with self.room() as room, room.driver() as listener:
+            lines = room.serve(env=self.refusing_memory(once))
+            with play_driver(listener) as link, contextlib.ExitStack() as closing:
+                room.until(STATUS, ONLINE)
+                first, *others = [closing.enter_context(room.client()) for _ in range(20)]
+                expect(first.ask(b"VER\n"), VERSION, "before")
+                open(once, "w").close()
+                for client in others:
+                    client.send(b"VER\n")
+                for client in others:
+                    ensure(client.is_closed(), "a client whose answer finds no memory")
+                lines.next(client_told)
+                expect(first.ask(b"LOGOUT\n"), b"OK Goodbye\n", "a client that needs none")
+                # more variables than there is room for
+                link.sendall(b"".join(b'SETINFO ambient.%d.status "x"\n' % i for i in range(200)))
+                lines.next(driver_told)
+                os.remove(once)
+            with play_driver(listener):
+                room.until(STATUS, ONLINE)
+            lines.next("upsd: UPS su700: driver lost")
+            ensure(lines.count(client_told) <= 2, "clients are told too often")
+            expect(lines.count(driver_told), 1, "drivers that are disconnected")
 
     def test_each_allocation_refused_in_turn(self):
         """A reload that is refused memory changes nothing, or a driver is dialled a second later. The next one succeeds."""

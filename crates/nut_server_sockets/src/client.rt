@@ -29,6 +29,8 @@ pub struct Client {
     held: Piece,
     /// Whether there is something to read, which isn't read while an answer waits.
     is_parked: bool,
+    /// Whether the server was given bytes of it and hasn't offered it any since.
+    is_unanswered: bool,
     /// The second in which it last sent a whole line, or took some of an answer.
     spoke: u64,
 }
@@ -43,6 +45,7 @@ impl Client {
             batches: Batches::new(),
             held: Piece::new(),
             is_parked: false,
+            is_unanswered: false,
             spoke: second,
         }
     }
@@ -57,6 +60,17 @@ impl Client {
         self.address
     }
 
+    /// Returns that address, if the server was given bytes of it and hasn't offered it any since. If the server then has
+    /// the connection closed, a reload ended it or memory ran out at these bytes: for any other reason it offers something
+    /// first, a farewell or what can't be written.
+    pub fn unanswered(&self) -> Option<IpAddr> {
+        if self.is_unanswered {
+            Some(self.address)
+        } else {
+            None
+        }
+    }
+
     /// Reads up to a piece, and returns as much of it as the server is given at once. The rest is held, and returned
     /// before anything more is read.
     pub fn hear(&mut self, piece: &mut Piece, second: u64) -> Heard {
@@ -64,6 +78,7 @@ impl Client {
         if heard == Heard::Nothing || heard == Heard::End {
             return heard;
         }
+        self.is_unanswered = true;
         let end = self.batches.cut(piece.as_slice());
         let (now, later) = piece.as_slice().split_at(end);
         if now.contains(&b'\n') {
@@ -95,6 +110,7 @@ impl Client {
     pub fn offer(&mut self, bytes: &[u8], second: u64) -> (Written, bool)
         ensures { IsWithin result.0 (length bytes.now) }
     {
+        self.is_unanswered = false;
         let written = self.link.offer(bytes);
         let Written::Took(_) = written else {
             return (written, false);

@@ -146,10 +146,9 @@ impl Clients {
         None
     }
 
-    /// Closes the socket of a connection.
-    pub fn close(&mut self, number: u64) {
-        if let Some(key) = self.keys.remove(&number) {
-            let _ = self.sockets.try_remove(key);
-        }
+    /// Closes the socket of a connection. Returns the address of its client if that is unanswered.
+    pub fn close(&mut self, number: u64) -> Option<IpAddr> {
+        let key = self.keys.remove(&number)?;
+        self.sockets.try_remove(key)?.unanswered()
     }
 }

@@ -136,14 +136,18 @@ impl Driver {
         heard
     }
 
-    /// Offers bytes to the driver.
+    /// Offers bytes to the driver. If that fails, the link is closed.
     pub fn offer(&mut self, bytes: &[u8]) -> Written
         ensures { IsWithin result (length bytes.now) }
     {
-        match &mut self.link {
+        let written = match &mut self.link {
             Some(link) => link.offer(bytes),
             None => Written::Failed,
+        };
+        if matches!(written, Written::Failed) {
+            self.close();
         }
+        written
     }
 
     /// Notes an event of the socket.

@@ -1,4 +1,4 @@
-//! What keeps clients out, each cause of which is reported once.
+//! What keeps clients out, and the lack of memory that closes their connections: each cause is reported once.
 
 ghost use Rattle.std.specs.Prelude.{◌≡◌, ◌↔◌, IsTrue, true, false};
 
@@ -8,9 +8,10 @@ use nut_server::Server;
 use nut_server_spec::OPENED_MAX;
 use std::io;
 use std::io::ErrorKind;
+use std::net::IpAddr;
 
-/// Which causes that keep clients out were reported since a client was let in. At most one report is made in a second,
-/// so that clients that come and go don't fill a log.
+/// Which causes that keep clients out or close their connections were reported since a client was let in. At most one
+/// report is made in a second, so that clients that come and go don't fill a log.
 #[derive(Drop)]
 pub struct Hindrances {
     /// Whether it was reported that the server refuses clients.
@@ -50,6 +51,13 @@ impl Hindrances {
     pub fn tell_refusal(&mut self, server: &Server, reports: &mut Reports<'_>) {
         if note(&mut self.has_told_refusal, &mut self.has_told) {
             reports.warn(refusal_by(server));
+        }
+    }
+
+    /// Reports that the connection of a client from this address is closed for lack of memory.
+    pub fn tell_lack(&mut self, address: IpAddr, reports: &mut Reports<'_>) {
+        if note(&mut self.has_told_memory, &mut self.has_told) {
+            reports.warn(Report::Unanswered(address));
         }
     }
 

@@ -45,7 +45,7 @@ pub struct MioWorld<'r, 'e, R, L> {
 
 impl<'r, 'e, R: Net + Clock, L: Reloader + Drop> MioWorld<'r, 'e, R, L> {
     /// Returns the world of these listeners and these drivers, which asks this reloader for new configurations. Reports
-    /// say when drivers come and go, and what keeps clients out.
+    /// say when drivers come and go, what keeps clients out, and which connections are closed for lack of memory.
     ///
     /// # Errors
     ///
@@ -146,7 +146,7 @@ impl<'r, 'e, R: Net + Clock, L: Reloader + Drop> World for MioWorld<'r, 'e, R, L
         ensures late { (d : ℕ) → is_noted self.new.late.items d ≡ is_noted self.old.late.items d }
         ensures drivers { (v : ℕ) → is_noted self.new.late_drivers.items v ≡ is_noted self.old.late_drivers.items v }
     {
-        self.sockets.close(c);
+        self.sockets.close(c, &mut self.services.reports);
         Ok(())
     }
 

@@ -3,6 +3,28 @@
 use std::net::IpAddr;
 use std::{fmt, io};
 
+/// How the link to a driver ended.
+#[derive(Clone, Copy)]
+pub enum End {
+    /// The driver disconnected, or the link failed.
+    Lost,
+    /// A reload removed the UPS or gave it another driver.
+    Reloaded,
+    /// Memory ran out at what the driver reported.
+    OutOfMemory,
+}
+
+impl End {
+    /// Returns what is said of it.
+    fn text(self) -> &'static str {
+        match self {
+            End::Lost => "lost",
+            End::Reloaded => "disconnected by the reload",
+            End::OutOfMemory => "disconnected: out of memory",
+        }
+    }
+}
+
 /// An event at the sockets of a server.
 #[derive(Drop)]
 pub enum Report<'a> {
@@ -10,8 +32,8 @@ pub enum Report<'a> {
     Connected(&'a str),
     /// The driver of a UPS can't be reached.
     Missed(&'a str, io::Error),
-    /// The driver of a UPS disconnected.
-    Lost(&'a str),
+    /// The link to the driver of a UPS has ended.
+    Ended(&'a str, End),
     /// The data of a UPS became stale, so clients are answered DATA-STALE.
     Stale(&'a str),
     /// The data of a UPS is no longer stale.
@@ -26,6 +48,8 @@ pub enum Report<'a> {
     ShutOut(io::Error),
     /// A client from this address was silent for this many seconds, and its connection is closed.
     Shed(IpAddr, u64),
+    /// The connection of a client from this address is closed, because memory ran out at its request.
+    Unanswered(IpAddr),
 }
 
 impl<'a> fmt::Display for Report<'a> {
@@ -33,7 +57,7 @@ impl<'a> fmt::Display for Report<'a> {
         match self {
             Report::Connected(name) => write!(f, "UPS {name}: driver connected"),
             Report::Missed(name, error) => write!(f, "UPS {name}: no driver yet: {error}"),
-            Report::Lost(name) => write!(f, "UPS {name}: driver lost"),
+            Report::Ended(name, end) => write!(f, "UPS {name}: driver {}", end.text()),
             Report::Stale(name) => write!(f, "UPS {name}: data is stale"),
             Report::Fresh(name) => write!(f, "UPS {name}: data is no longer stale"),
             Report::Forced(name) => write!(f, "UPS {name}: shutdown is forced (FSD)"),
@@ -48,6 +72,7 @@ impl<'a> fmt::Display for Report<'a> {
             Report::Shed(address, seconds) => {
                 write!(f, "client {address} closed: silent for {seconds} s")
             }
+            Report::Unanswered(address) => write!(f, "client {address} closed: out of memory"),
         }
     }
 }

@@ -8,10 +8,11 @@ ghost use Rattle.nut_server_spec.specs.Content.{Content};
 
 use crate::clients::Clients;
 use crate::door::{Answer, Door, Guest, concerns_one};
+use crate::driver::Driver;
 use crate::drivers::Drivers;
 use crate::hindrances::Hindrances;
 use crate::reloader::Reloader;
-use crate::report::Report;
+use crate::report::{End, Report};
 use crate::source::Source;
 use crate::stall::Stall;
 use mio::Events;
@@ -151,16 +152,22 @@ impl Sockets {
         }
     }
 
-    /// Closes a connection.
-    pub fn close(&mut self, number: u64) {
-        self.clients.close(number);
+    /// Closes a connection, as the server wants it, and reports a lack of memory that is the reason.
+    pub fn close(&mut self, number: u64, reports: &mut Reports<'_>) {
+        let unanswered = self.clients.close(number);
+        if !self.has_given
+            && let Some(address) = unanswered
+        {
+            self.hindrances.tell_lack(address, reports);
+        }
     }
 
-    /// Closes the link to the driver of a UPS, and reports it.
+    /// Closes the link to the driver of a UPS, as the server wants it, and reports it.
     pub fn close_driver(&mut self, u: usize, reports: &mut Reports<'_>) {
         if let Some(driver) = self.drivers.get_mut(u) {
+            let end = end_of(driver, self.has_given);
             driver.close();
-            reports.tell(Report::Lost(driver.name()));
+            reports.tell(Report::Ended(driver.name(), end));
         }
     }
 
@@ -199,7 +206,7 @@ impl Sockets {
             self.sheds = false;
             return None;
         };
-        self.clients.close(silent.number);
+        let _ = self.clients.close(silent.number);
         reports.tell(Report::Shed(silent.address, silent.seconds));
         Some(silent.number)
     }
@@ -368,7 +375,7 @@ impl Sockets {
             }
             Heard::End => {
                 driver.close();
-                reports.tell(Report::Lost(driver.name()));
+                reports.tell(Report::Ended(driver.name(), End::Lost));
                 Some(Next::DriverDown(u))
             }
         }
@@ -397,7 +404,7 @@ impl Sockets {
                 Some(Next::Bytes(number))
             }
             Heard::End => {
-                self.clients.close(number);
+                let _ = self.clients.close(number);
                 Some(Next::Close(number))
             }
         }
@@ -469,6 +476,18 @@ impl Sockets {
         if self.stall.is_on() && !self.drivers.are_awaited() {
             self.stall.end(&mut self.rounds.ready);
         }
+    }
+}
+
+/// Returns why the server has the link to a driver closed: a write to it failed, which has closed the link already, or a
+/// reload ended it, or memory ran out.
+fn end_of(driver: &Driver, is_reload: bool) -> End {
+    if !driver.is_connected() {
+        End::Lost
+    } else if is_reload {
+        End::Reloaded
+    } else {
+        End::OutOfMemory
     }
 }
 

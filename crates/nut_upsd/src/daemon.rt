@@ -45,9 +45,9 @@ use std::time::Clock;
 /// no fault.
 ///
 /// The addresses listened on, the UPSes served, drivers that connect and disconnect, and what a reload changes are
-/// written to `err`, a line each, but not with `-q`. Why nothing was reloaded, why a client can't be let in, and that
-/// everybody can read the passwords of upsd.users, is written even then. If it is impossible to listen at an address,
-/// `upsd: cannot listen on ADDRESS:PORT: WHY` is written, and the status is 1.
+/// written to `err`, a line each, but not with `-q`. Why nothing was reloaded, why a client can't be let in, that one is
+/// closed for lack of memory, and that everybody can read the passwords of upsd.users, is written even then. If it is
+/// impossible to listen at an address, `upsd: cannot listen on ADDRESS:PORT: WHY` is written, and the status is 1.
 ///
 /// [`run_stdio`]: crate::run_stdio
 pub fn run_upsd<S: AsStr, I: Read, O: Write>(
