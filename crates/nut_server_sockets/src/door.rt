@@ -27,7 +27,7 @@ struct Arrival {
 
 /// What became of the client that was accepted last.
 #[derive(Drop)]
-pub enum Answer {
+pub enum Admission {
     /// The server accepted the connection and gave it this number.
     Accepted(u64, Guest),
     /// The server refused the connection. The socket is closed.
@@ -77,13 +77,13 @@ impl Door {
     }
 
     /// Returns what became of the client that was accepted last, if that is new.
-    pub fn answer(&mut self, server: &Server) -> Option<Answer> {
+    pub fn admission(&mut self, server: &Server) -> Option<Admission> {
         let Arrival { guest, opened } = self.arrival.take()?;
         let number = server.opened();
         if number > opened {
-            Some(Answer::Accepted(number, guest))
+            Some(Admission::Accepted(number, guest))
         } else {
-            Some(Answer::Refused)
+            Some(Admission::Refused)
         }
     }
 }

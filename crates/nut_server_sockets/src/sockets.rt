@@ -7,7 +7,7 @@ ghost use Rattle.nut_server_loop.specs.declared.types.Next.TheVariants as next;
 ghost use Rattle.nut_server_spec.specs.Content.{Content};
 
 use crate::clients::Clients;
-use crate::door::{Answer, Door, Guest, concerns_one};
+use crate::door::{Admission, Door, Guest, concerns_one};
 use crate::driver::Driver;
 use crate::drivers::Drivers;
 use crate::hindrances::Hindrances;
@@ -174,9 +174,9 @@ impl Sockets {
     /// Keeps the socket of a connection that the server accepted, and reports that it refused one. Returns the number of a
     /// connection that the server accepted and whose socket can't be kept.
     fn seat(&mut self, server: &Server, reports: &mut Reports<'_>) -> Option<u64> {
-        match self.door.answer(server)? {
-            Answer::Accepted(number, guest) => self.keep(number, guest, reports),
-            Answer::Refused => {
+        match self.door.admission(server)? {
+            Admission::Accepted(number, guest) => self.keep(number, guest, reports),
+            Admission::Refused => {
                 self.hindrances.tell_refusal(server, reports);
                 None
             }
