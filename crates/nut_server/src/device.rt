@@ -1,6 +1,6 @@
 //! A UPS and its driver.
 
-ghost use Rattle.std.specs.Prelude.{◌≡◌, ◌≤◌, ◌<◌, ⊤, [], ◌++◌, Some, IfOk, IfErr, IsTrue, OnOk, find, length, option_map, true, not, ◌==◌, ◌&&◌};
+ghost use Rattle.std.specs.Prelude.{◌≡◌, ◌≤◌, ◌<◌, ◌/◌, ⊤, [], ◌++◌, Some, IfOk, IfErr, IsTrue, OnOk, find, length, option_map, true, not, ◌==◌, ◌&&◌};
 ghost use Rattle.std.specs.Option.{option_map_or};
 ghost use Rattle.nut_queue.specs.Front.{IsFrontPart};
 ghost use Rattle.nut_words.specs.Lines.{Text};
@@ -30,6 +30,13 @@ const DUMP_ALL: &[u8] = b"DUMPALL\n";
 
 /// The request to a driver to show that it is alive.
 const PING: &[u8] = b"PING\n";
+
+/// After how many seconds of its silence a driver is sent PING, and after how many more again: a third of MAXAGE.
+pub fn silence_before_ping(max_age: u64) -> u64
+    ensures { result ≡ max_age / 3 }
+{
+    max_age / 3
+}
 
 /// A UPS: what its driver has reported, the driver's unfinished line, the requests that wait for it, and the newest
 /// requests that are tracked.
@@ -172,7 +179,7 @@ impl Device {
     fn needs_ping(&self, max_age: u64, time: u64) -> bool
         ensures { result ≡ needs_ping max_age time self.now.device }
     {
-        let seconds = max_age / 3;
+        let seconds = silence_before_ping(max_age);
         if !self.connected
             || !self.is_silent_for(seconds, time)
             || !self.is_unpinged_for(seconds, time)

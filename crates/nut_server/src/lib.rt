@@ -26,5 +26,6 @@ mod tracked;
 
 pub use arrival::Arrival;
 pub use config::{Config, Ups, User};
+pub use device::silence_before_ping;
 pub use nut_server_spec::{Place, Refused};
 pub use server::{Ended, Server, ServerFault};

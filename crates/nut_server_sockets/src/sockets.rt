@@ -20,7 +20,7 @@ use mio::net::TcpListener;
 use nut_conf::LISTENERS_MAX;
 use nut_io::{Piece, Written};
 use nut_poll::{Heard, Ready, Reports, Rounds, SOCKETS_MAX, may_be_read};
-use nut_server::{Config, Server};
+use nut_server::{Config, Server, silence_before_ping};
 use nut_server_loop::{Address, Next};
 use std::alloc::Global;
 use std::io;
@@ -438,7 +438,8 @@ impl Sockets {
         self.asks = true;
         self.roll = 0;
         self.pieces = PIECES;
-        if passed > 1 && passed > u64::from(server.config().max_age() / 3) {
+        let max_age = u64::from(server.config().max_age());
+        if passed > 1 && passed > silence_before_ping(max_age) {
             self.drivers.await_words();
             self.stall.begin();
         } else {
