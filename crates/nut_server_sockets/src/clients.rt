@@ -69,7 +69,7 @@ impl Clients {
         let all = Interest::READABLE | Interest::WRITABLE | Interest::PRIORITY;
         let token = Source::Client(key).token();
         registry.register(&mut stream, token, all)?;
-        let _ = keep_alive(&stream);
+        keep_alive(&stream);
         let client = Client::new(number, address, stream, self.second);
         if self.keys.insert(number, key).is_err() {
             return Err(io::Error::from(ErrorKind::OutOfMemory));

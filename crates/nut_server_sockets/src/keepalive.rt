@@ -13,20 +13,20 @@ const INTERVAL: i32 = 10;
 /// After how many unanswered probes the connection ends.
 const PROBES: i32 = 3;
 
-/// Makes the system probe a silent peer, so that one that vanished without a word is noticed. Returns whether the
-/// system will.
-pub fn keep_alive(stream: &TcpStream) -> bool {
+/// Has the system probe a silent peer, so that one that vanished without a word is noticed. If the system doesn't, the
+/// peer is closed like any client that is silent for too long.
+pub fn keep_alive(stream: &TcpStream) {
     let fd = stream.as_raw_fd();
     let (on, idle) = (number(1), number(IDLE));
     let (interval, probes) = (number(INTERVAL), number(PROBES));
     // The binding lends the system 16 bytes, of which it reads the first 4: each of these options is a C int. The
     // descriptor is that of a stream that is borrowed meanwhile.
-    unsafe {
+    let _ = unsafe {
         c::setsockopt(fd, c::SOL_SOCKET, c::SO_KEEPALIVE, &on, 4) == 0
             && c::setsockopt(fd, c::IPPROTO_TCP, c::TCP_KEEPIDLE, &idle, 4) == 0
             && c::setsockopt(fd, c::IPPROTO_TCP, c::TCP_KEEPINTVL, &interval, 4) == 0
             && c::setsockopt(fd, c::IPPROTO_TCP, c::TCP_KEEPCNT, &probes, 4) == 0
-    }
+    };
 }
 
 /// Returns a number as the value of a socket option.
