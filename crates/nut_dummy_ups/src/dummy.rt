@@ -100,13 +100,12 @@ fn run<'a, S: AsStr>(
     run_matches(rt, alloc, &matches)
 }
 
-/// Does what a command line asks for that clap has accepted. The standard streams that are closed are held meanwhile.
+/// Does what a command line asks for that clap has accepted.
 fn run_matches<'a>(
     rt: &(impl Wait + Files + Net + Clock),
     alloc: Global,
     matches: &ArgMatches<'a>,
 ) -> Result<(), Failure<DummyUpsFault<'a>>> {
-    let _held = hold_closed_streams(rt, alloc)?;
     let file = matches.get_str("file").unwrap_or("");
     let socket = matches.get_str("socket").unwrap_or("");
     tell_file(rt, alloc, file, socket)
@@ -120,14 +119,41 @@ fn tell_file<'a>(
     socket: &'a str,
 ) -> Result<(), Failure<DummyUpsFault<'a>>> {
     let script = read_script(rt, alloc, file)?;
-    let Ok(dummy) = Dummy::new(alloc, script, 0) else {
-        return Err(Failure::Memory);
-    };
-    match listen(rt, socket) {
-        Ok(listener) => Ok(tell(rt, alloc, listener, dummy)?),
+    match Dummy::new(alloc, script, 0) {
+        Ok(dummy) => tell_at(rt, alloc, dummy, socket),
+        Err(_) => Err(Failure::Memory),
+    }
+}
+
+/// Runs a dummy driver at a socket. The standard streams that are closed are held meanwhile.
+fn tell_at<'a>(
+    rt: &(impl Wait + Files + Net + Clock),
+    alloc: Global,
+    dummy: Dummy,
+    socket: &'a str,
+) -> Result<(), Failure<DummyUpsFault<'a>>> {
+    match listen_held(rt, alloc, socket) {
+        Ok((_held, listener)) => Ok(tell(rt, alloc, listener, dummy)?),
         Err(failure) => {
             // dropped by a call, which keeps the proof of this function short
             drop(dummy);
+            Err(failure)
+        }
+    }
+}
+
+/// Holds the standard streams that are closed, and then listens at a socket.
+fn listen_held<'a, R: Files + Net>(
+    rt: &R,
+    alloc: Global,
+    socket: &'a str,
+) -> Result<(Vec<R::File>, UnixListener), Failure<DummyUpsFault<'a>>> {
+    let held = hold_closed_streams(rt, alloc)?;
+    match listen(rt, socket) {
+        Ok(listener) => Ok((held, listener)),
+        Err(failure) => {
+            // dropped by a call, which keeps the proof of this function short
+            drop(held);
             Err(failure)
         }
     }
