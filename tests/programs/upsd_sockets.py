@@ -228,6 +228,7 @@ class Tests:
             room.upsd()
             room.until(STATUS, ONLINE)
             driver.kill()
+            driver.wait()
             room.until(STATUS, NOT_CONNECTED)
             # the file of its socket is left behind, and doesn't matter
             room.dummy()
@@ -629,6 +630,7 @@ class Tests:
                 # neither another FSD nor a driver that comes back is news
                 expect(client.ask(b"FSD su700\n"), b"OK FSD-SET\n", "FSD once more")
                 driver.kill()
+                driver.wait()
                 room.until(STATUS, NOT_CONNECTED)
                 room.dummy()
                 room.until(STATUS, b'VAR su700 ups.status "FSD OL"\n')
