@@ -1,6 +1,6 @@
 //! The loop over any world.
 
-ghost use Rattle.std.specs.Prelude.{◌≡◌, ◌≢◌, ◌⊎◌, ◌+◌, ◌-◌, ◌^◌, ◌<◌, ℕ, true, false, List, [], length, slice_get, Option, Some, None, Ok, IfSome, IfOk, OnOk, OnErr, is_ok, option_map, if◌then◌else◌};
+ghost use Rattle.std.specs.Prelude.{◌≡◌, ◌⊎◌, ◌+◌, ◌-◌, ◌^◌, ◌<◌, ℕ, true, false, [], length, slice_get, Option, Some, None, Ok, IfSome, IfOk, OnOk, OnErr, is_ok, option_map, if◌then◌else◌};
 ghost use Rattle.nut_monitor_spec.specs.Configuration.{Configuration};
 ghost use Rattle.nut_monitor_spec.specs.Content.{content, phase_of};
 ghost use Rattle.nut_monitor_spec.specs.Decision.{is_halted};

@@ -1,7 +1,7 @@
 //! Look-ups of hosts, which nobody waits for.
 
 use nut_poll::{Program, Question, Questions};
-use std::alloc::{AllocError, Global};
+use std::alloc::Global;
 use std::net::IpAddr;
 use std::process::{OpenProcess, Processes};
 use std::{io, str};

@@ -16,7 +16,7 @@ use crate::watching::{WatchFault, watch_in_turn};
 use clap::ArgMatches;
 use linked_list_allocator::LocalHeap;
 use nut_conf::{UpsdConf, UpsmonConf};
-use nut_poll::{ErrorLines, LossyLines, OutputLines};
+use nut_poll::{ErrorLines, LossyLines};
 use nut_program::{
     ConfFile, Failure, ReloadFile, Turn, conf_folder, hold_closed_streams, read_conf, refuse_start,
 };
