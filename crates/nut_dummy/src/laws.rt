@@ -16,7 +16,8 @@ pub fn looks_back()
 
 /// States a law and does nothing when called: each line that the driver tells is read as what it says. The line of a
 /// value is heard as that value; the lines that limit a variable as exactly its flags, aux, enum values and ranges;
-/// and the end of a dump as all commands, current data and a dump that is done.
+/// the end of a dump as all commands, current data and a dump that is done; how a tracked request ended as that, with
+/// its number; and the answer to PING as such.
 pub fn told_lines_are_heard()
     ensures { ToldLinesAreHeard }
 {}
