@@ -8,7 +8,7 @@ use crate::dialler::Dialler;
 use crate::inquiry::Reply;
 use crate::limits::{CALM, Limits};
 use crate::look_ups::{Found, LookUps};
-use crate::refusals::{comes_and_goes, title};
+use crate::refusals::{is_left_out_when_quiet, title};
 use crate::report::Report;
 use crate::upstream::Upstream;
 use mio::{Events, Token};
@@ -582,7 +582,7 @@ fn is_after_opening(query: Query) -> bool {
 /// wanted: this UPS isn't watched as upsmon.conf says.
 fn tell_refusal(name: &str, query: Query, reply: &Reply, reports: &mut Reports<'_>) {
     let refused = Report::Refused(name, title(query), text_of(reply.error()));
-    if comes_and_goes(query) {
+    if is_left_out_when_quiet(query) {
         reports.tell(refused);
     } else {
         reports.warn(refused);

@@ -23,7 +23,7 @@ impl Refusals {
     }
 
     /// Whether the last query for the status was refused.
-    pub fn has_status(&self) -> bool {
+    pub fn refuses_status(&self) -> bool {
         self.status.is_some()
     }
 
@@ -74,7 +74,7 @@ fn copy_of(error: &ErrorName) -> ErrorName {
 
 /// Whether reports of a refusal of this query are left out with `-q`. Those of the status are: if it stays refused, a
 /// notice tells of it. The others say that the server doesn't know the user or the UPS, or doesn't let this user do it.
-pub fn comes_and_goes(query: Query) -> bool {
+pub fn is_left_out_when_quiet(query: Query) -> bool {
     match query {
         Query::Status | Query::NumLogins => true,
         Query::Username | Query::Password | Query::Login | Query::Primary | Query::Fsd => false,

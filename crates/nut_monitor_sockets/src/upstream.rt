@@ -90,7 +90,7 @@ impl Upstream {
     fn is_settled(&self) -> bool {
         match &self.stage {
             Stage::Down | Stage::Calling(_, _) => false,
-            Stage::Up(_, inquiry) => !inquiry.is_outstanding() && !self.refusals.has_status(),
+            Stage::Up(_, inquiry) => !inquiry.is_outstanding() && !self.refusals.refuses_status(),
         }
     }
 
