@@ -30,7 +30,7 @@ pub enum Failure {
     BadQuery,
     /// Memory could not be allocated.
     Memory,
-    /// The output failed after a beginning of the text was written.
+    /// The output failed. It took a beginning of the text: perhaps none of it, perhaps all.
     OutputFailed,
 }
 

@@ -10,11 +10,12 @@ use std::io::{ErrorKind, Read, Write};
 /// The result of a read or a write.
 #[derive(Clone, Copy, Debug, PartialEq, Eq)]
 pub enum Moved {
-    /// The first bytes were moved, this many, at least one.
+    /// This many bytes were moved, from the front: at least one, if any were offered.
     Bytes(usize),
     /// No byte was moved, and it can be tried again.
     Again,
-    /// No byte was moved, and it isn't tried again: the connection or the output has ended or failed.
+    /// The connection or the output has ended or failed, and the call isn't tried again. No byte counts as moved,
+    /// though a [`ByteStream`] whose flush failed may have passed some on.
     Lost,
 }
 

@@ -23,9 +23,10 @@ use std::time::Clock;
 /// Runs `upsc` with these words of a command line, the program's name first, over a connection to the server, which is
 /// `None` if none was made. Returns the exit status.
 ///
-/// The output is written to `out` once the last answer has come, with status 0. If there is no output, or `out` fails,
-/// a line on `err` says why. The status is then 2 if the command line cannot be read or is no combination that the tool
-/// knows, else 1. The help and the version are written to `out`.
+/// The output is written to `out` once the last answer has come, with status 0, and so are the help and the version. If
+/// clap cannot read the command line, clap's text is written to `err`, with status 2. Any other failure, also of `out`,
+/// is one line on `err`, `Error: ` and the reason, with status 2 if the words are no combination that the tool knows,
+/// else 1.
 pub fn run_upsc<W: AsStr, S: Stream, O: Output, E: Output>(
     rt: &(impl Wait + Clock),
     alloc: Global,

@@ -29,7 +29,8 @@ pub enum Wanted<'a> {
 pub enum Until {
     /// Until the server has accepted the request.
     Accepted,
-    /// Until the request has ended, at most ten seconds: `-w`.
+    /// Until the request has ended: `-w`. The tool asks at once, and again after each of at most ten pauses of a
+    /// second. The time that the queries take isn't counted.
     Ended,
 }
 

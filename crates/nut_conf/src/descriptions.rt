@@ -11,12 +11,12 @@ use crate::line::Line;
 use crate::texts::Texts;
 use std::alloc::Global;
 
-/// The configuration of cmdvartab: what variables tell and what commands do, for people to read.
+/// The descriptions in cmdvartab, for people to read.
 #[derive(Drop)]
 pub struct Descriptions {
-    /// What variables tell, by their names.
+    /// Descriptions of variables, by name.
     pub variables: Texts,
-    /// What commands do, by their names.
+    /// Descriptions of commands, by name.
     pub commands: Texts,
 }
 
@@ -86,7 +86,8 @@ impl Draft for Descriptions {
 ///
 /// # Errors
 ///
-/// The first fault of the first line that has one. `Memory` comes only at a line with a backslash, or at a line without a
+/// `PastLimit` at line 0 if the file has more than [`FILE_MAX`](crate::limits::FILE_MAX) bytes. Otherwise the first
+/// fault of the first line that has a fault. `Memory` comes only at a line with a backslash, or at a line without a
 /// fault.
 pub fn read_descriptions(alloc: Global, bytes: &[u8]) -> Result<Descriptions, ConfFault>
     ensures means { Means (read_file descriptions_fault bytes.now) DescriptionsHold result }

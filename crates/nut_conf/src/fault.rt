@@ -8,7 +8,8 @@ use thiserror::Error;
 /// What is wrong with a line, or with a file as a whole. Its text is its name.
 #[derive(Clone, Copy, Debug, PartialEq, Eq, Error)]
 pub enum FaultKind {
-    /// The line spells no words: an open quote, a lone backslash, a byte that isn't ASCII, more than [`WORDS_MAX`](nut_words::WORDS_MAX) words and the like.
+    /// The line can't be read as words: [`WordFault`](nut_words::WordFault) says why. Of `UpsConf::add`: the
+    /// description has a byte outside 0x20 to 0x7E.
     #[error("Unreadable")]
     Unreadable,
     /// A directive before the first section.
@@ -17,10 +18,11 @@ pub enum FaultKind {
     /// The first word is no directive of the file.
     #[error("UnknownDirective")]
     UnknownDirective,
-    /// Values are missing, or there are too many.
+    /// A `=` or a value is missing, or there are too many values.
     #[error("BadForm")]
     BadForm,
-    /// A section, a directive that is allowed once, a target or a type of notice that came before.
+    /// It came before: the name of a section, a directive that is allowed once, a target, a type of notice, or a name
+    /// that has a description.
     #[error("Repeated")]
     Repeated,
     /// A number that isn't one to nine digits, or is out of range.
@@ -29,7 +31,8 @@ pub enum FaultKind {
     /// An empty name, a name with a byte that isn't allowed, a bad address or a bad target.
     #[error("BadName")]
     BadName,
-    /// Something is too long or too short, or there are too many of it.
+    /// A file, a line, a name or a text is too long; a text is too short; or there are too many entries. At line 0, the
+    /// file is too long, or the power values sum to less than MINSUPPLIES.
     #[error("PastLimit")]
     PastLimit,
     /// An unknown role, action, type of notice or flag.

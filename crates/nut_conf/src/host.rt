@@ -6,7 +6,8 @@ ghost use Rattle.nut_conf.specs.Hosts.{is_host_byte as host_byte, is_address_byt
 use crate::limits::HOST_MAX;
 use arrayvec::ArrayVec;
 
-/// The name of a host or its address, as one dials it: 1 to [`HOST_MAX`] letters, digits, `.` and `-`.
+/// The host to which a client connects, by name or IPv4 address: 1 to [`HOST_MAX`] letters, digits, `.` and `-`. An
+/// IPv6 address isn't a host.
 #[derive(Debug, PartialEq, Eq, Drop)]
 pub struct Host {
     pub bytes: ArrayVec<u8, HOST_MAX>,

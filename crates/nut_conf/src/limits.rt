@@ -1,4 +1,5 @@
-//! How much the configuration files hold: this project's own limits, all in this one place.
+//! Lengths and counts of the configuration files: this project's own limits. The range of a number stands in the type of its
+//! field, and the lengths of names in `nut_words`.
 ghost use Rattle.std.specs.Prelude.{◌≡◌};
 
 /// The greatest length of a configuration file in bytes.
@@ -25,7 +26,8 @@ pub const DEVICE_MAX: usize = 128;
 pub const DESCRIPTION_MAX: usize = 128;
 /// The greatest number of variables, and of commands, with a description: `VARDESC` and `CMDDESC` lines of cmdvartab.
 pub const DESCRIPTIONS_MAX: usize = 1_024;
-/// The greatest length in bytes of the user's name in a `MONITOR` line.
+/// The greatest length in bytes of the user's name in a `MONITOR` line. The limit of a user's name in upsd.users is
+/// [`UPS_NAME_MAX`](nut_words::UPS_NAME_MAX).
 pub const USER_NAME_MAX: usize = 32;
 /// The greatest length of a password in bytes.
 pub const PASSWORD_MAX: usize = 128;
@@ -38,7 +40,7 @@ pub const MESSAGE_MAX: usize = 128;
 /// The greatest length in bytes of a command of upsmon.conf, and of the path of POWERDOWNFLAG.
 pub const COMMAND_MAX: usize = 256;
 
-/// A law, with nothing to run: which numbers the limits are that the definitions name.
+/// States a law and does nothing when called: the values of the limits that the definitions name.
 pub fn file_limits()
     ensures file { FILE_MAX ≡ 1048576 }
     ensures line { FILE_LINE_MAX ≡ 512 }

@@ -10,7 +10,8 @@ use crate::slot::listed_apart;
 use crate::values::Form;
 use std::alloc::Global;
 
-/// At most [`MONITORS_MAX`] of them, in the order of the file; of a file that was read, no two with the same target.
+/// The MONITOR lines of upsmon.conf, in the order of the file: at most [`MONITORS_MAX`]. A file that was read has no
+/// two with the same target.
 #[derive(Drop)]
 pub struct Monitors {
     pub lines: Vec<Monitored>,

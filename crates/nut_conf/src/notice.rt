@@ -160,16 +160,16 @@ fn is_flag(word: &[u8]) -> bool
         || word == b"IGNORE".as_slice()
 }
 
-/// What is done with a notice: each flag says whether upsmon.conf names it.
+/// What is done with a notice (NOTIFYFLAG of upsmon.conf(5)). A flag is true if the line names it.
 #[derive(Clone, Copy, Debug, PartialEq, Eq)]
 pub struct NoticeFlags {
-    /// `SYSLOG`: the notice is printed.
+    /// `SYSLOG`: the notice is printed. It is printed once even if `WALL` is set too.
     pub syslog: bool,
-    /// `WALL`: the notice is printed.
+    /// `WALL`: as `SYSLOG`.
     pub wall: bool,
     /// `EXEC`: NOTIFYCMD is run with the notice.
     pub exec: bool,
-    /// `IGNORE`: asks for nothing.
+    /// `IGNORE`: nothing is printed or run, whatever the other flags are.
     pub ignore: bool,
 }
 

@@ -67,7 +67,7 @@ impl Texts {
         }
     }
 
-    /// Puts a line's name and text behind the others.
+    /// Adds a line's name and text at the end. Returns the line's first fault.
     pub(crate) fn put(&mut self, line: &Line<'_>) -> Result<(), FaultKind>
         ensures { Puts description_rule (map described (rows_of self.old)) line.now.words result (map described (rows_of self.new)) }
     {
@@ -87,7 +87,8 @@ impl Texts {
         }
     }
 
-    /// The text of this name, at most [`DESCRIPTION_MAX`] printing bytes. Takes no memory, and no longer for many names.
+    /// Returns the text of this name: 0 to [`DESCRIPTION_MAX`] printing bytes. `None` if the name has no text.
+    /// Allocates no memory. The time doesn't grow with the number of names.
     pub fn find(&self, name: &[u8]) -> Option<&[u8]>
         ensures text { option_map (λ t. t.now) result ≡ lookup (bytes_eq name.now) (rows_of self.now) }
         ensures bounded { IfSome result (λ t. IsTrue (is_text 0 DESCRIPTION_MAX t.now)) }

@@ -96,10 +96,10 @@ impl UpsConf {
     ///
     /// # Errors
     ///
-    /// The first test that fails, in this order: `BadName` where the name is empty or has a byte that may not stand
-    /// there; `PastLimit` where it has more than [`UPS_NAME_MAX`] bytes, the description has more than
-    /// [`DESCRIPTION_MAX`], or there are [`UPSES_MAX`] UPSes; `Repeated` where one has this name; `Unreadable` where a
-    /// byte of the description isn't printing; `Memory`. Nothing changes then.
+    /// The first test that fails, in this order: `BadName` if the name is empty or has a byte that may not stand there;
+    /// `PastLimit` if the name has more than [`UPS_NAME_MAX`] bytes, the description has more than [`DESCRIPTION_MAX`],
+    /// or there are [`UPSES_MAX`] UPSes; `Repeated` if one has this name; `Unreadable` if a byte of the description
+    /// isn't printing; `Memory`. Nothing changes then.
     pub fn add(&mut self, name: &[u8], desc: &[u8]) -> Result<(), FaultKind>
         ensures added { Gives (λ _. shown_in self.new) result (with_ups (shown_in self.old) name.now desc.now) }
         ensures unchanged { OnErr result (shown_in self.new ≡ shown_in self.old) }
@@ -257,8 +257,9 @@ impl Draft for Ups {
 ///
 /// # Errors
 ///
-/// The first fault of the first line that has one. `Memory` comes only at a line with a backslash, or at a line without
-/// a fault that begins a section.
+/// `PastLimit` at line 0 if the file has more than [`FILE_MAX`](crate::limits::FILE_MAX) bytes. Otherwise the first
+/// fault of the first line that has a fault. `Memory` comes only at a line with a backslash, or at a line without a
+/// fault that begins a section.
 pub fn read_ups(alloc: Global, bytes: &[u8]) -> Result<UpsConf, ConfFault>
     ensures means { Means (read_file ups_fault bytes.now) UpsConfHolds result }
     ensures memory { IfErr result (λ fault. fault.kind ≡ FaultKind.Memory → MayRunOut ups_fault ups_conf_grows bytes.now fault.line) }

@@ -29,7 +29,7 @@ pub struct Endpoint {
 /// The configuration of upsd.conf. A directive that isn't set has its default.
 #[derive(Drop)]
 pub struct UpsdConf {
-    /// Of a file that was read, at most [`LISTENERS_MAX`].
+    /// LISTEN, in the order of the file. A file that was read has at most [`LISTENERS_MAX`].
     pub listen: Vec<Endpoint>,
     /// MAXAGE, in seconds.
     pub max_age: Option<Number<1, 86400>>,
@@ -77,8 +77,8 @@ impl UpsdConf {
         self.listen.len().max(1)
     }
 
-    /// Returns the address and the port of an endpoint, counted from 0 in the order of the file. If no endpoint is set,
-    /// the first is 127.0.0.1 and 3493.
+    /// Returns the address and the port of an endpoint, counted from 0 in the order of the file. `None` past the last.
+    /// If none is set, endpoint 0 is 127.0.0.1, port 3493.
     pub fn endpoint(&self, index: usize) -> Option<(&[u8], u16)>
         ensures { option_map (λ e. (e.0.now, e.1)) result ≡ slice_get (endpoints_of self.now) index }
     {
@@ -190,8 +190,9 @@ impl Draft for UpsdConf {
 ///
 /// # Errors
 ///
-/// The first fault of the first line that has one. `Memory` comes only at a line with a backslash, or at a `LISTEN`
-/// line without a fault.
+/// `PastLimit` at line 0 if the file has more than [`FILE_MAX`](crate::limits::FILE_MAX) bytes. Otherwise the first
+/// fault of the first line that has a fault. `Memory` comes only at a line with a backslash, or at a `LISTEN` line
+/// without a fault.
 pub fn read_upsd(alloc: Global, bytes: &[u8]) -> Result<UpsdConf, ConfFault>
     ensures means { Means (read_file upsd_fault bytes.now) UpsdHolds result }
     ensures few { IfOk result (λ conf. length conf.listen.items ≤ LISTENERS_MAX) }

@@ -22,18 +22,18 @@ use crate::text::{Number, Text};
 use crate::values::Form;
 use std::alloc::Global;
 
-/// The configuration of upsmon.conf. A directive that isn't set has its default.
+/// The configuration of upsmon.conf(5). Each method returns what is set, or the default.
 #[derive(Drop)]
 pub struct UpsmonConf {
     /// At most [`MONITORS_MAX`](crate::limits::MONITORS_MAX), in the order of the file.
     pub monitors: Monitors,
     /// MINSUPPLIES, in power values.
     pub min_supplies: Option<Number<0, 32000>>,
-    /// SHUTDOWNCMD, for the shell.
+    /// SHUTDOWNCMD, run by the shell. If none is set, nothing is run.
     pub shutdown_cmd: Option<Text<1, COMMAND_MAX>>,
-    /// NOTIFYCMD, for the shell.
+    /// NOTIFYCMD, run by the shell. If none is set, nothing is run.
     pub notify_cmd: Option<Text<1, COMMAND_MAX>>,
-    /// POWERDOWNFLAG, the path of a file.
+    /// POWERDOWNFLAG, the path of a file. If none is set, no file is written.
     pub power_down_flag: Option<Text<1, COMMAND_MAX>>,
     /// POLLFREQ, in seconds.
     pub poll_freq: Option<Number<1, 1000000>>,
@@ -67,7 +67,8 @@ fn number_or<const LEAST: u32, const MOST: u32>(
 }
 
 impl UpsmonConf {
-    /// Returns MINSUPPLIES: a shutdown begins if the sum of power values is less. It is 1 if none is set.
+    /// Returns MINSUPPLIES. A shutdown begins if the power values of the UPSes that aren't critical sum to less than
+    /// this. It is 1 if none is set.
     pub fn min_supplies(&self) -> u32
         ensures { result ≡ min_supplies_of self.now }
     {
@@ -104,7 +105,8 @@ impl UpsmonConf {
         number_or(&self.no_comm_warn_time, 300)
     }
 
-    /// Returns HOSTSYNC: how many seconds the machines fed by a UPS wait for each other. It is 15 if none is set.
+    /// Returns HOSTSYNC, in seconds: how long a primary waits for the other machines to log out, and how long a
+    /// secondary with a low battery waits for its primary. It is 15 if none is set.
     pub fn host_sync(&self) -> u32
         ensures { result ≡ host_sync_of self.now }
     {
@@ -283,9 +285,10 @@ impl Draft for UpsmonConf {
 ///
 /// # Errors
 ///
-/// The first fault of the first line that has one. If no line has a fault and the power values sum to less than
-/// `MINSUPPLIES`, `PastLimit` for the file as a whole. `Memory` comes only at a line with a backslash, or at a line
-/// without a fault that has `MONITOR`, `NOTIFYMSG` or `NOTIFYFLAG`.
+/// `PastLimit` at line 0 if the file has more than [`FILE_MAX`](crate::limits::FILE_MAX) bytes. Otherwise the first
+/// fault of the first line that has a fault. If no line has a fault, `PastLimit` at line 0 if the power values of all
+/// `MONITOR` lines sum to less than `MINSUPPLIES`. `Memory` comes only at a line with a backslash, or at a line without
+/// a fault that has `MONITOR`, `NOTIFYMSG` or `NOTIFYFLAG`.
 pub fn read_upsmon(alloc: Global, bytes: &[u8]) -> Result<UpsmonConf, ConfFault>
     ensures means { Means (upsmon_reading bytes.now) UpsmonHolds result }
     ensures memory { IfErr result (λ fault. fault.kind ≡ FaultKind.Memory → MayRunOut upsmon_fault upsmon_grows bytes.now fault.line) }

@@ -28,7 +28,7 @@ pub struct User {
     pub actions: Vec<Action>,
     /// The values of `instcmds`: the commands that the user may give, or all.
     pub instcmds: Vec<Commands>,
-    /// Whether a monitor may log in as this user, and as which.
+    /// The role in which a monitor may log in as this user. `None` if no monitor may.
     pub upsmon: Option<Role>,
 }
 
@@ -289,8 +289,9 @@ impl Draft for User {
 ///
 /// # Errors
 ///
-/// The first fault of the first line that has one. `Memory` comes only at a line with a backslash, or at a line without
-/// a fault that begins a section or has `actions` or `instcmds`.
+/// `PastLimit` at line 0 if the file has more than [`FILE_MAX`](crate::limits::FILE_MAX) bytes. Otherwise the first
+/// fault of the first line that has a fault. `Memory` comes only at a line with a backslash, or at a line without a
+/// fault that begins a section or has `actions` or `instcmds`.
 pub fn read_users(alloc: Global, bytes: &[u8]) -> Result<UsersConf, ConfFault>
     ensures means { Means (read_file users_fault bytes.now) UsersConfHolds result }
     ensures memory { IfErr result (λ fault. fault.kind ≡ FaultKind.Memory → MayRunOut users_fault users_conf_grows bytes.now fault.line) }

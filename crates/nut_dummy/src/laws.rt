@@ -30,7 +30,7 @@ pub fn dump_is_the_table()
     ensures { DumpIsTheTable }
 {}
 
-/// States a law and does nothing when called: the numbers behind the limits that the definitions name.
+/// States a law and does nothing when called: the values of the limits that the definitions name.
 pub fn script_limits()
     ensures line { SCRIPT_LINE_MAX ≡ 2048 }
     ensures timer { TIMER_MAX ≡ 86400 }

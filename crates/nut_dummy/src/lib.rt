@@ -3,7 +3,7 @@
 //! A script says which variables a UPS has and when they change, so that a room of servers and monitors can be
 //! rehearsed without a UPS. [`Script::read`] reads a script or returns its first fault. A [`Dummy`] holds the values
 //! that the script, clients and commands set, and speaks the drivers' protocol with one server at a time (NUT developer
-//! guide, on a driver and its server on one machine): it answers `DUMPALL` with all that it holds, and from then on
+//! guide, chapter 5, on the protocol of a driver and its server): it answers `DUMPALL` with all that it holds, and from then on
 //! tells what changes. A call does all that it says or nothing. The one exception is a piece of bytes: if memory cannot
 //! be allocated at one of its lines, the lines before it took effect, and the link is cut.
 //!

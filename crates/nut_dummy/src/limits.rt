@@ -7,5 +7,5 @@ pub const TIMER_MAX: u32 = 86400;
 /// The greatest number of variables that a script names: with the three that commands set, they are as many as a table
 /// holds.
 pub const SCRIPT_VARIABLES_MAX: usize = 509;
-/// The greatest number of settings of a script.
+/// The greatest number of values that a script sets.
 pub const STEPS_MAX: usize = 4096;

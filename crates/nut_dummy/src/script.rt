@@ -217,19 +217,26 @@ impl Script {
 
     /// Reads a script (NUT manual page dummy-ups(8)).
     ///
-    /// Blank lines are skipped, and lines whose first byte after blanks is `#`. Every other line is a timer or
-    /// `name: value`. A timer is a line without a colon whose words are `TIMER` and a number of one to nine digits.
+    /// A blank line is skipped, and so is a line whose first byte after blanks is `#`. A skipped line may hold any
+    /// bytes and have any length. Every other line is a timer or `name: value`. A timer has no colon, and its words are
+    /// `TIMER` and a number of one to nine digits.
     ///
     /// # Errors
     ///
-    /// The first faulty line, and in it the first of these that applies: `PastLimit` past
-    /// [`SCRIPT_LINE_MAX`](crate::limits::SCRIPT_LINE_MAX) bytes; `BadLine` for a byte outside 0x20 to 0x7E, tab and
-    /// carriage return; of a timer `BadTimer`, then `TimerInDev`; `BadLine` without a colon; `BadName`; `PastLimit` for
-    /// a name past [`NAME_MAX`](nut_words::NAME_MAX) bytes; `BadLine` for a tab or a carriage return in the value;
-    /// `PastLimit` for a value past [`VALUE_MAX`](nut_words::VALUE_MAX) bytes, and for a variable past
-    /// [`SCRIPT_VARIABLES_MAX`] or a value past [`STEPS_MAX`]. Without a faulty line, `NoTimer` at line 0 for a script
-    /// that goes round and has none. `Memory` at the line at which memory ran out, which says a value, or has a
-    /// backslash and no colon.
+    /// The fault of the first faulty line. For any line, in this order: `PastLimit` if it has more than
+    /// [`SCRIPT_LINE_MAX`](crate::limits::SCRIPT_LINE_MAX) bytes; `BadLine` if a byte is neither 0x20 to 0x7E nor tab
+    /// nor carriage return.
+    ///
+    /// Then, without a colon: `BadLine` if its words aren't `TIMER` and one more; `BadTimer` if the time isn't 1 to
+    /// [`TIMER_MAX`](crate::limits::TIMER_MAX) seconds; `TimerInDev` in a `.dev` script.
+    ///
+    /// Then, with a colon: `BadName`; `PastLimit` if the name has more than [`NAME_MAX`](nut_words::NAME_MAX) bytes;
+    /// `BadLine` if the value has a tab or a carriage return inside; `PastLimit` if the value has more than
+    /// [`VALUE_MAX`](nut_words::VALUE_MAX) bytes, or there are more than [`STEPS_MAX`] values or
+    /// [`SCRIPT_VARIABLES_MAX`] variables.
+    ///
+    /// If no line is faulty, `NoTimer` at line 0 for a `.seq` script without a timer. `Memory` at the line at which
+    /// memory ran out: one that sets a value, or has a backslash and no colon.
     pub fn read(alloc: Global, kind: ScriptKind, bytes: &[u8]) -> Result<Script, ScriptFault>
         ensures means { Means result (read_script kind bytes.now) }
         ensures memory { IfErr result (λ fault. fault.kind ≡ ScriptFaultKind.Memory → MayRunOut kind bytes.now fault.line) }

@@ -1,4 +1,4 @@
-//! What a server's world and a monitor's share: pieces of bytes, the outcome of a write, and the fault of a device.
+//! What a server's world and a monitor's share: pieces of bytes, the outcome of a write, and the fault of a world.
 #![tactic(auto)]
 
 mod streams;

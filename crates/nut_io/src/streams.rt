@@ -10,12 +10,12 @@ use nut_words::PIECE_MAX;
 use std::io;
 use std::io::{ErrorKind, Read, Write};
 
-/// Reads one piece, and returns its length: 0 at the end of the input. A read that is interrupted is tried again.
-/// After an error the piece means nothing.
+/// Reads one piece, and returns its length: 0 at the end of the input. A read that is interrupted is tried again. After
+/// an error the piece means nothing.
 ///
 /// # Errors
 ///
-/// The error of the reader, which then gave no byte.
+/// The error of the reader, or `TimedOut` if 2^64 - 1 reads in a row were interrupted. No byte was read.
 pub fn read_piece<R: Read>(input: &mut R, piece: &mut Piece) -> io::Result<usize>
     ensures ok { IfOk result (λ n. (n ≡ length piece.new.items)
         × Consumes (R.remaining input.old) (R.remaining input.new) piece.new.items) }
@@ -56,12 +56,12 @@ fn read_some<R: Read>(input: &mut R, room: &mut [u8]) -> io::Result<usize>
     Err(io::Error::from(ErrorKind::TimedOut))
 }
 
-/// Writes what the writer takes at once, and returns how many bytes that was. A write that is interrupted is tried
-/// again.
+/// Writes what the writer takes at once, and returns how many bytes that was: 0 if the writer took none. A write that
+/// is interrupted is tried again.
 ///
 /// # Errors
 ///
-/// The error of the writer, which then took no byte.
+/// The error of the writer, or `TimedOut` if 2^64 - 1 writes in a row were interrupted. No byte was written.
 pub fn write_some<T: Write>(output: &mut T, bytes: &[u8]) -> io::Result<usize>
     ensures bound { IfOk result (λ n. n ≤ length bytes.now) }
     ensures bytes { WriteAppends (T.contents output.old) (T.contents output.new) result bytes.now }

@@ -18,7 +18,7 @@ pub enum Written {
     Failed,
 }
 
-/// A device of the world failed. The call did nothing.
+/// A call of the world failed: its stream or socket failed, or memory could not be allocated.
 #[derive(Clone, Copy, Debug, PartialEq, Eq, Error)]
 #[error("a device failed")]
 pub struct Fault;

@@ -22,10 +22,11 @@ use std::marker::Model;
 /// complete, [`answer`](Link::answer) takes it out, and the next query can be asked.
 ///
 /// A link takes a line only if it answers the outstanding query, by the words of RFC 9271, and the server took all
-/// bytes of the query. At any other line it fails, and from then on each call returns the fault.
+/// bytes of the query. At any other line, or if memory cannot be allocated, the link fails. From then on `ask`, `took`
+/// and `feed` return the fault, nothing waits, and `answer` still gives an answer that was complete before.
 ///
-/// It keeps one query of at most [`LINE_MAX`](nut_words::LINE_MAX) bytes before its line feed, at most as many bytes of an
-/// unfinished line, and at most [`ROWS_MAX`](nut_proto::ROWS_MAX) rows.
+/// It keeps one query of at most [`LINE_MAX`](nut_words::LINE_MAX) bytes before its line feed, at most as many bytes of
+/// an unfinished line, and at most [`ROWS_MAX`](nut_proto::ROWS_MAX) rows.
 #[derive(Drop)]
 pub struct Link {
     cutter: LineCutter,
@@ -108,10 +109,11 @@ impl Link {
     ///
     /// # Errors
     ///
-    /// The fault with which the link failed before, or with which it fails at the first line that it can't take: in this
-    /// order `BadLine` for its form, `OutOfOrder`, `NotMine`, and `BadLine` for a row past
+    /// The fault with which the link failed before, or with which it fails at the first line that it can't take: in
+    /// this order `BadLine` for its form, `OutOfOrder`, `NotMine`, and `BadLine` for a row past
     /// [`ROWS_MAX`](nut_proto::ROWS_MAX). An answer that was complete before that line can still be taken out. `Memory`
-    /// comes only at a line that has a backslash, is a row, names an error, or gives a request its number.
+    /// comes only at a line that has a backslash, names an error, gives a request its number, is a row of a list, or is
+    /// any other line that isn't `OK`, `BEGIN LIST` or `END LIST`.
     pub fn feed(&mut self, piece: &[u8]) -> Result<(), LinkFault>
         ensures feeds { (done : ℕ) × Feeds self.old piece.now done result self.new }
 

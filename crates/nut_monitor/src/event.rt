@@ -3,7 +3,7 @@
 /// An event that a monitor is told. A link has the number of its MONITOR line, from 0 on.
 #[derive(Clone, Copy, Drop)]
 pub enum Event<'a> {
-    /// This many seconds have passed since the start.
+    /// This many seconds have passed since the start. A time before the latest one leaves the clock as it is.
     Moment(u64),
     /// A link was made: its server accepted the connection.
     Linked(usize),

@@ -100,7 +100,8 @@ fn hear_answer(
     }
 }
 
-/// Queues NOCOMM if the UPS was silent for longer than NOCOMMWARNTIME. Returns whether it did.
+/// Queues NOCOMM if more than NOCOMMWARNTIME seconds have passed since the last status of the UPS (since the start, if
+/// there was none) and since its last NOCOMM, if there was one. Returns whether it did.
 fn tell_silence(
     config: &UpsmonConf,
     clock: u64,
@@ -227,7 +228,8 @@ impl MonitorLine {
         (done, heard)
     }
 
-    /// Queues NOCOMM if its UPS was silent for longer than NOCOMMWARNTIME.
+    /// Queues NOCOMM if more than NOCOMMWARNTIME seconds have passed since the last status of its UPS (since the start,
+    /// if there was none) and since its last NOCOMM, if there was one.
     pub fn tell_silence(
         &mut self,
         config: &UpsmonConf,

@@ -109,8 +109,8 @@ impl Monitor {
         self.state.is_linked(i)
     }
 
-    /// Returns the bytes that wait for the server of that link: what it hasn't taken of the queries put since the link
-    /// was made. Empty if the link isn't up, or no line has the number.
+    /// Returns the bytes that wait for the server of the MONITOR line with this number: what it hasn't taken of the
+    /// queries put since the link was made. Empty if the link isn't up, or no line has the number.
     pub fn waiting(&self, i: usize) -> &[u8]
         ensures value { result.now ≡ waiting_on (watch_at i self.now.content.watches) }
 
@@ -128,8 +128,8 @@ impl Monitor {
         self.state.known(i)
     }
 
-    /// Returns the last query since that link was made, and when it was put. `None` if there was none, or there is no
-    /// such line.
+    /// Returns the last query put on the link of the MONITOR line with this number since it was last made, and when.
+    /// `None` if there was none, or no line has the number.
     pub fn last_query(&self, i: usize) -> Option<LastQuery>
         ensures { result ≡ last_on (watch_at i self.now.content.watches) }
     {

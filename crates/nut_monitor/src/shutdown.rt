@@ -50,7 +50,8 @@ pub fn is_short(config: &UpsmonConf, clock: u64, watches: &[MonitorLine]) -> boo
     missing > 0
 }
 
-/// Whether a line lets this machine halt: it isn't primary, or by the last answer nobody else is logged in.
+/// Whether a line lets this machine halt: it isn't primary, or the last count of logins to its UPS is at most 1. A
+/// primary line without a count doesn't.
 fn is_free(line: &Monitored, known: Known) -> bool
     ensures { result ≡ lets_halt (line_of line.now) known }
 {
@@ -61,7 +62,7 @@ fn is_free(line: &Monitored, known: Known) -> bool
     !is_primary(line) || alone
 }
 
-/// Whether nobody else is logged in to any UPS of which this machine is the primary.
+/// Whether every line lets this machine halt, as `is_free` says.
 pub fn is_alone(config: &UpsmonConf, watches: &[MonitorLine]) -> bool
     requires { length watches.now ≡ length (configuration_of config.now).lines }
     ensures { result ≡ all_alone (configuration_of config.now).lines watches.now }
@@ -76,7 +77,7 @@ pub fn is_alone(config: &UpsmonConf, watches: &[MonitorLine]) -> bool
     true
 }
 
-/// Whether Forcing is over: nobody else is logged in, or more than HOSTSYNC has passed.
+/// Whether Forcing is over: the shutdown has begun, and `alone` holds or more than HOSTSYNC seconds have passed since.
 pub fn is_forced(config: &UpsmonConf, clock: u64, alone: bool, begun: Option<u64>) -> bool
     ensures { result ≡ is_over_by (configuration_of config.now) clock alone begun }
 {

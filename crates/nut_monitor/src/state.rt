@@ -65,7 +65,7 @@ fn ran_out(heard: Result<(), LinkFault>) -> bool
     matches!(heard, Err(LinkFault::Memory))
 }
 
-/// Queues NOCOMM for each line whose UPS was silent for longer than NOCOMMWARNTIME.
+/// Queues NOCOMM for each line whose UPS needs it, as `MonitorLine::tell_silence` says.
 fn tell_silences(
     config: &UpsmonConf,
     clock: u64,
@@ -245,7 +245,8 @@ impl State {
         }
     }
 
-    /// Sets the clock, which never runs back, and queues NOCOMM for the lines that were silent.
+    /// Sets the clock, which never runs back. While no shutdown has begun, queues NOCOMM for each line whose UPS needs
+    /// it.
     fn tick(&mut self, config: &UpsmonConf, t: u64)
         requires orderly { IsOrderly (content_in (configuration_of config.now) self.old) }
         requires free { length self.old.notices ≡ 0 }

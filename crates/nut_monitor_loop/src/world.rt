@@ -13,8 +13,8 @@ use nut_monitor::{Monitor, Notice};
 /// A world that gives events, takes bytes, closes links and is handed notices. A link has the number of its MONITOR
 /// line, from 0 on.
 ///
-/// Each call but `faults` may return a fault instead, if a device failed. Its record is then as before, and the fault
-/// is counted.
+/// Any call except `faults` may return a fault instead, if its input or output fails. The record is then as it was, and
+/// the fault is counted. After `next`, with or without a fault, no link is late.
 pub trait MonWorld {
     /// What it gave, took, closed and was handed, the newest first; None if it tells nothing.
     ghost log: { Self → Option (List Entry) };
@@ -28,7 +28,7 @@ pub trait MonWorld {
     /// Nothing more will come.
     ghost has_ended: { Self → Type 0 };
 
-    /// What it may become by its calls.
+    /// Calls may lead from the first state to the second.
     ghost reached: { Self → Self → Type 0 };
 
     /// Returns how many calls have returned a fault.
@@ -81,9 +81,9 @@ pub trait MonWorld {
         ensures counted { fault_count self.new ≡ (if is_ok result then fault_count self.old else fault_count self.old + 1) }
         ensures reached { reached self.old self.new };
 
-    /// It may become what it is: no call, no change.
+    /// Each state is reached from itself.
     ghost reached_self: { (w : Self) → reached w w };
 
-    /// What it may become by calls after calls.
+    /// What is reached from a reached state is reached.
     ghost reached_on: { (a b c : Self) → reached a b → reached b c → reached a c };
 }

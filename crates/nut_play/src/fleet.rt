@@ -358,9 +358,9 @@ impl Fleet {
     /// # Errors
     ///
     /// `BadStep` if a step names what doesn't exist or has a line that is too long; the steps before it took effect.
-    /// `Memory` if memory cannot be allocated, which can happen at a line of a driver, at a step that moves bytes, and
-    /// at one that tells something. The fleet has then failed: nothing is claimed of it, and every later call returns
-    /// `Failed`.
+    /// What they told is not returned: a caller that needs it plays one step at a time. `Memory` if memory cannot be
+    /// allocated, which can happen at a line of a driver, at a step that moves bytes, and at one that tells something.
+    /// The fleet has then failed: nothing is claimed of it, and every later call returns `Failed`.
     pub fn play(&mut self, schedule: &[Step]) -> Result<FleetLog, FleetFault>
         ensures failed { self.old.failed ≡ true → (result ≡ Err Failed) × (self.new ≡ self.old) }
         ensures played { (setup : Setup) (before : List S.Step) → HasPlayed setup before self.old

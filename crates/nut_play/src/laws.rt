@@ -10,7 +10,7 @@ use nut_fleet::{
 /// States a law and does nothing when called: whatever schedule a fleet has played, its server and its monitors
 /// accepted every event that they were told; each pipe carries a beginning of what was put into it; each status that a
 /// monitor has was shown by the server; a monitor that began its shutdown had a cause; and one that left Forcing waited
-/// for more than HOSTSYNC, or was alone on the UPSes of which its machine is the primary.
+/// for more than HOSTSYNC seconds, or had a last count of at most 1 login on the UPS of each of its primary lines.
 pub fn rooms_hold()
     ensures { RoomsHold }
 {

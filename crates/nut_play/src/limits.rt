@@ -4,7 +4,7 @@ ghost use Rattle.std.specs.Prelude.{◌≡◌};
 /// The greatest length of a line of a schedule in bytes. Its line feed isn't counted.
 pub const STEP_LINE_MAX: usize = 512;
 
-/// A law, with nothing to run: which number the limit is that the definitions name.
+/// States a law and does nothing when called: the value of the limit that the definitions name.
 pub fn step_limits()
     ensures line { STEP_LINE_MAX ≡ 512 }
 {}

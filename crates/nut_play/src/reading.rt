@@ -17,8 +17,8 @@ use thiserror::Error;
 /// Why a line of a schedule isn't a step.
 #[derive(Clone, Copy, Debug, PartialEq, Eq, Error)]
 pub enum StepFault {
-    /// The line is no step: it has more than [`STEP_LINE_MAX`] bytes, spells no words or none at all, or its words are none
-    /// of the forms.
+    /// The line is no step: it has more than [`STEP_LINE_MAX`] bytes, it can't be split into words, it has none, or its
+    /// words fit no form.
     #[error("BadStep")]
     BadStep,
     /// Memory could not be allocated.
@@ -93,8 +93,8 @@ impl ThreeNumbers {
     }
 }
 
-/// Reads a line of a schedule, without its line feed, as a step. Words and comments are those of the configuration
-/// files. A number has 1 to 9 digits.
+/// Reads a line of a schedule, without its line feed, as a step. Words are quoted as in the configuration files, and a
+/// comment may follow them. A blank line, or one with only a comment, is no step. A number has 1 to 9 digits.
 ///
 /// ```text
 /// server T          the server's clock shows T seconds

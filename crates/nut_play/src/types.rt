@@ -21,11 +21,13 @@ pub enum Step {
     Down(usize),
     /// A monitor makes one of its links.
     Link(usize, usize),
-    /// A monitor puts bytes into the pipe of a link to the server.
+    /// A monitor puts bytes into the pipe of a link to the server. They are lost if the server's end of the link is
+    /// cut.
     Out(usize, usize, usize),
     /// Bytes arrive at the server from the pipe to it.
     Reach(usize, usize, usize),
-    /// The server puts bytes into the pipe of a link to the monitor.
+    /// The server puts bytes into the pipe of a link to the monitor. They are lost if the monitor's end of the link is
+    /// cut.
     Back(usize, usize, usize),
     /// Bytes arrive at a monitor from the pipe to it.
     Land(usize, usize, usize),
@@ -58,7 +60,7 @@ pub struct Logged {
 /// What the steps of a call tell, in order.
 pub type FleetLog = Vec<Logged>;
 
-/// Why a fleet cannot be made, or a schedule not be played.
+/// Why a fleet cannot be made, or a schedule cannot be played.
 #[derive(Clone, Copy, Debug, PartialEq, Eq, Error)]
 pub enum FleetFault {
     /// The step with this number, counted from 1, names a monitor, a link or a UPS that isn't there, or its line is

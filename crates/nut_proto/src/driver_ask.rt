@@ -36,7 +36,8 @@ pub enum DriverAsk<'a> {
 impl<'a> DriverAsk<'a> {
     /// Reads the words of a line of the server. Returns `None` if they are no request to a driver. Allocates no memory.
     ///
-    /// The first word is compared without regard to ASCII case, and the number of words must match exactly.
+    /// The first word and `TRACKING` are compared without regard to ASCII case. The number of words must match exactly.
+    /// A number is one to nine digits, the first not 0.
     #[tactic(auto, unfolding(crate::specs::DriverAsks::ask_of))]
     pub fn read(words: &'a Words<'_>) -> Option<DriverAsk<'a>>
         ensures { result ≡ ask_of words.now }

@@ -8,7 +8,7 @@ use crate::word::Word;
 use nut_words::Out;
 
 /// A line that is to be written: the words of the protocol that it begins with, as they stand there, and at most four
-/// parts behind them.
+/// parts after them.
 #[derive(Drop)]
 pub enum Line<'a> {
     Bare(&'static [u8]),
@@ -72,7 +72,7 @@ impl<'a> Line<'a> {
     }
 }
 
-// A function for each number of parts: a match whose arms make arrays is dear to prove.
+// A function for each number of parts: a match whose arms make arrays is costly to prove.
 
 fn put_bare<O: Out>(out: &mut O, words: &[u8]) -> Result<(), O::Fault>
     ensures { Puts O.most (O.held out.old) (O.held out.new) (line_from words.now []) result }

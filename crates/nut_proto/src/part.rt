@@ -80,7 +80,7 @@ fn string_of(limit: u32) -> ArrayVec<u8, 18>
     out
 }
 
-/// Appends the parts, each behind a space. If that fails, `out` still begins with what it held.
+/// Appends the parts, each after a space. If that fails, `out` still begins with what it held.
 pub fn append_parts<O: Out>(out: &mut O, parts: &[Part<'_>]) -> Result<(), O::Fault>
     ensures ok { OnOk result (O.held out.new ≡ O.held out.old ++ flat_map (λ part. 32 ∷ part_text part) parts.now) }
     ensures err { OnErr result (take (length (O.held out.old)) (O.held out.new) ≡ O.held out.old) }

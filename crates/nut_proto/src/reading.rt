@@ -9,15 +9,18 @@ use crate::refusal::Refusal;
 use crate::request::{ListQuery, Request};
 use nut_words::Words;
 
-/// Reads the request that the words of a client's line make (RFC 9271). Allocates no memory.
+/// Reads the request that the words of a client's line make (RFC 9271, section 4; NUT developer guide, 9.4 to 9.15).
+/// Allocates no memory.
 ///
 /// Command words are compared without regard to ASCII case, and the number of words must match exactly. Names of UPSes,
 /// variables and commands are not looked up here.
 ///
 /// # Errors
 ///
-/// [`Refusal::UnknownCommand`] if the first word is no command, and [`Refusal::InvalidArgument`] if the words are no
-/// request for any other reason: for one, if there are none.
+/// [`Refusal::UnknownCommand`] if the first word is no command. [`Refusal::InvalidArgument`] if there are no words, if
+/// the words fit no form of the command, if a user name or password isn't 1 to
+/// [`CREDENTIAL_MAX`](nut_words::CREDENTIAL_MAX) bytes, if a tracking number isn't one to nine digits or begins with 0,
+/// or if SET TRACKING has neither ON nor OFF.
 pub fn read<'a>(words: &'a Words<'_>) -> Result<Request<'a>, Refusal>
     ensures { result ≡ meaning words.now }
 {

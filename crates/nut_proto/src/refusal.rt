@@ -2,7 +2,7 @@
 ghost use Rattle.std.specs.Prelude.{◌≡◌};
 ghost use Rattle.nut_proto.specs.Refusals.{refusal_name};
 
-/// Why the server refuses a request (RFC 9271).
+/// Why the server refuses a request (RFC 9271; NUT developer guide, 9.16).
 #[derive(Clone, Copy, Debug, PartialEq, Eq)]
 pub enum Refusal {
     /// There is no such user, the password is wrong, or the user lacks the right.
@@ -13,15 +13,19 @@ pub enum Refusal {
     VarNotSupported,
     /// The UPS has no command with this name.
     CmdNotSupported,
-    /// The line is no request: it can't be read as words, or its words fit no form.
+    /// The line is no request: it has more than [`LINE_MAX`](nut_words::LINE_MAX) bytes, can't be read as words, or its
+    /// words fit no form.
     InvalidArgument,
-    /// The driver can't be asked to run the command now.
+    /// The driver's queue has no room for the request, or the request would be tracked and all tracking numbers have
+    /// been given.
     InstCmdFailed,
-    /// The driver can't be asked to set the variable now.
+    /// The driver's queue has no room for the request, or the request would be tracked and all tracking numbers have
+    /// been given.
     SetFailed,
     /// Clients may not set the variable.
     ReadOnly,
-    /// The value is longer than the variable allows.
+    /// The value is longer than the variable allows, or the value or a command's parameter has more than
+    /// [`VALUE_MAX`](nut_words::VALUE_MAX) bytes.
     TooLong,
     /// The variable doesn't allow the value.
     InvalidValue,

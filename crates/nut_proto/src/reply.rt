@@ -21,13 +21,13 @@ pub enum VariableKind {
     Range,
     /// A text of at most this many bytes.
     String(u32),
-    /// A number, or any other value.
+    /// Any value of at most [`VALUE_MAX`](nut_words::VALUE_MAX) bytes. It need not be a number.
     Number,
 }
 
-/// A line of the server (RFC 9271). It borrows its words.
+/// A line of the server (RFC 9271, section 4; NUT developer guide, 9.4 to 9.15). It borrows its words.
 ///
-/// The reply to a LIST consists of the query's `put_begin`, a row for each entry, and the query's `put_end`.
+/// The answer to a LIST consists of the query's `put_begin`, a row for each entry, and the query's `put_end`.
 #[derive(Drop)]
 pub enum Reply<'a> {
     /// `OK`: the answer to SET, INSTCMD, USERNAME, PASSWORD, LOGIN and PRIMARY.

@@ -10,7 +10,7 @@ use crate::tracking::switch_word;
 use crate::word::Word;
 use nut_words::Out;
 
-/// A request of a client to the server (RFC 9271). It borrows its words.
+/// A request of a client to the server (RFC 9271, section 4; NUT developer guide, 9.4 to 9.15). It borrows its words.
 ///
 /// Names and values are as the client gave them and may hold any bytes. They need not name a UPS, a variable or a
 /// command that exists.
@@ -50,7 +50,7 @@ pub enum Request<'a> {
     GetTrackingOf {
         number: u32,
     },
-    /// `LIST`: asks for several rows between a first and a last line.
+    /// `LIST`: asks for rows, between a first and a last line.
     List(ListQuery<'a>),
     /// `SET VAR`: asks to set a variable.
     SetVar {
@@ -62,17 +62,19 @@ pub enum Request<'a> {
     SetTracking {
         on: bool,
     },
-    /// `INSTCMD`: asks the UPS to run a command at once, some with a parameter.
+    /// `INSTCMD`: asks the UPS to run a command. The parameter is optional.
     InstCmd {
         ups: Word<'a>,
         command: Word<'a>,
         parameter: Option<Word<'a>>,
     },
-    /// `USERNAME`, of 1 to [`CREDENTIAL_MAX`](nut_words::CREDENTIAL_MAX) bytes where it was read.
+    /// `USERNAME`: gives the user name. [`read`](crate::read) takes 1 to [`CREDENTIAL_MAX`](nut_words::CREDENTIAL_MAX)
+    /// bytes; [`put`](Request::put) doesn't test the length.
     Username {
         name: Word<'a>,
     },
-    /// `PASSWORD`, of 1 to [`CREDENTIAL_MAX`](nut_words::CREDENTIAL_MAX) bytes where it was read.
+    /// `PASSWORD`: gives the password. [`read`](crate::read) takes 1 to [`CREDENTIAL_MAX`](nut_words::CREDENTIAL_MAX)
+    /// bytes; [`put`](Request::put) doesn't test the length.
     Password {
         password: Word<'a>,
     },
@@ -197,7 +199,7 @@ impl<'a> ListQuery<'a> {
         }
     }
 
-    /// Appends a mark and the line of the request behind it. It fails as [`Request::put`] does.
+    /// Appends a mark, and then the line of the request. It fails as [`Request::put`] does.
     fn put_marked<O: Out>(&self, out: &mut O, mark: &[u8]) -> Result<(), O::Fault>
         ensures { Puts O.most (O.held out.old) (O.held out.new) (mark.now ++ request_line (Request.List self.now)) result }
     {

@@ -12,7 +12,7 @@ pub enum TrackingStatus {
     Pending,
     /// The driver did what was asked.
     Success,
-    /// The driver refused it or failed, or its link went down before it told how the request ended.
+    /// The driver reported a failure, or disconnected before it reported how the request ended.
     Failed,
     /// No request has this number, or so many later ones have been tracked that it is forgotten.
     Unknown,

@@ -7,7 +7,7 @@ use crate::config::Config;
 /// UPS the least number that no UPS has.
 #[derive(Drop)]
 pub enum Arrival<'a> {
-    /// This many seconds have passed since the start.
+    /// This many seconds have passed since the start. A time before the latest one leaves the clock as it is.
     Moment(u64),
     /// A client connects from this address, of 1 to [`ADDRESS_MAX`](nut_server_spec::ADDRESS_MAX) bytes that may stand in a
     /// bare word.

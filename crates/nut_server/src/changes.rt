@@ -170,8 +170,8 @@ pub fn give_command(
     Ok(HandedOn { ups: u, number })
 }
 
-/// Decides on SET TRACKING: the client's requests are tracked from now on, or no longer. Any client may say so that
-/// gave a user name and a password.
+/// Decides on SET TRACKING: the client's requests are tracked from now on, or no longer. Any client that gave a user
+/// name and a password may do so. They aren't checked.
 ///
 /// # Errors
 ///

@@ -80,10 +80,10 @@ impl<'a> User<'a> {
     }
 }
 
-/// The text of a name that has none.
+/// The description of a name that has none.
 const UNAVAILABLE: &[u8] = b"Description unavailable";
 
-/// The text of a name that has none of this project's own.
+/// Returns the text of cmdvartab, or [`UNAVAILABLE`] if there is none.
 fn or_unavailable(text: Option<&[u8]>) -> &[u8]
     ensures { result.now ≡ told None (option_map (λ t. t.now) text.entry) }
 {
@@ -112,7 +112,7 @@ impl Model for Config {
 }
 
 impl Config {
-    /// What these three files set, without descriptions.
+    /// Returns the configuration of these three files, without descriptions.
     pub fn new(ups: UpsConf, users: UsersConf, upsd: UpsdConf) -> Config
         ensures { result ≡ configuration_of ups users upsd None }
     {
@@ -124,7 +124,7 @@ impl Config {
         }
     }
 
-    /// The same with these descriptions, in place of those before.
+    /// Returns this configuration with these descriptions in place of any that it has.
     pub fn with_descriptions(self, descriptions: Descriptions) -> Config
         ensures { result ≡ record self { variable_texts = rows_of descriptions.variables; command_texts = rows_of descriptions.commands } }
     {
@@ -247,10 +247,8 @@ impl Config {
         }
     }
 
-    /// What a variable tells, for people to read: this project's own text for its name; where there is none, that of
-    /// cmdvartab; where there is none either, `Description unavailable`.
-    ///
-    /// Takes no memory, and no longer for many descriptions.
+    /// Returns the description of a variable: this project's own; if there is none, that of cmdvartab; if there is none
+    /// either, `Description unavailable`. Allocates no memory, and takes no longer if there are many descriptions.
     pub fn describe_variable(&self, name: &[u8]) -> &[u8]
         ensures { result.now ≡ variable_description self.now.variable_texts name.now }
     {
@@ -260,10 +258,8 @@ impl Config {
         }
     }
 
-    /// What a command does, for people to read: this project's own text for its name; where there is none, that of
-    /// cmdvartab; where there is none either, `Description unavailable`.
-    ///
-    /// Takes no memory, and no longer for many descriptions.
+    /// Returns the description of a command: this project's own; if there is none, that of cmdvartab; if there is none
+    /// either, `Description unavailable`. Allocates no memory, and takes no longer if there are many descriptions.
     pub fn describe_command(&self, name: &[u8]) -> &[u8]
         ensures { result.now ≡ command_description self.now.command_texts name.now }
     {
@@ -273,8 +269,8 @@ impl Config {
         }
     }
 
-    /// Returns MAXAGE of upsd.conf(5): after this many seconds without a word from its driver, the data of a UPS are
-    /// stale. It is 1 to 86,400.
+    /// Returns MAXAGE of upsd.conf(5), 1 to 86,400: the data of a UPS are stale once nothing was heard from its driver
+    /// for more than this many seconds.
     pub fn max_age(&self) -> u32
         ensures value { result ≡ self.now.max_age }
         ensures least { 1 ≤ result }

@@ -31,7 +31,8 @@ const DUMP_ALL: &[u8] = b"DUMPALL\n";
 /// The request to a driver to show that it is alive.
 const PING: &[u8] = b"PING\n";
 
-/// After how many seconds of its silence a driver is sent PING, and after how many more again: a third of MAXAGE.
+/// Returns a third of MAXAGE in seconds, rounded down. A driver is sent PING once nothing was heard of it for more than
+/// this many seconds, and again once more than this many have passed since the last PING.
 pub fn silence_before_ping(max_age: u64) -> u64
     ensures { result ≡ max_age / 3 }
 {
@@ -143,8 +144,8 @@ impl Device {
         time.saturating_sub(self.heard_at) > seconds
     }
 
-    /// Whether the data are stale at this time: the driver hasn't finished its dump, or its newest DATAOK or DATASTALE
-    /// isn't DATAOK, or no line was heard for more than `max_age` seconds.
+    /// Whether the data are stale at this time: the driver hasn't finished its dump; or since it was connected it has
+    /// said neither DATAOK nor DATASTALE, or DATASTALE last; or no line was heard for more than `max_age` seconds.
     pub fn is_stale(&self, max_age: u64, time: u64) -> bool
         ensures { result ≡ is_stale max_age time self.now.device }
     {

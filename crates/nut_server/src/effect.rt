@@ -23,8 +23,8 @@ pub enum Effect<'l> {
     Force(usize),
     /// The requests of the client are tracked from now on, or no longer.
     Tracking(bool),
-    /// The driver of the UPS with this number is asked something. The request to it is in a line of its own. The second
-    /// is the number of the request, if it is tracked.
+    /// The driver of the UPS with the first number is asked something, in a line kept apart. The second number is that
+    /// of the request, if it is tracked.
     Ask(usize, Option<u32>),
 }
 

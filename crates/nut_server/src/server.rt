@@ -329,8 +329,8 @@ impl Server {
         }
     }
 
-    /// Whether the data of a UPS are stale, so clients are answered DATA-STALE if its driver is connected: false if there
-    /// is no such UPS.
+    /// Whether the data of a UPS are stale. If its driver is connected, clients are then answered DATA-STALE. A place
+    /// that a reload has left without a UPS is stale. False if no place has this number.
     pub fn is_stale(&self, u: usize) -> bool
         ensures { result ≡ option_map_or (λ s. is_stale self.now.configuration.max_age self.now.clock s.device) (supply_of u self.now.supplies) false }
     {
@@ -340,7 +340,8 @@ impl Server {
         }
     }
 
-    /// Whether a shutdown of a UPS was forced (FSD), so its clients are told that it is: false if there is no such UPS.
+    /// Whether a shutdown of a UPS was forced (FSD). Clients then see `FSD ` before the value of its `ups.status`.
+    /// False if there is no such UPS.
     pub fn is_forced(&self, u: usize) -> bool
         ensures { result ≡ option_map_or (λ s. s.device.forced) (supply_of u self.now.supplies) false }
     {

@@ -91,7 +91,7 @@ impl Model for TrackedRequests {
 }
 
 impl TrackedRequests {
-    /// Returns none.
+    /// Returns an empty list.
     pub fn new() -> TrackedRequests
         ensures { result ≡ [] }
     {
@@ -116,7 +116,7 @@ impl TrackedRequests {
         );
     }
 
-    /// Ends the request with this number, if it is pending: the driver told this status, where 0 is a success.
+    /// Ends the request with this number, if it is pending: the driver reported this status, where 0 is a success.
     pub fn end(&mut self, number: u32, status: u32)
         ensures { self.new ≡ all_ended_by (Some (number, status)) self.old }
     {

@@ -13,7 +13,9 @@ use nut_server::Server;
 use std::alloc::Global;
 use std::marker::Model;
 
-/// A world that gives a list of arrivals, takes all bytes at once, and notes what happened. It gives no reload.
+/// A world that gives a list of arrivals, takes all bytes at once, and notes what happened. It gives the first arrival
+/// that may come: bytes of a connection are left until it may be read, and later arrivals are given before them. It
+/// gives no reload.
 #[derive(Drop)]
 pub struct MemoryWorld {
     alloc: Global,

@@ -11,7 +11,7 @@ use nut_io::ServeFault;
 use nut_server::Server;
 use std::sync::Wait;
 
-/// Serves a list of arrivals to its end. All are given, except bytes of connections that may not be read.
+/// Serves until no arrival that is left may come. What is then left is bytes of connections that may not be read.
 ///
 /// # Errors
 ///

@@ -12,7 +12,7 @@ pub type Address = ArrayVec<u8, ADDRESS_MAX>;
 /// ups.conf, counted from 0, until a reload.
 #[derive(Drop)]
 pub enum Next {
-    /// This many seconds have passed since the start.
+    /// This many seconds have passed since the start. A time before the latest one leaves the clock as it is.
     Moment(u64),
     /// A client connects from this address.
     Open(Address),

@@ -12,12 +12,17 @@ use nut_server::Server;
 /// Gives arrivals, takes bytes, and closes connections and links to drivers. Connections have the numbers that the
 /// server gave them. Drivers have the numbers of their UPSes: the places in ups.conf, counted from 0, until a reload.
 ///
-/// After a reload the numbers are those that the server has given anew: each UPS that stays keeps its number, and each new
-/// one takes the least number that is free. Before the world is asked for the next arrival, it is told to close each link
-/// and each connection that the reload ended. If the server has no memory for the new configuration, nothing is closed and
-/// nothing changes: the server that `next` is given tells which configuration is in force.
+/// After a reload the numbers are those that the server has given anew: each UPS that stays keeps its number, and each
+/// new one takes the least number that is free. Before the world is asked for the next arrival, it is told to close
+/// each link and each connection that the reload ended. If the server has no memory for the new configuration, nothing
+/// is closed and nothing changes: the server that `next` is given tells which configuration is in force.
 ///
-/// Any call may return a fault instead, if a device fails. It has then done nothing except count the fault.
+/// The loop doesn't tell the world that the server refused an arrival. After an `Open`, the world sees it at the next
+/// call of `next`: if [`Server::opened`] has risen, the connection was accepted and has that number. If not, the
+/// connection was refused (`BadAddress` or `Full`), and the world closes it without being told.
+///
+/// Any call except `faults` may return a fault instead, if its input or output fails. The record is then as it was, and
+/// the fault is counted. After `next`, with or without a fault, nobody is late.
 pub trait World {
     /// What it gave, took and closed, the newest first. `None` if it keeps no record.
     ghost log: { Self → Option (List Entry) };

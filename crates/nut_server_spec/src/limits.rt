@@ -10,7 +10,7 @@ pub const ADDRESS_MAX: usize = 64;
 /// The greatest number of tracked requests to a UPS that are remembered: the newest ones.
 pub const TRACKED_MAX: usize = 64;
 
-/// A law, with nothing to run: which numbers the limits are that the definitions name.
+/// States a law and does nothing when called: the values of the limits that the definitions name.
 pub fn connection_limits()
     ensures opened { OPENED_MAX ≡ 4294967295 }
     ensures address { ADDRESS_MAX ≡ 64 }

@@ -314,8 +314,9 @@ impl UpsState {
     /// Changes the table as a line of the driver says. The line comes without its line feed.
     ///
     /// A line without a backslash that adds no variable, enum value, range or command allocates no memory and succeeds.
-    /// A line can be heard and still change nothing: if a value is too long, a variable doesn't exist, or a limit is
-    /// reached.
+    /// A line that is heard changes nothing in these cases: a name isn't a name, a value is too long, a number or range
+    /// can't be read, the variable or entry doesn't exist, the entry is there already, or a limit is reached. PONG and
+    /// TRACKING never change the table.
     ///
     /// # Errors
     ///
@@ -449,7 +450,8 @@ impl UpsState {
         self.dump_done
     }
 
-    /// Whether the driver says that its data are current: the last DATAOK or DATASTALE was DATAOK.
+    /// Whether the driver says that its data are current: since the table was made or last cleared, the last DATAOK or
+    /// DATASTALE was DATAOK. False if none came.
     pub fn data_ok(&self) -> bool
         ensures { result ≡ self.now.data_ok }
     {

@@ -31,12 +31,13 @@ pub trait HearLine {
         ensures stops { IfErr result (λ stop. Stops with (line_of line.entry) self.old stop self.new) };
 }
 
-/// Has the lines heard that the next piece of a stream completes, in turn, and keeps what follows the last of them.
-/// Returns how many lines of the piece were heard.
+/// Feeds a piece of the stream to the cutter, and gives each line that it completes to the hearer. Returns how many
+/// lines were heard, and the outcome.
 ///
 /// # Errors
 ///
-/// Why the hearer stopped at a line. The lines behind it are lost, and so is what followed them.
+/// The reason for which the hearer stopped at a line. The lines before that line were heard and counted; that line is
+/// not counted. The bytes after it are lost, so the cutter no longer fits the stream: start a new one.
 pub fn hear_lines<H: HearLine>(
     cutter: &mut LineCutter,
     hearer: &mut H,

@@ -11,16 +11,17 @@ pub const LINE_MAX: usize = 2048;
 pub const PIECE_MAX: usize = 512;
 /// The greatest number of words of a line.
 pub const WORDS_MAX: usize = 32;
-/// The greatest length of the name of a UPS in bytes.
+/// The greatest length in bytes of the name of a section: of a UPS in ups.conf, and of a user in upsd.users.
 pub const UPS_NAME_MAX: usize = 32;
 /// The greatest length of the name of a variable or a command in bytes.
 pub const NAME_MAX: usize = 64;
 /// The greatest length of a value or an enum value in bytes, and the greatest number that SETAUX may set.
 pub const VALUE_MAX: usize = 512;
-/// The greatest length of a user name or a password in bytes, as a client gives them.
+/// The greatest length in bytes of a user name or a password that a client sends. A configured user name is shorter:
+/// see [`UPS_NAME_MAX`].
 pub const CREDENTIAL_MAX: usize = 128;
 
-/// A law, with nothing to run: which numbers the limits are that the definitions name.
+/// States a law and does nothing when called: the values of the limits that the definitions name.
 pub fn word_limits()
     ensures line { LINE_MAX ≡ 2048 }
     ensures piece { PIECE_MAX ≡ 512 }
