@@ -77,6 +77,7 @@ class Server:
             except OSError:
                 pass
             time.sleep(0.05)
+        self.stop()
         sys.exit(f"{self.name} doesn't serve")
 
     def load(self, program, seconds, request, lines, clients, in_flight):
@@ -130,13 +131,14 @@ def main():
     with tempfile.TemporaryDirectory() as folder:
         program = os.path.join(folder, "load")
         subprocess.run([compiler, "-O2", "-o", program, os.path.join(HERE, "load.c")], check=True)
-        servers = [Server("upsd", folder, dummy, [upsd, "--conf", "FOLDER", "-s", "FOLDER", "-q"])]
-        if os.access(NUT_UPSD, os.X_OK):
-            places = ("NUT_CONFPATH", "NUT_STATEPATH", "NUT_ALTPIDPATH")
-            servers.append(Server("nut", folder, dummy, [NUT_UPSD, "-F", "-u", getpass.getuser()], places))
-        else:
-            print("NUT's upsd isn't installed (Debian's package nut-server): no ratios")
+        servers = []
         try:
+            servers.append(Server("upsd", folder, dummy, [upsd, "--conf", "FOLDER", "-s", "FOLDER", "-q"]))
+            if os.access(NUT_UPSD, os.X_OK):
+                places = ("NUT_CONFPATH", "NUT_STATEPATH", "NUT_ALTPIDPATH")
+                servers.append(Server("nut", folder, dummy, [NUT_UPSD, "-F", "-u", getpass.getuser()], places))
+            else:
+                print("NUT's upsd isn't installed (Debian's package nut-server): no ratios")
             for server in servers:
                 print(f"{server.name}: {server.resident()} KiB resident, idle")
                 clients = [server.connect() for _ in range(256)]

@@ -108,6 +108,7 @@ fi
 
 filled=$(mktemp)
 trap 'rm -f "$filled"' EXIT
+trap 'exit 1' HUP INT PIPE TERM
 
 for program in "$@"; do
     put 755 "$BIN/$program" "$(folder_of "$program")/$program"

@@ -7,6 +7,7 @@
 # The environment gives BIN (bin, the folder of the built programs), TO (dist, where the packages go), and, outside a git
 # repository, SOURCE_DATE_EPOCH, which is else the time of the last commit. The version counts by it.
 set -eu
+unset CDPATH
 cd "$(dirname "$0")/.."
 
 BIN=${BIN-bin}
@@ -38,6 +39,7 @@ needs() {
 
 work=$(mktemp -d)
 trap 'rm -rf "$work"' EXIT
+trap 'exit 1' HUP INT PIPE TERM
 
 # dated FOLDER: everything below it has the one time.
 dated() {
@@ -64,12 +66,12 @@ is_machine_code() {
     [ "$(head -c 4 "$1" | tail -c 3)" = ELF ]
 }
 
-# libraries_of FILE..: what the dynamic linker needs, as Depends says it.
+# libraries_of PROGRAM..: what the dynamic linker needs of them, as Depends says it.
 libraries_of() {
     coded=
-    for file in "$@"; do
-        if is_machine_code "$file"; then
-            coded="$coded $file"
+    for program in "$@"; do
+        if is_machine_code "$work/programs/$program"; then
+            coded="$coded programs/$program"
         fi
     done
     if [ -n "$coded" ]; then
@@ -113,11 +115,7 @@ make_deb() {
         fi
     done < packaging/deb/names-of-units
     find "$tree/usr/share/man" -type f -exec gzip -9n {} +
-    programs=
-    for program in "$@"; do
-        programs="$programs $work/programs/$program"
-    done
-    libraries=$(libraries_of $programs)
+    libraries=$(libraries_of "$@")
     doc=$tree/usr/share/doc/$package
     install -d "$doc"
     install -m 644 packaging/deb/copyright "$doc/copyright"

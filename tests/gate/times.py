@@ -16,7 +16,8 @@ from tests.support.harness import ROOT
 LAST = os.path.join(ROOT, "bin", "gate-times.txt")
 KEPT = os.path.join(ROOT, "tests", "gate-times.txt")
 PARTS = ("proof", "tests", "build", "edits")
-# Times vary from run to run: a part of a crate counts as grown if it takes a fifth more and at least this many seconds more.
+# Times vary from run to run: a part of a crate counts as grown if it takes more than a fifth more, and more than so many
+# seconds more.
 FIFTH, SWING = 1.2, 5
 
 

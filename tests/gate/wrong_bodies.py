@@ -110,7 +110,8 @@ def place_after(changes, at):
 class Report:
     """The results of a check for each function, by the function's path in its crate."""
 
-    def __init__(self, crate, said, changed):
+    def __init__(self, crate, said, changed, killed_by=None):
+        self.killed_by = killed_by
         self.name, self.lines = crate.name, [it for it in said.rstrip("\n").split("\n") if OF_REFUSED_ANSWER not in it]
         self.ended = self.lines[-1].startswith("only=")
         self.unread = [it for it in self.lines if toolchain().unread(it, changed)]
@@ -290,7 +291,7 @@ class Trial:
             self.seconds += used.ru_utime + used.ru_stime
             if not os.WIFSIGNALED(run.returncode):
                 break
-        return Report(self.crate, said, self.changed)
+        return Report(self.crate, said, self.changed, os.WTERMSIG(run.returncode) if os.WIFSIGNALED(run.returncode) else None)
 
 
 class Rounds:
@@ -443,6 +444,8 @@ class Rounds:
     def judged(self, edit, report):
         """Returns the result of a round of only this edit."""
         gone = [it for it in (report.refusal(path, edit.is_of_bodies())[1] for path in sorted(edit.wanted)) if it]
+        if report.killed_by:
+            return False, f"NOT TRIED: its check was killed twice, the second time by signal {report.killed_by}"
         if report.unread or not report.ended:
             told = report.unread or [it for it in report.lines if "error" in it] or report.lines
             return False, f"BAD EDIT: the prover cannot read the edited text: {told[0][:200]}"

@@ -11,7 +11,7 @@ import subprocess
 import sys
 import tempfile
 
-from tests.support.harness import Failed, Missing, expect, run_tests
+from tests.support.harness import Failed, Missing, apart, expect, run_tests
 from tests.peers.server import NutRoom, needed
 from tests.support.room import ONLINE, STATUS, until
 
@@ -24,10 +24,8 @@ FAILURE = b"ups.status: OB\nTIMER 2\nups.status: OB LB\nTIMER 600\n"
 USERS = b"\n[guest]\npassword = m2\nupsmon secondary\n"
 LOGINS = b"GET NUMLOGINS su700\n"
 
-# NUT's upsmon writes its process number into a fixed folder, and refuses to run twice. In a mount namespace it has a folder of
-# its own in that place.
+# where NUT's upsmon writes its process number
 NUMBERS = "/run/nut"
-APART = ["unshare", "--map-root-user", "--mount", "sh", "-c", f'mount --bind "$0" {NUMBERS} && exec "$@"']
 
 # Makes a client of PyNUT, and prints the value of an expression.
 SCRIPT = """
@@ -95,8 +93,8 @@ class ClientRoom(NutRoom):
         program = needed("upsmon", "nut-client")
         folder = self.path(role)
         os.mkdir(folder)
-        if subprocess.run([*APART, folder, "true"], capture_output=True).returncode != 0:
-            raise Missing(f"no second {NUMBERS} can be mounted for upsmon")
+        # it refuses to run twice; in a mount namespace it has a folder of its own for its process number
+        command = apart("--mount", "sh", "-c", f'mount --bind "$0" {NUMBERS} && exec "$@"', folder)
         path = os.path.join(folder, "upsmon.conf")
         with open(path, "w") as file:
             file.write(MONITOR.format(port=self.port, user=user, role=role, folder=folder))
@@ -106,7 +104,7 @@ class ClientRoom(NutRoom):
         env = {**os.environ, "NUT_CONFPATH": folder, "NUT_STATEPATH": folder, "NUT_ALTPIDPATH": folder}
         # -p: it has no other user to run as; what it says goes to a file, which can be read without waiting for more
         with open(os.path.join(folder, "said"), "wb") as said:
-            return folder, self.start([*APART, folder, program, "-D", "-p"], env=env, stderr=said)
+            return folder, self.start([*command, program, "-D", "-p"], env=env, stderr=said)
 
     def clients(self):
         """Returns the rows of LIST CLIENT."""

@@ -61,7 +61,11 @@ class Peers:
         for process in self.started:
             process.terminate()
         for process in self.started:
-            process.wait(10)
+            try:
+                process.wait(10)
+            except subprocess.TimeoutExpired:
+                process.kill()
+                process.wait()
 
     def logs(self):
         text = ""

@@ -200,22 +200,22 @@ class Tests:
             expect(told, [FULL] + [SILENT.format(60)] * (MOST - 1), "what is told of it")
 
     def test_silent_login(self):
-        """Ten minutes of the server's clock last six seconds here."""
+        """Ten minutes of the server's clock last twelve seconds here."""
         with self.room(conf=b"MAXAGE 86400\n") as room:
             room.dummy()
-            upsd = self.hastened(room, 100)
+            upsd = self.hastened(room, 50)
             room.until(STATUS, ONLINE)
             begun = time.monotonic()
-            # the second connects later, since one that hasn't logged in is closed after little more than half a second
+            # the second connects later, since one that hasn't logged in is closed after little more than a second
             with self.logged_in(room) as silent, self.logged_in(room) as speaker:
                 while True:
                     counted = speaker.ask(b"GET NUMLOGINS su700\n")
                     if self.has_ended(silent):
                         break
                     expect(counted, b"NUMLOGINS su700 2\n", "both count")
-                    ensure(time.monotonic() < begun + 60, "a login that is silent is there for an hour and more")
+                    ensure(time.monotonic() < begun + 75, "a login that is silent is there for an hour and more")
                     time.sleep(0.1)
-                took = (time.monotonic() - begun) * 100
+                took = (time.monotonic() - begun) * 50
                 ensure(took > 599, f"a login was ended after {took:.0f} s of silence")
                 expect(speaker.ask(b"GET NUMLOGINS su700\n"), b"NUMLOGINS su700 1\n", "one still counts")
             ensure(SILENT.format(600) in said(upsd), "what is told of it")

@@ -367,9 +367,14 @@ class Tests:
         process = subprocess.Popen(
             words, stdin=subprocess.DEVNULL, stdout=subprocess.PIPE, stderr=subprocess.PIPE, start_new_session=True, preexec_fn=heed
         )
-        self.wait_for_play(process.pid)
-        os.killpg(process.pid, signal.SIGINT)
-        out, err = process.communicate(timeout=30)
+        try:
+            self.wait_for_play(process.pid)
+            os.killpg(process.pid, signal.SIGINT)
+            out, err = process.communicate(timeout=30)
+        finally:
+            if process.poll() is None:
+                os.killpg(process.pid, signal.SIGKILL)
+                process.wait()
         expect((process.returncode, out, err), (-signal.SIGINT, b"", b""), "an interrupt")
 
     @staticmethod
@@ -383,8 +388,14 @@ class Tests:
             time.sleep(0.05)
         raise Failed("nutroom never started nutsim")
 
+    def test_output_that_fails(self):
+        words = [sys.executable, PROGRAM, "--nutsim", self.nutsim, "-n", "1", self.room(PAIR + LOW)]
+        with open("/dev/full", "wb") as full:
+            done = subprocess.run(words, stdin=subprocess.DEVNULL, stdout=full, stderr=subprocess.PIPE, timeout=60)
+        expect((done.returncode, done.stderr), (1, b"nutroom: output failed: No space left on device\n"), "a full disk")
+
     def test_output_that_nobody_reads(self):
-        line = f"{shlex.quote(sys.executable)} {PROGRAM} --nutsim {self.nutsim} -n 1 {self.room(PAIR + LOW)} | true"
+        line = shlex.join([sys.executable, PROGRAM, "--nutsim", self.nutsim, "-n", "1", self.room(PAIR + LOW)]) + " | true"
         done = subprocess.run(["bash", "-c", line], stdin=subprocess.DEVNULL, capture_output=True, timeout=60)
         expect(done.stderr, b"", "what is told")
 

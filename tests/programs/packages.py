@@ -141,7 +141,9 @@ class Tests:
         first = {**self.all_debs(), **self.packages.made("tar")}
         for name in os.listdir(self.packages.bin):
             os.utime(os.path.join(self.packages.bin, name), (1, 1))
-        again = {"umask": 0o077, "env": {"TZ": "Asia/Tokyo", "LC_ALL": "C.UTF-8", "TMPDIR": self.packages.folder}}
+        blank = os.path.join(self.packages.folder, "a folder")
+        os.mkdir(blank)
+        again = {"umask": 0o077, "env": {"TZ": "Asia/Tokyo", "LC_ALL": "C.UTF-8", "TMPDIR": blank}}
         second = {**self.packages.made("deb", **again), **self.packages.made("tar", **again)}
         expect(sorted(first), ["mulgefa", *PACKAGES], "what is made")
         for name, path in first.items():

@@ -346,7 +346,11 @@ class Tests(Shimmed):
             def poll():
                 while goes_on:
                     words = [upsc, f"su700@{room.host}:{room.port}", "ups.status"]
-                    done = subprocess.run(words, stdin=subprocess.DEVNULL, stdout=subprocess.PIPE, stderr=subprocess.DEVNULL, timeout=SOON)
+                    try:
+                        done = subprocess.run(words, stdin=subprocess.DEVNULL, stdout=subprocess.PIPE, stderr=subprocess.DEVNULL, timeout=SOON)
+                    except subprocess.TimeoutExpired:
+                        found.append("no answer in time")
+                        return
                     found.append((done.returncode, done.stdout))
                     time.sleep(0.05)
 

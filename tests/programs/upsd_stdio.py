@@ -15,12 +15,11 @@ import sys
 import tempfile
 
 from tests.support.harness import cannot_read, children_time, expect, Failed, Missing, refusal, refusals, ROOT, run_tests, Shimmed, unread
-from tests.support.room import until
+from tests.support.room import VERSION, until
 
 ROOM = ["--stdio", "--ups", "su700=Server room"]
 EXAMPLES = ["--stdio", "--conf", os.path.join(ROOT, "examples")]
 
-VERSION = b"Network UPS Tools upsd profile 1.3\n"
 LIST = b'BEGIN LIST UPS\nUPS su700 "Server room"\nEND LIST UPS\n'
 # the descriptions that NUT has, where Debian's package puts them
 NUT_DESCRIPTIONS = "/usr/share/nut/cmdvartab"

@@ -387,9 +387,10 @@ class Tests(Shimmed):
 
     def test_ended_commands_leave_no_process(self):
         with Upstream(status=b"OB") as server:
-            conf = f"MONITOR {server.target} 1 mon m1 secondary\nPOLLFREQ 1\nNOTIFYFLAG ONBATT EXEC\nNOTIFYCMD true\n"
+            notes = 'NOTIFYFLAG ONBATT EXEC\nNOTIFYCMD "touch FOLDER/run #"\n'
+            conf = f"MONITOR {server.target} 1 mon m1 secondary\nPOLLFREQ 1\n{notes}"
             with self.watch(conf) as watch:
-                until(lambda: server.asked.count(b"GET VAR su700 ups.status\n") >= 2, "the status is asked for")
+                until(lambda: watch.read("run") is not None, "the command is run")
                 until(lambda: not children_of(watch.process.pid), "the command is reaped")
 
     def test_shutdown_command_that_fails(self):

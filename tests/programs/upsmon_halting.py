@@ -143,10 +143,9 @@ class Tests(Shimmed):
 
     def test_readers_that_are_gone_end_no_shutdown_command(self):
         """Where nobody can read any more, a write ends the shell that does it."""
-        command = 'SHUTDOWNCMD "echo a; echo b >&2; touch FOLDER/halted"\n'
         for names in (("stdout",), ("stderr",), ("stdout", "stderr")):
             reader, writer = os.pipe()
-            with self.halting(command, **{name: writer for name in names}) as (_, watch):
+            with self.halting(ECHOED, **{name: writer for name in names}) as (_, watch):
                 os.close(reader)
                 os.close(writer)
                 expect((watch.status(), watch.read("halted")), (0, b""), f"the halt without a reader of {names}")
@@ -175,6 +174,7 @@ class Tests(Shimmed):
                     driver = room.dummy()
                     until(lambda: client.ask(STATUS) == ONLINE, "the driver is heard")
                     driver.kill()
+                    driver.wait()
                     until(lambda: client.ask(STATUS) == b"ERR DRIVER-NOT-CONNECTED\n", "the driver is gone")
 
     def test_full_error_output_at_the_end(self):
@@ -474,7 +474,7 @@ class Tests(Shimmed):
             env = {**os.environ, "PATH": path, "LD_PRELOAD": self.shim, "DEAD_FOLDER": dead}
             target = f"su700@ups.example:{server.port}"
             notes = "NOTIFYFLAG SHUTDOWN SYSLOG+EXEC\nNOTIFYCMD \"touch FOLDER/noted; true\"\n"
-            conf = f"MONITOR {target} 1 mon m1 primary\nPOLLFREQ 1\nHOSTSYNC 1\nFINALDELAY 0\n{notes}{HALTED}"
+            conf = f"MONITOR {target} 1 mon m1 primary\n{QUICK}{notes}{HALTED}"
             with self.watch(conf, "-q", env=env) as watch:
                 expect((watch.status(), watch.read("halted"), watch.told()), (0, b"", []), "the halt")
                 until(lambda: watch.read("noted") == b"", "NOTIFYCMD is run")

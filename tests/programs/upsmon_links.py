@@ -35,9 +35,8 @@ from tests.support.monitored import (
     play,
     put_program,
 )
-from tests.support.room import Room, has_ipv6, raise_loopback, until
+from tests.support.room import STATUS, Room, has_ipv6, raise_loopback, until
 
-STATUS = b"GET VAR su700 ups.status\n"
 # how long a server may take for an answer while a UPS is on battery and while none is, and for a connection, in seconds
 SHORT, LONG, PATIENCE = 5, 10, 5
 # how many hosts the dead name server is asked for, and a host that is found without it
@@ -368,7 +367,8 @@ class Tests(Shimmed):
                 watch.until_printed(SHUTDOWN)
                 with watch.stopped():
                     time.sleep(7)
-                expect(watch.status(2), 0, "status right after FINALDELAY")
+                # if it waited for FINALDELAY anew, it would take 6 s
+                expect(watch.status(4), 0, "status right after FINALDELAY")
 
     def test_dead_name_server(self):
         """This program plays the test again in a network of its own, whose name server never answers."""

@@ -26,15 +26,11 @@ BYTES = re.compile(r"> bytes ([0-9]+) (.*)")
 ASKED = re.compile(r"link ([0-9]+) is asked (.*)")
 
 
-class Broken(Failed):
-    """A run printed something else than it has to."""
-
-
 def check_run(run, lines, begin=0):
     """Checks that these lines are what a run has to print, from a step on."""
     for at, (check, line) in enumerate(zip(run.checks, lines)):
         if at >= begin and not check.holds(line):
-            raise Broken(f"{run.name}, step {at}, {check.step}: {line!r}")
+            raise Failed(f"{run.name}, step {at}, {check.step}: {line!r}")
     expect(len(lines), len(run.checks), f"the lines of {run.name}")
 
 

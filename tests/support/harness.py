@@ -92,7 +92,7 @@ def build_library(name, folder):
     built = f"{library}-{threading.get_ident()}"
     compiler = shutil.which("cc") or shutil.which("clang")
     if compiler is None:
-        raise Missing("a C compiler (cc or clang)")
+        raise Missing("there is no C compiler (cc or clang)")
     subprocess.run([compiler, "-shared", "-fPIC", "-o", built, os.path.join(HERE, f"{name}.c"), "-ldl"], check=True)
     os.replace(built, library)
     return library

@@ -257,7 +257,8 @@ class Room:
 
     def can_connect(self, process):
         if process.poll() is not None:
-            raise Failed(f"upsd ended with status {process.returncode}: {process.stderr.read()!r}")
+            said = process.stderr.read() if process.stderr else "its error output goes elsewhere"
+            raise Failed(f"upsd ended with status {process.returncode}: {said!r}")
         found = connected((self.host, self.port))
         if found is not None:
             found.close()

@@ -3,7 +3,7 @@
 import os
 import subprocess
 
-from tests.support.harness import Shimmed, expect, refusals
+from tests.support.harness import Shimmed, ensure, expect, refusals
 from tests.support.player import line_of
 
 # how a run ends in which memory was refused while no engine reports it
@@ -29,7 +29,10 @@ class Stage(Shimmed):
         """Plays steps with nothing refused. Returns the printed lines."""
         status, out, err = self.run(steps)
         expect((status, err), (0, b""), "a script's end")
-        return out.splitlines()
+        lines = out.splitlines()
+        # each step prints a line or more; a comparison by zip would end with the shorter side
+        ensure(len(lines) >= len(steps), f"{len(lines)} lines of {len(steps)} steps")
+        return lines
 
     def refused_in_turn(self, steps):
         """Plays steps with the first allocation refused, then with the second, and so on, up to one that isn't reached.
