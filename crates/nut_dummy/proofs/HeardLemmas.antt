@@ -64,7 +64,7 @@ number_bare n small =
     let some : 0 < length (decimal n) = decimal_nonempty n small in
     let is : nat_lt 0 (length (decimal n)) ≡ true = grind (arith, nat_tests) in
     let all : list_all is_bare (decimal n) ≡ true =
-        digits_bare (decimal n) (digits_decimal (numerals_by_value (λ text. AllByRecursion (λ c. IsInRange 48 57 c) text) digits_test) n small) in
+    digits_bare (decimal n) (digits_decimal (numerals_by_value (λ text. AllByRecursion (λ c. IsInRange 48 57 c) text) digits_test) n small) in
     rw (is, all) refl
 
 unless : (test : Bool) (o : Option ℕ) (n : ℕ) → (if test then None else o) ≡ Some n → o ≡ Some n

@@ -34,6 +34,6 @@ ToldLinesAreHeard =
     × ((w : Writable) → map heard_in (limits_of w) ≡ map (λ change. Some change) (attribute_changes (name_of w) (attributes w)))
     × (map heard_in closing_messages ≡ map (λ change. Some change) (map (λ c. add_command (command_name c)) all_commands ++ data_ok ∷ dump_done ∷ []))
     × ((number : ℕ) (done : Bool) → IsTrackingNumber number →
-        (ended (Some number) done ≡ ended_line number done ++ 10 ∷ [])
-        × (heard (ended_line number done) ≡ Some (tracking (Some number) (Some (if done then 0 else 1)))))
+    (ended (Some number) done ≡ ended_line number done ++ 10 ∷ [])
+    × (heard (ended_line number done) ≡ Some (tracking (Some number) (Some (if done then 0 else 1)))))
     × (heard (codes "PONG") ≡ Some pong)
