@@ -1,22 +1,21 @@
 -- The lines told are read as what they say.
-use Rattle.std.proofs.Common.{◌≡◌, ℕ, ◌<◌, ◌≤◌, ◌^◌, ◌==◌, Bool, true, false, List, [], ◌∷◌, ◌++◌, Option, Some, None, length, refl, sym, ap, ◌∙◌, arith, map, codes, decimal, append_assoc}
+use Rattle.std.proofs.Common.{◌≡◌, ℕ, ◌<◌, ◌≤◌, ◌^◌, Bool, true, false, List, [], ◌∷◌, ◌++◌, Some, length, refl, sym, ap, ◌∙◌, arith, map, codes, decimal, append_assoc}
 use Rattle.std.specs.Prelude.{nat_lt, if◌then◌else◌}
 use Rattle.std.specs.List.{AllByRecursion, list_all}
 use Rattle.std.specs.Int.{IsInRange}
 use Rattle.std.proofs.lemmas.Bool.Decides.{nat_tests}
 use Rattle.std.proofs.lemmas.Fmt.{digits_decimal, decimal_nonempty}
-use Rattle.std.proofs.lemmas.Str.Parse.{IsDigitsTest, numerals_by_value}
+use Rattle.std.proofs.lemmas.Str.Parse.{numerals_by_value}
 use Rattle.std.specs.Option.{option_and_then}
 use Rattle.std.specs.Result.{result_ok}
 use Rattle.nut_words.specs.Spelling.{is_bare}
-use Rattle.nut_words.specs.Number.{natural}
 use Rattle.nut_words.specs.Quoting.{IsPrintable, stands_bare}
 use Rattle.nut_words.specs.Reader.{read}
 use Rattle.nut_proto.specs.declared.part.Part.TheVariants.{Word, Number}
 use Rattle.nut_proto.specs.Lines.{AreWritable, message, message_words}
-use Rattle.nut_proto.specs.Tracking.{IsTrackingNumber, tracking_number}
-use Rattle.nut_proto.proofs.Numbers.{number_back}
-use Rattle.nut_proto.proofs.Spelling.{message_spelled}
+use Rattle.nut_proto.specs.Tracking.{IsTrackingNumber}
+use Rattle.nut_proto.proofs.Numbers.{natural_back}
+use Rattle.nut_proto.proofs.Spelling.{digits_test, message_spelled}
 use Rattle.nut_state.specs.Change.{set_info, add_command, data_ok, dump_done, pong, tracking, asked, heard}
 use Rattle.nut_state.specs.Verb.{verb_of}
 use Rattle.nut_dummy.specs.declared.writable.Writable.{Writable}
@@ -48,9 +47,6 @@ closing_heard : map heard_in closing_messages ≡ map (λ change. Some change) (
 unfolding heard asked verb_of read
 closing_heard = refl
 
-digits_test : IsDigitsTest (λ text. AllByRecursion (λ c. IsInRange 48 57 c) text)
-digits_test = record { empty = tt; parts = λ c cs h. h; more = λ c cs a b. (a, b) }
-
 digit_bare : (c : ℕ) → IsInRange 48 57 c → is_bare c ≡ true
 digit_bare c h = grind (arith, nat_tests)
 
@@ -66,17 +62,6 @@ number_bare n small =
     let all : list_all is_bare (decimal n) ≡ true =
     digits_bare (decimal n) (digits_decimal (numerals_by_value (λ text. AllByRecursion (λ c. IsInRange 48 57 c) text) digits_test) n small) in
     rw (is, all) refl
-
-unless : (test : Bool) (o : Option ℕ) (n : ℕ) → (if test then None else o) ≡ Some n → o ≡ Some n
-unless true o n e = absurd (cc)
-unless false o n e = e
-
-natural_of : (text : List ℕ) (n : ℕ) → tracking_number text ≡ Some n → natural text ≡ Some n
-natural_of [] n e = absurd (cc)
-natural_of (digit ∷ digits) n e = unless (digit == 48) (natural (digit ∷ digits)) n e
-
-natural_back : (n : ℕ) → IsTrackingNumber n → natural (decimal n) ≡ Some n
-natural_back n h = natural_of (decimal n) n (number_back n h)
 
 abbrev ended_message : ℕ → Bool → Message
 ended_message number done = Word (codes "TRACKING") ∷ Number number ∷ Word (if done then codes "0" else codes "1") ∷ []

@@ -68,7 +68,7 @@ decimal_natural n small =
     let all : list_all is_ascii_digit (decimal n) ≡ true = digits_decimal model n (omega (arith, small)) in
     all_three (nat_lt 0 (length (decimal n))) (nat_le (length (decimal n)) 9) (list_all is_ascii_digit (decimal n)) (grind (arith, nat_tests)) (grind (arith, nat_tests)) all
 
-natural_back : (n : ℕ) → IsTrackingNumber n → natural (decimal n) ≡ Some n
+pub natural_back : (n : ℕ) → IsTrackingNumber n → natural (decimal n) ≡ Some n
 natural_back n h =
     let said : digits_value (decimal n) ≡ n = digits_value-decimal model n (omega (arith, h.1)) in
     let is : is_natural (decimal n) ≡ true = decimal_natural n (omega (arith, h.1)) in

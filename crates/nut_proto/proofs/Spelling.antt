@@ -20,7 +20,7 @@ use Rattle.nut_proto.specs.declared.part.Part.TheVariants.{Word, Quoted, Number,
 use Rattle.nut_proto.specs.Lines.{part_text, part_word, IsWritable, AreWritable, message, message_words}
 
 -- Digits are printable.
-digits_test : IsDigitsTest (λ text. AllByRecursion (λ c. IsInRange 48 57 c) text)
+pub digits_test : IsDigitsTest (λ text. AllByRecursion (λ c. IsInRange 48 57 c) text)
 digits_test = record { empty = tt; parts = λ c cs h. h; more = λ c cs a b. (a, b) }
 
 digit_printable : (c : ℕ) → IsInRange 48 57 c → is_printing c ≡ true
