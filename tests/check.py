@@ -1,8 +1,8 @@
 #!/usr/bin/env python3
-"""Runs all tests: the toolchain's gate (every proof, an edit of some crates that must fail, the tests and the stored runs), then
-all wrong bodies, and beside them the tests in Python, most of which run the programs that the gate has built. It shows how
-much processor time each crate took, beside the times that were kept, and at the end repeats the lines that reported a failure
-or a test that was skipped.
+"""Runs all tests: the layout of the crates' files, the toolchain's gate (every proof, an edit of some crates that must fail, the
+tests and the stored runs), then all wrong bodies, and beside them the tests in Python, most of which run the programs that the
+gate has built. It shows how much processor time each crate took, beside the times that were kept, and at the end repeats the
+lines that reported a failure or a test that was skipped.
 
 usage: python3 -m tests.check [--anew]
 
@@ -116,8 +116,9 @@ def run_programs(count):
 
 
 def run_all(count, words):
-    # an edit that cannot be applied is reported before an hour of proofs
+    # an edit that cannot be applied, or a file that rt ci would refuse for its layout, is reported before an hour of proofs
     count.run_test("gate.wrong_bodies", "--look")
+    count.run_test("gate.layout")
     if count.failed == 0:
         count.run(["rt", "ci", *words])
     if count.failed == 0:
