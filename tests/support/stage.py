@@ -2,6 +2,7 @@
 
 import os
 import subprocess
+import tempfile
 
 from tests.support.harness import Shimmed, ensure, expect, refusals
 from tests.support.player import line_of
@@ -22,7 +23,11 @@ class Stage(Shimmed):
         failure."""
         script = b"".join(map(line_of, steps))
         env = {**os.environ, **(env or {})}
-        done = subprocess.run([self.program], input=script, env=env, capture_output=True, timeout=60)
+        # from a file, so that it is read in the same parts each time, and takes as many allocations
+        with tempfile.TemporaryFile(dir=self.folder) as file:
+            file.write(script)
+            file.seek(0)
+            done = subprocess.run([self.program], stdin=file, env=env, capture_output=True, timeout=60)
         return done.returncode, done.stdout, done.stderr
 
     def play(self, steps):

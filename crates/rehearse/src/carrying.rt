@@ -1,10 +1,9 @@
 //! Moves bytes between a server and the driver of its first UPS.
 
-use crate::played::Played;
-use crate::text::Text;
+use crate::answer::Answer;
+use crate::stage::Stage;
 use nut_dummy::{Dummy, DummyFault};
 use nut_server::{Arrival, Refused, Server};
-use std::alloc::AllocError;
 
 /// The largest number of pieces that are moved.
 const PIECES_MAX: usize = 100_000;
@@ -78,39 +77,20 @@ fn carry_all(server: &mut Server, dummy: &mut Dummy, size: usize) -> Carried {
     Carried::Piece
 }
 
-/// Lets driver and server take what waits for them, `size` bytes at a time, and writes how that ended.
-pub fn carry(
-    server: &mut Option<Server>,
-    dummy: &mut Option<Dummy>,
-    size: Text<'_>,
-    out: &mut String,
-) -> Played {
-    match server {
-        Some(server) => carry_between(server, dummy, size, out),
-        None => None,
-    }
-}
-
-fn carry_between(
-    server: &mut Server,
-    dummy: &mut Option<Dummy>,
-    size: Text<'_>,
-    out: &mut String,
-) -> Played {
-    match dummy {
-        Some(dummy) => {
-            let carried = carry_all(server, dummy, size.number()?);
-            Some(show_carried(carried, out))
-        }
-        None => None,
-    }
+/// Lets driver and server take what waits for them, `size` bytes at a time, and writes how that ended; `None` if one of
+/// them isn't made.
+pub fn play(stage: &mut Stage, size: usize) -> Option<()> {
+    let server = stage.server.as_mut()?;
+    let dummy = stage.dummy.as_mut()?;
+    show_carried(carry_all(server, dummy, size), &mut stage.answer);
+    Some(())
 }
 
 /// Writes what happened to the last piece.
-fn show_carried(carried: Carried, out: &mut String) -> Result<(), AllocError> {
+fn show_carried(carried: Carried, out: &mut Answer) {
     match carried {
-        Carried::Piece => out.push_str("pieces without end"),
-        Carried::Nothing => out.push_str("ok"),
+        Carried::Piece => out.put("pieces without end"),
+        Carried::Nothing => out.put("ok"),
         Carried::RefusedBy(refused) => write!(out, "server {refused:?}"),
         Carried::RefusedByDriver(fault) => write!(out, "driver {fault:?}"),
     }

@@ -13,89 +13,83 @@
 //!
 //! A call is answered by `ok` or its fault, and then by how many bytes wait.
 
-use crate::played::{Played, put_made, show_waits};
-use crate::text::{Text, put, shown};
+use crate::answer::{Answer, put_made};
+use crate::stage::Stage;
+use crate::text::{Step, shown};
 use nut_dummy::{Dummy, DummyFault, Script, ScriptKind, Variable};
-use std::alloc::{AllocError, Global};
 
-/// Plays a step on a driver, and writes the answer.
-pub fn play(alloc: Global, dummy: &mut Option<Dummy>, text: Text<'_>, out: &mut String) -> Played {
-    let (verb, rest) = text.parted();
-    match verb {
-        "dev" => Some(begin(alloc, ScriptKind::Dev, rest.bytes, dummy, out)),
-        "seq" => Some(begin(alloc, ScriptKind::Seq, rest.bytes, dummy, out)),
-        _ => match dummy {
-            Some(dummy) => play_on(dummy, verb, rest, out),
-            None => None,
-        },
+/// Plays a step on a driver, and writes the answer; `None` if it is no step.
+pub fn play(stage: &mut Stage, step: Step<'_>) -> Option<()> {
+    match step.verb {
+        "dev" => begin(stage, ScriptKind::Dev, step.bytes),
+        "seq" => begin(stage, ScriptKind::Seq, step.bytes),
+        _ => play_on(stage.dummy.as_mut()?, step, &mut stage.answer)?,
     }
+    Some(())
 }
 
 /// Replaces the driver by a new one, or writes why none was made.
-fn begin(
-    alloc: Global,
-    kind: ScriptKind,
-    script: &[u8],
-    dummy: &mut Option<Dummy>,
-    out: &mut String,
-) -> Result<(), AllocError> {
+fn begin(stage: &mut Stage, kind: ScriptKind, script: &[u8]) {
+    let alloc = stage.alloc;
     match Script::read(alloc, kind, script) {
-        Ok(script) => put_made(Dummy::new(alloc, script, 0), dummy, out),
-        Err(fault) => write!(out, "{fault}"),
+        Ok(script) => put_made(
+            Dummy::new(alloc, script, 0),
+            &mut stage.dummy,
+            &mut stage.answer,
+        ),
+        Err(fault) => write!(stage.answer, "{fault}"),
     }
 }
 
 /// Plays a step on a driver that was made.
-fn play_on(dummy: &mut Dummy, verb: &str, rest: Text<'_>, out: &mut String) -> Played {
-    match verb {
-        "take" => Some(take(dummy, out)),
-        "table" => Some(show_table(dummy, out)),
-        _ => match call(dummy, verb, rest) {
-            Some(done) => Some(show_waits(done, dummy.waits(), out)),
-            None => None,
-        },
+fn play_on(dummy: &mut Dummy, step: Step<'_>, out: &mut Answer) -> Option<()> {
+    match step.verb {
+        "take" => take(dummy, out),
+        "table" => show_table(dummy, out),
+        _ => {
+            let done = call(dummy, step)?;
+            out.put_waits(done, dummy.waits());
+        }
     }
+    Some(())
 }
 
 /// Makes the call that a verb names; `None` if it names none.
-fn call(dummy: &mut Dummy, verb: &str, rest: Text<'_>) -> Option<Result<(), DummyFault>> {
-    match verb {
+fn call(dummy: &mut Dummy, step: Step<'_>) -> Option<Result<(), DummyFault>> {
+    match step.verb {
         "link" => {
             dummy.linked();
             Some(Ok(()))
         }
-        "moment" => Some(dummy.moment(rest.number()? as u64)),
-        "bytes" => Some(dummy.server_bytes(rest.bytes)),
-        "took" => Some(dummy.took(rest.number()?)),
+        "moment" => Some(dummy.moment(step.number? as u64)),
+        "bytes" => Some(dummy.server_bytes(step.bytes)),
+        "took" => Some(dummy.took(step.number?)),
         _ => None,
     }
 }
 
 /// Takes and writes all bytes that wait.
-fn take(dummy: &mut Dummy, out: &mut String) -> Result<(), AllocError> {
+fn take(dummy: &mut Dummy, out: &mut Answer) {
     for _ in 0..dummy.waits() {
         let told = dummy.waiting();
-        put(told, out)?;
+        out.put_bytes(told);
         let taken = told.len();
         if dummy.took(taken).is_err() {
             break;
         }
     }
-    Ok(())
 }
 
 /// Writes the name and the value of each variable that has a value.
-fn show_table(dummy: &Dummy, out: &mut String) -> Result<(), AllocError> {
-    out.push_str("=")?;
+fn show_table(dummy: &Dummy, out: &mut Answer) {
+    out.put("=");
     for variable in dummy.table() {
-        show_variable(variable, out)?;
+        show_variable(variable, out);
     }
-    Ok(())
 }
 
-fn show_variable(variable: &Variable, out: &mut String) -> Result<(), AllocError> {
-    match variable.value() {
-        Some(value) => write!(out, " {} \"{}\"", shown(variable.name()), shown(value)),
-        None => Ok(()),
+fn show_variable(variable: &Variable, out: &mut Answer) {
+    if let Some(value) = variable.value() {
+        write!(out, " {} \"{}\"", shown(variable.name()), shown(value));
     }
 }

@@ -11,52 +11,48 @@
 //!
 //! A call is answered by `ok` or its fault, and then by how many bytes wait.
 
-use crate::played::{Played, show_waits};
-use crate::text::{Text, put, shown};
+use crate::answer::Answer;
+use crate::stage::Stage;
+use crate::text::{Step, shown};
 use crate::words::show_word;
 use nut_link::{Fields, Link, LinkFault, Outcome, Rows};
 use nut_proto::read;
 use nut_words::{Words, split};
-use std::alloc::{AllocError, Global};
+use std::alloc::Global;
 use std::mem;
 
-/// Plays a step on a link, and writes the answer.
-pub fn play(alloc: Global, link: &mut Link, text: Text<'_>, out: &mut String) -> Played {
-    let (verb, rest) = text.parted();
-    match verb {
-        "take" => Some(take(link, out)),
-        "answer" => Some(answer(link, out)),
-        _ => match call(alloc, link, verb, rest) {
-            Some(done) => Some(show_waits(done, link.waiting().len(), out)),
-            None => None,
-        },
+/// Plays a step on a link, and writes the answer; `None` if it is no step.
+pub fn play(stage: &mut Stage, step: Step<'_>) -> Option<()> {
+    let (link, out) = (&mut stage.link, &mut stage.answer);
+    match step.verb {
+        "take" => take(link, out),
+        "answer" => answer(link, out),
+        _ => {
+            let done = call(stage.alloc, link, step)?;
+            out.put_waits(done, link.waiting().len());
+        }
     }
+    Some(())
 }
 
 /// Takes and writes what waits of the query.
-fn take(link: &mut Link, out: &mut String) -> Result<(), AllocError> {
+fn take(link: &mut Link, out: &mut Answer) {
     let waiting = link.waiting();
-    put(waiting, out)?;
+    out.put_bytes(waiting);
     let taken = waiting.len();
     let _ = link.took(taken);
-    Ok(())
 }
 
 /// Makes the call that a verb names; `None` if it names none.
-fn call(
-    alloc: Global,
-    link: &mut Link,
-    verb: &str,
-    rest: Text<'_>,
-) -> Option<Result<(), LinkFault>> {
-    match verb {
+fn call(alloc: Global, link: &mut Link, step: Step<'_>) -> Option<Result<(), LinkFault>> {
+    match step.verb {
         "new" => {
             drop(mem::replace(link, Link::new(alloc)));
             Some(Ok(()))
         }
-        "ask" => ask(alloc, link, rest.bytes),
-        "took" => Some(link.took(rest.number()?)),
-        "bytes" => Some(link.feed(rest.bytes)),
+        "ask" => ask(alloc, link, step.bytes),
+        "took" => Some(link.took(step.number?)),
+        "bytes" => Some(link.feed(step.bytes)),
         _ => None,
     }
 }
@@ -77,46 +73,39 @@ fn ask_words(link: &mut Link, words: &Words<'_>) -> Option<Result<(), LinkFault>
 }
 
 /// Takes out and writes the answer.
-fn answer(link: &mut Link, out: &mut String) -> Result<(), AllocError> {
+fn answer(link: &mut Link, out: &mut Answer) {
     let outcome = link.answer();
-    let shown = show_outcome(&outcome, out);
+    show_outcome(&outcome, out);
     // dropped by a call, which keeps the proof of this function short
     drop(outcome);
-    shown
 }
 
-fn show_outcome(outcome: &Option<Outcome>, out: &mut String) -> Result<(), AllocError> {
+fn show_outcome(outcome: &Option<Outcome>, out: &mut Answer) {
     match outcome {
-        None => out.push_str("none"),
-        Some(Outcome::Done) => out.push_str("done"),
+        None => out.put("none"),
+        Some(Outcome::Done) => out.put("done"),
         Some(Outcome::Said(fields)) => show_said(fields, out),
         Some(Outcome::List(rows)) => show_rows(rows, out),
         Some(Outcome::Refused(name)) => write!(out, "refused {}", shown(name.as_bytes())),
     }
 }
 
-fn show_said(fields: &Fields, out: &mut String) -> Result<(), AllocError> {
-    out.push_str("said ")?;
-    show_fields(fields, out)
+fn show_said(fields: &Fields, out: &mut Answer) {
+    out.put("said ");
+    show_fields(fields, out);
 }
 
-fn show_rows(rows: &Rows, out: &mut String) -> Result<(), AllocError> {
-    out.push_str("list ")?;
+fn show_rows(rows: &Rows, out: &mut Answer) {
+    out.put("list ");
     for row in rows.as_slice() {
-        show_row(row, out)?;
+        show_fields(row, out);
+        out.put(";");
     }
-    Ok(())
-}
-
-fn show_row(row: &Fields, out: &mut String) -> Result<(), AllocError> {
-    show_fields(row, out)?;
-    out.push_str(";")
 }
 
 /// Writes the words, each followed by `|`.
-fn show_fields(fields: &Fields, out: &mut String) -> Result<(), AllocError> {
+fn show_fields(fields: &Fields, out: &mut Answer) {
     for word in fields.as_slice() {
-        show_word(word.as_bytes(), out)?;
+        show_word(word.as_bytes(), out);
     }
-    Ok(())
 }

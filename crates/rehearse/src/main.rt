@@ -23,17 +23,16 @@
 #![tactic(auto)]
 
 use std::alloc::Global;
-use std::io;
-use std::io::{BufRead, BufReader, BufWriter, Read, Write};
+use std::io::{BufRead, BufReader, BufWriter, Stdin, Stdout, Write};
 use std::process::ExitCode;
 use std::sync::Wait;
 
+mod answer;
 mod carrying;
 mod dummy;
 mod failure;
 mod link;
 mod monitor;
-mod played;
 mod playing;
 mod room;
 mod server;
@@ -42,38 +41,31 @@ mod text;
 mod watching;
 mod words;
 
+use answer::Answer;
 use failure::Failure;
-use played::Played;
 use stage::Stage;
 
 fn main(rt: HostRuntime) -> ExitCode {
-    match rehearse(&rt, rt.alloc(), rt.reader(), io::writer(&rt)) {
+    match rehearse(&rt, rt.alloc(), rt.stdin(), rt.stdout()) {
         Ok(()) => ExitCode::SUCCESS,
         Err(failure) => {
-            let stderr = rt.stderr();
-            let _ = writeln!(io::writer(&stderr), "rehearse: {failure}");
+            let _ = writeln!(rt.stderr(), "rehearse: {failure}");
             ExitCode::FAILURE
         }
     }
 }
 
-/// Plays the script on an input.
-fn rehearse<R: Read + Drop, W: Write + Drop>(
-    rt: &impl Wait,
-    alloc: Global,
-    input: R,
-    output: W,
-) -> Result<(), Failure> {
+/// Plays the script on an input, and writes the answers.
+fn rehearse(rt: &impl Wait, alloc: Global, input: Stdin, output: Stdout) -> Result<(), Failure> {
     let mut input = BufReader::new(alloc, input)?;
     play_input(rt, alloc, &mut input, output)
 }
 
-/// Plays a script, and writes the answers.
-fn play_input<R: BufRead, W: Write + Drop>(
+fn play_input(
     rt: &impl Wait,
     alloc: Global,
-    input: &mut R,
-    output: W,
+    input: &mut BufReader<Stdin>,
+    output: Stdout,
 ) -> Result<(), Failure> {
     let mut out = BufWriter::new(alloc, output)?;
     let played = play(rt, alloc, input, &mut out);
@@ -82,50 +74,48 @@ fn play_input<R: BufRead, W: Write + Drop>(
 }
 
 /// Plays a script on a new stage.
-fn play<R: BufRead, W: Write>(
+fn play(
     rt: &impl Wait,
     alloc: Global,
-    input: &mut R,
-    out: &mut W,
+    input: &mut BufReader<Stdin>,
+    out: &mut BufWriter<Stdout>,
 ) -> Result<(), Failure> {
     let mut stage = Stage::new(alloc);
     let mut line = String::new(alloc);
-    let played = play_lines(rt, &mut stage, input, &mut line, out);
+    let mut piece = Vec::new(alloc);
+    let played = play_lines(rt, &mut stage, input, &mut line, &mut piece, out);
     // dropped by a call, which keeps the proof of this function short
     drop(stage);
     played
 }
 
 /// Plays each line of the input.
-fn play_lines<R: BufRead, W: Write>(
+fn play_lines(
     rt: &impl Wait,
     stage: &mut Stage,
-    input: &mut R,
+    input: &mut BufReader<Stdin>,
     line: &mut String,
-    out: &mut W,
+    piece: &mut Vec<u8>,
+    out: &mut BufWriter<Stdout>,
 ) -> Result<(), Failure> {
     for number in 1..u64::MAX {
         line.clear();
         if input.read_line(line)? == 0 {
             break;
         }
-        let played = stage.play_line(rt, line.trim_end_matches('\n'));
-        end_line(played, number, stage.answer(), out)?;
+        match stage.play_line(rt, line.trim_end_matches('\n'), piece) {
+            Some(()) => end_line(&stage.answer, out)?,
+            None => return Err(Failure::Line(number)),
+        }
     }
     Ok(())
 }
 
-/// Writes the answer to the line with this number, which has to be a step.
-fn end_line<W: Write>(
-    played: Played,
-    number: u64,
-    answer: &str,
-    out: &mut W,
-) -> Result<(), Failure> {
-    match played {
-        Some(written) => written?,
-        None => return Err(Failure::Line(number)),
+/// Writes the answer to a line, if it is whole.
+fn end_line(answer: &Answer, out: &mut BufWriter<Stdout>) -> Result<(), Failure> {
+    if !answer.is_whole() {
+        return Err(Failure::Memory);
     }
-    writeln!(out, "{answer}")?;
+    writeln!(out, "{}", answer.as_str())?;
     Ok(())
 }

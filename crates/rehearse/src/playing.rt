@@ -1,11 +1,10 @@
 //! Plays a step on a server.
 
-ghost use Rattle.std.specs.Prelude.{◌≤◌, IfOk};
+ghost use Rattle.std.specs.Prelude.{◌≤◌};
 
-use crate::played::show_done;
-use crate::text::{put, shown};
+use crate::answer::Answer;
+use crate::text::shown;
 use nut_server::{Arrival, Config, Ended, Server};
-use std::alloc::AllocError;
 
 /// A peer for which bytes may wait.
 #[derive(Clone, Copy)]
@@ -17,48 +16,34 @@ pub enum Peer {
 }
 
 /// Writes which connection is next, if one is.
-pub fn show_next(next: Option<u64>, out: &mut String) -> Result<(), AllocError> {
+pub fn show_next(next: Option<u64>, out: &mut Answer) {
     match next {
         Some(c) => write!(out, "connection {c}"),
-        None => out.push_str("none"),
+        None => out.put("none"),
     }
 }
 
 /// Writes the driver of which UPS is next, if one is.
-pub fn show_next_driver(next: Option<usize>, out: &mut String) -> Result<(), AllocError> {
+pub fn show_next_driver(next: Option<usize>, out: &mut Answer) {
     match next {
         Some(u) => write!(out, "driver {u}"),
-        None => out.push_str("none"),
+        None => out.put("none"),
     }
 }
 
 /// Puts a configuration in force, and writes the answer, the server's state of each UPS, and what the reload ends.
-pub fn reload_with(
-    config: Box<Config>,
-    server: &mut Server,
-    out: &mut String,
-) -> Result<(), AllocError> {
+pub fn reload_with(config: Box<Config>, server: &mut Server, out: &mut Answer) {
     let ended = server.ended_by(&config);
-    let told = tell_reload(config, &ended, server, out);
+    tell(Arrival::Reload(config), server, out);
+    show_ended(&ended, out);
     // dropped by a call, which keeps the proof of this function short
     drop(ended);
-    told
-}
-
-fn tell_reload(
-    config: Box<Config>,
-    ended: &Ended,
-    server: &mut Server,
-    out: &mut String,
-) -> Result<(), AllocError> {
-    tell(Arrival::Reload(config), server, out)?;
-    show_ended(ended, out)
 }
 
 /// Writes what a reload ends.
-fn show_ended(ended: &Ended, out: &mut String) -> Result<(), AllocError> {
+fn show_ended(ended: &Ended, out: &mut Answer) {
     let (drivers, connections) = (ended.drivers.as_slice(), ended.connections.as_slice());
-    write!(out, "; drivers {drivers:?} connections {connections:?}")
+    write!(out, "; drivers {drivers:?} connections {connections:?}");
 }
 
 /// The place that an arrival comes from.
@@ -87,14 +72,14 @@ fn origin_of(arrival: &Arrival<'_>) -> Origin {
 }
 
 /// Tells the server an arrival, and writes its answer and then what waits at the place that the arrival came from.
-pub fn tell(arrival: Arrival<'_>, server: &mut Server, out: &mut String) -> Result<(), AllocError> {
+pub fn tell(arrival: Arrival<'_>, server: &mut Server, out: &mut Answer) {
     let origin = origin_of(&arrival);
-    show_done(server.arrive(arrival), out)?;
-    show_origin(origin, server, out)
+    out.put_done(server.arrive(arrival));
+    show_origin(origin, server, out);
 }
 
 /// Writes what waits at a place.
-fn show_origin(origin: Origin, server: &Server, out: &mut String) -> Result<(), AllocError> {
+fn show_origin(origin: Origin, server: &Server, out: &mut Answer) {
     match origin {
         Origin::Clock => show_waits(server, out),
         Origin::Door => show_opened(server.opened(), out),
@@ -104,94 +89,79 @@ fn show_origin(origin: Origin, server: &Server, out: &mut String) -> Result<(), 
     }
 }
 
-fn show_opened(opened: u64, out: &mut String) -> Result<(), AllocError> {
-    write!(out, " opened={opened}")
+fn show_opened(opened: u64, out: &mut Answer) {
+    write!(out, " opened={opened}");
 }
 
 /// Writes how many bytes wait for the driver of each UPS.
-fn show_waits(server: &Server, out: &mut String) -> Result<(), AllocError> {
+fn show_waits(server: &Server, out: &mut Answer) {
     for u in 0..server.number_of_places() {
-        show_count(server.waits_for_driver(u), out)?;
+        out.put_count(server.waits_for_driver(u));
     }
-    Ok(())
-}
-
-fn show_count(waits: usize, out: &mut String) -> Result<(), AllocError> {
-    write!(out, " {waits}")
 }
 
 /// Writes the name of each UPS, and the server's state of its driver.
-fn show_upses(server: &Server, out: &mut String) -> Result<(), AllocError> {
+fn show_upses(server: &Server, out: &mut Answer) {
     for u in 0..server.number_of_places() {
-        show_ups(u, server, out)?;
+        show_ups(u, server, out);
     }
-    Ok(())
 }
 
 /// Writes the name of a UPS, and the server's state of its driver.
-fn show_ups(u: usize, server: &Server, out: &mut String) -> Result<(), AllocError> {
-    write!(out, "; {}", shown(server.ups_name(u).unwrap_or(b"-")))?;
-    show_driver(u, server, out)
+fn show_ups(u: usize, server: &Server, out: &mut Answer) {
+    write!(out, "; {}", shown(server.ups_name(u).unwrap_or(b"-")));
+    show_driver(u, server, out);
 }
 
 /// Writes the server's state of a connection.
-fn show_connection(c: u64, server: &Server, out: &mut String) -> Result<(), AllocError> {
+fn show_connection(c: u64, server: &Server, out: &mut Answer) {
     let (waits, kept) = (server.waits(c), server.kept(c));
     let (reads, leaves) = (server.may_read(c), server.leaves(c));
     write!(
         out,
         " waits={waits} kept={kept} reads={reads} leaves={leaves}"
-    )
+    );
 }
 
 /// Writes the server's state of a driver.
-fn show_driver(u: usize, server: &Server, out: &mut String) -> Result<(), AllocError> {
+fn show_driver(u: usize, server: &Server, out: &mut Answer) {
     let (waits, connected) = (server.waits_for_driver(u), server.is_connected(u));
-    write!(out, " waits={waits} connected={connected}")
+    write!(out, " waits={waits} connected={connected}");
 }
 
 /// Takes what waits for a peer, at most `most` bytes, and writes it.
-pub fn take(
-    peer: Peer,
-    most: usize,
-    server: &mut Server,
-    out: &mut String,
-) -> Result<(), AllocError> {
+pub fn take(peer: Peer, most: usize, server: &mut Server, out: &mut Answer) {
     let mut left = most;
     for _ in 0..u64::MAX {
-        let taken = take_front(peer, left, server, out)?;
+        let taken = take_front(peer, left, server, out);
         if taken == 0 {
             break;
         }
         left -= taken;
     }
-    Ok(())
 }
 
 /// Takes the first bytes that wait for a peer. Returns how many they were.
-fn take_front(
-    peer: Peer,
-    most: usize,
-    server: &mut Server,
-    out: &mut String,
-) -> Result<usize, AllocError>
-    ensures { IfOk result (λ taken. taken ≤ most) }
+fn take_front(peer: Peer, most: usize, server: &mut Server, out: &mut Answer) -> usize
+    ensures { result ≤ most }
 {
     let front = waiting(server, peer);
     let taken = front.len().min(most);
     if taken == 0 {
-        return Ok(0);
+        return 0;
     }
-    put(&front[..taken], out)?;
+    out.put_bytes(&front[..taken]);
     let arrival = match peer {
         Peer::Connection(c) => Arrival::Took(c, taken),
         Peer::Driver(u) => Arrival::DriverTook(u, taken),
     };
-    if let Err(refused) = server.arrive(arrival) {
-        write!(out, "{refused:?}")?;
-        return Ok(0);
+    match server.arrive(arrival) {
+        Ok(()) => taken,
+        Err(refused) => {
+            write!(out, "{refused:?}");
+            0
+        }
     }
-    Ok(taken)
 }
 
 /// Returns the first bytes that wait for a peer.

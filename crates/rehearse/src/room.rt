@@ -10,13 +10,14 @@
 //! A call writes a line for each thing that its steps tell, with the number of the step in the call, and then `ok` or
 //! its fault.
 
-use crate::played::{Played, put_made, show_file_fault, show_growth};
-use crate::server::{Texts, read_config};
-use crate::text::{Text, shown};
+use crate::answer::{Answer, put_made};
+use crate::server::read_config;
+use crate::stage::Stage;
+use crate::text::{Step, shown};
 use nut_conf::{UpsmonConf, read_upsmon};
 use nut_monitor::{Notice, Phase};
-use nut_play::{Fleet, FleetFault, FleetLog, Logged, News, Step, read_step};
-use std::alloc::{AllocError, Global};
+use nut_play::{Fleet, FleetFault, FleetLog, Logged, News, Step as RoomStep, read_step};
+use std::alloc::Global;
 use std::mem;
 
 /// A room, what the next room is made with, and the steps of the next call.
@@ -24,7 +25,7 @@ use std::mem;
 pub struct Rooms {
     fleet: Option<Fleet>,
     monitors: Vec<UpsmonConf>,
-    schedule: Vec<Step>,
+    schedule: Vec<RoomStep>,
 }
 
 impl Rooms {
@@ -36,81 +37,57 @@ impl Rooms {
             schedule: Vec::new(alloc),
         }
     }
+}
 
-    /// Plays a step of a script, and writes the answer.
-    pub fn play(
-        &mut self,
-        alloc: Global,
-        texts: &Texts,
-        text: Text<'_>,
-        out: &mut String,
-    ) -> Played {
-        let (verb, rest) = text.parted();
-        match verb {
-            "monitor" => Some(add_monitor(alloc, rest.bytes, &mut self.monitors, out)),
-            "new" => Some(self.begin(alloc, texts, out)),
-            "step" => Some(add_step(alloc, rest.bytes, &mut self.schedule, out)),
-            "play" => self.call(alloc, out),
-            _ => None,
-        }
+/// Plays a step of a script, and writes the answer; `None` if it is no step.
+pub fn play(stage: &mut Stage, step: Step<'_>) -> Option<()> {
+    let (alloc, rooms, out) = (stage.alloc, &mut stage.rooms, &mut stage.answer);
+    match step.verb {
+        "monitor" => add_monitor(alloc, step.bytes, &mut rooms.monitors, out),
+        "new" => begin(stage),
+        "step" => add_step(alloc, step.bytes, &mut rooms.schedule, out),
+        "play" => call(alloc, rooms.fleet.as_mut()?, &mut rooms.schedule, out),
+        _ => return None,
     }
+    Some(())
+}
 
-    /// Replaces the room by a new one.
-    fn begin(&mut self, alloc: Global, texts: &Texts, out: &mut String) -> Result<(), AllocError> {
-        match read_config(alloc, texts) {
-            Ok(config) => {
-                let monitors = mem::replace(&mut self.monitors, Vec::new(alloc));
-                put_made(Fleet::new(alloc, config, monitors), &mut self.fleet, out)
-            }
-            Err(fault) => show_file_fault(fault, out),
+/// Replaces the room by a new one.
+fn begin(stage: &mut Stage) {
+    let alloc = stage.alloc;
+    match read_config(alloc, &stage.texts) {
+        Ok(config) => {
+            let monitors = mem::replace(&mut stage.rooms.monitors, Vec::new(alloc));
+            let made = Fleet::new(alloc, config, monitors);
+            put_made(made, &mut stage.rooms.fleet, &mut stage.answer);
         }
-    }
-
-    /// Plays the steps of a call, and writes what they tell.
-    fn call(&mut self, alloc: Global, out: &mut String) -> Played {
-        let schedule = mem::replace(&mut self.schedule, Vec::new(alloc));
-        let played = play_steps(schedule.as_slice(), &mut self.fleet, out);
-        // dropped by a call, which keeps the proof of this function short
-        drop(schedule);
-        played
+        Err(fault) => stage.answer.put_file_fault(fault),
     }
 }
 
-/// Plays these steps in one call, and writes what they tell.
-fn play_steps(schedule: &[Step], fleet: &mut Option<Fleet>, out: &mut String) -> Played {
-    match fleet {
-        Some(fleet) => Some(show_call(fleet.play(schedule), out)),
-        None => None,
-    }
+/// Plays the steps of a call, and writes what they tell.
+fn call(alloc: Global, fleet: &mut Fleet, schedule: &mut Vec<RoomStep>, out: &mut Answer) {
+    show_call(fleet.play(schedule), out);
+    drop(mem::replace(schedule, Vec::new(alloc)));
 }
 
 /// Adds a monitor to the next room.
-fn add_monitor(
-    alloc: Global,
-    file: &[u8],
-    monitors: &mut Vec<UpsmonConf>,
-    out: &mut String,
-) -> Result<(), AllocError> {
+fn add_monitor(alloc: Global, file: &[u8], monitors: &mut Vec<UpsmonConf>, out: &mut Answer) {
     match read_upsmon(alloc, file) {
-        Ok(config) => show_growth(monitors.push(config).is_ok(), out),
+        Ok(config) => out.put_growth(monitors.push(config).is_ok()),
         Err(fault) => write!(out, "{fault}"),
     }
 }
 
 /// Adds a step to the next call.
-fn add_step(
-    alloc: Global,
-    line: &[u8],
-    schedule: &mut Vec<Step>,
-    out: &mut String,
-) -> Result<(), AllocError> {
+fn add_step(alloc: Global, line: &[u8], schedule: &mut Vec<RoomStep>, out: &mut Answer) {
     match read_step(alloc, line) {
-        Ok(step) => show_growth(schedule.push(step).is_ok(), out),
+        Ok(step) => out.put_growth(schedule.push(step).is_ok()),
         Err(fault) => write!(out, "{fault:?}"),
     }
 }
 
-fn show_call(told: Result<FleetLog, FleetFault>, out: &mut String) -> Result<(), AllocError> {
+fn show_call(told: Result<FleetLog, FleetFault>, out: &mut Answer) {
     match told {
         Ok(log) => show_log(log.as_slice(), out),
         Err(fault) => write!(out, "{fault:?}"),
@@ -118,50 +95,33 @@ fn show_call(told: Result<FleetLog, FleetFault>, out: &mut String) -> Result<(),
 }
 
 /// Writes what the steps of a call told.
-fn show_log(log: &[Logged], out: &mut String) -> Result<(), AllocError> {
+fn show_log(log: &[Logged], out: &mut Answer) {
     for logged in log {
-        show_news(logged, out)?;
+        show_news(logged, out);
     }
-    out.push_str("ok")
+    out.put("ok");
 }
 
 /// Writes something that a step told.
-fn show_news(logged: &Logged, out: &mut String) -> Result<(), AllocError> {
+fn show_news(logged: &Logged, out: &mut Answer) {
+    let step = logged.step;
     match logged.news {
-        News::Skipped => show_skipped(logged.step, out),
-        News::Phase(monitor, phase) => show_phase(logged.step, monitor, phase, out),
-        News::Notice(monitor, notice) => show_notice(logged.step, monitor, notice, out),
+        News::Skipped => writeln!(out, "{step}: skipped"),
+        News::Phase(monitor, phase) => show_phase(step, monitor, phase, out),
+        News::Notice(monitor, notice) => show_notice(step, monitor, notice, out),
     }
 }
 
-fn show_skipped(step: usize, out: &mut String) -> Result<(), AllocError> {
-    writeln!(out, "{step}: skipped")
-}
-
-fn show_phase(
-    step: usize,
-    monitor: usize,
-    phase: Phase,
-    out: &mut String,
-) -> Result<(), AllocError> {
-    writeln!(out, "{step}: monitor {monitor} phase {phase:?}")
+fn show_phase(step: usize, monitor: usize, phase: Phase, out: &mut Answer) {
+    writeln!(out, "{step}: monitor {monitor} phase {phase:?}");
 }
 
 /// Writes a notice, and the number of the MONITOR line that it is about, if it is about one.
-fn show_notice(
-    step: usize,
-    monitor: usize,
-    notice: Notice,
-    out: &mut String,
-) -> Result<(), AllocError> {
+fn show_notice(step: usize, monitor: usize, notice: Notice, out: &mut Answer) {
     let kind = shown(notice.kind.word());
-    write!(out, "{step}: monitor {monitor} notice {kind}")?;
-    end_notice(notice.line, out)
-}
-
-fn end_notice(line: Option<usize>, out: &mut String) -> Result<(), AllocError> {
-    match line {
-        Some(line) => writeln!(out, " {line}"),
-        None => writeln!(out),
+    write!(out, "{step}: monitor {monitor} notice {kind}");
+    if let Some(line) = notice.line {
+        out.put_count(line);
     }
+    out.put("\n");
 }

@@ -15,18 +15,22 @@
 //! driver-take U [N]    the driver of UPS U takes what waits for it, or at most N bytes of it; they are printed
 //! next C               prints the first connection, from C on, that has bytes waiting or leaves
 //! next-driver U        prints the first UPS, from U on, for whose driver bytes wait
+//! device U             prints the driver of the UPS with this place in ups.conf, and what it opens
+//! listen               prints the first two addresses of the text of upsd.conf, with their ports
 //! ```
 //!
 //! An arrival is answered by `ok` or the name of its refusal, and then by what waits at the place that it came from. A
 //! reload is answered by that for each number that a UPS has had, with the UPS's name or `-`, and then by the drivers that
 //! it disconnects and the connections that it closes.
 
-use crate::played::{Played, put_in, show_file_fault};
+use crate::answer::Answer;
 use crate::playing::{Peer, reload_with, show_next, show_next_driver, take, tell};
-use crate::text::Text;
-use nut_conf::{ConfFault, UpsConf, UpsdConf, UsersConf, read_ups, read_upsd, read_users};
-use nut_server::{Arrival, Config, Server, ServerFault};
-use std::alloc::{AllocError, Global};
+use crate::stage::Stage;
+use crate::text::{Step, shown};
+use nut_conf::{ConfFault, Ups, UpsConf, UpsdConf, UsersConf, read_ups, read_upsd, read_users};
+use nut_server::{Arrival, Config, Server};
+use std::alloc::Global;
+use std::mem;
 
 /// The texts of the configuration files of a server.
 #[derive(Drop)]
@@ -44,31 +48,6 @@ impl Texts {
             users: Vec::new(alloc),
             upsd: Vec::new(alloc),
         }
-    }
-}
-
-/// Replaces the server by a new one with the texts of the configuration files, or writes the first fault of a file.
-fn begin(
-    alloc: Global,
-    texts: &Texts,
-    server: &mut Option<Server>,
-    out: &mut String,
-) -> Result<(), AllocError> {
-    match read_config(alloc, texts) {
-        Ok(config) => put_server(Server::new(alloc, config), server, out),
-        Err(fault) => show_file_fault(fault, out),
-    }
-}
-
-fn put_server(
-    made: Result<Server, ServerFault>,
-    server: &mut Option<Server>,
-    out: &mut String,
-) -> Result<(), AllocError> {
-    match made {
-        Ok(made) => put_in(made, server, out),
-        // only memory can be lacking when a server is made
-        Err(_) => Err(AllocError),
     }
 }
 
@@ -103,90 +82,111 @@ fn with_upsd(
     }
 }
 
+/// Plays a step of a server or of its files, and writes the answer; `None` if it is no step.
+pub fn play(stage: &mut Stage, step: Step<'_>) -> Option<()> {
+    let (texts, out) = (&mut stage.texts, &mut stage.answer);
+    match step.verb {
+        "ups" => keep(step.bytes, &mut texts.ups, out),
+        "users" => keep(step.bytes, &mut texts.users, out),
+        "upsd" => keep(step.bytes, &mut texts.upsd, out),
+        "server" => begin(stage),
+        "listen" => listen(stage.alloc, &texts.upsd, out),
+        "reload" => reload(stage.alloc, texts, stage.server.as_mut()?, out),
+        _ => play_on(stage.server.as_mut()?, step, out)?,
+    }
+    Some(())
+}
+
+/// Keeps a text for a configuration file, and writes the answer.
+fn keep(text: &[u8], file: &mut Vec<u8>, out: &mut Answer) {
+    file.clear();
+    match file.extend_from_slice(text) {
+        Ok(()) => out.put("ok"),
+        Err(_) => out.lack(),
+    }
+}
+
+/// Writes the first two addresses of a text of upsd.conf, with their ports, or its fault.
+fn listen(alloc: Global, file: &[u8], out: &mut Answer) {
+    match read_upsd(alloc, file) {
+        Ok(upsd) => show_endpoints(&upsd, out),
+        Err(fault) => out.put_file_fault(fault),
+    }
+}
+
+fn show_endpoints(upsd: &UpsdConf, out: &mut Answer) {
+    let (first, second) = (upsd.endpoint(0), upsd.endpoint(1));
+    write!(out, "{first:?} {second:?}");
+}
+
+/// Replaces the server by a new one with the texts of the configuration files, or writes the first fault of a file.
+fn begin(stage: &mut Stage) {
+    match read_config(stage.alloc, &stage.texts) {
+        Ok(config) => make(config, stage),
+        Err(fault) => stage.answer.put_file_fault(fault),
+    }
+}
+
+fn make(config: Config, stage: &mut Stage) {
+    match Server::new(stage.alloc, config) {
+        Ok(made) => {
+            drop(mem::replace(&mut stage.server, Some(made)));
+            stage.answer.put("ok");
+        }
+        // only memory can be lacking when a server is made
+        Err(_) => stage.answer.lack(),
+    }
+}
+
 /// Puts the texts of the configuration files in force, and writes the answer or the first fault of a file.
-fn reload(alloc: Global, texts: &Texts, server: &mut Option<Server>, out: &mut String) -> Played {
-    match server {
-        Some(server) => Some(reload_on(alloc, texts, server, out)),
-        None => None,
-    }
-}
-
-fn reload_on(
-    alloc: Global,
-    texts: &Texts,
-    server: &mut Server,
-    out: &mut String,
-) -> Result<(), AllocError> {
+fn reload(alloc: Global, texts: &Texts, server: &mut Server, out: &mut Answer) {
     match read_config(alloc, texts) {
-        Ok(config) => reload_with(boxed(alloc, config)?, server, out),
-        Err(fault) => show_file_fault(fault, out),
+        Ok(config) => reload_on(alloc, config, server, out),
+        Err(fault) => out.put_file_fault(fault),
     }
 }
 
-fn boxed(alloc: Global, config: Config) -> Result<Box<Config>, AllocError> {
+fn reload_on(alloc: Global, config: Config, server: &mut Server, out: &mut Answer) {
     match Box::new(alloc, config) {
-        Ok(config) => Ok(config),
+        Ok(config) => reload_with(config, server, out),
         Err(failed) => {
             drop(failed);
-            Err(AllocError)
+            out.lack();
         }
     }
 }
 
-/// Plays a step of a server or of its files, and writes the answer.
-pub fn play(
-    alloc: Global,
-    texts: &mut Texts,
-    server: &mut Option<Server>,
-    text: Text<'_>,
-    out: &mut String,
-) -> Played {
-    let (verb, rest) = text.parted();
-    match verb {
-        "ups" => Some(keep(rest.bytes, &mut texts.ups, out)),
-        "users" => Some(keep(rest.bytes, &mut texts.users, out)),
-        "upsd" => Some(keep(rest.bytes, &mut texts.upsd, out)),
-        "server" => Some(begin(alloc, texts, server, out)),
-        "reload" => reload(alloc, texts, server, out),
-        _ => play_on(server, verb, rest, out),
-    }
-}
-
-/// Keeps a text for a configuration file, and writes the answer.
-fn keep(text: &[u8], file: &mut Vec<u8>, out: &mut String) -> Result<(), AllocError> {
-    file.clear();
-    file.extend_from_slice(text)?;
-    out.push_str("ok")
-}
-
 /// Plays a step on a server that was made.
-fn play_on(server: &mut Option<Server>, verb: &str, rest: Text<'_>, out: &mut String) -> Played {
-    match server {
-        Some(server) if verb == "open" => Some(tell(Arrival::Open(rest.bytes), server, out)),
-        Some(server) => play_numbered(server, verb, rest, out),
-        None => None,
+fn play_on(server: &mut Server, step: Step<'_>, out: &mut Answer) -> Option<()> {
+    match step.verb {
+        "take" => take(
+            Peer::Connection(step.number? as u64),
+            most(step)?,
+            server,
+            out,
+        ),
+        "driver-take" => take(Peer::Driver(step.number?), most(step)?, server, out),
+        "next" => show_next(server.next_unsettled(step.number? as u64), out),
+        "next-driver" => show_next_driver(server.next_driver_waiting(step.number?), out),
+        "open" => tell(Arrival::Open(step.bytes), server, out),
+        "device" => show_device(server.config().ups().get(step.number?), out),
+        _ => tell(arrival_of(step)?, server, out),
+    }
+    Some(())
+}
+
+/// Writes the driver of a UPS, and what it opens.
+fn show_device(ups: Option<&Ups>, out: &mut Answer) {
+    match ups {
+        Some(ups) => write!(out, "{} {}", shown(ups.driver()), shown(ups.port())),
+        None => out.put("none"),
     }
 }
 
-/// Plays a step that names a connection, a UPS or a moment by its number.
-fn play_numbered(server: &mut Server, verb: &str, rest: Text<'_>, out: &mut String) -> Played {
-    let (number, more) = rest.parted();
-    let n: usize = number.parse().ok()?;
-    match verb {
-        "take" => Some(take(Peer::Connection(n as u64), most(more)?, server, out)),
-        "driver-take" => Some(take(Peer::Driver(n), most(more)?, server, out)),
-        "next" => Some(show_next(server.next_unsettled(n as u64), out)),
-        "next-driver" => Some(show_next_driver(server.next_driver_waiting(n), out)),
-        _ => match arrival_of(verb, n, more) {
-            Some(arrival) => Some(tell(arrival, server, out)),
-            None => None,
-        },
-    }
-}
-
-/// Returns the arrival that a verb tells, if it tells one.
-fn arrival_of<'a>(verb: &str, n: usize, more: Text<'a>) -> Option<Arrival<'a>> {
-    match verb {
+/// Returns the arrival that a step tells of a connection, a UPS or a moment, if it tells one.
+fn arrival_of<'a>(step: Step<'a>) -> Option<Arrival<'a>> {
+    let (n, more) = (step.number?, step.more);
+    match step.verb {
         "moment" => Some(Arrival::Moment(n as u64)),
         "bytes" => Some(Arrival::Bytes(n as u64, more.bytes)),
         "took" => Some(Arrival::Took(n as u64, more.number()?)),
@@ -201,9 +201,9 @@ fn arrival_of<'a>(verb: &str, n: usize, more: Text<'a>) -> Option<Arrival<'a>> {
 }
 
 /// Returns how many bytes are taken at most: all, if no number is given. `None` if the text isn't a number.
-fn most(text: Text<'_>) -> Option<usize> {
-    if text.written.is_empty() {
+fn most(step: Step<'_>) -> Option<usize> {
+    if step.more.written.is_empty() {
         return Some(usize::MAX);
     }
-    text.number()
+    step.more.number()
 }

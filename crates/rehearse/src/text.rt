@@ -17,6 +17,19 @@ pub struct Text<'a> {
     pub bytes: &'a [u8],
 }
 
+/// A step, in its parts.
+#[derive(Clone, Copy)]
+pub struct Step<'a> {
+    /// What is done.
+    pub verb: &'a str,
+    /// The bytes behind the verb.
+    pub bytes: &'a [u8],
+    /// The number behind the verb, if there is one.
+    pub number: Option<usize>,
+    /// What is behind that number.
+    pub more: Text<'a>,
+}
+
 impl<'a> Text<'a> {
     /// Returns the first word, and the text behind the blank after it. The word is a verb or a number, in which each byte
     /// means itself.
@@ -30,6 +43,18 @@ impl<'a> Text<'a> {
     /// Returns the number that is written, if one is.
     pub fn number(self) -> Option<usize> {
         self.written.parse().ok()
+    }
+
+    /// Returns the step that is written.
+    pub fn step(self) -> Step<'a> {
+        let (verb, rest) = self.parted();
+        let (number, more) = rest.parted();
+        Step {
+            verb,
+            bytes: rest.bytes,
+            number: number.parse().ok(),
+            more,
+        }
     }
 }
 
@@ -63,9 +88,4 @@ pub fn decode(text: &str, bytes: &mut Vec<u8>) -> Result<(), AllocError> {
 /// Returns bytes as a text that can be written.
 pub fn shown(bytes: &[u8]) -> PercentEncode<'_> {
     percent_encode(bytes, ESCAPED)
-}
-
-/// Writes bytes as a text.
-pub fn put(bytes: &[u8], out: &mut String) -> Result<(), AllocError> {
-    shown(bytes).append_to(out)
 }
