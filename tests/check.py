@@ -30,6 +30,7 @@ TESTS = (
     ("rehearsals.monitor", ("rehearse",)),
     ("rehearsals.links", ("rehearse",)),
     ("rehearsals.words", ("rehearse",)),
+    ("rehearsals.examples", ("rehearse",)),
     ("gate.borrows", ()),
     ("programs.tools", ("upsc", "upsrw", "upscmd")),
     ("programs.upsd_sockets", ("upsd", "dummy_ups", "upsrw", "upscmd")),

@@ -6,17 +6,12 @@ and just past it.
 
 The last line is 'N passed, M failed'."""
 
-import ast
 import os
-import re
 import subprocess
 import sys
 import tempfile
 
-from tests.support.harness import ensure, expect, ROOT, run_tests
-
-# a text that library_tests reads, below the name of the file that it repeats
-EXAMPLE = re.compile(r'/// examples/(\S+)\nconst \w+: &\[u8\] =\s*(b"(?:[^"\\]|\\.)*");')
+from tests.support.harness import ensure, expect, run_tests
 
 
 def numbered(line, count):
@@ -391,15 +386,6 @@ class Tests:
 
     def test_cmdvartab(self):
         self.compare("cmdvartab", self.upsd, ups_conf=b"", upsd_users=b"", upsd_conf=b"")
-
-    def test_library_reads_the_examples(self):
-        """What library_tests proves of the examples holds of the files that are there now."""
-        with open(os.path.join(ROOT, "crates/library_tests/src/examples.rt")) as file:
-            texts = dict(EXAMPLE.findall(file.read()))
-        expect(sorted(texts), sorted(it for it in FILES if it != "cmdvartab"), "the files that it reads")
-        for name, text in texts.items():
-            with open(os.path.join(ROOT, "examples", name), "rb") as file:
-                expect(ast.literal_eval(text), file.read(), f"examples/{name} in library_tests")
 
 
 def main():

@@ -1,11 +1,9 @@
-//! Tests of the libraries: the files of `examples` and what they set, and the loops of the server and of the monitor.
+//! Tests of the libraries: the loops of the server and of the monitor.
 //!
 //! They are in a crate of their own, since a crate that has tests is proved twice, with them and without. Here stands
 //! only what neither a contract nor the tests of the built programs show.
 #![tactic(auto)]
 
-#[cfg(test)]
-mod examples;
 #[cfg(test)]
 mod monitor;
 #[cfg(test)]
