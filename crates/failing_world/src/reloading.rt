@@ -36,11 +36,6 @@ impl ReloadingWorld {
         self.world.deeds()
     }
 
-    /// Returns how many rows are left to give.
-    pub fn rows_left(&self) -> usize {
-        self.world.rows_left()
-    }
-
     /// Returns the reload, if it is still to come, and else the end.
     fn reload(&mut self) -> Next
         ensures faults { self.new.world.faults ≡ self.old.world.faults }

@@ -6,7 +6,7 @@ ghost use Rattle.nut_io.specs.Writes.{IsWithin};
 use nut_io::Written;
 
 /// What is wrong with a device: with connection 1, or with the driver of UPS 0.
-#[derive(Clone, Copy, Debug, PartialEq, Eq)]
+#[derive(Clone, Copy)]
 pub enum Trouble {
     /// Nothing is wrong: it takes all that it is offered.
     Nothing,
