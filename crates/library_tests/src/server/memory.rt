@@ -10,7 +10,6 @@ use nut_server::Server;
 use nut_server_loop::{Address, Given, MemoryWorld, Note, serve_memory};
 use std::alloc::{AllocError, Global};
 use std::sync::Wait;
-use std::test::Fail;
 
 /// Arrivals, and what the world does: all that it takes of two connections, all that it takes of the driver since that
 /// was last connected, and how many connections and links it closes.
@@ -111,13 +110,15 @@ fn arrivals_of(alloc: Global, rows: &[Row]) -> Result<Vec<Given>, AllocError> {
 }
 
 /// Serves the arrivals of a scene, and returns whether the world did what the scene says.
-fn plays(rt: &impl Wait, alloc: Global, scene: &Scene) -> Result<bool, Fail> {
-    let server = server_of(alloc, UPSES)?;
+fn plays(rt: &impl Wait, alloc: Global, scene: &Scene) -> bool {
+    let Some(server) = server_of(alloc, UPSES) else {
+        return false;
+    };
     match arrivals_of(alloc, scene.rows) {
-        Ok(arrivals) => Ok(serves(rt, alloc, server, arrivals, scene)),
-        Err(error) => {
+        Ok(arrivals) => serves(rt, alloc, server, arrivals, scene),
+        Err(_) => {
             drop(server);
-            Err(error.into())
+            false
         }
     }
 }
@@ -186,10 +187,8 @@ fn closes(notes: &[Note]) -> usize {
 }
 
 #[test]
-fn worlds_in_memory(rt: HostRuntime) -> Result<(), Fail> {
+fn worlds_in_memory(rt: HostRuntime) {
     for (index, scene) in SCENES.iter().enumerate() {
-        let plays = plays(&rt, rt.alloc(), scene)?;
-        assert!(rt; plays, "scene {index}");
+        assert!(rt; plays(&rt, rt.alloc(), scene), "scene {index}");
     }
-    Ok(())
 }

@@ -1,15 +1,14 @@
 //! The loop over a world that gives a new configuration.
 
-ghost use Rattle.std.specs.Prelude.{◌≡◌, [], IfOk};
+ghost use Rattle.std.specs.Prelude.{◌≡◌, [], IfSome};
 ghost use Rattle.nut_server_spec.specs.Content.{content};
 
 use super::deeds::{taken, taken_requests};
 use super::room::{ON_LINE, config_of, rows_of, server_of};
 use failing_world::{Deed, FailingWorld, ReloadingWorld, Row, Trouble, serve_reloading};
 use nut_server::{Config, Server};
-use std::alloc::{AllocError, Global};
+use std::alloc::Global;
 use std::sync::Wait;
-use std::test::Fail;
 
 /// The UPSes before the reload.
 const BEFORE: &[u8] = b"[su700]\ndesc = \"Server room\"\n[old]\n";
@@ -84,35 +83,37 @@ static SCENES: [Scene; 3] = [
     },
 ];
 
-/// Makes a world that gives the first rows, a reload, and the further rows of a scene.
-fn world_of(alloc: Global, scene: &Scene) -> Result<ReloadingWorld, Fail>
-    ensures { IfOk result (λ made. made.world.faults ≡ 0) }
+/// Makes a world that gives the first rows, a reload, and the further rows of a scene; `None` if there is no memory for it.
+fn world_of(alloc: Global, scene: &Scene) -> Option<ReloadingWorld>
+    ensures { IfSome result (λ made. made.world.faults ≡ 0) }
 {
-    let rows = rows_of(alloc, &FIRST, &[])?;
-    let further = rows_of(alloc, scene.further, &[])?;
+    let rows = rows_of(alloc, &FIRST, &[]).ok()?;
+    let further = rows_of(alloc, scene.further, &[]).ok()?;
     let config = boxed_config(alloc, scene.upses)?;
     let world = FailingWorld::new(alloc, rows, Trouble::Nothing, Trouble::Nothing, 0);
-    Ok(ReloadingWorld::new(world, config, further))
+    Some(ReloadingWorld::new(world, config, further))
 }
 
-fn boxed_config(alloc: Global, upses: &[u8]) -> Result<Box<Config>, Fail> {
+fn boxed_config(alloc: Global, upses: &[u8]) -> Option<Box<Config>> {
     match Box::new(alloc, config_of(alloc, upses)?) {
-        Ok(config) => Ok(config),
+        Ok(config) => Some(config),
         Err(failed) => {
             drop(failed);
-            Err(AllocError.into())
+            None
         }
     }
 }
 
 /// Serves the world of a scene, and returns whether it did what the scene says.
-fn plays(rt: &impl Wait, alloc: Global, scene: &Scene) -> Result<bool, Fail> {
-    let server = server_of(alloc, BEFORE)?;
+fn plays(rt: &impl Wait, alloc: Global, scene: &Scene) -> bool {
+    let Some(server) = server_of(alloc, BEFORE) else {
+        return false;
+    };
     match world_of(alloc, scene) {
-        Ok(world) => Ok(serves(rt, server, world, scene)),
-        Err(fail) => {
+        Some(world) => serves(rt, server, world, scene),
+        None => {
             drop(server);
-            Err(fail)
+            false
         }
     }
 }
@@ -153,10 +154,8 @@ fn closes(deeds: &[Deed], wanted: &[Close]) -> bool {
 }
 
 #[test]
-fn reloads(rt: HostRuntime) -> Result<(), Fail> {
+fn reloads(rt: HostRuntime) {
     for (index, scene) in SCENES.iter().enumerate() {
-        let plays = plays(&rt, rt.alloc(), scene)?;
-        assert!(rt; plays, "scene {index}");
+        assert!(rt; plays(&rt, rt.alloc(), scene), "scene {index}");
     }
-    Ok(())
 }

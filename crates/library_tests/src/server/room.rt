@@ -1,13 +1,12 @@
 //! What the tests of a server start with: UPSes, a user who may set, a user who monitors, two connections, and rows.
 
-ghost use Rattle.std.specs.Prelude.{◌≡◌, [], IfOk};
+ghost use Rattle.std.specs.Prelude.{◌≡◌, [], IfSome};
 ghost use Rattle.nut_server_spec.specs.Content.{content};
 
 use failing_world::Row;
 use nut_conf::{read_ups, read_upsd, read_users};
 use nut_server::{Config, Server};
 use std::alloc::{AllocError, Global};
-use std::test::Fail;
 
 /// The one UPS of most tests.
 pub const UPSES: &[u8] = b"[su700]\ndesc = \"Server room\"\n";
@@ -18,24 +17,22 @@ const USERS: &[u8] =
 /// The lines of a driver whose UPS is on line.
 pub const ON_LINE: &[u8] = b"SETINFO ups.status \"OL\"\nDATAOK\nDUMPDONE\n";
 
-/// Makes a server of these UPSes that was told nothing.
-pub fn server_of(alloc: Global, upses: &[u8]) -> Result<Server, Fail>
-    ensures { IfOk result (λ s. s ≡ content s.configuration []) }
+/// Makes a server of these UPSes that was told nothing; `None` if there is no memory for it.
+pub fn server_of(alloc: Global, upses: &[u8]) -> Option<Server>
+    ensures { IfSome result (λ s. s ≡ content s.configuration []) }
 {
-    let config = config_of(alloc, upses)?;
-    let server = Server::new(alloc, config)?;
-    Ok(server)
+    Server::new(alloc, config_of(alloc, upses)?).ok()
 }
 
-/// Makes the configuration of these UPSes.
-pub fn config_of(alloc: Global, upses: &[u8]) -> Result<Config, Fail> {
-    let upsd = read_upsd(alloc, b"MAXCONN 2")?;
-    let users = read_users(alloc, USERS)?;
+/// Makes the configuration of these UPSes; `None` if there is no memory for it.
+pub fn config_of(alloc: Global, upses: &[u8]) -> Option<Config> {
+    let upsd = read_upsd(alloc, b"MAXCONN 2").ok()?;
+    let users = read_users(alloc, USERS).ok()?;
     match read_ups(alloc, upses) {
-        Ok(ups) => Ok(Config::new(ups, users, upsd)),
-        Err(fault) => {
+        Ok(ups) => Some(Config::new(ups, users, upsd)),
+        Err(_) => {
             drop(users);
-            Err(fault.into())
+            None
         }
     }
 }
