@@ -1,6 +1,6 @@
 //! The loop that watches with a monitor, over worlds that are slow, late or broken.
 
-ghost use Rattle.std.specs.Prelude.{◌≡◌, ◌&&◌, nat_eq, None, IfOk, []};
+ghost use Rattle.std.specs.Prelude.{◌≡◌, ◌&&◌, nat_eq, None, IfSome, []};
 ghost use Rattle.nut_monitor_spec.specs.Content.{content};
 
 use nut_conf::{Notice as Kind, read_upsmon};
@@ -9,7 +9,6 @@ use nut_monitor::{Monitor, Notice, Phase};
 use nut_monitor_loop::{MonWorld, Next, watch};
 use std::alloc::Global;
 use std::sync::Wait;
-use std::test::Fail;
 
 /// What is odd about a world. It concerns the first link, of which a world takes one byte at a time.
 #[derive(Clone, Copy, PartialEq, Eq)]
@@ -204,23 +203,21 @@ struct Outcome {
     waits: Option<Notice>,
 }
 
-/// Makes a monitor with this file that was told nothing.
-fn fresh_monitor(alloc: Global, file: &[u8]) -> Result<Monitor, Fail>
-    ensures { IfOk result (λ m. m.content ≡ content m.content.configuration []) }
+/// Makes a monitor with this file that was told nothing; `None` if there is no memory for it.
+fn fresh_monitor(alloc: Global, file: &[u8]) -> Option<Monitor>
+    ensures { IfSome result (λ m. m.content ≡ content m.content.configuration []) }
 {
-    let config = read_upsmon(alloc, file)?;
-    let monitor = Monitor::new(alloc, config)?;
-    Ok(monitor)
+    Monitor::new(alloc, read_upsmon(alloc, file).ok()?).ok()
 }
 
-fn watch_odd(rt: &impl Wait, alloc: Global, mode: Mode) -> Result<Outcome, Fail> {
+fn watch_odd(rt: &impl Wait, alloc: Global, mode: Mode) -> Option<Outcome> {
     let mut monitor = fresh_monitor(alloc, FILE)?;
     let mut world = make_odd(mode);
     let is_ok = watch(rt, &mut monitor, &mut world) == Ok(Phase::Watching);
     let linked = (monitor.linked(0), monitor.linked(1));
     let waits = monitor.first_notice();
     drop(monitor);
-    Ok(outcome_of(is_ok, linked, waits, &world))
+    Some(outcome_of(is_ok, linked, waits, &world))
 }
 
 fn outcome_of(is_ok: bool, linked: (bool, bool), waits: Option<Notice>, world: &Odd) -> Outcome {
@@ -384,23 +381,21 @@ static WORLDS: [(Mode, Outcome); 15] = [
 ];
 
 #[test]
-fn worlds(rt: HostRuntime) -> Result<(), Fail> {
+fn worlds(rt: HostRuntime) {
     for (index, (mode, wanted)) in WORLDS.iter().enumerate() {
-        let outcome = watch_odd(&rt, rt.alloc(), *mode)?;
-        assert!(rt; outcome == *wanted, "world {index}");
+        let outcome = watch_odd(&rt, rt.alloc(), *mode);
+        assert!(rt; outcome == Some(*wanted), "world {index}");
     }
-    Ok(())
 }
 
 #[test]
-fn each_write_fails(rt: HostRuntime) -> Result<(), Fail> {
+fn each_write_fails(rt: HostRuntime) {
     for at in 1..55 {
-        let outcome = watch_odd(&rt, rt.alloc(), Mode::FailsAt(at))?;
+        let outcome = watch_odd(&rt, rt.alloc(), Mode::FailsAt(at));
         let wanted = Outcome {
             took: Some((at as usize - 1, 54)),
             ..LOST
         };
-        assert!(rt; outcome == wanted, "write {at}");
+        assert!(rt; outcome == Some(wanted), "write {at}");
     }
-    Ok(())
 }
