@@ -5,7 +5,7 @@ ghost use Rattle.nut_client.specs.declared.failure.Failure.TheVariants.{Memory};
 
 use nut_link::{LinkFault, Text};
 use nut_proto::TrackingStatus;
-use std::alloc::{AllocError, AllocFailed};
+use std::alloc::AllocError;
 
 /// Why a tool ends without its output, or with only a part of it.
 #[derive(Debug, Drop)]
@@ -38,14 +38,6 @@ impl From<AllocError> for Failure {
     ghost from_gives = { λ _ failure. failure ≡ Memory };
 
     fn from(_: AllocError) -> Self {
-        Failure::Memory
-    }
-}
-
-impl<T: Drop> From<AllocFailed<T>> for Failure {
-    ghost from_gives = { λ _ failure. failure ≡ Memory };
-
-    fn from(_: AllocFailed<T>) -> Self {
         Failure::Memory
     }
 }

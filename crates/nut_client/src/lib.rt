@@ -2,7 +2,7 @@
 //! answers, what the tool prints and how it ends.
 //!
 //! The command lines are in `specs/CommandLine.antt`, what each of them asks and prints in `specs/Script.antt`, how a
-//! tool runs and ends in `specs/Tool.antt`. A tool asks over a link of `nut_link`, whose public items stand here too.
+//! tool runs and ends in `specs/Tool.antt`. A tool asks over a link of `nut_link`.
 #![tactic(auto)]
 
 mod command_line;
@@ -34,11 +34,7 @@ pub use examples::worked_examples;
 pub use failure::Failure;
 pub use laws::{all_bytes_decide, more_bytes_are_ignored};
 pub use nut_conf::{NameFault, Target, split_name};
-pub use nut_link::{
-    Exchange, Expected, Fields, Heading, Link, LinkFault, More, Name, Outcome, QUERY_MAX, Query,
-    Rows, Stage, Text, bounds_stay, cuts_do_not_matter, ok_takes_no_memory, query_limits,
-    replies_match, rests_stay,
-};
+pub use nut_link::Text;
 pub use output::{Output, WriterOutput};
 pub use printing::{Form, Values};
 pub use program::run_tool;

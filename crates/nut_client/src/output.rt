@@ -35,7 +35,7 @@ pub struct WriterOutput<W> {
     has_failed: bool,
 }
 
-impl<W: Write> WriterOutput<W> {
+impl<W> WriterOutput<W> {
     /// Makes an output over this writer.
     pub fn new(writer: W) -> Self
         ensures writer { result.writer ≡ writer }
@@ -45,13 +45,6 @@ impl<W: Write> WriterOutput<W> {
             writer,
             has_failed: false,
         }
-    }
-
-    /// Returns the writer.
-    pub fn into_writer(self) -> W
-        ensures { result ≡ self.writer }
-    {
-        self.writer
     }
 
     /// Notes that a write failed.

@@ -50,19 +50,12 @@ pub struct ByteStream<T> {
     inner: T,
 }
 
-impl<T: Read + Write> ByteStream<T> {
+impl<T> ByteStream<T> {
     /// Makes a connection over this.
     pub fn new(inner: T) -> Self
         ensures { result.inner ≡ inner }
     {
         ByteStream { inner }
-    }
-
-    /// Returns what it is over.
-    pub fn into_inner(self) -> T
-        ensures { result ≡ self.inner }
-    {
-        self.inner
     }
 }
 
