@@ -9,7 +9,7 @@ use arrayvec::ArrayVec;
 use nut_conf::{Host, Port, Target};
 
 /// The host and the port to connect to.
-#[derive(Debug, PartialEq, Eq, Drop)]
+#[derive(Drop)]
 pub struct Destination {
     /// The host of the server.
     pub host: Host,

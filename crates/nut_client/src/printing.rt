@@ -7,7 +7,7 @@ use nut_link::{Fields, Text};
 use std::alloc::AllocError;
 
 /// How a row is printed.
-#[derive(Clone, Copy, Debug)]
+#[derive(Clone, Copy)]
 pub enum Form {
     /// Its first two words with `: ` between them.
     Pairs,
@@ -20,7 +20,7 @@ pub enum Form {
 }
 
 /// The values that a variable may have.
-#[derive(Clone, Copy, Debug)]
+#[derive(Clone, Copy)]
 pub enum Values {
     /// The values that the server lists.
     Enum,

@@ -8,7 +8,7 @@ use std::io;
 use std::io::{ErrorKind, Read, Write};
 
 /// The result of a read or a write.
-#[derive(Clone, Copy, Debug, PartialEq, Eq)]
+#[derive(Clone, Copy)]
 pub enum Moved {
     /// This many bytes were moved, from the front: at least one, if any were offered.
     Bytes(usize),

@@ -21,7 +21,7 @@ use std::sync::Wait;
 use std::time::Clock;
 
 /// A tool.
-#[derive(Clone, Copy, Debug, PartialEq, Eq)]
+#[derive(Clone, Copy)]
 pub enum Tool {
     /// `upsc` shows the variables of a UPS, the UPSes of a server, or the clients of a UPS.
     Upsc,

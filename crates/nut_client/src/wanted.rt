@@ -2,7 +2,7 @@
 use nut_proto::Word;
 
 /// What a tool is asked to do.
-#[derive(Debug, Drop)]
+#[derive(Drop)]
 pub enum Wanted<'a> {
     /// All variables of the UPS with their values: `upsc NAME`.
     Variables,
@@ -25,7 +25,7 @@ pub enum Wanted<'a> {
 }
 
 /// How long a tool stays if it has a UPS do something.
-#[derive(Clone, Copy, Debug, PartialEq, Eq)]
+#[derive(Clone, Copy)]
 pub enum Until {
     /// Until the server has accepted the request.
     Accepted,
@@ -35,7 +35,7 @@ pub enum Until {
 }
 
 /// Something that a UPS is told to do.
-#[derive(Debug, Drop)]
+#[derive(Drop)]
 pub enum Deed<'a> {
     /// Set this variable to this value.
     Set(Word<'a>, Word<'a>),
