@@ -23,14 +23,13 @@ fn put_byte(out: &mut Vec<u8>, byte: u8) -> Result<(), AllocError>
     ensures { OnOk result (out.new.items ≡ out.old.items ++ escaped byte) }
 {
     if byte == b'"' || byte == b'\\' {
-        out.extend_from_slice(&[b'\\', byte])?;
+        out.extend_from_slice(&[b'\\', byte])
     } else if byte < b' ' || byte > b'~' {
         out.extend_from_slice(b"\\u00")?;
-        out.extend_from_slice(&[hex_digit(byte / 16), hex_digit(byte % 16)])?;
+        out.extend_from_slice(&[hex_digit(byte / 16), hex_digit(byte % 16)])
     } else {
-        out.push(byte)?;
+        out.extend_from_slice(&[byte])
     }
-    Ok(())
 }
 
 /// Appends the bytes of a string, each escaped if it has to be.
@@ -47,10 +46,9 @@ fn put_bytes(out: &mut Vec<u8>, text: &[u8]) -> Result<(), AllocError>
 fn put_string(out: &mut Vec<u8>, text: &[u8]) -> Result<(), AllocError>
     ensures { OnOk result (out.new.items ≡ out.old.items ++ json_string text.now) }
 {
-    out.push(b'"')?;
+    out.extend_from_slice(b"\"")?;
     put_bytes(out, text)?;
-    out.push(b'"')?;
-    Ok(())
+    out.extend_from_slice(b"\"")
 }
 
 /// Appends the name and the value of a row.
@@ -59,8 +57,7 @@ fn put_member(out: &mut Vec<u8>, row: &Fields) -> Result<(), AllocError>
 {
     put_string(out, row.get(0))?;
     out.extend_from_slice(b": ")?;
-    put_string(out, row.get(1))?;
-    Ok(())
+    put_string(out, row.get(1))
 }
 
 /// Appends further members, each after a comma.
@@ -78,19 +75,20 @@ fn put_more(out: &mut Vec<u8>, rows: &[Fields]) -> Result<(), AllocError>
 fn put_members(out: &mut Vec<u8>, rows: &[Fields]) -> Result<(), AllocError>
     ensures { OnOk result (out.new.items ≡ out.old.items ++ members rows.now) }
 {
-    if let Some((first, more)) = rows.split_first() {
-        put_member(out, first)?;
-        put_more(out, more)?;
+    match rows.split_first() {
+        Some((first, more)) => {
+            put_member(out, first)?;
+            put_more(out, more)
+        }
+        None => Ok(()),
     }
-    Ok(())
 }
 
 /// Appends the rows as one object and a line feed.
 pub(crate) fn put_object(out: &mut Vec<u8>, rows: &[Fields]) -> Result<(), AllocError>
     ensures { OnOk result (out.new.items ≡ out.old.items ++ json_object rows.now) }
 {
-    out.push(b'{')?;
+    out.extend_from_slice(b"{")?;
     put_members(out, rows)?;
-    out.extend_from_slice(b"}\n")?;
-    Ok(())
+    out.extend_from_slice(b"}\n")
 }

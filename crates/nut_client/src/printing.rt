@@ -37,8 +37,7 @@ pub(crate) fn put_line(out: &mut Vec<u8>, parts: &[&[u8]]) -> Result<(), AllocEr
     for part in parts {
         out.extend_from_slice(part)?;
     }
-    out.push(b'\n')?;
-    Ok(())
+    out.extend_from_slice(b"\n")
 }
 
 /// Appends the line that shows a row.
@@ -68,7 +67,7 @@ fn put_words(out: &mut Vec<u8>, words: &[Text]) -> Result<(), AllocError>
     ensures { OnOk result (out.new.items ≡ out.old.items ++ flat_map (λ w. 32 ∷ w) words.now) }
 {
     for word in words {
-        out.push(b' ')?;
+        out.extend_from_slice(b" ")?;
         out.extend_from_slice(word.as_bytes())?;
     }
     Ok(())
@@ -80,8 +79,7 @@ fn put_type(out: &mut Vec<u8>, kind: &Fields) -> Result<(), AllocError>
 {
     out.extend_from_slice(b"Type:")?;
     put_words(out, kind.as_slice())?;
-    out.push(b'\n')?;
-    Ok(())
+    out.extend_from_slice(b"\n")
 }
 
 /// Appends what is shown above the values that a variable may have: its name, its type and its value.
@@ -90,24 +88,28 @@ pub(crate) fn put_heading(out: &mut Vec<u8>, row: &Fields, kind: &Fields) -> Res
 {
     put_line(out, &[b"[", row.get(0), b"]"])?;
     put_type(out, kind)?;
-    put_line(out, &[b"Value: ", row.get(1)])?;
-    Ok(())
+    put_line(out, &[b"Value: ", row.get(1)])
 }
 
 /// Whether one of the words is this one.
-fn has_word(words: &Fields, wanted: &[u8]) -> bool
+fn has_word(words: &[Text], wanted: &[u8]) -> bool
     ensures { result ≡ has_word wanted.now words.now }
 {
-    words.as_slice().iter().any(|w| w.as_bytes() == wanted)
+    let mut has = false;
+    for word in words {
+        has = has || word.as_bytes() == wanted;
+    }
+    has
 }
 
 /// Returns the values that a variable of this type may have.
 pub(crate) fn values_of(kind: &Fields) -> Values
     ensures { result ≡ values_of kind.now }
 {
-    if has_word(kind, b"ENUM") {
+    let words = kind.as_slice();
+    if has_word(words, b"ENUM") {
         Values::Enum
-    } else if has_word(kind, b"RANGE") {
+    } else if has_word(words, b"RANGE") {
         Values::Range
     } else {
         Values::Free
