@@ -79,7 +79,7 @@ impl Conversation {
                 break;
             }
             match stream.write(self.link.waiting()) {
-                Moved::Bytes(n) => self.link.took(n)?,
+                Moved::Bytes(n) => self.link.took(n).unwrap(),
                 Moved::Again => {}
                 Moved::Lost => return Err(Failure::ConnectionLost),
             }
@@ -100,8 +100,8 @@ impl Conversation {
             (S.has_ended stream.new) }
         ensures taken { S.taken stream.new ≡ S.taken stream.old }
     {
-        if let Err(failure) = self.unread.fill(rt, stream) {
-            return Err(failure);
+        if !self.unread.fill(rt, stream) {
+            return Err(Failure::ConnectionLost);
         }
         let part = self.unread.line_part();
         let used = part.len();

@@ -1,10 +1,8 @@
 //! Bytes that were read from a connection and haven't been used yet.
-ghost use Rattle.std.specs.Prelude.{◌≡◌, ◌⊎◌, ◌<◌, ◌≤◌, [], IfErr, IfOk, OnErr, OnOk, drop, length};
+ghost use Rattle.std.specs.Prelude.{◌≡◌, ◌⊎◌, ◌<◌, ◌≤◌, [], IfSome, None, drop, false, length, true};
 ghost use Rattle.std.specs.Io.KnownBytes.{prepend_known};
 ghost use Rattle.nut_client.specs.inside.Unread.{IsLinePart};
-ghost use Rattle.nut_client.specs.declared.failure.Failure.TheVariants.{ConnectionLost};
 
-use crate::failure::Failure;
 use crate::stream::{Moved, Stream};
 use arrayvec::ArrayVec;
 use memchr::memchr;
@@ -65,41 +63,46 @@ impl Unread {
         self.used = self.used.saturating_add(n).min(self.bytes.len());
     }
 
-    /// Reads from the connection if nothing is unread. It waits for at least one byte.
-    pub(crate) fn fill<S: Stream>(&mut self, rt: &impl Wait, stream: &mut S) -> Result<(), Failure>
+    /// Reads from the connection if nothing is unread. It waits for at least one byte. Returns whether there is one; if
+    /// not, the connection is lost.
+    pub(crate) fn fill<S: Stream>(&mut self, rt: &impl Wait, stream: &mut S) -> bool
         ensures same { prepend_known self.old (S.remaining stream.old) ≡ prepend_known self.new (S.remaining stream.new) }
-        ensures some { OnOk result (0 < length self.new) }
-        ensures none { OnErr result (self.new ≡ []) }
+        ensures some { result ≡ true → 0 < length self.new }
+        ensures none { result ≡ false → self.new ≡ [] }
         ensures reads { (self.new ≡ self.old) ⊎ ((self.old ≡ []) × (length self.new ≤ PIECE_MAX)) }
         ensures taken { S.taken stream.new ≡ S.taken stream.old }
-        ensures lost { IfErr result (λ failure. (failure ≡ ConnectionLost) × S.has_ended stream.new) }
+        ensures lost { result ≡ false → S.has_ended stream.new }
     {
         if self.used < self.bytes.len() {
-            return Ok(());
+            return true;
         }
-        let bytes = read_some(rt, stream)?;
-        *self = Unread { bytes, used: 0 };
-        Ok(())
+        match read_some(rt, stream) {
+            Some(bytes) => {
+                *self = Unread { bytes, used: 0 };
+                true
+            }
+            None => false,
+        }
     }
 }
 
-/// Reads from the connection. It waits for at least one byte.
-fn read_some<S: Stream>(rt: &impl Wait, stream: &mut S) -> Result<ArrayVec<u8, PIECE_MAX>, Failure>
-    ensures some { IfOk result (λ bytes. S.remaining stream.old ≡ prepend_known bytes.items (S.remaining stream.new)) }
-    ensures full { IfOk result (λ bytes. 0 < length bytes.items) }
-    ensures none { OnErr result (S.remaining stream.new ≡ S.remaining stream.old) }
+/// Reads from the connection. It waits for at least one byte. `None` if the connection is lost.
+fn read_some<S: Stream>(rt: &impl Wait, stream: &mut S) -> Option<ArrayVec<u8, PIECE_MAX>>
+    ensures some { IfSome result (λ bytes. S.remaining stream.old ≡ prepend_known bytes.items (S.remaining stream.new)) }
+    ensures full { IfSome result (λ bytes. 0 < length bytes.items) }
+    ensures none { result ≡ None → S.remaining stream.new ≡ S.remaining stream.old }
     ensures taken { S.taken stream.new ≡ S.taken stream.old }
-    ensures lost { IfErr result (λ failure. (failure ≡ ConnectionLost) × S.has_ended stream.new) }
+    ensures lost { result ≡ None → S.has_ended stream.new }
 {
     for _ in rt.forever() {
         let mut bytes = ArrayVec::from([0; PIECE_MAX]);
         match stream.read(bytes.as_mut_slice()) {
             Moved::Bytes(n) => {
                 bytes.truncate(n);
-                return Ok(bytes);
+                return Some(bytes);
             }
             Moved::Again => {}
-            Moved::Lost => return Err(Failure::ConnectionLost),
+            Moved::Lost => return None,
         }
     }
     unreachable!()

@@ -4,8 +4,8 @@ use Rattle.std.proofs.lemmas.Bool.{le-leb}
 use Rattle.nut_client.proofs.Sendings.{sent_more}
 use Rattle.nut_client.proofs.conversation.Conversation.send.Goals as goal
 
-pub loop-preserved-in-Continue-branch-2 : goal.loop-preserved-in-Continue-branch-2
-loop-preserved-in-Continue-branch-2 g c = record {
+pub loop-preserved-in-Bytes : goal.loop-preserved-in-Bytes
+loop-preserved-in-Bytes g c = record {
   sending = sent_more c.args.request.now _ _ _ _ _ c.in-Bytes.n c.waiting-in-loop.result.now c.loop.invariant.sending c.waiting-in-loop.ensures.value (le-leb c.in-Bytes.n (length c.waiting-in-loop.result.now) c.in-Bytes.ensures.took.0) c.in-Bytes.ensures.took.1 c.took.ensures.stands;
   unread = c.loop.invariant.unread;
   remaining = c.in-Bytes.ensures.kept ∙ c.loop.invariant.remaining;
