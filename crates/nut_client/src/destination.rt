@@ -53,9 +53,9 @@ pub(crate) fn read_server(server: Option<&str>) -> Result<Target, Failure>
         return read_bytes(b"u");
     };
     let mut name: ArrayVec<u8, 128> = ArrayVec::new();
-    let begun = name.try_extend_from_slice(b"u@").is_ok();
-    if !begun || name.try_extend_from_slice(server.as_bytes()).is_err() {
-        return Err(Failure::BadName);
+    name.try_extend_from_slice(b"u@").unwrap();
+    match name.try_extend_from_slice(server.as_bytes()) {
+        Ok(()) => read_bytes(name.as_slice()),
+        Err(_) => Err(Failure::BadName),
     }
-    read_bytes(name.as_slice())
 }
