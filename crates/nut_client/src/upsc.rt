@@ -89,38 +89,40 @@ fn wanted_by<'a>(
     }
 }
 
+/// What the command line may hold.
+const PARAMETERS: [Parameter; 6] = [
+    Parameter::Flag {
+        id: "names",
+        letter: 'l',
+        help: "List the names of the server's UPSes; NAME is then HOST[:PORT], and may be left out",
+    },
+    Parameter::Flag {
+        id: "descriptions",
+        letter: 'L',
+        help: "List the server's UPSes with their descriptions; NAME is then HOST[:PORT], and may be left out",
+    },
+    Parameter::Flag {
+        id: "clients",
+        letter: 'c',
+        help: "List the addresses of the clients that are logged in to the UPS",
+    },
+    Parameter::Flag {
+        id: "json",
+        letter: 'j',
+        help: "Print the variables as one JSON object of names and values",
+    },
+    NAME,
+    Parameter::Argument {
+        id: "variable",
+        kind: "VAR",
+        help: "The variable whose value is shown; without it all variables are",
+    },
+];
+
 /// Returns the command line that clap reads.
 pub(crate) fn command<'a>(alloc: Global) -> Result<Command<'a>, AllocError>
     ensures { IfOk result (λ c. app_of c ≡ command_of Upsc) }
 {
     let about = "Shows the variables of a UPS, or the UPSes of a server";
-    let parameters = [
-        Parameter::Flag {
-            id: "names",
-            letter: 'l',
-            help: "List the names of the server's UPSes; NAME is then HOST[:PORT], and may be left out",
-        },
-        Parameter::Flag {
-            id: "descriptions",
-            letter: 'L',
-            help: "List the server's UPSes with their descriptions; NAME is then HOST[:PORT], and may be left out",
-        },
-        Parameter::Flag {
-            id: "clients",
-            letter: 'c',
-            help: "List the addresses of the clients that are logged in to the UPS",
-        },
-        Parameter::Flag {
-            id: "json",
-            letter: 'j',
-            help: "Print the variables as one JSON object of names and values",
-        },
-        NAME,
-        Parameter::Argument {
-            id: "variable",
-            kind: "VAR",
-            help: "The variable whose value is shown; without it all variables are",
-        },
-    ];
-    tool_command(alloc, "upsc", about, &parameters)
+    tool_command(alloc, "upsc", about, &PARAMETERS)
 }

@@ -81,7 +81,10 @@ fn wanted_by<'a>(
     match (list, wait, command, parameter, user, password) {
         (true, false, None, None, None, None) => Some(Wanted::Commands),
         (false, wait, Some(command), parameter, Some(user), Some(password)) => {
-            let parameter = parameter.map(|text| Word::new(text.as_bytes()));
+            let parameter = match parameter {
+                Some(text) => Some(Word::new(text.as_bytes())),
+                None => None,
+            };
             let deed = Deed::Command(Word::new(command.as_bytes()), parameter);
             Some(deed_by(user, password, deed, until(wait)))
         }
@@ -89,31 +92,33 @@ fn wanted_by<'a>(
     }
 }
 
+/// What the command line may hold.
+const PARAMETERS: [Parameter; 7] = [
+    Parameter::Flag {
+        id: "list",
+        letter: 'l',
+        help: "List the commands of the UPS with their descriptions",
+    },
+    WAIT,
+    USER,
+    PASSWORD,
+    NAME,
+    Parameter::Argument {
+        id: "command",
+        kind: "CMD",
+        help: "The command that the UPS is to do; needs -u and -p",
+    },
+    Parameter::Argument {
+        id: "parameter",
+        kind: "PARAM",
+        help: "What the command is told, if it takes a parameter",
+    },
+];
+
 /// Returns the command line that clap reads.
 pub(crate) fn command<'a>(alloc: Global) -> Result<Command<'a>, AllocError>
     ensures { IfOk result (λ c. app_of c ≡ command_of Upscmd) }
 {
     let about = "Lists the commands of a UPS, or has it do one";
-    let parameters = [
-        Parameter::Flag {
-            id: "list",
-            letter: 'l',
-            help: "List the commands of the UPS with their descriptions",
-        },
-        WAIT,
-        USER,
-        PASSWORD,
-        NAME,
-        Parameter::Argument {
-            id: "command",
-            kind: "CMD",
-            help: "The command that the UPS is to do; needs -u and -p",
-        },
-        Parameter::Argument {
-            id: "parameter",
-            kind: "PARAM",
-            help: "What the command is told, if it takes a parameter",
-        },
-    ];
-    tool_command(alloc, "upscmd", about, &parameters)
+    tool_command(alloc, "upscmd", about, &PARAMETERS)
 }

@@ -81,22 +81,24 @@ fn wanted_by<'a>(
     }
 }
 
+/// What the command line may hold.
+const PARAMETERS: [Parameter; 5] = [
+    Parameter::Valued {
+        id: "setting",
+        letter: 's',
+        kind: "VAR=VALUE",
+        help: "Set the variable VAR to VALUE, parted at the first '='; needs -u and -p",
+    },
+    WAIT,
+    USER,
+    PASSWORD,
+    NAME,
+];
+
 /// Returns the command line that clap reads.
 pub(crate) fn command<'a>(alloc: Global) -> Result<Command<'a>, AllocError>
     ensures { IfOk result (λ c. app_of c ≡ command_of Upsrw) }
 {
     let about = "Shows the variables of a UPS that may be set, or sets one";
-    let parameters = [
-        Parameter::Valued {
-            id: "setting",
-            letter: 's',
-            kind: "VAR=VALUE",
-            help: "Set the variable VAR to VALUE, parted at the first '='; needs -u and -p",
-        },
-        WAIT,
-        USER,
-        PASSWORD,
-        NAME,
-    ];
-    tool_command(alloc, "upsrw", about, &parameters)
+    tool_command(alloc, "upsrw", about, &PARAMETERS)
 }
