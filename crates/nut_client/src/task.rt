@@ -1,9 +1,11 @@
 //! What a tool has left to do, step by step: to ask a query, or to print a text.
-ghost use Rattle.std.specs.Prelude.{◌≡◌, ◌∷◌, List, ℕ, [], Some, codes};
+ghost use Rattle.std.specs.Prelude.{◌≡◌, ◌∷◌, Err, List, ℕ, [], Ok, OnErr, OnOk, Some, codes};
 ghost use Rattle.nut_client.specs.Json.{json_object};
 ghost use Rattle.nut_proto.specs.Tracking.{tracking_status};
 ghost use Rattle.nut_proto.specs.declared.request.Request.TheVariants.{Password};
 ghost use Rattle.nut_client.specs.Script.{Pauses, Prints, Script, by_status, deed_query, does_until, if_pending, line, on_done, on_number, on_rows, on_words, row_lines, script, waits, word};
+ghost use Rattle.nut_client.specs.declared.failure.Failure.TheVariants.{Memory};
+ghost use Rattle.nut_client.specs.declared.task.Step.TheVariants.{Done};
 ghost use Rattle.nut_client.specs.inside.Task.{GivesNumber, GivesRows, GivesWords, GoesOn, IsDone, Leads, Says, ShowsRow, answered, first_query, first_question, left_at, left_of, row_query, showing, showing_of};
 
 use crate::failure::Failure;
@@ -12,7 +14,7 @@ use crate::printing::{Form, Values, put_heading, put_line, put_rows, values_of};
 use crate::wanted::{Deed, Until, Wanted};
 use nut_link::{Fields, Outcome, Rows, Text};
 use nut_proto::{ListQuery, Request, TrackingStatus, Word, tracking_number, tracking_status};
-use std::alloc::Global;
+use std::alloc::{AllocError, Global};
 
 /// The greatest number of pauses, of a second each, while a tool waits for a request to end.
 pub(crate) const PAUSES_MAX: u32 = 10;
@@ -107,7 +109,10 @@ fn deed_query<'t>(ups: &'t Word<'t>, deed: &'t Deed<'t>) -> Request<'t>
         Deed::Command(command, parameter) => Request::InstCmd {
             ups: ups.copy(),
             command: command.copy(),
-            parameter: parameter.as_ref().map(Word::copy),
+            parameter: match parameter {
+                Some(parameter) => Some(parameter.copy()),
+                None => None,
+            },
         },
     }
 }
@@ -197,14 +202,25 @@ fn done_of(outcome: Outcome) -> Result<(), Failure>
     }
 }
 
+/// Prints this text if all of it could be put there.
+fn done_by<'a>(text: Vec<u8>, put: Result<(), AllocError>) -> Result<Step<'a>, Failure>
+    ensures done { OnOk put (result ≡ Ok (Done text)) }
+    ensures failed { OnErr put (result ≡ Err Memory) }
+{
+    match put {
+        Ok(()) => Ok(Step::Done(text)),
+        Err(_) => Err(Failure::Memory),
+    }
+}
+
 /// Prints the rows that answer a LIST.
 fn print_rows<'a>(alloc: Global, form: Form, outcome: Outcome) -> Result<Step<'a>, Failure>
     ensures { (ups : List ℕ) → Leads ups (on_rows (λ rows. Prints (row_lines form rows)) outcome) result }
 {
     let rows = rows_of(outcome)?;
     let mut text = Vec::new(alloc);
-    put_rows(&mut text, form, rows.as_slice())?;
-    Ok(Step::Done(text))
+    let put = put_rows(&mut text, form, rows.as_slice());
+    done_by(text, put)
 }
 
 /// Prints the rows that answer a LIST as a JSON object.
@@ -213,8 +229,8 @@ fn print_object<'a>(alloc: Global, outcome: Outcome) -> Result<Step<'a>, Failure
 {
     let rows = rows_of(outcome)?;
     let mut text = Vec::new(alloc);
-    put_object(&mut text, rows.as_slice())?;
-    Ok(Step::Done(text))
+    let put = put_object(&mut text, rows.as_slice());
+    done_by(text, put)
 }
 
 /// Prints the first of the words that answer a query.
@@ -223,8 +239,8 @@ fn print_word<'a>(alloc: Global, outcome: Outcome) -> Result<Step<'a>, Failure>
 {
     let words = words_of(outcome)?;
     let mut text = Vec::new(alloc);
-    put_line(&mut text, &[words.get(0)])?;
-    Ok(Step::Done(text))
+    let put = put_line(&mut text, &[words.get(0)]);
+    done_by(text, put)
 }
 
 /// Begins to show the rows that answer a LIST, each by further queries.
@@ -317,8 +333,8 @@ fn go_on_by<'a>(
         TrackingStatus::Pending => pause(number, pauses),
         TrackingStatus::Success => {
             let mut text = Vec::new(alloc);
-            put_line(&mut text, &[b"SUCCESS"])?;
-            Ok(Step::Done(text))
+            let put = put_line(&mut text, &[b"SUCCESS"]);
+            done_by(text, put)
         }
         TrackingStatus::Failed => Err(Failure::Unconfirmed(TrackingStatus::Failed)),
         TrackingStatus::Unknown => Err(Failure::Unconfirmed(TrackingStatus::Unknown)),
@@ -347,8 +363,8 @@ fn hear_deed<'a>(alloc: Global, outcome: Outcome) -> Result<Step<'a>, Failure>
 {
     done_of(outcome)?;
     let mut text = Vec::new(alloc);
-    put_line(&mut text, &[b"OK"])?;
-    Ok(Step::Done(text))
+    let put = put_line(&mut text, &[b"OK"]);
+    done_by(text, put)
 }
 
 /// Returns what is asked first about the next row, if this was the last question about a row.
@@ -378,24 +394,24 @@ fn put_answer(
             match values_of(&kind) {
                 Values::Enum => return Ok(Some(Question::Values)),
                 Values::Range => return Ok(Some(Question::Ranges)),
-                Values::Free => put_line(text, &[])?,
+                Values::Free => {}
             }
         }
         Question::Values => {
             let rows = rows_of(outcome)?;
             put_rows(text, Form::Options, rows.as_slice())?;
-            put_line(text, &[])?;
         }
         Question::Ranges => {
             let rows = rows_of(outcome)?;
             put_rows(text, Form::Ranges, rows.as_slice())?;
-            put_line(text, &[])?;
         }
         Question::Description => {
             let words = words_of(outcome)?;
             put_line(text, &[row.get(0), b" - ", words.get(0)])?;
+            return Ok(None);
         }
     }
+    put_line(text, &[])?;
     Ok(None)
 }
 
