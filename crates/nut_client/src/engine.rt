@@ -167,7 +167,7 @@ fn tell_refusal<O: Output, E: Output>(
 {
     match refusal {
         Refusal::Failed(failure) => tell(rt, Err(failure), out, err),
-        Refusal::Usage(error) => tell_usage(rt, alloc, error, out, err),
+        Refusal::Usage(error) => tell_usage(rt, alloc, &error, out, err),
     }
 }
 
@@ -237,18 +237,18 @@ fn tell_fault<E: Output>(rt: &impl Wait, text: &Text, err: &mut E) -> u8
 fn tell_usage<O: Output, E: Output>(
     rt: &impl Wait,
     alloc: Global,
-    error: clap::Error,
+    error: &clap::Error,
     out: &mut O,
     err: &mut E,
 ) -> u8
-    ensures { Explains (asked_for (kind_of error)) result (written O.contents O.has_failed out.old out.new) (written E.contents E.has_failed err.old err.new)
+    ensures { Explains (asked_for (kind_of error.now)) result (written O.contents O.has_failed out.old out.new) (written E.contents E.has_failed err.old err.new)
         ⊎ Tells (Err Memory) result (written O.contents O.has_failed out.old out.new) (written E.contents E.has_failed err.old err.new) }
 {
     let text = match format!(in alloc; "{error}") {
         Ok(text) => Text::of(text.into_bytes()),
         Err(_) => return tell(rt, Err(Failure::Memory), out, err),
     };
-    if is_asked_for(&error) {
+    if is_asked_for(error) {
         tell(rt, Ok(text), out, err)
     } else {
         tell_fault(rt, &text, err)

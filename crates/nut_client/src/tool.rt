@@ -63,8 +63,9 @@ impl Tool {
         ensures { IsRead (line_of self (map W.text words.entry.now)) result }
     {
         let matches = parse(self.command(alloc)?, words)?;
-        let options = options_of(self.wanted_in(&matches), value(&matches, "name"))?;
-        Ok(options)
+        let options = options_of(self.wanted_in(&matches), value(&matches, "name"));
+        drop(matches);
+        Ok(options?)
     }
 
     /// Returns the host and the port that the words of the command line tell the tool to connect to, if they name any.

@@ -19,5 +19,5 @@ returns-in_err-options g c =
 pub returns : goal.returns
 returns g c =
     let words = map g.W.AsStr.text c.args.words.now in
-    read_well c.args.self words c.in_ok-matches.matches c.in_ok-options.options (parsed c.args.self _ words (Ok c.in_ok-matches.matches) c.in_ok-command.ensures c.in_ok-matches.ensures)
+    read_well c.args.self words c.in_ok-matches.matches c.in_ok-options.field-0 (parsed c.args.self _ words (Ok c.in_ok-matches.matches) c.in_ok-command.ensures c.in_ok-matches.ensures)
     (meant c.args.self _ c.wanted_in.result _ _ c.wanted_in.ensures c.value.ensures c.in_ok-options.ensures)
