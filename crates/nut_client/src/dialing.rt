@@ -18,16 +18,23 @@ const SILENCE_SECONDS: u64 = 10;
 /// let these options be set.
 pub fn dial<R: Net>(net: &R, destination: Option<Destination>) -> Option<ByteStream<R::Stream>> {
     let destination = destination?;
-    let host = str::from_utf8(destination.host.as_bytes()).ok()?;
+    let Ok(host) = str::from_utf8(destination.host.as_bytes()) else {
+        return None;
+    };
     let stream = connect(net, host, destination.port.number)?;
-    set_options(&stream).ok()?;
-    Some(ByteStream::new(stream))
+    match set_options(&stream) {
+        Ok(()) => Some(ByteStream::new(stream)),
+        Err(_) => None,
+    }
 }
 
 /// Connects to the first address of this host that accepts a connection in time. `None` if there is none.
 fn connect<R: Net>(net: &R, host: &str, port: u16) -> Option<R::Stream> {
     let limit = Duration::from_secs(ACCEPT_SECONDS);
-    for address in (host, port).to_socket_addrs(net).ok()? {
+    let Ok(addresses) = (host, port).to_socket_addrs(net) else {
+        return None;
+    };
+    for address in addresses {
         if let Ok(stream) = TcpStream::connect_timeout(net, &address, limit) {
             return Some(stream);
         }
