@@ -25,8 +25,8 @@ fn put_byte(out: &mut Vec<u8>, byte: u8) -> Result<(), AllocError>
     if byte == b'"' || byte == b'\\' {
         out.extend_from_slice(&[b'\\', byte])
     } else if byte < b' ' || byte > b'~' {
-        out.extend_from_slice(b"\\u00")?;
-        out.extend_from_slice(&[hex_digit(byte / 16), hex_digit(byte % 16)])
+        let (high, low) = (hex_digit(byte / 16), hex_digit(byte % 16));
+        out.extend_from_slice(&[b'\\', b'u', b'0', b'0', high, low])
     } else {
         out.extend_from_slice(&[byte])
     }
