@@ -427,10 +427,9 @@ fn hear_row<'a>(question: Question, shown: Shown, outcome: Outcome) -> Result<St
     let Some(row) = rows.as_slice().get(count) else {
         return Ok(Step::Shows(question, Shown { rows, count, text }));
     };
-    let next = put_answer(&mut text, question, row, outcome)?;
-    match next {
-        Some(question) => Ok(Step::Shows(question, Shown { rows, count, text })),
-        None => Ok(Step::Shows(
+    match put_answer(&mut text, question, row, outcome) {
+        Ok(Some(question)) => Ok(Step::Shows(question, Shown { rows, count, text })),
+        Ok(None) => Ok(Step::Shows(
             first_question(question),
             Shown {
                 rows,
@@ -438,6 +437,7 @@ fn hear_row<'a>(question: Question, shown: Shown, outcome: Outcome) -> Result<St
                 text,
             },
         )),
+        Err(failure) => Err(failure),
     }
 }
 
