@@ -1,14 +1,14 @@
 //! What the command lines of the three tools share.
-ghost use Rattle.std.specs.Prelude.{◌≡◌, ◌==◌, ◌<◌, IfOk, IfSome, length, map, option_map, position, true};
+ghost use Rattle.std.specs.Prelude.{◌≡◌, ◌==◌, ◌<◌, IfSome, length, map, option_map, position, true};
 ghost use Rattle.clap.specs.Words.{app_of, first_of, found_of, is_simple_and_free, rows_of};
 ghost use Rattle.nut_conf.specs.Target.{parted as parted_at};
-ghost use Rattle.nut_client.specs.CommandLine.{CommandLine, dialed, is_given as given, names_server as server_named, options_of as options_meant, target_of, until as until_meant};
-ghost use Rattle.nut_client.specs.inside.Reading.{AreOptions, IsRead, IsReadBy, IsRefusalOf};
+ghost use Rattle.nut_client.specs.CommandLine.{is_given as given, names_server as server_named, options_of as options_meant, until as until_meant};
+ghost use Rattle.nut_client.specs.inside.Reading.{AreOptions, IsReadBy, IsRefusalOf};
 ghost use Rattle.nut_client.specs.declared.command_line.Refusal.TheVariants.{Failed};
 ghost use Rattle.nut_client.specs.declared.failure.Failure.TheVariants.{Memory};
 ghost use Rattle.nut_client.specs.declared.wanted.Wanted.TheVariants.{Does};
 
-use crate::destination::{Destination, read_server, read_target};
+use crate::destination::{read_server, read_target};
 use crate::failure::Failure;
 use crate::wanted::{Deed, Until, Wanted};
 use clap::{ArgMatches, Command};
@@ -58,22 +58,6 @@ impl From<Failure> for Refusal {
 
     fn from(failure: Failure) -> Self {
         Refusal::Failed(failure)
-    }
-}
-
-/// Returns the host and the port that a command line names, if it names any. `AllocError` if memory cannot be
-/// allocated.
-pub(crate) fn destination_of(
-    options: Result<Options<'_>, Refusal>,
-) -> Result<Option<Destination>, AllocError>
-    ensures { (line : CommandLine) → IsRead line options.entry
-        → IfOk result (λ found. option_map dialed found ≡ target_of line) }
-{
-    match options {
-        Ok(Options { target, .. }) => Ok(Some(Destination::of(target))),
-        Err(Refusal::Failed(Failure::Memory)) => Err(AllocError),
-        Err(Refusal::Failed(_failure)) => Ok(None),
-        Err(Refusal::Usage(_error)) => Ok(None),
     }
 }
 

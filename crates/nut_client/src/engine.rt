@@ -1,17 +1,16 @@
 //! How a tool runs.
-ghost use Rattle.std.specs.Prelude.{◌≡◌, ◌≤◌, ◌⊎◌, [], Err, IfErr, ⊤, drop, length};
+ghost use Rattle.std.specs.Prelude.{◌≡◌, ◌≤◌, ◌⊎◌, [], Err, IfErr, drop, length};
 ghost use Rattle.std.specs.IoError.{error_kind};
 ghost use Rattle.clap.specs.Words.{kind_of};
-ghost use Rattle.nut_client.specs.CommandLine.{CommandLine};
 ghost use Rattle.nut_client.specs.Output.{HasText, Puts, written};
-ghost use Rattle.nut_client.specs.inside.Reading.{IsRead, TellsRefusal};
+ghost use Rattle.nut_client.specs.inside.Reading.{TellsRefusal};
 ghost use Rattle.nut_client.specs.inside.Task.{left_of};
 ghost use Rattle.nut_client.specs.Script.{script};
-ghost use Rattle.nut_client.specs.Tool.{Ends, EndsOver, Explains, Reports, RunsAs, Tells, error_text, is_asked_for as asked_for, words_failure};
+ghost use Rattle.nut_client.specs.Tool.{Ends, Explains, Reports, Tells, error_text, is_asked_for as asked_for, words_failure};
 ghost use Rattle.nut_link.specs.Link.{fresh};
-ghost use Rattle.nut_client.specs.declared.failure.Failure.TheVariants.{ConnectionLost, Memory, NoConnection};
+ghost use Rattle.nut_client.specs.declared.failure.Failure.TheVariants.{ConnectionLost, Memory};
 
-use crate::command_line::{Options, Refusal};
+use crate::command_line::Refusal;
 use crate::conversation::Conversation;
 use crate::failure::Failure;
 use crate::output::Output;
@@ -156,7 +155,7 @@ pub(crate) fn tell<O: Output, E: Output>(
 }
 
 /// Writes why a command line gives no options. Returns the exit status.
-fn tell_refusal<O: Output, E: Output>(
+pub(crate) fn tell_refusal<O: Output, E: Output>(
     rt: &impl Wait,
     alloc: Global,
     refusal: Refusal,
@@ -168,48 +167,6 @@ fn tell_refusal<O: Output, E: Output>(
     match refusal {
         Refusal::Failed(failure) => tell(rt, Err(failure), out, err),
         Refusal::Usage(error) => tell_usage(rt, alloc, &error, out, err),
-    }
-}
-
-/// Runs a tool, with the options or the refusal of its command line, over a connection. Returns the exit status.
-pub(crate) fn run<S: Stream, O: Output, E: Output>(
-    rt: &(impl Wait + Clock),
-    alloc: Global,
-    options: Result<Options<'_>, Refusal>,
-    stream: &mut S,
-    out: &mut O,
-    err: &mut E,
-) -> u8
-    ensures { (line : CommandLine) → IsRead line options.entry
-        → RunsAs line (EndsOver S.remaining S.taken S.has_ended stream.old stream.new) (stream.new ≡ stream.old)
-        result (written O.contents O.has_failed out.old out.new) (written E.contents E.has_failed err.old err.new) }
-{
-    match options {
-        Ok(Options { target, wanted }) => {
-            let ups = Word::new(target.ups.as_bytes());
-            let printed = ask_server(rt, alloc, ups, wanted, stream);
-            tell(rt, printed, out, err)
-        }
-        Err(refusal) => tell_refusal(rt, alloc, refusal, out, err),
-    }
-}
-
-/// Runs a tool, with the options or the refusal of its command line, if no connection was made. Returns the exit
-/// status.
-pub(crate) fn run_alone<O: Output, E: Output>(
-    rt: &impl Wait,
-    alloc: Global,
-    options: Result<Options<'_>, Refusal>,
-    out: &mut O,
-    err: &mut E,
-) -> u8
-    ensures { (line : CommandLine) → IsRead line options.entry
-        → RunsAs line (λ _ printed. printed ≡ Err NoConnection) ⊤
-        result (written O.contents O.has_failed out.old out.new) (written E.contents E.has_failed err.old err.new) }
-{
-    match options {
-        Ok(_) => tell(rt, Err(Failure::NoConnection), out, err),
-        Err(refusal) => tell_refusal(rt, alloc, refusal, out, err),
     }
 }
 

@@ -7,14 +7,16 @@ ghost use Rattle.nut_client.specs.inside.Reading.{IsRead};
 ghost use Rattle.nut_client.specs.Tool.{EndsOver, RunsAs};
 ghost use Rattle.nut_client.specs.declared.failure.Failure.TheVariants.{NoConnection};
 
-use crate::command_line::{Options, Refusal, destination_of, options_of, parse, value};
+use crate::command_line::{Options, Refusal, options_of, parse, value};
 use crate::destination::Destination;
-use crate::engine::{run, run_alone};
+use crate::engine::{ask_server, tell, tell_refusal};
+use crate::failure::Failure;
 use crate::output::Output;
 use crate::stream::Stream;
 use crate::wanted::Wanted;
 use crate::{upsc, upscmd, upsrw};
 use clap::{ArgMatches, Command};
+use nut_proto::Word;
 use std::alloc::{AllocError, Global};
 use std::convert::AsStr;
 use std::sync::Wait;
@@ -76,7 +78,12 @@ impl Tool {
     ) -> Result<Option<Destination>, AllocError>
         ensures { IfOk result (λ found. option_map dialed found ≡ target_of (line_of self (map W.text words.now))) }
     {
-        destination_of(self.read_options(alloc, words))
+        match self.read_options(alloc, words) {
+            Ok(Options { target, .. }) => Ok(Some(Destination::of(target))),
+            Err(Refusal::Failed(Failure::Memory)) => Err(AllocError),
+            Err(Refusal::Failed(_failure)) => Ok(None),
+            Err(Refusal::Usage(_error)) => Ok(None),
+        }
     }
 
     /// Runs the tool with the words of a command line over a connection. Returns the exit status.
@@ -93,8 +100,14 @@ impl Tool {
             (EndsOver S.remaining S.taken S.has_ended stream.old stream.new) (stream.new ≡ stream.old)
             result (written O.contents O.has_failed out.old out.new) (written E.contents E.has_failed err.old err.new) }
     {
-        let options = self.read_options(alloc, words);
-        run(rt, alloc, options, stream, out, err)
+        match self.read_options(alloc, words) {
+            Ok(Options { target, wanted }) => {
+                let ups = Word::new(target.ups.as_bytes());
+                let printed = ask_server(rt, alloc, ups, wanted, stream);
+                tell(rt, printed, out, err)
+            }
+            Err(refusal) => tell_refusal(rt, alloc, refusal, out, err),
+        }
     }
 
     /// Runs the tool with the words of a command line if no connection was made. Returns the exit status.
@@ -109,7 +122,9 @@ impl Tool {
         ensures { RunsAs (line_of self (map W.text words.now)) (λ _ printed. printed ≡ Err NoConnection) ⊤
             result (written O.contents O.has_failed out.old out.new) (written E.contents E.has_failed err.old err.new) }
     {
-        let options = self.read_options(alloc, words);
-        run_alone(rt, alloc, options, out, err)
+        match self.read_options(alloc, words) {
+            Ok(_) => tell(rt, Err(Failure::NoConnection), out, err),
+            Err(refusal) => tell_refusal(rt, alloc, refusal, out, err),
+        }
     }
 }
