@@ -1,4 +1,4 @@
-//! How a tool runs.
+//! How a tool asks a server, and tells the result.
 ghost use Rattle.std.specs.Prelude.{◌≡◌, ◌≤◌, ◌⊎◌, [], Err, IfErr, drop, length};
 ghost use Rattle.std.specs.IoError.{error_kind};
 ghost use Rattle.clap.specs.Words.{kind_of};

@@ -202,7 +202,7 @@ fn done_of(outcome: Outcome) -> Result<(), Failure>
     }
 }
 
-/// Prints this text if all of it could be put there.
+/// Prints this text, unless memory ran out while it was put together.
 fn done_by<'a>(text: Vec<u8>, put: Result<(), AllocError>) -> Result<Step<'a>, Failure>
     ensures done { OnOk put (result ≡ Ok (Done text)) }
     ensures failed { OnErr put (result ≡ Err Memory) }
