@@ -6,17 +6,21 @@ use crate::halt::{Halt, HaltFault};
 use crate::reloader::{Reload, Reloader};
 use crate::shutdown_report::tell_beginning;
 use crate::starting::tell_start;
+use crate::streams::Streams;
 use crate::watching::Follower;
+use linked_list_allocator::LocalHeap;
 use nut_conf::UpsmonConf;
 use nut_monitor::{Monitor, Notice, Phase};
 use nut_monitor_sockets::Herald;
-use nut_poll::ErrorLines;
-use nut_program::{FileFault, ReloadReport, tell_not_reloaded, tell_unread};
-use std::alloc::AllocError;
-use std::mem;
+use nut_poll::{ErrorLines, LossyLines};
+use nut_program::{FileFault, tell_not_reloaded, tell_unread};
+use std::alloc::{AllocError, Global};
+use std::io::{Stdout, Write};
+use std::net::Net;
 use std::process::Processes;
 use std::rt::Files;
 use std::time::Clock;
+use std::{io, mem};
 
 /// What upsmon does besides watching: it tells notices and what a shutdown is for, keeps the halt of its machine
 /// prepared, and takes up a changed upsmon.conf. For that it ends the watch, and has what the next one begins with.
@@ -25,40 +29,91 @@ use std::time::Clock;
 /// What the next watch begins with is made even before that: once the change is reported, no lack of memory can end
 /// upsmon.
 #[derive(Drop)]
-pub struct Caretaker<'c, 'r, R: Processes> {
+pub struct Caretaker<'r, R: Processes> {
     rt: &'r R,
-    err: &'c mut ErrorLines,
-    crier: &'c mut Crier<'r, R>,
-    halt: &'c mut Halt<'r, 'r, R>,
-    reloader: &'c mut Reloader,
-    /// What the next watch begins with.
-    next: Option<Beginning>,
+    err: ErrorLines,
+    crier: Crier<'r, R>,
+    halt: Halt<'r, 'r, R>,
+    reloader: &'r mut Reloader,
     /// Whether it was told that a shutdown has begun.
     is_ending: bool,
 }
 
-impl<'c, 'r, R> Caretaker<'c, 'r, R>
+impl<'r, R> Caretaker<'r, R>
+where
+    R: Files + Net + Processes + Clock,
+{
+    /// Returns the caretaker that takes up the configuration which this reloader has read. It writes to these streams,
+    /// and the memory that the halt takes comes from `heap`. What is to be told before the watch is written to `told`.
+    pub fn ready(
+        rt: &'r R,
+        alloc: Global,
+        heap: &'r LocalHeap,
+        reloader: &'r mut Reloader,
+        streams: Streams,
+        told: &mut ErrorLines,
+    ) -> io::Result<Caretaker<'r, R>> {
+        let mut caretaker = Caretaker::new(rt, alloc, heap, reloader, streams)?;
+        match caretaker.begin(told) {
+            Ok(()) => Ok(caretaker),
+            Err(AllocError) => {
+                // dropped by a call, which keeps the proof of this function short
+                drop(caretaker);
+                Err(io::Error::from(AllocError))
+            }
+        }
+    }
+
+    /// Returns a caretaker without a halt, which tells nothing yet.
+    fn new(
+        rt: &'r R,
+        alloc: Global,
+        heap: &'r LocalHeap,
+        reloader: &'r mut Reloader,
+        streams: Streams,
+    ) -> io::Result<Caretaker<'r, R>> {
+        let err = LossyLines::new(rt, alloc, "upsmon", streams.err)?;
+        match crier_on(rt, alloc, streams.out) {
+            Ok(crier) => Ok(Caretaker {
+                rt,
+                err,
+                crier,
+                halt: Halt::none(rt, alloc, heap),
+                reloader,
+                is_ending: false,
+            }),
+            Err(error) => {
+                // dropped by a call, which keeps the proof of this function short
+                drop(err);
+                Err(error)
+            }
+        }
+    }
+}
+
+/// Makes a crier that prints notices on standard output.
+fn crier_on<'r, R>(rt: &'r R, alloc: Global, out: Stdout) -> io::Result<Crier<'r, R>>
+where
+    R: Net + Processes,
+{
+    let out = LossyLines::new(rt, alloc, "upsmon", out)?;
+    Ok(Crier::new(rt, alloc, out)?)
+}
+
+impl<'r, R> Caretaker<'r, R>
 where
     R: Files + Processes + Clock,
 {
-    /// Returns the caretaker with this crier and this halt, which are of one configuration. What is to be told to the
-    /// operator is written to `err`.
-    pub fn new(
-        rt: &'r R,
-        err: &'c mut ErrorLines,
-        crier: &'c mut Crier<'r, R>,
-        halt: &'c mut Halt<'r, 'r, R>,
-        reloader: &'c mut Reloader,
-    ) -> Caretaker<'c, 'r, R> {
-        Caretaker {
-            rt,
-            err,
-            crier,
-            halt,
-            reloader,
-            next: None,
-            is_ending: false,
+    /// Takes up the first configuration. What is to be told is written to `told`.
+    fn begin(&mut self, told: &mut ErrorLines) -> Result<(), AllocError> {
+        if let Some(first) = self.reloader.next() {
+            let config = first.config();
+            self.halt.prepare(config)?;
+            begin_halt(&mut self.halt, config, told);
+            self.crier.restart(config)?;
+            tell_start(config, self.reloader.is_quiet(), told);
         }
+        Ok(())
     }
 
     /// Takes up a configuration in place of an earlier one. Returns whether it did. If not, everything goes on as
@@ -66,8 +121,7 @@ where
     fn take_up(&mut self, former: &UpsmonConf, reload: Reload) -> bool {
         let is_taken_up = self.change_over(former, reload.config());
         if is_taken_up {
-            self.tell(&reload);
-            drop(self.next.replace(reload.beginning));
+            self.reloader.accept(reload, &mut self.err);
         } else {
             // dropped by a call, which keeps the proof of this function short
             drop(reload);
@@ -75,32 +129,29 @@ where
         is_taken_up
     }
 
-    /// Halts and tells by another configuration from now on. Returns whether it does.
+    /// Halts and tells by another configuration from now on. Returns whether it does. The halt that isn't kept, that of
+    /// this configuration or the former, is given up, and the crier waits for the end of its shell.
     fn change_over(&mut self, former: &UpsmonConf, config: &UpsmonConf) -> bool {
-        match self.halt.prepare_other(config) {
-            Ok(halt) => self.change_to(halt, former, config),
-            Err(AllocError) => {
-                tell_unread("upsmon", &FileFault::Memory, self.err);
-                false
-            }
+        let mut halt = self.halt.other();
+        let is_changed = self.change_to(&mut halt, former, config);
+        if let Some(shell) = halt.give_up() {
+            self.crier.adopt(shell);
         }
+        is_changed
     }
 
-    /// Goes on with the halt of another configuration, and tells by that. Returns whether it does. The halt that isn't
-    /// kept, this one or the former, is given up, and the crier waits for the end of its shell.
+    /// Goes on with another halt, which is made that of a configuration, and tells by that. Returns whether it does; the
+    /// former halt is then in `halt`.
     fn change_to(
         &mut self,
-        mut halt: Halt<'r, 'r, R>,
+        halt: &mut Halt<'r, 'r, R>,
         former: &UpsmonConf,
         config: &UpsmonConf,
     ) -> bool {
-        let is_ready = make_ready(&mut halt, self.err)
-            && change_crier(self.crier, config, self.err);
+        let is_ready = make_ready(halt, config, &mut self.err)
+            && change_crier(&mut self.crier, config, &mut self.err);
         if is_ready {
-            exchange(self.halt, &mut halt, former, config, self.err);
-        }
-        if let Some(shell) = halt.give_up() {
-            self.crier.adopt(shell);
+            exchange(&mut self.halt, halt, former, config, &mut self.err);
         }
         is_ready
     }
@@ -109,52 +160,81 @@ where
     fn follow(&mut self, monitor: &Monitor) {
         if !self.is_ending && monitor.phase() != Phase::Watching {
             self.is_ending = true;
-            tell_beginning(monitor, self.err);
+            tell_beginning(monitor, &mut self.err);
         }
-    }
-
-    /// Reports what a configuration that is taken up changes, and what it sets.
-    fn tell(&mut self, reload: &Reload) {
-        let reloaded = ReloadReport::Reloaded(reload.changes.as_str());
-        self.reloader.reports(self.err).tell(reloaded);
-        tell_start(reload.config(), self.reloader.is_quiet(), self.err);
     }
 }
 
-impl<'c, 'r, R> Herald for Caretaker<'c, 'r, R>
+impl<'r, R> Herald for Caretaker<'r, R>
 where
     R: Files + Processes + Clock,
 {
     fn announce(&mut self, monitor: &Monitor, notice: Notice) {
         self.follow(monitor);
-        self.crier.announce(monitor, notice, self.err);
+        self.crier.announce(monitor, notice, &mut self.err);
     }
 
     fn second(&mut self, monitor: &Monitor) -> bool {
         self.follow(monitor);
-        self.crier.second(self.err);
-        match self.reloader.second(self.rt, monitor, self.err) {
+        self.crier.second(&mut self.err);
+        match self.reloader.second(self.rt, monitor, &mut self.err) {
             Some(reload) => self.take_up(monitor.config(), reload),
             None => false,
         }
     }
 }
 
-impl<'c, 'r, R> Follower for Caretaker<'c, 'r, R>
+impl<'r, R> Follower for Caretaker<'r, R>
 where
     R: Files + Processes + Clock,
 {
     fn take_next(&mut self) -> Option<Beginning> {
-        self.next.take()
+        self.reloader.take_next()
     }
 
     fn halt(&mut self, is_flagged: bool) -> Result<(), HaltFault> {
-        self.halt.carry_out(is_flagged, self.crier.out(), self.err)
+        self.halt
+            .carry_out(is_flagged, self.crier.out(), &mut self.err)
+    }
+}
+
+/// Removes a flag that was left, makes the next one ready, and starts the shell for SHUTDOWNCMD, for the halt of the first
+/// configuration. If the shell can't be started, that is told.
+fn begin_halt<R>(halt: &mut Halt<'_, '_, R>, config: &UpsmonConf, told: &mut ErrorLines)
+where
+    R: Files + Processes + Clock,
+{
+    halt.clear_flag(told);
+    halt.ready_flag(config, told);
+    if let Err(error) = halt.make_ready() {
+        tell_not_ready(&error, told);
+    }
+}
+
+/// Tells that the shell for SHUTDOWNCMD can't be started, and why.
+fn tell_not_ready(error: &io::Error, told: &mut ErrorLines) {
+    let _ = writeln!(
+        told,
+        "upsmon: warning: the shell that is to run SHUTDOWNCMD cannot be started yet: {error}"
+    );
+}
+
+/// Makes a halt that of a configuration, and starts its shell. Returns whether it did. If not, why is told.
+fn make_ready<R>(halt: &mut Halt<'_, '_, R>, config: &UpsmonConf, err: &mut ErrorLines) -> bool
+where
+    R: Files + Processes + Clock,
+{
+    match halt.prepare(config) {
+        Ok(()) => start_shell(halt, err),
+        Err(AllocError) => {
+            tell_unread("upsmon", &FileFault::Memory, err);
+            false
+        }
     }
 }
 
 /// Starts the shell of a halt. Returns whether it is started. If not, why is told.
-fn make_ready<R>(halt: &mut Halt<'_, '_, R>, err: &mut ErrorLines) -> bool
+fn start_shell<R>(halt: &mut Halt<'_, '_, R>, err: &mut ErrorLines) -> bool
 where
     R: Files + Processes + Clock,
 {

@@ -1,15 +1,64 @@
 //! The command line of upsmon.
 
-use clap::{Arg, ArgAction, Command};
-use nut_program::{check_option, quiet_option};
-use std::alloc::{AllocError, Global};
+use crate::upsmon_fault::UpsmonFault;
+use clap::{Arg, ArgAction, ArgMatches, Command};
+use nut_program::{Failure, check_option, conf_folder, quiet_option};
+use std::alloc::{Alloc, AllocError, Global};
+use std::convert::AsStr;
+use std::env::Env;
 
-/// Returns the command line of upsmon: to watch, to check its file, and to look for POWERDOWNFLAG.
+/// What upsmon is to do.
+#[derive(Clone, Copy)]
+pub enum Task {
+    /// Say whether POWERDOWNFLAG is set.
+    LookForFlag,
+    /// Check upsmon.conf.
+    Check,
+    /// Watch, and tell nothing of UPSes and servers that come and go if that is to be quiet.
+    Watch { is_quiet: bool },
+}
+
+/// What the words of a command line ask for.
+#[derive(Drop)]
+pub struct Order {
+    pub task: Task,
+    /// The folder of upsmon.conf.
+    pub folder: String,
+}
+
+/// Reads the words of a command line.
 ///
 /// # Errors
 ///
-/// [`AllocError`] if memory cannot be allocated.
-pub fn upsmon_command<'a>(alloc: Global) -> Result<Command<'a>, AllocError> {
+/// `CommandLine` if clap refuses them, or they ask for the help or the version; `Memory` if memory cannot be allocated.
+pub fn order_of<R: Env + Alloc, S: AsStr>(
+    rt: &R,
+    alloc: Global,
+    words: &[S],
+) -> Result<Order, Failure<UpsmonFault>> {
+    let matches = upsmon_command(alloc)?.try_get_matches_from(words)?;
+    let task = task_of(&matches);
+    match conf_folder(rt, alloc, &matches) {
+        Ok(folder) => Ok(Order { task, folder }),
+        Err(AllocError) => Err(Failure::Memory),
+    }
+}
+
+/// Returns what upsmon is to do by a command line that clap has accepted.
+fn task_of(matches: &ArgMatches<'_>) -> Task {
+    if matches.get_flag("killpower") {
+        Task::LookForFlag
+    } else if matches.get_flag("check") {
+        Task::Check
+    } else {
+        Task::Watch {
+            is_quiet: matches.get_flag("quiet"),
+        }
+    }
+}
+
+/// Returns the command line of upsmon: to watch, to check its file, and to look for POWERDOWNFLAG.
+fn upsmon_command<'a>(alloc: Global) -> Result<Command<'a>, AllocError> {
     let kill_power = kill_power(alloc)?;
     let command = Command::new(alloc, "upsmon")
         .version("profile 1.3")

@@ -28,7 +28,7 @@ pub struct Crier<'a, R: Processes> {
 }
 
 impl<'a, R: Processes> Crier<'a, R> {
-    /// Makes a crier that prints on `out`. It allocates room for the longest text.
+    /// Makes a crier that prints on `out`. It has no configuration yet, and allocates room for the longest text.
     ///
     /// # Errors
     ///
@@ -36,19 +36,18 @@ impl<'a, R: Processes> Crier<'a, R> {
     pub fn new(
         processes: &'a R,
         alloc: Global,
-        config: &UpsmonConf,
         out: OutputLines,
     ) -> Result<Crier<'a, R>, AllocError> {
         Ok(Crier {
             alloc,
             out,
             text: Vec::with_capacity(alloc, TEXT_MAX)?,
-            command: NotifyCommand::new(processes, alloc, config)?,
-            runtimes: LowRuntimes::watched(processes, alloc, config)?,
+            command: NotifyCommand::new(processes, alloc)?,
+            runtimes: LowRuntimes::watched(processes, alloc),
         })
     }
 
-    /// Goes on for another configuration. Runs of the command that haven't ended go on.
+    /// Tells by this configuration from now on. Runs of the command that haven't ended go on.
     ///
     /// # Errors
     ///

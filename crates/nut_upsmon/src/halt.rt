@@ -70,33 +70,40 @@ pub struct Halt<'r, 'h, R: Processes> {
 }
 
 impl<'r, 'h, R: Files + Processes + Clock> Halt<'r, 'h, R> {
-    /// Makes the halt that upsmon.conf sets, without the steps that it doesn't set.
-    ///
-    /// # Errors
-    ///
-    /// [`AllocError`] if memory cannot be allocated.
-    pub fn prepare(
-        rt: &'r R,
-        alloc: Global,
-        heap: &'h LocalHeap,
-        config: &UpsmonConf,
-    ) -> Result<Halt<'r, 'h, R>, AllocError> {
-        Ok(Halt {
+    /// Returns a halt without steps, which will take its memory from this heap.
+    pub fn none(rt: &'r R, alloc: Global, heap: &'h LocalHeap) -> Halt<'r, 'h, R> {
+        Halt {
             rt,
             alloc,
             heap,
-            flag: PowerDownFlag::of(alloc, config)?,
-            command: shutdown_command(rt, heap, config)?,
-        })
+            flag: None,
+            command: None,
+        }
     }
 
-    /// Makes the halt that another configuration sets, with the memory of the same heap. This one stays as it is.
+    /// Returns another halt without steps, with the memory of the same heap.
+    pub fn other(&self) -> Halt<'r, 'h, R> {
+        Halt::none(self.rt, self.alloc, self.heap)
+    }
+
+    /// Takes the steps that upsmon.conf sets.
     ///
     /// # Errors
     ///
     /// [`AllocError`] if memory cannot be allocated.
-    pub fn prepare_other(&self, config: &UpsmonConf) -> Result<Halt<'r, 'h, R>, AllocError> {
-        Halt::prepare(self.rt, self.alloc, self.heap, config)
+    pub fn prepare(&mut self, config: &UpsmonConf) -> Result<(), AllocError> {
+        self.prepare_flag(config)?;
+        self.prepare_command(config)
+    }
+
+    fn prepare_flag(&mut self, config: &UpsmonConf) -> Result<(), AllocError> {
+        self.flag = PowerDownFlag::of(self.alloc, config)?;
+        Ok(())
+    }
+
+    fn prepare_command(&mut self, config: &UpsmonConf) -> Result<(), AllocError> {
+        self.command = shutdown_command(self.rt, self.heap, config)?;
+        Ok(())
     }
 
     /// Starts the shell that will run SHUTDOWNCMD. If it cannot be started, it is tried again at the halt.
@@ -112,14 +119,11 @@ impl<'r, 'h, R: Files + Processes + Clock> Halt<'r, 'h, R> {
     }
 
     /// Gives the halt up. Returns the shell that was to run SHUTDOWNCMD, if there is one: it ends and runs nothing.
-    pub fn give_up(mut self) -> Option<Child<R::Started>> {
-        let shell = match &mut self.command {
+    pub fn give_up(&mut self) -> Option<Child<R::Started>> {
+        match &mut self.command {
             Some(command) => command.give_up(),
             None => None,
-        };
-        // dropped by a call, which keeps the proof of this function short
-        drop(self);
-        shell
+        }
     }
 
     /// Removes POWERDOWNFLAG if an earlier shutdown left it set: otherwise the scripts of the next ordinary shutdown

@@ -71,47 +71,32 @@ pub struct LowRuntimes<'r, R: Processes> {
     patience: Patience,
     /// How many steps pass before the next question.
     pause: u8,
-    /// The number of the configuration, from 0 on. An answer about a UPS of an earlier one is let go.
+    /// The number of the configuration. An answer about a UPS of an earlier one is let go.
     generation: u32,
     left: Vec<Ups>,
     questions: Questions<'r, R, Ups>,
 }
 
 impl<'r, R: Processes> LowRuntimes<'r, R> {
-    /// Returns the questions that a monitor with this configuration asks while it watches.
-    ///
-    /// # Errors
-    ///
-    /// [`AllocError`] if memory cannot be allocated.
-    pub fn watched(
-        processes: &'r R,
-        alloc: Global,
-        config: &UpsmonConf,
-    ) -> Result<LowRuntimes<'r, R>, AllocError> {
-        LowRuntimes::new(processes, alloc, config, WATCH)
+    /// Returns what a monitor asks with while it watches. It asks for nothing yet.
+    pub fn watched(processes: &'r R, alloc: Global) -> LowRuntimes<'r, R> {
+        LowRuntimes::none(processes, alloc, WATCH)
     }
 
-    /// Returns the questions of this configuration: one for each UPS that feeds the machine, and none if the machine needs
-    /// no UPS.
-    fn new(
-        processes: &'r R,
-        alloc: Global,
-        config: &UpsmonConf,
-        patience: Patience,
-    ) -> Result<LowRuntimes<'r, R>, AllocError> {
-        let (needed, left) = asked(alloc, config, 0)?;
-        Ok(LowRuntimes {
+    /// Returns what asks for nothing yet.
+    fn none(processes: &'r R, alloc: Global, patience: Patience) -> LowRuntimes<'r, R> {
+        LowRuntimes {
             alloc,
-            needed,
+            needed: 0,
             patience,
             pause: patience.pause,
             generation: 0,
-            left,
+            left: Vec::new(alloc),
             questions: Questions::none(processes, alloc, patience.question),
-        })
+        }
     }
 
-    /// Asks for those of another configuration instead.
+    /// Asks from now on for each UPS that feeds the machine of this configuration, and for none if it needs no UPS.
     ///
     /// # Errors
     ///
@@ -219,9 +204,12 @@ pub fn check_low_runtimes<R: Processes + Clock>(
     config: &UpsmonConf,
     err: &mut ErrorLines,
 ) -> Result<(), AllocError> {
-    let mut runtimes = LowRuntimes::new(rt, alloc, config, CHECK)?;
-    ask_all(rt, &mut runtimes, err);
-    Ok(())
+    let mut runtimes = LowRuntimes::none(rt, alloc, CHECK);
+    let asked = runtimes.restart(config);
+    if asked.is_ok() {
+        ask_all(rt, &mut runtimes, err);
+    }
+    asked
 }
 
 /// Asks for each of these, waits for the answers, and warns by them.

@@ -1,39 +1,30 @@
 //! upsmon: a monitor that decides when to halt its machine.
 
 use crate::caretaker::Caretaker;
-use crate::command_line::upsmon_command;
-use crate::crier::Crier;
+use crate::command_line::{Order, Task, order_of};
 use crate::faulty_file::{flag_despite, flag_of};
-use crate::halt::{Halt, halt_heap};
+use crate::halt::halt_heap;
 use crate::low_runtime::check_low_runtimes;
 use crate::power_down_flag::{FlagState, PowerDownFlag};
 use crate::reloader::Reloader;
 use crate::stopping::Stopping;
 use crate::streams::Streams;
 use crate::upsmon_fault::UpsmonFault;
-use crate::warning::tell_warnings;
+use crate::warning::read_and_warn;
 use crate::watching::{WatchFault, watch_in_turn};
-use clap::ArgMatches;
 use linked_list_allocator::LocalHeap;
-use nut_conf::{UpsdConf, UpsmonConf};
+use nut_conf::UpsmonConf;
 use nut_poll::{ErrorLines, LossyLines};
-use nut_program::{
-    ConfFile, Failure, ReloadFile, Turn, conf_folder, hold_closed_streams, read_conf, refuse_start,
-};
+use nut_program::{Failure, hold_closed_streams, read_conf, refuse_start};
 use std::alloc::{Alloc, AllocError, Global};
 use std::convert::AsStr;
 use std::env::Env;
-use std::io;
-use std::io::{Stderr, Stdout, Write};
+use std::io::{Stderr, Stdout};
 use std::net::Net;
 use std::process::Processes;
 use std::rt::Files;
 use std::sync::Wait;
 use std::time::Clock;
-
-/// upsmon answers a request after upsd has, so that the server knows the new users and UPSes when upsmon logs in again. A
-/// login that is refused isn't asked for again.
-const TURN: Turn = Turn::Second;
 
 /// Runs upsmon. Returns its exit status.
 ///
@@ -111,50 +102,36 @@ fn run<R, S: AsStr>(
 where
     R: Wait + Files + Net + Clock + Processes + Env + Alloc,
 {
-    let matches = upsmon_command(alloc)?.try_get_matches_from(words)?;
-    run_matches(rt, alloc, &matches, streams, told)
+    let order = order_of(rt, alloc, words)?;
+    let status = carry_out(rt, alloc, &order, streams, told);
+    // dropped by a call, which keeps the proof of this function short
+    drop(order);
+    status
 }
 
-/// Does what a command line asks for that clap has accepted. Returns the exit status.
-fn run_matches<R>(
+/// Does what a command line asks for. Returns the exit status.
+fn carry_out<R>(
     rt: &R,
     alloc: Global,
-    matches: &ArgMatches<'_>,
+    order: &Order,
     streams: Streams,
     told: &mut ErrorLines,
 ) -> Result<u8, Failure<UpsmonFault>>
 where
-    R: Wait + Files + Net + Clock + Processes + Env + Alloc,
+    R: Wait + Files + Net + Clock + Processes,
 {
-    if matches.get_flag("killpower") {
-        return look_for_flag(rt, alloc, matches, streams.out, told);
-    }
-    if matches.get_flag("check") {
-        check_file(rt, alloc, matches, streams.out, told)?;
-    } else {
-        guard(rt, alloc, matches, streams, told)?;
+    let folder = order.folder.as_str();
+    match order.task {
+        Task::LookForFlag => return look_for_flag(rt, alloc, folder, streams.out, told),
+        Task::Check => check_file(rt, alloc, folder, streams.out, told)?,
+        Task::Watch { is_quiet } => guard(rt, alloc, folder, is_quiet, streams, told)?,
     }
     Ok(0)
 }
 
-/// Returns whether the flag that upsmon.conf names is set, as an exit status: 0 if it is, else 1.
-fn look_for_flag<R>(
-    rt: &R,
-    alloc: Global,
-    matches: &ArgMatches<'_>,
-    out: Stdout,
-    told: &mut ErrorLines,
-) -> Result<u8, Failure<UpsmonFault>>
-where
-    R: Files + Env + Alloc,
-{
-    let folder = conf_folder(rt, alloc, matches)?;
-    look_in_folder(rt, alloc, folder.as_str(), out, told)
-}
-
 /// Returns whether the flag that upsmon.conf in this folder names is set, as an exit status. If a line of the file has a
 /// fault, that is told, and the last line that names a flag and has none counts.
-fn look_in_folder<R>(
+fn look_for_flag<R>(
     files: &R,
     alloc: Global,
     folder: &str,
@@ -189,23 +166,8 @@ fn flag_status(files: &impl Files, flag: Option<PowerDownFlag>) -> u8 {
     u8::from(!is_set)
 }
 
-/// Checks upsmon.conf in the folder that a command line names.
-fn check_file<R>(
-    rt: &R,
-    alloc: Global,
-    matches: &ArgMatches<'_>,
-    out: Stdout,
-    told: &mut ErrorLines,
-) -> Result<(), Failure<UpsmonFault>>
-where
-    R: Files + Clock + Processes + Env + Alloc,
-{
-    let folder = conf_folder(rt, alloc, matches)?;
-    check_folder(rt, alloc, folder.as_str(), out, told)
-}
-
 /// Reads upsmon.conf in this folder, writes what it should set otherwise, and checks it.
-fn check_folder<R>(
+fn check_file<R>(
     rt: &R,
     alloc: Global,
     folder: &str,
@@ -215,7 +177,7 @@ fn check_folder<R>(
 where
     R: Files + Clock + Processes,
 {
-    let config = read_folder(rt, alloc, folder, told)?;
+    let config = read_and_warn(rt, alloc, folder, told)?;
     let checked = check_config(rt, alloc, &config, out, told);
     // dropped by a call, which keeps the proof of this function short
     drop(config);
@@ -239,44 +201,11 @@ where
     Ok(())
 }
 
-/// Reads upsmon.conf in this folder, and writes what it should set otherwise.
-fn read_folder<R: Files>(
-    rt: &R,
-    alloc: Global,
-    folder: &str,
-    told: &mut ErrorLines,
-) -> Result<UpsmonConf, Failure<UpsmonFault>> {
-    let config = read_config(rt, alloc, folder)?;
-    match tell_warnings(rt, alloc, folder, &config, told) {
-        Ok(()) => Ok(config),
-        Err(AllocError) => {
-            // dropped by a call, which keeps the proof of this function short
-            drop(config);
-            Err(Failure::Memory)
-        }
-    }
-}
-
-/// Watches the UPSes of upsmon.conf until the machine has to be halted, and halts it.
+/// Watches the UPSes of upsmon.conf in this folder until the machine has to be halted, and halts it.
 fn guard<R>(
     rt: &R,
     alloc: Global,
-    matches: &ArgMatches<'_>,
-    streams: Streams,
-    told: &mut ErrorLines,
-) -> Result<(), Failure<UpsmonFault>>
-where
-    R: Wait + Files + Net + Clock + Processes + Env + Alloc,
-{
-    let folder = conf_folder(rt, alloc, matches)?;
-    guard_folder(rt, alloc, folder, matches.get_flag("quiet"), streams, told)
-}
-
-/// Watches the UPSes of upsmon.conf in this folder until the machine has to be halted, and halts it.
-fn guard_folder<R>(
-    rt: &R,
-    alloc: Global,
-    folder: String,
+    folder: &str,
     is_quiet: bool,
     streams: Streams,
     told: &mut ErrorLines,
@@ -284,55 +213,19 @@ fn guard_folder<R>(
 where
     R: Wait + Files + Net + Clock + Processes,
 {
-    // upsd may have the folder, too, if its file is there
-    let beside = UpsdConf::file_name();
-    let file = ReloadFile::new(rt, alloc, folder.as_str(), beside, TURN)?;
-    let mut reloader = Reloader::new(alloc, folder, file, is_quiet);
-    let guarded = guard_reloaded(rt, alloc, &mut reloader, streams, told);
+    let mut reloader = Reloader::start(rt, alloc, folder, is_quiet, told)?;
+    let guarded = guard_in_reserve(rt, alloc, &mut reloader, streams, told);
     // dropped by a call, which keeps the proof of this function short
     drop(reloader);
-    guarded
+    Ok(guarded?)
 }
 
-/// Watches the UPSes of the upsmon.conf that is reloaded here until the machine has to be halted, and halts it.
-fn guard_reloaded<R>(
-    rt: &R,
-    alloc: Global,
-    reloader: &mut Reloader,
-    streams: Streams,
-    told: &mut ErrorLines,
-) -> Result<(), Failure<UpsmonFault>>
-where
-    R: Wait + Files + Net + Clock + Processes,
-{
-    let config = read_folder(rt, alloc, reloader.folder(), told)?;
-    guard_with(rt, alloc, config, reloader, streams, told)?;
-    Ok(())
-}
-
-/// Watches the UPSes of a configuration until the machine has to be halted, and halts it. The standard streams that are
-/// closed are held meanwhile, so that no socket takes the place of one.
-fn guard_with<R>(
-    rt: &R,
-    alloc: Global,
-    config: UpsmonConf,
-    reloader: &mut Reloader,
-    streams: Streams,
-    told: &mut ErrorLines,
-) -> Result<(), WatchFault>
-where
-    R: Wait + Files + Net + Clock + Processes,
-{
-    let _held = hold_closed_streams(rt, alloc)?;
-    guard_in_reserve(rt, alloc, config, reloader, streams, told)
-}
-
-/// Reserves the memory that the halt takes, watches the UPSes of a configuration until the machine has to be halted, and
-/// halts it.
+/// Reserves the memory that the halt takes, watches the UPSes of the upsmon.conf that is reloaded here until the machine
+/// has to be halted, and halts it. The standard streams that are closed are held meanwhile, so that no socket takes the
+/// place of one.
 fn guard_in_reserve<R>(
     rt: &R,
     alloc: Global,
-    config: UpsmonConf,
     reloader: &mut Reloader,
     streams: Streams,
     told: &mut ErrorLines,
@@ -340,156 +233,30 @@ fn guard_in_reserve<R>(
 where
     R: Wait + Files + Net + Clock + Processes,
 {
-    let heap = halt_heap(alloc)?;
-    watch_and_halt(rt, alloc, &heap, config, reloader, streams, told)
+    let held = hold_closed_streams(rt, alloc)?;
+    let guarded = match halt_heap(alloc) {
+        Ok(heap) => watch_and_halt(rt, alloc, &heap, reloader, streams, told),
+        Err(AllocError) => Err(WatchFault::from(AllocError)),
+    };
+    // dropped by a call, which keeps the proof of this function short
+    drop(held);
+    guarded
 }
 
-/// Prepares the halt, watches the UPSes of a configuration until the machine has to be halted, and halts it. The memory
-/// that the halt takes comes from `heap`.
-fn watch_and_halt<R>(
-    rt: &R,
-    alloc: Global,
-    heap: &LocalHeap,
-    config: UpsmonConf,
-    reloader: &mut Reloader,
-    streams: Streams,
-    told: &mut ErrorLines,
-) -> Result<(), WatchFault>
-where
-    R: Wait + Files + Net + Clock + Processes,
-{
-    match ready_halt(rt, alloc, heap, &config, told) {
-        Ok(mut halt) => {
-            let watched = watch_with(rt, alloc, config, &mut halt, reloader, streams, told);
-            // dropped by a call, which keeps the proof of this function short
-            drop(halt);
-            watched
-        }
-        Err(AllocError) => {
-            drop(config);
-            Err(WatchFault::from(AllocError))
-        }
-    }
-}
-
-/// Prepares what tells notices, watches the UPSes of a configuration until the machine has to be halted, and halts it.
-fn watch_with<'r, R>(
+/// Watches the UPSes of the upsmon.conf that is reloaded here until the machine has to be halted, and halts it. The
+/// memory that the halt takes comes from `heap`.
+fn watch_and_halt<'r, R>(
     rt: &'r R,
     alloc: Global,
-    config: UpsmonConf,
-    halt: &mut Halt<'r, 'r, R>,
-    reloader: &mut Reloader,
+    heap: &'r LocalHeap,
+    reloader: &'r mut Reloader,
     streams: Streams,
-    told: &mut ErrorLines,
-) -> Result<(), WatchFault>
-where
-    R: Wait + Files + Net + Clock + Processes,
-{
-    match Voice::of(rt, alloc, &config, streams) {
-        Ok(mut voice) => {
-            let Voice { crier, err } = &mut voice;
-            let watched = watch_and_tell(rt, alloc, config, crier, err, halt, reloader, told);
-            // dropped by a call, which keeps the proof of this function short
-            drop(voice);
-            watched
-        }
-        Err(error) => {
-            drop(config);
-            Err(WatchFault::Io(error))
-        }
-    }
-}
-
-/// Watches the UPSes of a configuration until the machine has to be halted, and halts it. What happens is told by a
-/// crier and on `err`.
-fn watch_and_tell<'r, R>(
-    rt: &'r R,
-    alloc: Global,
-    config: UpsmonConf,
-    crier: &mut Crier<'r, R>,
-    err: &mut ErrorLines,
-    halt: &mut Halt<'r, 'r, R>,
-    reloader: &mut Reloader,
     told: &mut ErrorLines,
 ) -> Result<(), WatchFault>
 where
     R: Wait + Files + Net + Clock + Processes,
 {
     let is_quiet = reloader.is_quiet();
-    let caretaker = Caretaker::new(rt, err, crier, halt, reloader);
-    watch_in_turn(rt, alloc, config, caretaker, is_quiet, told)
-}
-
-/// Makes the halt that a configuration sets, removes a flag that was left, makes the next one ready, and starts the shell
-/// for SHUTDOWNCMD. If that can't be started, it is told.
-fn ready_halt<'r, 'h, R>(
-    rt: &'r R,
-    alloc: Global,
-    heap: &'h LocalHeap,
-    config: &UpsmonConf,
-    told: &mut ErrorLines,
-) -> Result<Halt<'r, 'h, R>, AllocError>
-where
-    R: Files + Clock + Processes,
-{
-    let mut halt = Halt::prepare(rt, alloc, heap, config)?;
-    halt.clear_flag(told);
-    halt.ready_flag(config, told);
-    if let Err(error) = halt.make_ready() {
-        tell_not_ready(&error, told);
-    }
-    Ok(halt)
-}
-
-/// Tells that the shell for SHUTDOWNCMD can't be started, and why.
-fn tell_not_ready(error: &io::Error, told: &mut ErrorLines) {
-    let _ = writeln!(
-        told,
-        "upsmon: warning: the shell that is to run SHUTDOWNCMD cannot be started yet: {error}"
-    );
-}
-
-/// What upsmon tells with while it watches: a crier, which prints notices on standard output and runs NOTIFYCMD, and
-/// standard error.
-#[derive(Drop)]
-struct Voice<'r, R: Processes> {
-    crier: Crier<'r, R>,
-    err: ErrorLines,
-}
-
-impl<'r, R> Voice<'r, R>
-where
-    R: Net + Processes,
-{
-    /// Returns the voice of a configuration.
-    fn of(
-        rt: &'r R,
-        alloc: Global,
-        config: &UpsmonConf,
-        streams: Streams,
-    ) -> io::Result<Voice<'r, R>> {
-        let crier = crier_of(rt, alloc, config, streams.out)?;
-        match LossyLines::new(rt, alloc, "upsmon", streams.err) {
-            Ok(err) => Ok(Voice { crier, err }),
-            Err(error) => {
-                // dropped by a call, which keeps the proof of this function short
-                drop(crier);
-                Err(error)
-            }
-        }
-    }
-}
-
-/// Makes the crier that prints notices on standard output and runs NOTIFYCMD.
-fn crier_of<'a, R>(
-    rt: &'a R,
-    alloc: Global,
-    config: &UpsmonConf,
-    out: Stdout,
-) -> io::Result<Crier<'a, R>>
-where
-    R: Net + Processes,
-{
-    let out = LossyLines::new(rt, alloc, "upsmon", out)?;
-    Ok(Crier::new(rt, alloc, config, out)?)
+    let caretaker = Caretaker::ready(rt, alloc, heap, reloader, streams, told)?;
+    watch_in_turn(rt, alloc, caretaker, is_quiet, told)
 }

@@ -52,25 +52,21 @@ pub struct NotifyCommand<'r, R: Processes> {
 }
 
 impl<'r, R: Processes> NotifyCommand<'r, R> {
-    /// Makes the command that upsmon.conf sets. It allocates room for the runs.
+    /// Makes a command that has no script yet. It allocates room for the runs.
     ///
     /// # Errors
     ///
     /// [`AllocError`] if memory cannot be allocated.
-    pub fn new(
-        processes: &'r R,
-        alloc: Global,
-        config: &UpsmonConf,
-    ) -> Result<NotifyCommand<'r, R>, AllocError> {
+    pub fn new(processes: &'r R, alloc: Global) -> Result<NotifyCommand<'r, R>, AllocError> {
         Ok(NotifyCommand {
             processes,
             alloc,
-            script: script_in(alloc, config)?,
+            script: None,
             running: Vec::with_capacity(alloc, RUNNING_MAX)?,
         })
     }
 
-    /// Takes another script, of [`script_in`]. Runs that haven't ended go on.
+    /// Takes a script, of [`script_in`]. Runs that haven't ended go on.
     pub fn set_script(&mut self, script: Option<String>) {
         self.script = script;
     }

@@ -6,36 +6,39 @@ ghost use Rattle.nut_monitor_spec.specs.Decision.{is_critical};
 
 use crate::beginning::Beginning;
 use crate::changes::{Changes, line_of};
-use crate::warning::tell_warnings;
-use nut_conf::{Monitored, UpsmonConf};
+use crate::starting::tell_start;
+use crate::warning::read_and_warn;
+use nut_conf::{Monitored, UpsdConf, UpsmonConf};
 use nut_monitor::{Known, Monitor, Phase};
 use nut_poll::{ErrorLines, Reports, text_of};
 use nut_program::{
-    FileFault, Look, ReloadFile, ReloadReport, read_conf, tell_not_reloaded, tell_unread,
+    ConfFile, FileFault, Look, ReloadFile, ReloadReport, Turn, tell_not_reloaded, tell_unread,
 };
 use std::alloc::{AllocError, Global};
 use std::io::Write;
 use std::rt::Files;
 
+/// upsmon answers a request after upsd has, so that the server knows the new users and UPSes when upsmon logs in again. A
+/// login that is refused isn't asked for again.
+const TURN: Turn = Turn::Second;
+
 /// What the watch of a changed configuration begins with, and what the configuration changes.
 #[derive(Drop)]
 pub struct Reload {
-    pub beginning: Beginning,
-    pub changes: Changes,
+    beginning: Beginning,
+    changes: Changes,
 }
 
 impl Reload {
-    /// Makes what the watch of a configuration begins with.
-    fn of(
-        alloc: Global,
-        config: UpsmonConf,
-        changes: Changes,
-    ) -> Result<Reload, FileFault<'static>> {
-        match Beginning::of(alloc, config) {
-            Ok(beginning) => Ok(Reload { beginning, changes }),
+    /// Makes what the watch of a configuration begins with, and compares it with the former one.
+    fn of(alloc: Global, former: &UpsmonConf, config: UpsmonConf) -> Result<Reload, AllocError> {
+        let beginning = Beginning::of(alloc, config)?;
+        match Changes::between(alloc, former, beginning.config()) {
+            Ok(changes) => Ok(Reload { beginning, changes }),
             Err(AllocError) => {
-                drop(changes);
-                Err(FileFault::Memory)
+                // dropped by a call, which keeps the proof of this function short
+                drop(beginning);
+                Err(AllocError)
             }
         }
     }
@@ -46,7 +49,8 @@ impl Reload {
     }
 }
 
-/// Looks each second whether upsmon.conf is to be read again.
+/// Reads upsmon.conf at the start, and looks each second whether it is to be read again. It has what the next watch
+/// begins with.
 ///
 /// A new monitor knows of a UPS only what its server says from then on. So a configuration waits while the last status of
 /// a UPS that it goes on watching has OB or FSD: if that server then said nothing more, this machine would have to be
@@ -57,6 +61,8 @@ pub struct Reloader {
     folder: String,
     file: ReloadFile,
     is_quiet: bool,
+    /// What the next watch begins with.
+    next: Option<Beginning>,
     /// The configuration that waits to be taken up.
     waiting: Option<Reload>,
     /// Whether it was told that it waits.
@@ -64,27 +70,95 @@ pub struct Reloader {
 }
 
 impl Reloader {
-    /// Returns the reloader of the folder of a file. If it is to be quiet, it says only what should be set otherwise,
-    /// and why nothing is reloaded.
-    pub fn new(alloc: Global, folder: String, file: ReloadFile, is_quiet: bool) -> Reloader {
-        Reloader {
-            alloc,
-            folder,
-            file,
-            is_quiet,
-            waiting: None,
-            is_wait_told: false,
+    /// Reads upsmon.conf in this folder for the first watch, and writes what it should set otherwise. If the reloader is
+    /// to be quiet, it says only that from then on, and why nothing is reloaded.
+    ///
+    /// # Errors
+    ///
+    /// Why upsmon.conf gives no configuration.
+    pub fn start(
+        files: &impl Files,
+        alloc: Global,
+        folder: &str,
+        is_quiet: bool,
+        err: &mut ErrorLines,
+    ) -> Result<Reloader, FileFault<'static>> {
+        match Reloader::new(files, alloc, folder, is_quiet) {
+            Ok(reloader) => reloader.read_first(files, err),
+            Err(AllocError) => Err(FileFault::Memory),
         }
     }
 
-    /// Returns the folder of upsmon.conf.
-    pub fn folder(&self) -> &str {
-        self.folder.as_str()
+    /// Returns the reloader of this folder, which has no configuration yet.
+    fn new(
+        files: &impl Files,
+        alloc: Global,
+        folder: &str,
+        is_quiet: bool,
+    ) -> Result<Reloader, AllocError> {
+        let folder = String::from_str(alloc, folder)?;
+        // upsd may have the folder, too, if its file is there
+        let beside = UpsdConf::file_name();
+        match ReloadFile::new(files, alloc, folder.as_str(), beside, TURN) {
+            Ok(file) => Ok(Reloader {
+                alloc,
+                folder,
+                file,
+                is_quiet,
+                next: None,
+                waiting: None,
+                is_wait_told: false,
+            }),
+            Err(AllocError) => {
+                // dropped by a call, which keeps the proof of this function short
+                drop(folder);
+                Err(AllocError)
+            }
+        }
+    }
+
+    /// Reads upsmon.conf for the first watch.
+    fn read_first(
+        mut self,
+        files: &impl Files,
+        err: &mut ErrorLines,
+    ) -> Result<Reloader, FileFault<'static>> {
+        match self.read_beginning(files, err) {
+            Ok(first) => {
+                drop(self.next.replace(first));
+                Ok(self)
+            }
+            Err(fault) => {
+                // dropped by a call, which keeps the proof of this function short
+                drop(self);
+                Err(fault)
+            }
+        }
+    }
+
+    /// Reads upsmon.conf, and makes what its watch begins with.
+    fn read_beginning(
+        &self,
+        files: &impl Files,
+        err: &mut ErrorLines,
+    ) -> Result<Beginning, FileFault<'static>> {
+        let config = read_and_warn(files, self.alloc, self.folder.as_str(), err)?;
+        Beginning::of(self.alloc, config).map_err(|_| FileFault::Memory)
     }
 
     /// Whether it is to be quiet.
     pub fn is_quiet(&self) -> bool {
         self.is_quiet
+    }
+
+    /// Returns what the next watch begins with, if there is something.
+    pub fn next(&self) -> Option<&Beginning> {
+        self.next.as_ref()
+    }
+
+    /// Takes what the next watch begins with, if there is something.
+    pub fn take_next(&mut self) -> Option<Beginning> {
+        self.next.take()
     }
 
     /// Returns the reports of upsmon, which are written to `err` unless they are to be quiet.
@@ -109,6 +183,14 @@ impl Reloader {
             self.read(files, monitor.config(), err);
         }
         self.take_waiting(monitor, err)
+    }
+
+    /// Reports what a configuration changes that was taken up, and what it sets. The next watch begins with it.
+    pub fn accept(&mut self, reload: Reload, err: &mut ErrorLines) {
+        let reloaded = ReloadReport::Reloaded(reload.changes.as_str());
+        self.reports(err).tell(reloaded);
+        tell_start(reload.config(), self.is_quiet, err);
+        drop(self.next.replace(reload.beginning));
     }
 
     /// Whether a reload was asked for and it is upsmon's turn to make it.
@@ -150,27 +232,8 @@ impl Reloader {
         former: &UpsmonConf,
         err: &mut ErrorLines,
     ) -> Result<Reload, FileFault<'static>> {
-        let config = read_conf(files, self.alloc, self.folder())?;
-        match self.compare(files, former, &config, err) {
-            Ok(changes) => Reload::of(self.alloc, config, changes),
-            Err(AllocError) => {
-                // dropped by a call, which keeps the proof of this function short
-                drop(config);
-                Err(FileFault::Memory)
-            }
-        }
-    }
-
-    /// Writes what a configuration should set otherwise, and finds what it changes.
-    fn compare(
-        &self,
-        files: &impl Files,
-        former: &UpsmonConf,
-        config: &UpsmonConf,
-        err: &mut ErrorLines,
-    ) -> Result<Changes, AllocError> {
-        tell_warnings(files, self.alloc, self.folder(), config, err)?;
-        Changes::between(self.alloc, former, config)
+        let config = read_and_warn(files, self.alloc, self.folder.as_str(), err)?;
+        Reload::of(self.alloc, former, config).map_err(|_| FileFault::Memory)
     }
 
     /// Returns a configuration in which something has changed. If nothing has, that is told: the links stay.

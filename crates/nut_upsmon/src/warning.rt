@@ -6,7 +6,7 @@ ghost use Rattle.nut_conf.specs.Upsmon.{poll_freq_of, dead_time_of, host_sync_of
 use crate::stopping::DELAY;
 use nut_conf::UpsmonConf;
 use nut_poll::ErrorLines;
-use nut_program::{readable_file, warn};
+use nut_program::{FileFault, read_conf, readable_file, warn};
 use std::alloc::{AllocError, Global};
 use std::fmt;
 use std::io::Write;
@@ -89,12 +89,30 @@ impl Warning {
     }
 }
 
-/// Writes what upsmon.conf in this folder should set otherwise, and whether everybody can read it.
+/// Reads upsmon.conf in this folder, and writes what it should set otherwise, and whether everybody can read it.
 ///
 /// # Errors
 ///
-/// [`AllocError`] if memory for the file's path cannot be allocated.
-pub fn tell_warnings(
+/// Why the file gives no configuration.
+pub fn read_and_warn(
+    files: &impl Files,
+    alloc: Global,
+    folder: &str,
+    err: &mut ErrorLines,
+) -> Result<UpsmonConf, FileFault<'static>> {
+    let config = read_conf(files, alloc, folder)?;
+    match tell_warnings(files, alloc, folder, &config, err) {
+        Ok(()) => Ok(config),
+        Err(AllocError) => {
+            // dropped by a call, which keeps the proof of this function short
+            drop(config);
+            Err(FileFault::Memory)
+        }
+    }
+}
+
+/// Writes what upsmon.conf in this folder should set otherwise, and whether everybody can read it.
+fn tell_warnings(
     files: &impl Files,
     alloc: Global,
     folder: &str,

@@ -4,8 +4,6 @@ ghost use Rattle.std.specs.Prelude.{◌≡◌, ◌<◌, ◌-◌, ◌^◌, [], If
 
 use crate::beginning::{Beginning, NewMonitor};
 use crate::halt::HaltFault;
-use crate::starting::tell_start;
-use nut_conf::UpsmonConf;
 use nut_monitor::Phase;
 use nut_monitor_loop::{MonWorld, watch};
 use nut_monitor_sockets::{Herald, MioMonWorld};
@@ -72,7 +70,8 @@ impl From<HaltFault> for WatchFault {
 }
 
 /// Watches the UPSes of one configuration after the other over sockets, until the machine has to be halted, and halts
-/// it. Reports to the operator on `err`, and if that is to be quiet, only refusals that no notice tells of.
+/// it. The herald has what each watch begins with. Reports to the operator on `err`, and if that is to be quiet, only
+/// refusals that no notice tells of.
 ///
 /// # Errors
 ///
@@ -81,7 +80,6 @@ impl From<HaltFault> for WatchFault {
 pub fn watch_in_turn<'r, R, H, E>(
     rt: &'r R,
     alloc: Global,
-    first: UpsmonConf,
     herald: H,
     is_quiet: bool,
     err: &mut E,
@@ -91,103 +89,71 @@ where
     H: Follower,
     E: Told,
 {
-    let err = err.lines();
-    tell_start(&first, is_quiet, err);
-    let reports = Reports::new("upsmon", err, !is_quiet);
-    match MioMonWorld::new(rt, alloc, herald, reports) {
-        Ok(mut world) => {
-            let watched = watch_from(rt, alloc, first, &mut world);
-            // dropped by a call, which keeps the proof of this function short
-            drop(world);
-            watched
-        }
-        Err(error) => {
-            drop(first);
-            Err(WatchFault::Io(error))
-        }
-    }
+    let reports = Reports::new("upsmon", err.lines(), !is_quiet);
+    let mut world = MioMonWorld::new(rt, alloc, herald, reports)?;
+    let watched = watch_all(rt, &mut world);
+    // dropped by a call, which keeps the proof of this function short
+    drop(world);
+    watched
 }
 
-/// Watches in this world, first the UPSes of this configuration, and halts the machine.
-fn watch_from<'r, 'e, R, H>(
-    rt: &'r R,
-    alloc: Global,
-    first: UpsmonConf,
-    world: &mut MioMonWorld<'r, 'e, R, H>,
-) -> Result<(), WatchFault>
-where
-    R: Wait + Net + Clock + Processes,
-    H: Follower,
-{
-    let beginning = Beginning::of(alloc, first)?;
-    watch_all(rt, beginning, world)
-}
-
-/// Watches in this world, first from this beginning, and halts the machine.
+/// Watches in this world until the machine is halted.
 fn watch_all<'r, 'e, R, H>(
     rt: &'r R,
-    first: Beginning,
     world: &mut MioMonWorld<'r, 'e, R, H>,
 ) -> Result<(), WatchFault>
 where
     R: Wait + Net + Clock + Processes,
     H: Follower,
 {
-    let mut beginning = first;
     for _ in rt.forever() {
-        match watch_once(rt, beginning, world)? {
-            Some(next) => beginning = next,
-            None => return Ok(()),
+        if watch_once(rt, world)? {
+            return Ok(());
         }
     }
     unreachable!()
 }
 
-/// Watches until the machine has to be halted, and halts it; or until a changed configuration is taken up. Returns what
-/// the watch of that begins with.
+/// Watches until the machine has to be halted, and halts it; or until a changed configuration is taken up. Returns whether
+/// it is halted.
 fn watch_once<'r, 'e, R, H>(
     rt: &'r R,
-    beginning: Beginning,
     world: &mut MioMonWorld<'r, 'e, R, H>,
-) -> Result<Option<Beginning>, WatchFault>
+) -> Result<bool, WatchFault>
 where
     R: Wait + Net + Clock + Processes,
     H: Follower,
 {
-    match begin_watch(rt, beginning, world) {
-        Ok(Phase::Halted { flag }) => {
+    match begin_watch(rt, world)? {
+        Phase::Halted { flag } => {
             // This machine is logged out before it halts, so that no primary waits for it.
             world.leave();
             world.herald().halt(flag)?;
-            Ok(None)
+            Ok(true)
         }
-        Ok(Phase::Watching | Phase::Forcing | Phase::Final) => Ok(Some(next_beginning(world)?)),
-        Err(error) => Err(WatchFault::Io(error)),
+        Phase::Watching | Phase::Forcing | Phase::Final => Ok(false),
     }
 }
 
-/// Returns what the next watch begins with.
+/// Makes the links of the next watch, and watches until the machine has to be halted, or the world ends.
 ///
 /// # Errors
 ///
-/// `Other` if there is nothing: then the watch ended without a reason.
-fn next_beginning<'r, 'e, R, H>(world: &mut MioMonWorld<'r, 'e, R, H>) -> io::Result<Beginning>
+/// That of the clock; `Other` if waiting for the sockets or reading the clock fails, or there is no next watch: then the
+/// last one ended without a reason.
+fn begin_watch<'r, 'e, R, H>(rt: &'r R, world: &mut MioMonWorld<'r, 'e, R, H>) -> io::Result<Phase>
 where
-    R: Net + Clock + Processes,
+    R: Wait + Net + Clock + Processes,
     H: Follower,
 {
     match world.herald().take_next() {
-        Some(beginning) => Ok(beginning),
+        Some(beginning) => watch_from(rt, beginning, world),
         None => Err(io::Error::from(ErrorKind::Other)),
     }
 }
 
 /// Makes the links of a watch, and watches until the machine has to be halted, or the world ends.
-///
-/// # Errors
-///
-/// That of the clock, or `Other` if waiting for the sockets or reading the clock fails.
-fn begin_watch<'r, 'e, R, H>(
+fn watch_from<'r, 'e, R, H>(
     rt: &'r R,
     beginning: Beginning,
     world: &mut MioMonWorld<'r, 'e, R, H>,
