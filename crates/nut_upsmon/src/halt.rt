@@ -11,7 +11,7 @@ use std::io::Write;
 use std::process::{Child, ExitStatus, Processes};
 use std::rt::Files;
 use std::time::{Clock, Duration};
-use std::{fmt, io, thread};
+use std::{fmt, io, mem, thread};
 
 /// The number of bytes that are reserved for starting the shell of SHUTDOWNCMD: for its words, of which there are two
 /// sets while upsmon.conf is taken up anew, and for a copy of an environment of up to 300 KiB, which takes up to three
@@ -97,12 +97,14 @@ impl<'r, 'h, R: Files + Processes + Clock> Halt<'r, 'h, R> {
     }
 
     fn prepare_flag(&mut self, config: &UpsmonConf) -> Result<(), AllocError> {
-        self.flag = PowerDownFlag::of(self.alloc, config)?;
+        let flag = PowerDownFlag::of(self.alloc, config)?;
+        drop(mem::replace(&mut self.flag, flag));
         Ok(())
     }
 
     fn prepare_command(&mut self, config: &UpsmonConf) -> Result<(), AllocError> {
-        self.command = shutdown_command(self.rt, self.heap, config)?;
+        let command = shutdown_command(self.rt, self.heap, config)?;
+        drop(mem::replace(&mut self.command, command));
         Ok(())
     }
 
@@ -119,11 +121,14 @@ impl<'r, 'h, R: Files + Processes + Clock> Halt<'r, 'h, R> {
     }
 
     /// Gives the halt up. Returns the shell that was to run SHUTDOWNCMD, if there is one: it ends and runs nothing.
-    pub fn give_up(&mut self) -> Option<Child<R::Started>> {
-        match &mut self.command {
+    pub fn give_up(mut self) -> Option<Child<R::Started>> {
+        let shell = match &mut self.command {
             Some(command) => command.give_up(),
             None => None,
-        }
+        };
+        // dropped by a call, which keeps the proof of this function short
+        drop(self);
+        shell
     }
 
     /// Removes POWERDOWNFLAG if an earlier shutdown left it set: otherwise the scripts of the next ordinary shutdown
