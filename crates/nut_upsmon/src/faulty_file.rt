@@ -5,7 +5,7 @@
 //! its battery is empty, then no machine starts again.
 
 use crate::power_down_flag::PowerDownFlag;
-use crate::upsmon_fault::UpsmonFault;
+use crate::upsmon_fault::{UpsmonFault, tell_failure};
 use nut_conf::{FILE_MAX, FaultKind, UpsmonConf, read_upsmon};
 use nut_poll::ErrorLines;
 use nut_program::{ConfFile, Failure, FileFault, read_file};
@@ -39,7 +39,7 @@ where
     if !is_of_lines(&failure) {
         return Err(failure);
     }
-    tell(failure, out, told);
+    tell_failure(failure, out, told);
     Ok(last_flag_in(files, alloc, folder)?)
 }
 
@@ -49,11 +49,6 @@ fn is_of_lines(failure: &Failure<UpsmonFault>) -> bool {
         failure,
         Failure::Own(UpsmonFault::File(FileFault::Conf(..)))
     )
-}
-
-/// Tells a fault of the file.
-fn tell(failure: Failure<UpsmonFault>, mut out: Stdout, told: &mut ErrorLines) {
-    failure.tell("upsmon", &mut out, told);
 }
 
 /// Returns the flag that upsmon.conf in this folder names last, in a file that is too long within the first [`FILE_MAX`]

@@ -9,7 +9,7 @@ use crate::power_down_flag::{FlagState, PowerDownFlag};
 use crate::reloader::Reloader;
 use crate::stopping::Stopping;
 use crate::streams::Streams;
-use crate::upsmon_fault::UpsmonFault;
+use crate::upsmon_fault::{UpsmonFault, tell_failure};
 use crate::warning::read_and_warn;
 use crate::watching::{WatchFault, watch_in_turn};
 use linked_list_allocator::LocalHeap;
@@ -79,7 +79,7 @@ fn run_and_tell<R, S: AsStr>(
     rt: &R,
     alloc: Global,
     words: &[S],
-    mut streams: Streams,
+    streams: Streams,
     told: &mut ErrorLines,
 ) -> u8
 where
@@ -87,7 +87,7 @@ where
 {
     match run(rt, alloc, words, streams, told) {
         Ok(status) => status,
-        Err(failure) => failure.tell("upsmon", &mut streams.out, told),
+        Err(failure) => tell_failure(failure, streams.out, told),
     }
 }
 

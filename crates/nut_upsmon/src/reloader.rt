@@ -16,6 +16,7 @@ use nut_program::{
 };
 use std::alloc::{AllocError, Global};
 use std::io::Write;
+use std::mem;
 use std::rt::Files;
 
 /// upsmon answers a request after upsd has, so that the server knows the new users and UPSes when upsmon logs in again. A
@@ -216,13 +217,14 @@ impl Reloader {
     /// Reads upsmon.conf. If it can't be read, or nothing in it has changed, that is told.
     fn read(&mut self, files: &impl Files, former: &UpsmonConf, err: &mut ErrorLines) {
         self.is_wait_told = false;
-        self.waiting = match self.read_reload(files, former, err) {
+        let waiting = match self.read_reload(files, former, err) {
             Ok(reload) => self.unless_same(reload, err),
             Err(fault) => {
                 tell_unread("upsmon", &fault, err);
                 None
             }
         };
+        drop(mem::replace(&mut self.waiting, waiting));
     }
 
     /// Reads upsmon.conf, compares it, and makes what its watch begins with.

@@ -2,8 +2,10 @@
 
 use crate::halt::HaltFault;
 use crate::watching::WatchFault;
+use nut_poll::ErrorLines;
 use nut_program::{Failure, FileFault, OwnFault};
 use std::fmt;
+use std::io::Stdout;
 
 /// The faults that only upsmon has.
 #[derive(Drop)]
@@ -45,4 +47,9 @@ impl From<WatchFault> for Failure<UpsmonFault> {
             WatchFault::Halt(fault) => Failure::Own(UpsmonFault::Halt(fault)),
         }
     }
+}
+
+/// Tells a failure. Returns the exit status of a program that ends with it.
+pub fn tell_failure(failure: Failure<UpsmonFault>, mut out: Stdout, told: &mut ErrorLines) -> u8 {
+    failure.tell("upsmon", &mut out, told)
 }
