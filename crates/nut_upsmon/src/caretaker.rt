@@ -23,7 +23,8 @@ use std::time::Clock;
 use std::{io, mem};
 
 /// What upsmon does besides watching: it tells notices and what a shutdown is for, keeps the halt of its machine
-/// prepared, and takes up a changed upsmon.conf. For that it ends the watch, and has what the next one begins with.
+/// prepared, and takes up a changed upsmon.conf. For that it ends the watch; its reloader has what the next one begins
+/// with.
 ///
 /// The halt that a configuration sets is prepared before the earlier one is given up, so there is no moment without.
 /// What the next watch begins with is made even before that: once the change is reported, no lack of memory can end
