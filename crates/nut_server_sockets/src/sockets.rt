@@ -127,8 +127,10 @@ impl Sockets {
             self.begin_second(server, moment, &mut services.reports);
             return Ok(Next::Moment(moment));
         }
-        let next = self.look(server, piece, services.rt, &mut services.reports);
-        Ok(next.unwrap_or(Next::Again))
+        match self.look(server, piece, services.rt, &mut services.reports) {
+            Some(next) => Ok(next),
+            None => Ok(Next::Again),
+        }
     }
 
     /// Offers bytes to a connection.
@@ -304,8 +306,8 @@ impl Sockets {
                 self.roll = self.roll.saturating_add(1);
                 self.pieces = PIECES;
             }
-            if next.is_some() {
-                return next;
+            if let Some(next) = next {
+                return Some(next);
             }
         }
         None
@@ -432,8 +434,7 @@ impl Sockets {
         self.clients.second();
         self.hindrances.second();
         self.drivers.catch_up(server);
-        self.tell_staleness(server, reports);
-        self.tell_forced(server, reports);
+        self.tell_changes(server, reports);
         self.sheds = true;
         self.asks = true;
         self.roll = 0;
@@ -447,27 +448,13 @@ impl Sockets {
         }
     }
 
-    /// Reports the UPSes whose data have become stale since the last second, or are no longer stale. What passes within a
-    /// second isn't told: the data of each driver are stale from its connection to the end of its first dump, and a driver
-    /// that changed its mind with every line would fill the log.
-    fn tell_staleness(&mut self, server: &Server, reports: &mut Reports<'_>) {
+    /// Reports the UPSes of which a shutdown was forced in the last second, and those whose data have become stale since
+    /// then or are no longer stale. What passes within a second isn't told: the data of each driver are stale from its
+    /// connection to the end of its first dump, and a driver that changed its mind with every line would fill the log.
+    fn tell_changes(&mut self, server: &Server, reports: &mut Reports<'_>) {
         for u in 0..self.drivers.len() {
             if let Some(driver) = self.drivers.get_mut(u) {
-                let is_stale = server.is_stale(u);
-                if driver.note_staleness(is_stale) {
-                    reports.tell(staleness(driver.name(), is_stale));
-                }
-            }
-        }
-    }
-
-    /// Reports the UPSes of which a shutdown was forced in the last second.
-    fn tell_forced(&mut self, server: &Server, reports: &mut Reports<'_>) {
-        for u in 0..self.drivers.len() {
-            if let Some(driver) = self.drivers.get_mut(u) {
-                if driver.note_forced(server.is_forced(u)) {
-                    reports.warn(Report::Forced(driver.name()));
-                }
+                tell_change(driver, server.is_stale(u), server.is_forced(u), reports);
             }
         }
     }
@@ -489,6 +476,16 @@ fn end_of(driver: &Driver, is_reload: bool) -> End {
         End::Reloaded
     } else {
         End::OutOfMemory
+    }
+}
+
+/// Reports what has become of the data of a UPS, and that a shutdown of it was forced.
+fn tell_change(driver: &mut Driver, is_stale: bool, is_forced: bool, reports: &mut Reports<'_>) {
+    if driver.note_staleness(is_stale) {
+        reports.tell(staleness(driver.name(), is_stale));
+    }
+    if driver.note_forced(is_forced) {
+        reports.warn(Report::Forced(driver.name()));
     }
 }
 

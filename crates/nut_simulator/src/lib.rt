@@ -9,5 +9,6 @@ mod playing;
 mod progress;
 mod room;
 mod run;
+mod streams;
 
 pub use run::run_nutsim;

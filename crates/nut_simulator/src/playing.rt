@@ -3,11 +3,12 @@
 use crate::fault::NutsimFault;
 use crate::news::write_news;
 use crate::progress::Progress;
+use crate::streams::Streams;
 use nut_play::{Fleet, FleetFault, Logged, Step, StepFault, read_step};
 use nut_program::Failure;
 use nut_words::{Line, LineCutter};
 use std::alloc::Global;
-use std::io::{BufRead, BufWriter, IsTerminal, Write};
+use std::io::{BufRead, BufWriter, Stderr, Stdout, Write};
 use std::slice;
 
 /// Why the playing of a schedule stops before its end.
@@ -25,27 +26,26 @@ enum Halt {
 
 /// A room, and what its news are written to.
 #[derive(Drop)]
-struct Stage<'a, O, E> {
+struct Stage<'a> {
     fleet: &'a mut Fleet,
     alloc: Global,
     /// The number of lines of the schedule that were begun.
     number: u64,
-    out: &'a mut O,
-    progress: Progress<'a, E>,
+    out: &'a mut BufWriter<Stdout>,
+    progress: Progress,
 }
 
 /// Plays the lines of a schedule, and writes what they tell. Before it returns a fault, it has written what the steps
 /// before that told.
-pub fn play_schedule<'a, R: BufRead, O: Write, E: Write + IsTerminal>(
+pub fn play_schedule<'a, R: BufRead>(
     alloc: Global,
     fleet: &mut Fleet,
     path: &'a str,
     schedule: &mut R,
-    out: &mut O,
-    err: &mut E,
+    streams: Streams,
 ) -> Result<(), Failure<NutsimFault<'a>>> {
-    let mut out = BufWriter::new(alloc, out)?;
-    match play_and_flush(alloc, fleet, schedule, &mut out, err) {
+    let mut out = BufWriter::new(alloc, streams.out)?;
+    match play_and_flush(alloc, fleet, schedule, &mut out, streams.err) {
         Ok(()) => Ok(()),
         Err(halt) => Err(failure_of(halt, path)),
     }
@@ -62,12 +62,12 @@ fn failure_of<'a>(halt: Halt, path: &'a str) -> Failure<NutsimFault<'a>> {
 }
 
 /// Plays the lines of a schedule in a room, and flushes what they tell, also after a fault.
-fn play_and_flush<R: BufRead, O: Write, E: Write + IsTerminal>(
+fn play_and_flush<R: BufRead>(
     alloc: Global,
     fleet: &mut Fleet,
     schedule: &mut R,
-    out: &mut O,
-    err: &mut E,
+    out: &mut BufWriter<Stdout>,
+    err: Stderr,
 ) -> Result<(), Halt> {
     let played = play_on(alloc, fleet, schedule, out, err);
     let flushed = out.flush();
@@ -79,12 +79,12 @@ fn play_and_flush<R: BufRead, O: Write, E: Write + IsTerminal>(
 }
 
 /// Plays the lines of a schedule in a room.
-fn play_on<R: BufRead, O: Write, E: Write + IsTerminal>(
+fn play_on<R: BufRead>(
     alloc: Global,
     fleet: &mut Fleet,
     schedule: &mut R,
-    out: &mut O,
-    err: &mut E,
+    out: &mut BufWriter<Stdout>,
+    err: Stderr,
 ) -> Result<(), Halt> {
     let mut stage = Stage {
         fleet,
@@ -98,7 +98,7 @@ fn play_on<R: BufRead, O: Write, E: Write + IsTerminal>(
     played
 }
 
-impl<'a, O: Write, E: Write + IsTerminal> Stage<'a, O, E> {
+impl<'a> Stage<'a> {
     /// Plays all lines of a schedule. Bytes after the last line feed are a line, too.
     fn play_lines<R: BufRead>(&mut self, schedule: &mut R) -> Result<(), Halt> {
         let mut cutter = LineCutter::new();

@@ -1,21 +1,21 @@
 //! How far a long schedule has been played, for a person at a terminal.
 
-use std::io::{IsTerminal, Write};
+use std::io::{IsTerminal, Stderr, Write};
 
 /// The number of steps after which the line is written anew. A schedule with fewer steps is played without it.
 const STEPS_BETWEEN: u64 = 100_000;
 
 /// A line on a terminal that says how far a schedule has been played. If the stream isn't a terminal, nothing is
 /// written. A failed write is ignored: the line is only there to be looked at.
-#[derive(Drop)]
-pub struct Progress<'a, E> {
-    stream: &'a mut E,
+#[derive(Clone, Copy)]
+pub struct Progress {
+    stream: Stderr,
     is_shown: bool,
 }
 
-impl<'a, E: Write + IsTerminal> Progress<'a, E> {
+impl Progress {
     /// Makes a progress that has written no line yet.
-    pub fn new(stream: &'a mut E) -> Self {
+    pub fn new(stream: Stderr) -> Self {
         Progress {
             stream,
             is_shown: false,

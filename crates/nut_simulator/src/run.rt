@@ -4,6 +4,7 @@ use crate::command::nutsim_command;
 use crate::fault::NutsimFault;
 use crate::playing::play_schedule;
 use crate::room::{read_config, read_monitors};
+use crate::streams::Streams;
 use nut_conf::UpsmonConf;
 use nut_play::{Fleet, FleetFault};
 use nut_program::{Failure, remark_on_unread};
@@ -12,7 +13,7 @@ use std::alloc::Global;
 use std::convert::AsStr;
 use std::fs::File;
 use std::io;
-use std::io::{BufRead, BufReader, ErrorKind, IsTerminal, Write};
+use std::io::{BufRead, BufReader, ErrorKind, Stderr, Stdout};
 use std::rt::Files;
 
 /// Plays a schedule on a server and its monitors, joined by pipes in memory. Returns the exit status.
@@ -34,25 +35,24 @@ use std::rt::Files;
 /// step, or names a monitor, a link or a UPS that doesn't exist, `nutsim: SCHEDULE:K: BadStep` is written, after what
 /// the steps before it told. `nutsim: out of memory` is written if memory cannot be allocated, and `nutsim: I/O failed`
 /// if `out` fails.
-pub fn run_nutsim<S: AsStr, O: Write, E: Write + IsTerminal>(
+pub fn run_nutsim<S: AsStr>(
     files: &impl Files,
     alloc: Global,
     words: &[S],
-    out: &mut O,
-    err: &mut E,
+    mut out: Stdout,
+    mut err: Stderr,
 ) -> u8 {
-    match run(files, alloc, words, out, err) {
+    match run(files, alloc, words, Streams { out, err }) {
         Ok(()) => 0,
-        Err(failure) => failure.tell("nutsim", out, err),
+        Err(failure) => failure.tell("nutsim", &mut out, &mut err),
     }
 }
 
-fn run<'a, S: AsStr, O: Write, E: Write + IsTerminal>(
+fn run<'a, S: AsStr>(
     files: &impl Files,
     alloc: Global,
     words: &'a [S],
-    out: &mut O,
-    err: &mut E,
+    streams: Streams,
 ) -> Result<(), Failure<NutsimFault<'a>>> {
     let matches = nutsim_command(alloc)?.try_get_matches_from(words)?;
     let names = Names {
@@ -60,7 +60,7 @@ fn run<'a, S: AsStr, O: Write, E: Write + IsTerminal>(
         schedule: matches.get_str("schedule").unwrap_or(""),
         monitors: matches.get_strs("monitors").unwrap_or(&[]),
     };
-    play_room(files, alloc, names, out, err)
+    play_room(files, alloc, names, streams)
 }
 
 /// The names on a command line: the folder of the server's files, the schedule, and the file of each monitor.
@@ -72,30 +72,28 @@ struct Names<'a, 'b> {
 }
 
 /// Reads the files of a room, and plays its schedule.
-fn play_room<'a, O: Write, E: Write + IsTerminal>(
+fn play_room<'a>(
     files: &impl Files,
     alloc: Global,
     names: Names<'a, '_>,
-    out: &mut O,
-    err: &mut E,
+    streams: Streams,
 ) -> Result<(), Failure<NutsimFault<'a>>> {
     let config = read_config(files, alloc, names.folder)?;
-    play_on_server(files, alloc, config, names, out, err)
+    play_on_server(files, alloc, config, names, streams)
 }
 
 /// Reads the other files of a room with this server, and plays its schedule.
-fn play_on_server<'a, O: Write, E: Write + IsTerminal>(
+fn play_on_server<'a>(
     files: &impl Files,
     alloc: Global,
     config: Config,
     names: Names<'a, '_>,
-    out: &mut O,
-    err: &mut E,
+    streams: Streams,
 ) -> Result<(), Failure<NutsimFault<'a>>> {
     match read_rest(files, alloc, names) {
         Ok((mut schedule, monitors)) => {
             let made = Fleet::new(alloc, config, monitors);
-            play_made(alloc, made, names.schedule, &mut schedule, out, err)
+            play_made(alloc, made, names.schedule, &mut schedule, streams)
         }
         Err(failure) => {
             // dropped by a call, which keeps the proof of this function short
@@ -119,17 +117,16 @@ fn read_rest<'a, F: Files>(
 }
 
 /// Plays a schedule in a room, if memory was found for it.
-fn play_made<'a, R: BufRead, O: Write, E: Write + IsTerminal>(
+fn play_made<'a, R: BufRead>(
     alloc: Global,
     made: Result<Fleet, FleetFault>,
     path: &'a str,
     schedule: &mut R,
-    out: &mut O,
-    err: &mut E,
+    streams: Streams,
 ) -> Result<(), Failure<NutsimFault<'a>>> {
     match made {
         Ok(mut fleet) => {
-            let played = play_schedule(alloc, &mut fleet, path, schedule, out, err);
+            let played = play_schedule(alloc, &mut fleet, path, schedule, streams);
             // dropped by a call, which keeps the proof of this function short
             drop(fleet);
             played

@@ -1,6 +1,6 @@
 //! upsd: a server over sockets, or over standard streams.
 
-ghost use Rattle.std.specs.Prelude.{◌≡◌, ◌<◌, ◌-◌, ◌^◌, [], IfOk, IfSome};
+ghost use Rattle.std.specs.Prelude.{◌≡◌, []};
 ghost use Rattle.nut_server_spec.specs.Content.{content};
 
 use crate::command_line::{matches_of, upsd_command};
@@ -12,17 +12,15 @@ use crate::stdio::serve_options;
 use crate::upsd_fault::{UpsdFault, exit_status};
 use clap::ArgMatches;
 use mio::net::TcpListener;
-use nut_io::ServeFault;
 use nut_poll::{ErrorLines, Reports};
 use nut_program::{Failure, conf_folder, hold_closed_streams};
 use nut_server::{Config, Server};
-use nut_server_loop::{World, serve};
+use nut_server_loop::serve;
 use nut_server_sockets::{Drivers, MioWorld, Reloader};
 use std::alloc::{Alloc, Global};
 use std::convert::AsStr;
 use std::env::Env;
-use std::io;
-use std::io::{ErrorKind, Read, Write};
+use std::io::{Read, Write};
 use std::net::Net;
 use std::rt::Files;
 use std::sync::Wait;
@@ -144,22 +142,20 @@ fn serve_sockets<R: Wait + Files + Net + Clock>(
     options: &Options<'_>,
     err: &mut ErrorLines,
 ) -> Result<(), Failure<UpsdFault>> {
-    let reloading = Reloading::new(rt, alloc, options.conf)?;
-    let (settings, reloading) = paired(reloading.read(err), reloading)?;
-    serve_settings(rt, alloc, settings, reloading, options, err)
+    // no file and no socket takes the place of a standard stream that is closed
+    let _held = hold_closed_streams(rt, alloc)?;
+    serve_folder(rt, alloc, options, err)
 }
 
-/// Serves clients with these settings. The standard streams that are closed are held meanwhile.
-fn serve_settings<R: Wait + Files + Net + Clock>(
+/// Serves clients with the files of a folder.
+fn serve_folder<R: Wait + Files + Net + Clock>(
     rt: &R,
     alloc: Global,
-    settings: Settings,
-    reloading: Reloading<'_, R>,
     options: &Options<'_>,
     err: &mut ErrorLines,
 ) -> Result<(), Failure<UpsdFault>> {
-    let held = hold_closed_streams(rt, alloc);
-    let (_held, (settings, reloading)) = paired(held, (settings, reloading))?;
+    let reloading = Reloading::new(rt, alloc, options.conf)?;
+    let (settings, reloading) = paired(reloading.read(err), reloading)?;
     listen_and_serve(rt, alloc, settings, reloading, options, err)
 }
 
@@ -218,30 +214,12 @@ fn serve_listeners<R: Wait + Net + Clock, L: Reloader + Drop>(
     let drivers = Drivers::new(alloc, options.sockets, server)?;
     let mut reports = Reports::new("upsd", err, !options.is_quiet);
     tell_start(&listeners, &drivers, &mut reports);
-    let made = MioWorld::new(rt, alloc, listeners, drivers, reports, reloader);
-    serve_world(rt, server, made)?;
+    let mut world = MioWorld::new(rt, alloc, listeners, drivers, reports, reloader)?;
+    let served = serve(rt, server, &mut world);
+    // dropped by a call, which keeps the proof of this function short
+    drop(world);
+    served?;
     Ok(())
-}
-
-/// Serves a world to its end, if it could be made.
-///
-/// # Errors
-///
-/// Why it couldn't be made, or `Other` if a call of the world returned a fault.
-fn serve_world<W: World + Drop>(
-    rt: &impl Wait,
-    server: &mut Server,
-    made: io::Result<W>,
-) -> io::Result<()>
-    requires fresh { server.old ≡ content server.old.configuration [] }
-    requires blank { IfOk made (λ w. IfSome (W.log w) (λ r. r ≡ [])) }
-    requires few { IfOk made (λ w. W.fault_count w < 2 ^ 64 - 1) }
-{
-    let mut world = made?;
-    match serve(rt, server, &mut world) {
-        Ok(()) => Ok(()),
-        Err(ServeFault::World) => Err(io::Error::from(ErrorKind::Other)),
-    }
 }
 
 /// Reports the addresses listened on and the UPSes served.

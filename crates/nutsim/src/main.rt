@@ -1,21 +1,19 @@
 //! Plays a room of UPSes in memory: one server and its monitors.
 #![tactic(auto)]
 
-use std::io::Lock;
 use std::process::ExitCode;
 use std::{env, io};
 
 fn main(rt: HostRuntime) -> ExitCode {
-    let mut err = rt.stderr().lock();
     let status = match words(&rt) {
         Ok(words) => nut_simulator::run_nutsim(
             &rt,
             rt.alloc(),
             words.as_slice(),
-            &mut io::writer(&rt),
-            &mut err,
+            rt.stdout(),
+            rt.stderr(),
         ),
-        Err(error) => nut_program::refuse_start("nutsim", &error, &mut err),
+        Err(error) => nut_program::refuse_start("nutsim", &error, &mut rt.stderr()),
     };
     ExitCode::from(status)
 }
