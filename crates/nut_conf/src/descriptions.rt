@@ -12,12 +12,21 @@ use crate::texts::Texts;
 use std::alloc::Global;
 
 /// The descriptions in cmdvartab, for people to read.
-#[derive(Drop)]
 pub struct Descriptions {
     /// Descriptions of variables, by name.
     pub variables: Texts,
     /// Descriptions of commands, by name.
     pub commands: Texts,
+}
+
+// A derived drop would be proved again in each crate that drops a value, with those of its parts.
+impl Drop for Descriptions {
+    fn drop(self) {
+        let Descriptions {
+            variables: _variables,
+            commands: _commands,
+        } = self;
+    }
 }
 
 impl Descriptions {

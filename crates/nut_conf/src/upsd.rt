@@ -27,7 +27,6 @@ pub struct Endpoint {
 }
 
 /// The configuration of upsd.conf. A directive that isn't set has its default.
-#[derive(Drop)]
 pub struct UpsdConf {
     /// LISTEN, in the order of the file. A file that was read has at most [`LISTENERS_MAX`].
     pub listen: Vec<Endpoint>,
@@ -35,6 +34,17 @@ pub struct UpsdConf {
     pub max_age: Option<Number<1, 86400>>,
     /// MAXCONN: how many connections may be open at once.
     pub max_conn: Option<Number<1, CONNECTIONS_MAX>>,
+}
+
+// A derived drop would be proved again in each crate that drops a value, with those of its parts.
+impl Drop for UpsdConf {
+    fn drop(self) {
+        let UpsdConf {
+            listen: _listen,
+            max_age: _,
+            max_conn: _,
+        } = self;
+    }
 }
 
 impl UpsdConf {

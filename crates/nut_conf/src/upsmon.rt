@@ -23,7 +23,6 @@ use crate::values::Form;
 use std::alloc::Global;
 
 /// The configuration of upsmon.conf(5). Each method returns what is set, or the default.
-#[derive(Drop)]
 pub struct UpsmonConf {
     /// At most [`MONITORS_MAX`](crate::limits::MONITORS_MAX), in the order of the file.
     pub monitors: Monitors,
@@ -51,6 +50,27 @@ pub struct UpsmonConf {
     pub messages: Vec<NoticeText>,
     /// The flags that are set. A file that was read has at most one line of them for each type of notice.
     pub handlings: Vec<NoticeHandling>,
+}
+
+// A derived drop would be proved again in each crate that drops a value, with those of its parts.
+impl Drop for UpsmonConf {
+    fn drop(self) {
+        let UpsmonConf {
+            monitors: _monitors,
+            min_supplies: _,
+            shutdown_cmd: _shutdown_cmd,
+            notify_cmd: _notify_cmd,
+            power_down_flag: _power_down_flag,
+            poll_freq: _,
+            dead_time: _,
+            rb_warn_time: _,
+            no_comm_warn_time: _,
+            host_sync: _,
+            final_delay: _,
+            messages: _messages,
+            handlings: _handlings,
+        } = self;
+    }
 }
 
 /// Returns the number that is set, or else `default`.

@@ -33,10 +33,16 @@ pub struct User {
 }
 
 /// The configuration of upsd.users: at most [`USERS_MAX`] users by name, in the order of the file.
-#[derive(Drop)]
 pub struct UsersConf {
     /// The users, each under its name.
     pub users: Sections<User, USERS_MAX>,
+}
+
+// A derived drop would be proved again in each crate that drops a value, with those of its parts.
+impl Drop for UsersConf {
+    fn drop(self) {
+        let UsersConf { users: _users } = self;
+    }
 }
 
 /// An action that a user may take.

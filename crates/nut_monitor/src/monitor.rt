@@ -25,11 +25,21 @@ use std::alloc::{AllocError, Global};
 use std::marker::Model;
 
 /// A monitor: its configuration, and what it knows and has decided.
-#[derive(Drop)]
 pub struct Monitor {
     config: UpsmonConf,
     state: State,
     alloc: Global,
+}
+
+// A derived drop would be proved again in each crate that drops a value, with those of its parts.
+impl Drop for Monitor {
+    fn drop(self) {
+        let Monitor {
+            config: _config,
+            state: _state,
+            alloc: _,
+        } = self;
+    }
 }
 
 impl Model for Monitor {

@@ -47,9 +47,17 @@ struct Handed {
 }
 
 /// The links of a monitor that is about to watch: none is made yet.
-#[derive(Drop)]
 pub struct NewLinks {
     upstreams: Vec<Upstream>,
+}
+
+// A derived drop would be proved again in each crate that drops a value, with those of its parts.
+impl Drop for NewLinks {
+    fn drop(self) {
+        let NewLinks {
+            upstreams: _upstreams,
+        } = self;
+    }
 }
 
 impl NewLinks {
@@ -62,6 +70,12 @@ impl NewLinks {
         Ok(NewLinks {
             upstreams: upstreams_of(alloc, config)?,
         })
+    }
+
+    /// Returns the links, by the numbers of their MONITOR lines.
+    fn into_upstreams(self) -> Vec<Upstream> {
+        let NewLinks { upstreams } = self;
+        upstreams
     }
 }
 
@@ -138,11 +152,12 @@ impl Links {
     }
 
     /// Begins with these links, and with a clock that was just started.
-    fn begin_at(&mut self, seconds: Seconds, mut links: NewLinks) {
-        for upstream in links.upstreams.iter_mut() {
+    fn begin_at(&mut self, seconds: Seconds, links: NewLinks) {
+        let mut upstreams = links.into_upstreams();
+        for upstream in upstreams.iter_mut() {
             upstream.take_over_addresses(&self.upstreams);
         }
-        self.upstreams = links.upstreams;
+        self.upstreams = upstreams;
         self.rounds.seconds = seconds;
         self.rounds.ready.insert_first(MONITORS_MAX);
         self.rounds.begin();

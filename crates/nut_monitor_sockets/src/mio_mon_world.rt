@@ -41,7 +41,6 @@ use std::time::Clock;
 /// another at once. The world ends when the herald says so, and may then begin anew for another monitor. Only `next`
 /// returns a fault, that of the wait for the sockets or of the clock: a failure of one link concerns no other. The
 /// world keeps no record.
-#[derive(Drop)]
 pub struct MioMonWorld<'r, 'e, R: Processes, H> {
     links: Links,
     services: Services<'r, 'e, R>,
@@ -49,6 +48,20 @@ pub struct MioMonWorld<'r, 'e, R: Processes, H> {
     late: ArrayVec<u64, MONITORS_MAX>,
     faults: u64,
     has_ended: bool,
+}
+
+// A derived drop would be proved again in each crate that drops a value, with those of its parts.
+impl<'r, 'e, R: Processes, H: Drop> Drop for MioMonWorld<'r, 'e, R, H> {
+    fn drop(self) {
+        let MioMonWorld {
+            links: _links,
+            services: _services,
+            herald: _herald,
+            late: _late,
+            faults: _,
+            has_ended: _,
+        } = self;
+    }
 }
 
 impl<'r, 'e, R: Net + Clock + Processes, H: Herald> MioMonWorld<'r, 'e, R, H> {

@@ -33,12 +33,23 @@ use std::alloc::Global;
 use std::marker::Model;
 
 /// A server and its monitors, with their links.
-#[derive(Drop)]
 pub struct Fleet {
     server: Server,
     seats: Vec<Seat>,
     failed: bool,
     alloc: Global,
+}
+
+// A derived drop would be proved again in each crate that drops a value, with those of its parts.
+impl Drop for Fleet {
+    fn drop(self) {
+        let Fleet {
+            server: _server,
+            seats: _seats,
+            failed: _,
+            alloc: _,
+        } = self;
+    }
 }
 
 impl Model for Fleet {

@@ -36,7 +36,6 @@ pub trait Outlet: Write {
 /// whether the stream takes one; of a file it always says yes. A write may still wait in three cases: another process
 /// fills a shared pipe between the question and the write, a terminal has room for only a part of the line, or a file
 /// lies on a disk or server that doesn't answer.
-#[derive(Drop)]
 pub struct LossyLines<S> {
     stream: S,
     program: &'static str,
@@ -46,6 +45,20 @@ pub struct LossyLines<S> {
     line: ArrayVec<u8, LOG_LINE_MAX>,
     /// How many lines were dropped since one was taken.
     lost: u64,
+}
+
+// A derived drop would be proved again in each crate that drops a value, with those of its parts.
+impl<S: Drop> Drop for LossyLines<S> {
+    fn drop(self) {
+        let LossyLines {
+            stream: _stream,
+            program: _,
+            poll: _poll,
+            events: _events,
+            line: _line,
+            lost: _,
+        } = self;
+    }
 }
 
 /// Standard output, line by line. A line that isn't taken at once is dropped.

@@ -12,7 +12,6 @@ use std::time::{Clock, Duration};
 const EVENTS_MAX: usize = 128;
 
 /// Waits for many sockets, which are looked at round by round, and for whole seconds.
-#[derive(Drop)]
 pub struct Rounds {
     poll: Poll,
     /// The events of the last wait.
@@ -22,6 +21,19 @@ pub struct Rounds {
     /// The clock.
     pub seconds: Seconds,
     fixed: usize,
+}
+
+// A derived drop would be proved again in each crate that drops a value, with those of its parts.
+impl Drop for Rounds {
+    fn drop(self) {
+        let Rounds {
+            poll: _poll,
+            events: _events,
+            ready: _ready,
+            seconds: _seconds,
+            fixed: _,
+        } = self;
+    }
 }
 
 impl Rounds {

@@ -94,12 +94,23 @@ fn or_unavailable(text: Option<&[u8]>) -> &[u8]
 }
 
 /// The configuration of a server: ups.conf(5), upsd.users(5), upsd.conf(5), and cmdvartab where there is that file.
-#[derive(Drop)]
 pub struct Config {
     ups: UpsConf,
     users: UsersConf,
     upsd: UpsdConf,
     descriptions: Option<Descriptions>,
+}
+
+// A derived drop would be proved again in each crate that drops a value, with those of its parts.
+impl Drop for Config {
+    fn drop(self) {
+        let Config {
+            ups: _ups,
+            users: _users,
+            upsd: _upsd,
+            descriptions: _descriptions,
+        } = self;
+    }
 }
 
 impl Model for Config {

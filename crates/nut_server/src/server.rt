@@ -53,7 +53,6 @@ impl From<AllocError> for ServerFault {
 }
 
 /// A server: its configuration, the time, the UPSes, and the open connections, with room for as many as may be open.
-#[derive(Drop)]
 pub struct Server {
     config: Config,
     /// The numbers of the UPSes, in the order of ups.conf.
@@ -69,6 +68,24 @@ pub struct Server {
     /// The request to a driver that a client's request leads to, while it is being handled.
     line: ArrayVec<u8, ASKS_MAX>,
     alloc: Global,
+}
+
+// A derived drop would be proved again in each crate that drops a value, with those of its parts.
+impl Drop for Server {
+    fn drop(self) {
+        let Server {
+            config: _config,
+            numbers: _numbers,
+            clock: _,
+            opened: _,
+            given: _,
+            devices: _devices,
+            connections: _connections,
+            scratch: _scratch,
+            line: _line,
+            alloc: _,
+        } = self;
+    }
 }
 
 impl Model for Server {

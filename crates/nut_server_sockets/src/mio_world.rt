@@ -34,13 +34,25 @@ const LATE_MAX: usize = CONNECTIONS_MAX as usize;
 ///
 /// The world never ends. Only `next` returns a fault, that of the wait for the sockets or of the clock: a failure of
 /// one socket concerns no other. The world keeps no record.
-#[derive(Drop)]
 pub struct MioWorld<'r, 'e, R, L> {
     sockets: Sockets,
     services: Services<'r, 'e, R, L>,
     late: ArrayVec<u64, LATE_MAX>,
     late_drivers: ArrayVec<u64, UPSES_MAX>,
     faults: u64,
+}
+
+// A derived drop would be proved again in each crate that drops a value, with those of its parts.
+impl<'r, 'e, R, L: Drop> Drop for MioWorld<'r, 'e, R, L> {
+    fn drop(self) {
+        let MioWorld {
+            sockets: _sockets,
+            services: _services,
+            late: _late,
+            late_drivers: _late_drivers,
+            faults: _,
+        } = self;
+    }
 }
 
 impl<'r, 'e, R: Net + Clock, L: Reloader + Drop> MioWorld<'r, 'e, R, L> {

@@ -25,7 +25,6 @@ use std::alloc::{AllocError, Global};
 use std::marker::Model;
 
 /// The table of one UPS, as the lines of its driver report it.
-#[derive(Drop)]
 pub struct UpsState {
     alloc: Global,
     /// The variables, ascending by name.
@@ -34,6 +33,19 @@ pub struct UpsState {
     commands: Vec<Name>,
     dump_done: bool,
     data_ok: bool,
+}
+
+// A derived drop would be proved again in each crate that drops a value, with those of its parts.
+impl Drop for UpsState {
+    fn drop(self) {
+        let UpsState {
+            alloc: _,
+            variables: _variables,
+            commands: _commands,
+            dump_done: _,
+            data_ok: _,
+        } = self;
+    }
 }
 
 impl Model for UpsState {
