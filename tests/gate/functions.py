@@ -47,7 +47,8 @@ class Function:
 
 
 def impl_name(words):
-    """Returns what a check calls an impl, by the words of its header: the type, and then the trait and its arguments."""
+    """Returns what a check calls an impl, by the words of its header: the type, and then the trait and its arguments, except for
+    Drop."""
     depth, before, parameters = 0, "", []
     while words and (depth or words[0] == "<"):
         depth += {"<": 1, ">": -1}.get(words[0], 0)
@@ -62,6 +63,8 @@ def impl_name(words):
     if "for" not in names:
         return names[0]
     at = names.index("for")
+    if names[:at] == ["Drop"]:
+        return names[at + 1]
     return "".join("Ref" if word == "&" else word[0].upper() + word[1:] for word in names[at + 1 :] + names[:at])
 
 
