@@ -18,23 +18,16 @@ const SILENCE_SECONDS: u64 = 10;
 /// let these options be set.
 pub fn dial<R: Net>(net: &R, destination: Option<Destination>) -> Option<ByteStream<R::Stream>> {
     let destination = destination?;
-    let Ok(host) = str::from_utf8(destination.host.as_bytes()) else {
-        return None;
-    };
+    let host = str::from_utf8(destination.host.as_bytes()).ok()?;
     let stream = connect(net, host, destination.port.number)?;
-    match set_options(&stream) {
-        Ok(()) => Some(ByteStream::new(stream)),
-        Err(_) => None,
-    }
+    set_options(&stream).ok()?;
+    Some(ByteStream::new(stream))
 }
 
 /// Connects to the first address of this host that accepts a connection in time. `None` if there is none.
 fn connect<R: Net>(net: &R, host: &str, port: u16) -> Option<R::Stream> {
     let limit = Duration::from_secs(ACCEPT_SECONDS);
-    let Ok(addresses) = (host, port).to_socket_addrs(net) else {
-        return None;
-    };
-    for address in addresses {
+    for address in (host, port).to_socket_addrs(net).ok()? {
         if let Ok(stream) = TcpStream::connect_timeout(net, &address, limit) {
             return Some(stream);
         }

@@ -92,24 +92,19 @@ pub(crate) fn put_heading(out: &mut Vec<u8>, row: &Fields, kind: &Fields) -> Res
 }
 
 /// Whether one of the words is this one.
-fn has_word(words: &[Text], wanted: &[u8]) -> bool
+fn has_word(words: &Fields, wanted: &[u8]) -> bool
     ensures { result ≡ has_word wanted.now words.now }
 {
-    let mut has = false;
-    for word in words {
-        has = has || word.as_bytes() == wanted;
-    }
-    has
+    words.as_slice().iter().any(|w| w.as_bytes() == wanted)
 }
 
 /// Returns the values that a variable of this type may have.
 pub(crate) fn values_of(kind: &Fields) -> Values
     ensures { result ≡ values_of kind.now }
 {
-    let words = kind.as_slice();
-    if has_word(words, b"ENUM") {
+    if has_word(kind, b"ENUM") {
         Values::Enum
-    } else if has_word(words, b"RANGE") {
+    } else if has_word(kind, b"RANGE") {
         Values::Range
     } else {
         Values::Free

@@ -109,10 +109,7 @@ fn deed_query<'t>(ups: &'t Word<'t>, deed: &'t Deed<'t>) -> Request<'t>
         Deed::Command(command, parameter) => Request::InstCmd {
             ups: ups.copy(),
             command: command.copy(),
-            parameter: match parameter {
-                Some(parameter) => Some(parameter.copy()),
-                None => None,
-            },
+            parameter: parameter.as_ref().map(Word::copy),
         },
     }
 }

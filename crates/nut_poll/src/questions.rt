@@ -15,15 +15,9 @@ const QUESTIONS_MAX: usize = 8;
 const ASK: &str = "echo; exec \"$@\"";
 
 /// A program to ask, with its arguments.
+#[derive(Drop)]
 pub struct Program {
     command: Command<Global>,
-}
-
-// A derived drop would be proved again in each crate that drops a value, with those of its parts.
-impl Drop for Program {
-    fn drop(self) {
-        let Program { command: _command } = self;
-    }
 }
 
 impl Program {
