@@ -21,5 +21,5 @@ pub use failure::{Failure, OwnFault, tell_not_reloaded, tell_unread};
 pub use folder::conf_folder;
 pub use reload_file::{Look, ReloadFile, Turn};
 pub use reload_report::ReloadReport;
-pub use streams::hold_closed_streams;
+pub use streams::{Streams, hold_closed_streams};
 pub use warning::{Readable, readable_file, warn};

@@ -1,8 +1,18 @@
-//! The descriptors of the standard streams.
+//! The standard streams, and their descriptors.
 
 use std::alloc::{AllocError, Global};
 use std::fs::File;
+use std::io::{Stderr, Stdout};
 use std::rt::Files;
+
+/// The standard streams that a program writes to.
+#[derive(Clone, Copy)]
+pub struct Streams {
+    /// Standard output.
+    pub out: Stdout,
+    /// Standard error.
+    pub err: Stderr,
+}
 
 /// The number of standard streams, whose descriptors come before all others.
 const STREAMS: usize = 3;

@@ -9,6 +9,5 @@ mod playing;
 mod progress;
 mod room;
 mod run;
-mod streams;
 
 pub use run::run_nutsim;

@@ -3,9 +3,8 @@
 use crate::fault::NutsimFault;
 use crate::news::write_news;
 use crate::progress::Progress;
-use crate::streams::Streams;
 use nut_play::{Fleet, FleetFault, Logged, Step, StepFault, read_step};
-use nut_program::Failure;
+use nut_program::{Failure, Streams};
 use nut_words::{Line, LineCutter};
 use std::alloc::Global;
 use std::io::{BufRead, BufWriter, Stderr, Stdout, Write};

@@ -98,12 +98,14 @@ impl<'r, 'h, R: Files + Processes + Clock> Halt<'r, 'h, R> {
 
     fn prepare_flag(&mut self, config: &UpsmonConf) -> Result<(), AllocError> {
         let flag = PowerDownFlag::of(self.alloc, config)?;
+        // dropped by a call, which keeps the proof of this function short
         drop(mem::replace(&mut self.flag, flag));
         Ok(())
     }
 
     fn prepare_command(&mut self, config: &UpsmonConf) -> Result<(), AllocError> {
         let command = shutdown_command(self.rt, self.heap, config)?;
+        // dropped by a call, which keeps the proof of this function short
         drop(mem::replace(&mut self.command, command));
         Ok(())
     }

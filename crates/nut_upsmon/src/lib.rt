@@ -17,7 +17,6 @@ mod shutdown_command;
 mod shutdown_report;
 mod starting;
 mod stopping;
-mod streams;
 mod upsmon_fault;
 mod warning;
 mod watching;

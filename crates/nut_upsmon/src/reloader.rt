@@ -224,6 +224,7 @@ impl Reloader {
                 None
             }
         };
+        // dropped by a call, which keeps the proof of this function short
         drop(mem::replace(&mut self.waiting, waiting));
     }
 
