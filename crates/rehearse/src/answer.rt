@@ -47,25 +47,29 @@ impl Answer {
         self.is_whole = false;
     }
 
+    /// Notes that memory is lacking if a part could not be written.
+    fn check<E: Drop>(&mut self, written: Result<(), E>) {
+        if written.is_err() {
+            self.lack();
+        }
+    }
+
     /// Writes a text.
     pub fn put(&mut self, text: &str) {
-        if self.text.push_str(text).is_err() {
-            self.is_whole = false;
-        }
+        let written = self.text.push_str(text);
+        self.check(written);
     }
 
     /// Writes bytes as a text.
     pub fn put_bytes(&mut self, bytes: &[u8]) {
-        if shown(bytes).append_to(&mut self.text).is_err() {
-            self.is_whole = false;
-        }
+        let written = shown(bytes).append_to(&mut self.text);
+        self.check(written);
     }
 
     /// What `write!` calls.
     pub fn write_fmt<D: Display + Drop>(&mut self, value: D) {
-        if self.text.write_fmt(value).is_err() {
-            self.is_whole = false;
-        }
+        let written = self.text.write_fmt(value);
+        self.check(written);
     }
 
     /// Writes a blank and a number.
@@ -102,9 +106,8 @@ impl Answer {
     }
 
     fn put_text_of_notice(&mut self) {
-        if shown(&self.notice).append_to(&mut self.text).is_err() {
-            self.is_whole = false;
-        }
+        let written = shown(&self.notice).append_to(&mut self.text);
+        self.check(written);
     }
 
     /// Writes whether memory for one more thing could be allocated.
@@ -121,17 +124,20 @@ impl Answer {
     }
 }
 
-/// Puts an engine that was made into its place, in which an earlier one may be, or writes why it wasn't made.
+/// Puts an engine that was made into its place, in which an earlier one may be, and writes that the step was done.
+pub fn put_in<T: Drop>(made: T, place: &mut Option<T>, out: &mut Answer) {
+    drop(mem::replace(place, Some(made)));
+    out.put("ok");
+}
+
+/// Puts an engine into its place if it was made, or writes why it wasn't.
 pub fn put_made<T: Drop, F: Debug + Copy>(
     made: Result<T, F>,
     place: &mut Option<T>,
     out: &mut Answer,
 ) {
     match made {
-        Ok(made) => {
-            drop(mem::replace(place, Some(made)));
-            out.put("ok");
-        }
+        Ok(made) => put_in(made, place, out),
         Err(fault) => write!(out, "{fault:?}"),
     }
 }

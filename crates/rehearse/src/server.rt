@@ -23,14 +23,13 @@
 //! reload is answered by that for each number that a UPS has had, with the UPS's name or `-`, and then by the drivers that
 //! it disconnects and the connections that it closes.
 
-use crate::answer::Answer;
+use crate::answer::{Answer, put_in};
 use crate::playing::{Peer, reload_with, show_next, show_next_driver, take, tell};
 use crate::stage::Stage;
 use crate::text::{Step, shown};
 use nut_conf::{ConfFault, Ups, UpsConf, UpsdConf, UsersConf, read_ups, read_upsd, read_users};
 use nut_server::{Arrival, Config, Server};
 use std::alloc::Global;
-use std::mem;
 
 /// The texts of the configuration files of a server.
 #[derive(Drop)]
@@ -129,10 +128,7 @@ fn begin(stage: &mut Stage) {
 
 fn make(config: Config, stage: &mut Stage) {
     match Server::new(stage.alloc, config) {
-        Ok(made) => {
-            drop(mem::replace(&mut stage.server, Some(made)));
-            stage.answer.put("ok");
-        }
+        Ok(made) => put_in(made, &mut stage.server, &mut stage.answer),
         // only memory can be lacking when a server is made
         Err(_) => stage.answer.lack(),
     }
