@@ -12,8 +12,8 @@ import tempfile
 import urllib.parse
 
 from tests.support.harness import ROOT, expect, run_tests
-from tests.support.monitor_rows import SECONDARY, STALE, Run, ask, opens, phase, status, tell, tells, waits
-from tests.support.server_rows import Row, err, live
+from tests.support.monitor_rows import SECONDARY, STALE, Run, ask, check_run, opens, phase, status, steps_of, tell, tells, waits
+from tests.support.server_rows import err, listed, live
 from tests.support.stage import Stage
 
 OTHER_UPSES = b'[b]\n[a]\ndesc = ""\ndriver = x\n[c]\n'
@@ -102,11 +102,10 @@ class Tests:
         head = server_of(ups=text)
         devices = [f"{driver} {port}".encode() for _, _, driver, port in upses]
         expect(self.play(head, [("device", it) for it in range(len(upses) + 1)]), [*devices, b"none"], f"the drivers of {text}")
-        rows = [f'UPS {name} "{text}"' for name, text, _, _ in upses]
-        listed = "\n".join(["BEGIN LIST UPS", *rows, "END LIST UPS"]).encode()
+        rows = [f'UPS {name} "{text}"'.encode() for name, text, _, _ in upses]
         texts = [f'UPSDESC {name} "{text}"'.encode() for name, text, _, _ in upses]
         asked = [f"GET UPSDESC {it[0]}".encode() for it in upses]
-        expect(self.answers(head, b"LIST UPS", *asked), [listed, *texts], f"the UPSes of {text}")
+        expect(self.answers(head, b"LIST UPS", *asked), [listed(b"UPS", *rows), *texts], f"the UPSes of {text}")
 
     def test_ups_conf(self):
         self.compare_upses(example("ups.conf"), [("su700", "Server room", "dummy-ups", "su700.dev")])
@@ -150,8 +149,7 @@ class Tests:
 
     def play_run(self, name, file, *steps):
         run = Run(name, file, steps)
-        for check, line in zip(run.checks, self.stage.play([check.step for check in run.checks]), strict=True):
-            expect(check.holds(line), True, f"{name}, {check.step}: {line!r}")
+        check_run(run, self.stage.play(steps_of(run)))
 
     def test_upsmon_conf(self):
         logins = [ask(0, b"%b\n" % it, b"OK\n") for it in (b"USERNAME monuser", b"PASSWORD m1", b"LOGIN su700", b"PRIMARY su700")]

@@ -14,7 +14,7 @@ import sys
 import tempfile
 
 from tests.support.harness import Failed, ensure, expect, run_tests
-from tests.support.monitor_rows import MEMORY_RUNS, PRIMARY, RUNS, SCENES, Starved
+from tests.support.monitor_rows import MEMORY_RUNS, PRIMARY, RUNS, SCENES, Starved, check_run, steps_of
 from tests.support.player import places
 from tests.support.stage import Stage
 
@@ -24,18 +24,6 @@ NO_MONITOR = b"Memory { link: None, lines: 0 }"
 FAULT = re.compile(r"fault((?: [0-9]+)*)(?: to be (told .*))?")
 BYTES = re.compile(r"> bytes ([0-9]+) (.*)")
 ASKED = re.compile(r"link ([0-9]+) is asked (.*)")
-
-
-def check_run(run, lines, begin=0):
-    """Checks that these lines are what a run has to print, from a step on."""
-    for at, (check, line) in enumerate(zip(run.checks, lines)):
-        if at >= begin and not check.holds(line):
-            raise Failed(f"{run.name}, step {at}, {check.step}: {line!r}")
-    expect(len(lines), len(run.checks), f"the lines of {run.name}")
-
-
-def steps_of(run):
-    return [check.step for check in run.checks]
 
 
 def is_piece(step):

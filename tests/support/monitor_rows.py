@@ -2,6 +2,7 @@
 
 import re
 
+from tests.support.harness import Failed, expect
 from tests.support.player import escaped
 
 
@@ -118,6 +119,18 @@ class Run:
         # if memory is refused for it, the monitor is made once more
         self.checks = [Check(("monitor new", file), b"ok"), Check(("? monitor new", file), b"")]
         self.checks += [check for step in steps for check in step(file)]
+
+
+def check_run(run, lines, begin=0):
+    """Checks that these lines are what a run has to print, from a step on."""
+    for at, (check, line) in enumerate(zip(run.checks, lines)):
+        if at >= begin and not check.holds(line):
+            raise Failed(f"{run.name}, step {at}, {check.step}: {line!r}")
+    expect(len(lines), len(run.checks), f"the lines of {run.name}")
+
+
+def steps_of(run):
+    return [check.step for check in run.checks]
 
 
 PRIMARY = b"MONITOR su700@localhost 1 mon m1 primary\n"
