@@ -4,10 +4,12 @@
 usage: python3 -m tests.gate.times [--keep]
 
 It shows the times of the last `make check` that took nothing from an earlier run and passed, beside those in
-tests/gate-times.txt, or with --keep writes them there."""
+tests/gate-times.txt, or with --keep writes them there. It also shows the machine's pace, which is the median of the
+parts' new times divided by their kept ones. A part has grown if it took longer than the pace explains."""
 
 import os
 import shutil
+import statistics
 import sys
 import threading
 
@@ -17,8 +19,8 @@ LAST = os.path.join(ROOT, "bin", "gate-times.txt")
 KEPT = os.path.join(ROOT, "tests", "gate-times.txt")
 PARTS = ("proof", "tests", "build", "edits")
 # Times vary from run to run: a part of a crate counts as grown if it takes more than a fifth more, and more than so many
-# seconds more.
-FIFTH, SWING = 1.2, 5
+# seconds more. Parts that took fewer seconds than PACED say little about the machine's pace.
+FIFTH, SWING, PACED = 1.2, 5, 20
 
 
 def processes():
@@ -125,9 +127,20 @@ def read(path):
     return found
 
 
+def pace_of(now, kept):
+    """Returns the median, over all parts of crates, of a new time divided by the kept one."""
+    ratios = [
+        now[crate][part] / kept[crate][part]
+        for crate in now.keys() & kept.keys()
+        for part in PARTS
+        if kept[crate][part] >= PACED
+    ]
+    return statistics.median(ratios) if ratios else 1
+
+
 def show(now, kept):
-    """Prints the table, and the parts that have grown since the other times were kept."""
-    columns, grown = ("lines", *PARTS), []
+    """Prints the table, the machine's pace, and the parts that have grown since the other times were kept."""
+    columns, grown, pace = ("lines", *PARTS), [], pace_of(now, kept)
     both = lambda new, old: f"{new} ({'-' if old is None else old})"
     print(f"{'processor seconds (kept)':<34}" + "".join(f"{it:>15}" for it in columns))
     for crate in sorted(now):
@@ -135,12 +148,14 @@ def show(now, kept):
         print(f"{crate:<34}" + "".join(f"{both(now[crate][it], was.get(it)):>15}" for it in columns))
         for part in PARTS:
             new, old = now[crate][part], was.get(part)
-            if old is not None and new > FIFTH * old and new > old + SWING:
-                grown.append(f"{crate}: {part} grew from {old} to {new} seconds")
+            if old is not None and new > FIFTH * pace * old and new > pace * old + SWING:
+                grown.append(f"{crate}: {part} grew from {old} to {new} seconds, which is {new / pace:.0f} at the kept pace")
     sums = [sum(it[part] for it in now.values()) for part in columns]
     olds = [sum(it[part] for it in kept.values()) if kept else None for part in columns]
     print(f"{'all':<34}" + "".join(f"{both(new, old):>15}" for new, old in zip(sums, olds)))
-    print(f"processor minutes in all: {sum(sums[1:]) / 60:.0f}", *grown, sep="\n", flush=True)
+    minutes = sum(sums[1:]) / 60
+    beside = f", or {minutes / pace:.0f} at the kept pace: this machine takes {pace:.2f} times as long" if kept else ""
+    print(f"processor minutes in all: {minutes:.0f}{beside}", *grown, sep="\n", flush=True)
 
 
 def main(words):
