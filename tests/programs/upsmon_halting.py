@@ -11,6 +11,7 @@ import errno
 import functools
 import itertools
 import os
+import resource
 import shlex
 import signal
 import socket
@@ -195,6 +196,23 @@ class Tests(Shimmed):
                     expect(os.path.exists(flag), False, "a flag of an earlier shutdown")
                     said = f"upsmon: POWERDOWNFLAG {flag} of an earlier shutdown is removed"
                     expect(said in watch.lines("err"), True, "that it is removed")
+
+    def test_stale_flag_without_descriptors(self):
+        """An upsmon that reads its file removes a flag that was left, even if it has too few descriptors to watch."""
+        with tempfile.TemporaryDirectory(dir=self.folder) as folder:
+            flag, ended = os.path.join(folder, "flag"), 0
+            conf = f"MONITOR su700@127.0.0.1:1 1 mon m1 primary\nPOWERDOWNFLAG {flag}\n{HALTED}"
+            for few in range(4, 13):
+                with open(flag, "wb") as file:
+                    file.write(FLAG)
+                limit = functools.partial(resource.setrlimit, resource.RLIMIT_NOFILE, (few, few))
+                with self.watch(conf, "-q", preexec_fn=limit) as watch:
+                    until(lambda: watch.process.poll() is not None or not os.path.exists(flag), f"{few} descriptors")
+                    if "upsmon: upsmon.conf: cannot read" not in watch.lines("err"):
+                        expect(os.path.exists(flag), False, f"a flag of an earlier shutdown with {few} descriptors")
+                        with contextlib.suppress(subprocess.TimeoutExpired):
+                            ended += watch.process.wait(1) == 1
+            ensure(ended > 1, f"{ended} ended before they watched")
 
     def test_foreign_flag(self):
         # devices without a driver

@@ -198,13 +198,12 @@ where
     }
 }
 
-/// Removes a flag that was left, makes the next one ready, and starts the shell for SHUTDOWNCMD, for the halt of the first
-/// configuration. If the shell can't be started, that is told.
+/// Makes the next flag ready, and starts the shell for SHUTDOWNCMD, for the halt of the first configuration. If the shell
+/// can't be started, that is told.
 fn begin_halt<R>(halt: &mut Halt<'_, '_, R>, config: &UpsmonConf, told: &mut ErrorLines)
 where
     R: Files + Processes + Clock,
 {
-    halt.clear_flag(told);
     halt.ready_flag(config, told);
     if let Err(error) = halt.make_ready() {
         tell_not_ready(&error, told);

@@ -138,10 +138,7 @@ impl<'r, 'h, R: Files + Processes + Clock> Halt<'r, 'h, R> {
     /// reported and left unchanged.
     pub fn clear_flag(&self, err: &mut ErrorLines) {
         if let Some(flag) = &self.flag {
-            match flag.clear(self.rt) {
-                Ok(state) => tell_found(flag.path(), state, err),
-                Err(error) => tell_failed("removed", flag.path(), &error, err),
-            }
+            clear(flag, self.rt, err);
         }
     }
 
@@ -190,6 +187,32 @@ impl<'r, 'h, R: Files + Processes + Clock> Halt<'r, 'h, R> {
                 tell_unset(flag.path(), &fault, err);
             }
         }
+    }
+}
+
+/// Removes the POWERDOWNFLAG of a configuration as [`Halt::clear_flag`] does, before there is a halt: if upsmon can't
+/// begin to watch, a flag that was left is gone all the same.
+///
+/// # Errors
+///
+/// [`AllocError`] if memory cannot be allocated. Then nothing is removed.
+pub fn clear_left_flag(
+    files: &impl Files,
+    alloc: Global,
+    config: &UpsmonConf,
+    err: &mut ErrorLines,
+) -> Result<(), AllocError> {
+    if let Some(flag) = PowerDownFlag::of(alloc, config)? {
+        clear(&flag, files, err);
+    }
+    Ok(())
+}
+
+/// Removes a flag if it is set, and tells what was found in its place.
+fn clear(flag: &PowerDownFlag, files: &impl Files, err: &mut ErrorLines) {
+    match flag.clear(files) {
+        Ok(state) => tell_found(flag.path(), state, err),
+        Err(error) => tell_failed("removed", flag.path(), &error, err),
     }
 }
 

@@ -3,7 +3,7 @@
 use crate::caretaker::Caretaker;
 use crate::command_line::{Order, Task, order_of};
 use crate::faulty_file::{flag_despite, flag_of};
-use crate::halt::halt_heap;
+use crate::halt::{clear_left_flag, halt_heap};
 use crate::low_runtime::check_low_runtimes;
 use crate::power_down_flag::{FlagState, PowerDownFlag};
 use crate::reloader::Reloader;
@@ -219,9 +219,9 @@ where
     Ok(guarded?)
 }
 
-/// Reserves the memory that the halt takes, watches the UPSes of the upsmon.conf that is reloaded here until the machine
-/// has to be halted, and halts it. The standard streams that are closed are held meanwhile, so that no socket takes the
-/// place of one.
+/// Removes a POWERDOWNFLAG that was left, reserves the memory that the halt takes, watches the UPSes of the upsmon.conf
+/// that is reloaded here until the machine has to be halted, and halts it. The standard streams that are closed are held
+/// meanwhile, so that no socket takes the place of one.
 fn guard_in_reserve<R>(
     rt: &R,
     alloc: Global,
@@ -232,6 +232,9 @@ fn guard_in_reserve<R>(
 where
     R: Wait + Files + Net + Clock + Processes,
 {
+    if let Some(first) = reloader.next() {
+        clear_left_flag(rt, alloc, first.config(), told)?;
+    }
     let held = hold_closed_streams(rt, alloc)?;
     let guarded = match halt_heap(alloc) {
         Ok(heap) => watch_and_halt(rt, alloc, &heap, reloader, streams, told),
