@@ -1,12 +1,15 @@
 //! A driver without a device.
 #![tactic(auto)]
 
+use nut_log::LogStream;
 use nut_poll::{ErrorLines, LossyLines};
+use std::io::Stderr;
 use std::process::ExitCode;
 use std::{env, io};
 
 fn main(rt: HostRuntime) -> ExitCode {
-    let status = match start(&rt) {
+    let mut log = LogStream::of(&rt, "dummy-ups", rt.stderr());
+    let status = match start(&rt, log) {
         Ok((words, mut err)) => nut_dummy_ups::run_dummy_ups(
             &rt,
             rt.alloc(),
@@ -14,14 +17,14 @@ fn main(rt: HostRuntime) -> ExitCode {
             &mut io::writer(&rt),
             &mut err,
         ),
-        Err(error) => nut_program::refuse_start("dummy-ups", &error, &mut rt.stderr()),
+        Err(error) => nut_program::refuse_start(&error, &mut log),
     };
     ExitCode::from(status)
 }
 
 /// Returns the words of the command line, the program's name first, and standard error.
-fn start(rt: &HostRuntime) -> io::Result<(Vec<String>, ErrorLines)> {
+fn start(rt: &HostRuntime, log: LogStream<Stderr>) -> io::Result<(Vec<String>, ErrorLines)> {
     let words = env::args(rt)?.collect(rt.alloc())?;
-    let err = LossyLines::new(rt, rt.alloc(), "dummy-ups", rt.stderr())?;
+    let err = LossyLines::new(rt, rt.alloc(), log)?;
     Ok((words, err))
 }

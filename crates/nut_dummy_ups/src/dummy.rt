@@ -5,6 +5,7 @@ use crate::dummy_driver::DummyDriver;
 use clap::{Arg, ArgMatches, Command};
 use mio::net::UnixListener;
 use nut_dummy::{Dummy, Script, ScriptFault, ScriptFaultKind, ScriptKind};
+use nut_log::Lines;
 use nut_program::{Failure, OwnFault, hold_closed_streams, read_file, remark_on_unread};
 use std::alloc::{AllocError, Global};
 use std::convert::AsStr;
@@ -78,7 +79,7 @@ impl<'a> OwnFault for DummyUpsFault<'a> {
 /// `dummy-ups: FILE: more than 16777216 bytes`; the first fault of the script, as `dummy-ups: FILE:2: BadName`;
 /// `dummy-ups: SOCKET: another driver listens there`; `dummy-ups: cannot listen on SOCKET: WHY`; or
 /// `dummy-ups: out of memory` if memory cannot be allocated before.
-pub fn run_dummy_ups<S: AsStr, O: Write, E: Write>(
+pub fn run_dummy_ups<S: AsStr, O: Write, E: Lines>(
     rt: &(impl Wait + Files + Net + Clock),
     alloc: Global,
     words: &[S],
@@ -87,7 +88,7 @@ pub fn run_dummy_ups<S: AsStr, O: Write, E: Write>(
 ) -> u8 {
     match run(rt, alloc, words) {
         Ok(()) => 0,
-        Err(failure) => failure.tell("dummy-ups", out, err),
+        Err(failure) => failure.tell(out, err),
     }
 }
 

@@ -1,5 +1,6 @@
 //! What is reported of the servers of watched UPSes.
 
+use nut_log::{Level, Leveled};
 use std::{fmt, io};
 
 /// An event at the link to a server, with the target of its MONITOR line as upsmon.conf writes it.
@@ -37,6 +38,19 @@ impl<'a> fmt::Display for Report<'a> {
             Report::Refused(target, what, error) => {
                 write!(f, "UPS {target}: {what} refused: {error}")
             }
+        }
+    }
+}
+
+impl<'a> Leveled for Report<'a> {
+    fn level(&self) -> Level {
+        match self {
+            Report::Reached(_) => Level::Info,
+            Report::Unreachable(..)
+            | Report::Gone(_)
+            | Report::GivenUp(..)
+            | Report::Unread(_)
+            | Report::Refused(..) => Level::Warning,
         }
     }
 }

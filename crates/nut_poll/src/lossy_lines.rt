@@ -7,6 +7,7 @@ use arrayvec::ArrayVec;
 use mio::event::Event;
 use mio::unix::SourceFd;
 use mio::{Events, Interest, Poll, Token};
+use nut_log::{Level, Lines, LogStream, Style};
 use std::alloc::Global;
 use std::io;
 use std::io::{ErrorKind, Stderr, Stdout, Write};
@@ -38,7 +39,7 @@ pub trait Outlet: Write {
 /// lies on a disk or server that doesn't answer.
 pub struct LossyLines<S> {
     stream: S,
-    program: &'static str,
+    style: Style,
     poll: Poll,
     events: Events,
     /// What was written of the unfinished line.
@@ -52,7 +53,7 @@ impl<S: Drop> Drop for LossyLines<S> {
     fn drop(self) {
         let LossyLines {
             stream: _stream,
-            program: _,
+            style: _,
             poll: _poll,
             events: _events,
             line: _line,
@@ -67,28 +68,26 @@ pub type OutputLines = LossyLines<Stdout>;
 /// Standard error, line by line. A line that isn't taken at once is dropped.
 pub type ErrorLines = LossyLines<Stderr>;
 
-impl<S: Write + AsRawFd + Drop> LossyLines<S> {
-    /// Returns the lines of this program on a stream.
+impl<S: Write + AsRawFd + Copy> LossyLines<S> {
+    /// Returns the lines on a stream.
     ///
     /// # Errors
     ///
     /// If there is no descriptor or no memory for asking the system.
-    pub fn new(
-        net: &impl Net,
-        alloc: Global,
-        program: &'static str,
-        stream: S,
-    ) -> io::Result<LossyLines<S>> {
+    pub fn new(net: &impl Net, alloc: Global, log: LogStream<S>) -> io::Result<LossyLines<S>> {
+        let style = log.style();
         Ok(LossyLines {
-            stream,
-            program,
+            stream: log.stream(),
+            style,
             poll: Poll::new(net)?,
             events: Events::with_capacity(alloc, 1)?,
             line: ArrayVec::new(),
             lost: 0,
         })
     }
+}
 
+impl<S: Write + AsRawFd + Drop> LossyLines<S> {
     /// Ends the line: it is written or dropped.
     fn end_line(&mut self) {
         if self.line.is_full() {
@@ -106,8 +105,10 @@ impl<S: Write + AsRawFd + Drop> LossyLines<S> {
     /// Writes the line, and before it the count of dropped lines, with one write. Returns whether all of it was taken.
     fn offer(&mut self) -> bool {
         let mut text: ArrayVec<u8, TEXT_MAX> = ArrayVec::new();
-        if self.lost > 0 {
-            let _ = writeln!(&mut text, "{}: lines let go: {}", self.program, self.lost);
+        let lost = self.lost;
+        if lost > 0 {
+            let head = self.style.head(Level::Warning);
+            let _ = writeln!(&mut text, "{head}lines let go: {lost}");
         }
         let _ = text.write(&self.line);
         write_whole(&mut self.stream, &text)
@@ -128,6 +129,12 @@ impl<S: Write + AsRawFd + Drop> Write for LossyLines<S> {
 
     fn flush(&mut self) -> io::Result<()> {
         Ok(())
+    }
+}
+
+impl<S: Write + AsRawFd + Drop> Lines for LossyLines<S> {
+    fn style(&self) -> Style {
+        self.style
     }
 }
 

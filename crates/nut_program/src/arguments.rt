@@ -1,24 +1,25 @@
 //! A program that fails before it has read its command line.
 
+use nut_log::{Level, Lines};
 use std::io;
 use std::io::{ErrorKind, Write};
 
 /// Writes to `err` why the words of a program's command line, or its standard streams, are not available. Returns the
 /// exit status: 2 if a word isn't UTF-8, as for any command line that clap refuses, else 1.
-pub fn refuse_start<E: Write>(program: &str, error: &io::Error, err: &mut E) -> u8 {
+pub fn refuse_start<E: Lines>(error: &io::Error, err: &mut E) -> u8 {
     match error.kind() {
         ErrorKind::InvalidData => {
             let _ = writeln!(
-                err,
+                err.mark(Level::Error),
                 "error: invalid UTF-8 was detected in one or more arguments"
             );
             return 2;
         }
         ErrorKind::OutOfMemory => {
-            let _ = writeln!(err, "{program}: out of memory");
+            let _ = writeln!(err.begin(Level::Error), "out of memory");
         }
         _ => {
-            let _ = writeln!(err, "{program}: I/O failed");
+            let _ = writeln!(err.begin(Level::Error), "I/O failed");
         }
     }
     1

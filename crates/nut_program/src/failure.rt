@@ -2,6 +2,7 @@
 
 use crate::conf_file::FileFault;
 use nut_io::ServeFault;
+use nut_log::{Level, Lines};
 use std::alloc::{AllocError, AllocFailed};
 use std::fmt::Display;
 use std::io;
@@ -67,49 +68,51 @@ impl<'a, F: From<FileFault<'a>>> From<FileFault<'a>> for Failure<F> {
     }
 }
 
-/// A fault that only one program has. It is displayed after the program's name.
+/// A fault that only one program has.
 pub trait OwnFault: Display {
     /// Returns what a line of its own is to say besides, if there is something.
     fn remark(&self) -> Option<&str>;
 }
 
 /// Writes a fault that only this program has, and its remark on a line of its own.
-fn tell_own<F: OwnFault, E: Write>(program: &str, fault: &F, err: &mut E) -> io::Result<()> {
-    writeln!(err, "{program}: {fault}")?;
-    tell_remark(program, fault.remark(), err)
+fn tell_own<F: OwnFault, E: Lines>(fault: &F, err: &mut E) -> io::Result<()> {
+    writeln!(err.begin(Level::Error), "{fault}")?;
+    tell_remark(fault.remark(), err)
 }
 
 /// Writes a remark, if there is one.
-fn tell_remark<E: Write>(program: &str, remark: Option<&str>, err: &mut E) -> io::Result<()> {
+fn tell_remark<E: Lines>(remark: Option<&str>, err: &mut E) -> io::Result<()> {
     match remark {
-        Some(remark) => writeln!(err, "{program}: {remark}"),
+        Some(remark) => writeln!(err.begin(Level::Error), "{remark}"),
         None => Ok(()),
     }
 }
 
-/// Writes why a program goes on with the configuration that it has, as `PROGRAM: not reloaded: WHY`. What can't be written
-/// is dropped.
-pub fn tell_not_reloaded<T: Display, E: Write>(program: &str, why: &T, err: &mut E) {
-    let _ = writeln!(err, "{program}: not reloaded: {why}");
+/// Writes why a program goes on with the configuration that it has, as `not reloaded: WHY`. What can't be written is
+/// dropped.
+pub fn tell_not_reloaded<T: Display, E: Lines>(why: &T, err: &mut E) {
+    let _ = writeln!(err.begin(Level::Error), "not reloaded: {why}");
 }
 
 /// Writes that a program goes on with the configuration that it has because of the fault of a file, and the remark of the
 /// fault. What can't be written is dropped.
-pub fn tell_unread<E: Write>(program: &str, fault: &FileFault<'_>, err: &mut E) {
-    tell_not_reloaded(program, fault, err);
-    let _ = tell_remark(program, fault.remark(), err);
+pub fn tell_unread<E: Lines>(fault: &FileFault<'_>, err: &mut E) {
+    tell_not_reloaded(fault, err);
+    let _ = tell_remark(fault.remark(), err);
 }
 
 impl<F: OwnFault> Failure<F> {
-    /// Writes why the program ends to the right stream, as `PROGRAM: WHY`, except for clap's texts. Returns the exit
-    /// status: 2 if clap refuses the command line, 0 for the help or the version if it could be written, else 1.
-    pub fn tell<O: Write, E: Write>(&self, program: &str, out: &mut O, err: &mut E) -> u8 {
+    /// Writes why the program ends to the right stream. clap's texts don't have the program's name before them. Returns
+    /// the exit status: 2 if clap refuses the command line, 0 for the help or the version if it could be written, else 1.
+    pub fn tell<O: Write, E: Lines>(&self, out: &mut O, err: &mut E) -> u8 {
         let told = match self {
-            Failure::CommandLine(error) if error.use_stderr() => write!(err, "{error}"),
+            Failure::CommandLine(error) if error.use_stderr() => {
+                write!(err.mark(Level::Error), "{error}")
+            }
             Failure::CommandLine(error) => write!(out, "{error}"),
-            Failure::Own(fault) => tell_own(program, fault, err),
-            Failure::Memory => writeln!(err, "{program}: out of memory"),
-            Failure::Io => writeln!(err, "{program}: I/O failed"),
+            Failure::Own(fault) => tell_own(fault, err),
+            Failure::Memory => writeln!(err.begin(Level::Error), "out of memory"),
+            Failure::Io => writeln!(err.begin(Level::Error), "I/O failed"),
         };
         match self {
             Failure::CommandLine(error) if error.use_stderr() => 2,

@@ -1,5 +1,6 @@
 //! What a daemon reports of a reload.
 
+use nut_log::{Level, Leveled};
 use std::{fmt, io};
 
 /// An event of a reload.
@@ -19,6 +20,15 @@ impl<'a> fmt::Display for ReloadReport<'a> {
             }
             ReloadReport::Reloaded(changes) => write!(f, "reloaded: {changes}"),
             ReloadReport::Stuck(path, error) => write!(f, "cannot remove {path}: {error}"),
+        }
+    }
+}
+
+impl<'a> Leveled for ReloadReport<'a> {
+    fn level(&self) -> Level {
+        match self {
+            ReloadReport::Reloaded(_) => Level::Notice,
+            ReloadReport::Stuck(..) => Level::Warning,
         }
     }
 }

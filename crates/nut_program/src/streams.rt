@@ -1,5 +1,6 @@
 //! The standard streams, and their descriptors.
 
+use nut_log::LogStream;
 use std::alloc::{AllocError, Global};
 use std::fs::File;
 use std::io::{Stderr, Stdout};
@@ -9,9 +10,9 @@ use std::rt::Files;
 #[derive(Clone, Copy)]
 pub struct Streams {
     /// Standard output.
-    pub out: Stdout,
+    pub out: LogStream<Stdout>,
     /// Standard error.
-    pub err: Stderr,
+    pub err: LogStream<Stderr>,
 }
 
 /// The number of standard streams, whose descriptors come before all others.

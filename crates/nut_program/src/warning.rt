@@ -3,6 +3,7 @@
 ghost use Rattle.std.specs.Prelude.{◌↔◌, ◌≡◌, ◌≢◌, IsSome, bit_and};
 
 use crate::conf_file::ConfFile;
+use nut_log::{Level, Lines};
 use std::alloc::{AllocError, Global};
 use std::fmt::Display;
 use std::io::Write;
@@ -68,9 +69,9 @@ pub fn readable_file<C: ConfFile>(
     }
 }
 
-/// Writes a warning, if there is one, after the program's name. A warning that can't be written is dropped.
-pub fn warn<T: Display + Drop, E: Write>(program: &str, warning: Option<T>, err: &mut E) {
+/// Writes a warning, if there is one. A warning that can't be written is dropped.
+pub fn warn<T: Display + Drop, E: Lines>(warning: Option<T>, err: &mut E) {
     if let Some(warning) = warning {
-        let _ = writeln!(err, "{program}: warning: {warning}");
+        let _ = writeln!(err.begin(Level::Warning), "warning: {warning}");
     }
 }

@@ -1,5 +1,6 @@
 //! What is reported of drivers and clients.
 
+use nut_log::{Level, Leveled};
 use std::net::IpAddr;
 use std::{fmt, io};
 
@@ -21,6 +22,14 @@ impl End {
             End::Lost => "lost",
             End::Reloaded => "disconnected by the reload",
             End::OutOfMemory => "disconnected: out of memory",
+        }
+    }
+
+    /// Returns how much it matters. What a reload ends isn't missed.
+    fn level(self) -> Level {
+        match self {
+            End::Lost | End::OutOfMemory => Level::Warning,
+            End::Reloaded => Level::Info,
         }
     }
 }
@@ -73,6 +82,22 @@ impl<'a> fmt::Display for Report<'a> {
                 write!(f, "client {address} closed: silent for {seconds} s")
             }
             Report::Unanswered(address) => write!(f, "client {address} closed: out of memory"),
+        }
+    }
+}
+
+impl<'a> Leveled for Report<'a> {
+    fn level(&self) -> Level {
+        match self {
+            Report::Connected(_) | Report::Fresh(_) | Report::Shed(..) => Level::Info,
+            Report::Ended(_, end) => end.level(),
+            Report::Missed(..)
+            | Report::Stale(_)
+            | Report::Forced(_)
+            | Report::Full(_)
+            | Report::Spent(_)
+            | Report::ShutOut(_)
+            | Report::Unanswered(_) => Level::Warning,
         }
     }
 }

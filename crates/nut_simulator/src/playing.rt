@@ -43,8 +43,8 @@ pub fn play_schedule<'a, R: BufRead>(
     schedule: &mut R,
     streams: Streams,
 ) -> Result<(), Failure<NutsimFault<'a>>> {
-    let mut out = BufWriter::new(alloc, streams.out)?;
-    match play_and_flush(alloc, fleet, schedule, &mut out, streams.err) {
+    let mut out = BufWriter::new(alloc, streams.out.stream())?;
+    match play_and_flush(alloc, fleet, schedule, &mut out, streams.err.stream()) {
         Ok(()) => Ok(()),
         Err(halt) => Err(failure_of(halt, path)),
     }

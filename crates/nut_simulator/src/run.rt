@@ -5,6 +5,7 @@ use crate::fault::NutsimFault;
 use crate::playing::play_schedule;
 use crate::room::{read_config, read_monitors};
 use nut_conf::UpsmonConf;
+use nut_log::LogStream;
 use nut_play::{Fleet, FleetFault};
 use nut_program::{Failure, Streams, remark_on_unread};
 use nut_server::Config;
@@ -38,12 +39,12 @@ pub fn run_nutsim<S: AsStr>(
     files: &impl Files,
     alloc: Global,
     words: &[S],
-    mut out: Stdout,
-    mut err: Stderr,
+    mut out: LogStream<Stdout>,
+    mut err: LogStream<Stderr>,
 ) -> u8 {
     match run(files, alloc, words, Streams { out, err }) {
         Ok(()) => 0,
-        Err(failure) => failure.tell("nutsim", &mut out, &mut err),
+        Err(failure) => failure.tell(&mut out, &mut err),
     }
 }
 

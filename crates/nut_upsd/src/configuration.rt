@@ -139,7 +139,7 @@ fn warn_if_readable(
 ) -> Result<(), FileFault<'static>> {
     match readable_file::<UsersConf>(files, alloc, folder) {
         Ok(readable) => {
-            warn("upsd", readable, err);
+            warn(readable, err);
             Ok(())
         }
         Err(_) => Err(FileFault::Memory),

@@ -212,7 +212,7 @@ fn serve_listeners<R: Wait + Net + Clock, L: Reloader + Drop>(
     requires { server.old ≡ content server.old.configuration [] }
 {
     let drivers = Drivers::new(alloc, options.sockets, server)?;
-    let mut reports = Reports::new("upsd", err, !options.is_quiet);
+    let mut reports = Reports::new(err, !options.is_quiet);
     tell_start(&listeners, &drivers, &mut reports);
     let mut world = MioWorld::new(rt, alloc, listeners, drivers, reports, reloader)?;
     let served = serve(rt, server, &mut world);

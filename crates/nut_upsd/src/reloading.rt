@@ -116,7 +116,7 @@ impl<'r, F: Files> Reloader for Reloading<'r, F> {
         match self.read_again(server, reports.err()) {
             Ok(config) => Some(config),
             Err(fault) => {
-                tell_unread("upsd", &fault, reports.err());
+                tell_unread(&fault, reports.err());
                 None
             }
         }
@@ -131,7 +131,7 @@ impl<'r, F: Files> Reloader for Reloading<'r, F> {
         if server.config().number_of_upses() == given.upses {
             reports.tell(ReloadReport::Reloaded(given.changes.as_str()));
         } else {
-            tell_unread("upsd", &FileFault::Memory, reports.err());
+            tell_unread(&FileFault::Memory, reports.err());
         }
     }
 }

@@ -1,5 +1,6 @@
 //! What upsd reports at its start.
 
+use nut_log::{Level, Leveled};
 use std::fmt;
 use std::net::SocketAddr;
 
@@ -17,6 +18,14 @@ impl<'a> fmt::Display for Report<'a> {
         match self {
             Report::Listening(address) => write!(f, "listening on {address}"),
             Report::Serving(name, path) => write!(f, "UPS {name}, driver at {path}"),
+        }
+    }
+}
+
+impl<'a> Leveled for Report<'a> {
+    fn level(&self) -> Level {
+        match self {
+            Report::Listening(_) | Report::Serving(..) => Level::Info,
         }
     }
 }

@@ -7,6 +7,7 @@ use crate::command_line::{matches_of, stdio_command};
 use crate::configuration::read_options;
 use crate::upsd_fault::{UpsdFault, exit_status};
 use clap::ArgMatches;
+use nut_log::Lines;
 use nut_program::Failure;
 use nut_server::{Config, Server};
 use nut_server_loop::{StreamWorld, serve};
@@ -34,7 +35,7 @@ use std::sync::Wait;
 ///
 /// It is for callers that have no sockets and no clock. The program upsd calls [`run_upsd`](crate::run_upsd), which does
 /// the same for these words.
-pub fn run_stdio<S: AsStr, I: Read, O: Write, E: Write>(
+pub fn run_stdio<S: AsStr, I: Read, O: Write, E: Lines>(
     rt: &(impl Wait + Files),
     alloc: Global,
     words: &[S],

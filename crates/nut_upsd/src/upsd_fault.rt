@@ -1,6 +1,7 @@
 //! The faults that only upsd has.
 
 use nut_conf::FaultKind;
+use nut_log::Lines;
 use nut_program::{Failure, FileFault, OwnFault};
 use nut_server_loop::Stream;
 use std::io::Write;
@@ -69,13 +70,13 @@ pub fn ups_failure(fault: FaultKind) -> Failure<UpsdFault> {
 }
 
 /// Returns the exit status of upsd: 0, or that of a failure, which is told.
-pub fn exit_status<O: Write, E: Write>(
+pub fn exit_status<O: Write, E: Lines>(
     served: Result<(), Failure<UpsdFault>>,
     out: &mut O,
     err: &mut E,
 ) -> u8 {
     match served {
         Ok(()) => 0,
-        Err(failure) => failure.tell("upsd", out, err),
+        Err(failure) => failure.tell(out, err),
     }
 }

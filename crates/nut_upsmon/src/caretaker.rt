@@ -9,6 +9,7 @@ use crate::starting::tell_start;
 use crate::watching::Follower;
 use linked_list_allocator::LocalHeap;
 use nut_conf::UpsmonConf;
+use nut_log::{Level, Lines, LogStream};
 use nut_monitor::{Monitor, Notice, Phase};
 use nut_monitor_sockets::Herald;
 use nut_poll::{ErrorLines, LossyLines};
@@ -72,7 +73,7 @@ where
         reloader: &'r mut Reloader,
         streams: Streams,
     ) -> io::Result<Caretaker<'r, R>> {
-        let err = LossyLines::new(rt, alloc, "upsmon", streams.err)?;
+        let err = LossyLines::new(rt, alloc, streams.err)?;
         match crier_on(rt, alloc, streams.out) {
             Ok(crier) => Ok(Caretaker {
                 rt,
@@ -92,11 +93,11 @@ where
 }
 
 /// Makes a crier that prints notices on standard output.
-fn crier_on<'r, R>(rt: &'r R, alloc: Global, out: Stdout) -> io::Result<Crier<'r, R>>
+fn crier_on<'r, R>(rt: &'r R, alloc: Global, out: LogStream<Stdout>) -> io::Result<Crier<'r, R>>
 where
     R: Net + Processes,
 {
-    let out = LossyLines::new(rt, alloc, "upsmon", out)?;
+    let out = LossyLines::new(rt, alloc, out)?;
     Ok(Crier::new(rt, alloc, out)?)
 }
 
@@ -213,8 +214,8 @@ where
 /// Tells that the shell for SHUTDOWNCMD can't be started, and why.
 fn tell_not_ready(error: &io::Error, told: &mut ErrorLines) {
     let _ = writeln!(
-        told,
-        "upsmon: warning: the shell that is to run SHUTDOWNCMD cannot be started yet: {error}"
+        told.begin(Level::Warning),
+        "warning: the shell that is to run SHUTDOWNCMD cannot be started yet: {error}"
     );
 }
 
@@ -226,7 +227,7 @@ where
     match halt.prepare(config) {
         Ok(()) => start_shell(halt, err),
         Err(AllocError) => {
-            tell_unread("upsmon", &FileFault::Memory, err);
+            tell_unread(&FileFault::Memory, err);
             false
         }
     }
@@ -241,7 +242,7 @@ where
         Ok(()) => true,
         Err(error) => {
             let fault = HaltFault::NotStarted(error);
-            tell_not_reloaded("upsmon", &fault, err);
+            tell_not_reloaded(&fault, err);
             false
         }
     }
@@ -255,7 +256,7 @@ where
     match crier.restart(config) {
         Ok(()) => true,
         Err(AllocError) => {
-            tell_unread("upsmon", &FileFault::Memory, err);
+            tell_unread(&FileFault::Memory, err);
             false
         }
     }

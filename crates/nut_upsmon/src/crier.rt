@@ -4,6 +4,7 @@ use crate::low_runtime::LowRuntimes;
 use crate::notify_command::{Call, NotifyCommand, script_in};
 use crate::shutdown_report::tell_left;
 use nut_conf::{MESSAGE_MAX, TARGET_MAX, UpsmonConf};
+use nut_log::{Level, Lines};
 use nut_monitor::{Monitor, Notice};
 use nut_poll::{ErrorLines, OutputLines};
 use std::alloc::{AllocError, Global};
@@ -69,9 +70,9 @@ impl<'a, R: Processes> Crier<'a, R> {
         &mut self.out
     }
 
-    /// Prints the text as a line.
+    /// Prints the text as a line, which doesn't have the program's name.
     fn print(&mut self) {
-        let _ = self.out.write_all(&self.text);
+        let _ = self.out.mark(Level::Notice).write_all(&self.text);
         let _ = self.out.write_all(b"\n");
     }
 
@@ -83,7 +84,7 @@ impl<'a, R: Processes> Crier<'a, R> {
             text: &self.text,
         });
         if let Err(fault) = called {
-            let _ = writeln!(err, "upsmon: NOTIFYCMD {fault}");
+            let _ = writeln!(err.begin(Level::Warning), "NOTIFYCMD {fault}");
         }
     }
 

@@ -7,6 +7,7 @@
 use crate::power_down_flag::PowerDownFlag;
 use crate::upsmon_fault::{UpsmonFault, tell_failure};
 use nut_conf::{FILE_MAX, FaultKind, UpsmonConf, read_upsmon};
+use nut_log::LogStream;
 use nut_poll::ErrorLines;
 use nut_program::{ConfFile, Failure, FileFault, read_file};
 use std::alloc::{AllocError, Global};
@@ -30,7 +31,7 @@ pub fn flag_despite<R>(
     alloc: Global,
     folder: &str,
     failure: Failure<UpsmonFault>,
-    out: Stdout,
+    out: LogStream<Stdout>,
     told: &mut ErrorLines,
 ) -> Result<Option<PowerDownFlag>, Failure<UpsmonFault>>
 where

@@ -4,6 +4,7 @@ use crate::power_down_flag::{FlagFault, FlagState, PowerDownFlag};
 use crate::shutdown_command::{Full, ShutdownCommand};
 use linked_list_allocator::LocalHeap;
 use nut_conf::UpsmonConf;
+use nut_log::{Level, Lines};
 use nut_monitor::has_primary;
 use nut_poll::{ErrorLines, OutputLines, text_of};
 use std::alloc::{AllocError, Global};
@@ -221,12 +222,12 @@ fn tell_found(path: &str, found: FlagState, err: &mut ErrorLines) {
     let _ = match found {
         FlagState::Absent => Ok(()),
         FlagState::Set => writeln!(
-            err,
-            "upsmon: POWERDOWNFLAG {path} of an earlier shutdown is removed"
+            err.begin(Level::Notice),
+            "POWERDOWNFLAG {path} of an earlier shutdown is removed"
         ),
         FlagState::Foreign => writeln!(
-            err,
-            "upsmon: warning: POWERDOWNFLAG {path} {}",
+            err.begin(Level::Warning),
+            "warning: POWERDOWNFLAG {path} {}",
             FlagFault::Foreign
         ),
     };
@@ -235,14 +236,14 @@ fn tell_found(path: &str, found: FlagState, err: &mut ErrorLines) {
 /// Tells why POWERDOWNFLAG isn't removed, or couldn't be written if the machine were to be halted now.
 fn tell_failed(what: &str, path: &str, error: &io::Error, err: &mut ErrorLines) {
     let _ = writeln!(
-        err,
-        "upsmon: warning: POWERDOWNFLAG {path} cannot be {what}: {error}"
+        err.begin(Level::Warning),
+        "warning: POWERDOWNFLAG {path} cannot be {what}: {error}"
     );
 }
 
 /// Tells why POWERDOWNFLAG isn't set.
 fn tell_unset(path: &str, fault: &FlagFault, err: &mut ErrorLines) {
-    let _ = writeln!(err, "upsmon: POWERDOWNFLAG {path} {fault}");
+    let _ = writeln!(err.begin(Level::Warning), "POWERDOWNFLAG {path} {fault}");
 }
 
 /// Returns SHUTDOWNCMD if upsmon.conf sets it.
@@ -307,7 +308,7 @@ fn start<R: Processes>(
 
 fn tell_failed_start(error: &io::Error, err: &mut ErrorLines) {
     let _ = writeln!(
-        err,
-        "upsmon: SHUTDOWNCMD cannot be started yet: {error}; it is tried for {TRIES} seconds"
+        err.begin(Level::Warning),
+        "SHUTDOWNCMD cannot be started yet: {error}; it is tried for {TRIES} seconds"
     );
 }

@@ -2,6 +2,7 @@
 
 use crate::stopping::Stopping;
 use nut_conf::{Monitored, UpsmonConf};
+use nut_log::{Level, Lines};
 use nut_poll::{ErrorLines, Program, Question, Questions, text_of};
 use std::alloc::{AllocError, Global};
 use std::io::Write;
@@ -150,9 +151,10 @@ impl<'r, R: Processes> LowRuntimes<'r, R> {
     fn compare(&self, ups: &Ups, seconds: u64, err: &mut ErrorLines) {
         if seconds < self.needed {
             let _ = writeln!(
-                err,
-                "upsmon: warning: UPS {}: battery.runtime.low is {seconds}, and this machine stops within {} s of OB LB",
-                ups.name, self.needed
+                err.begin(Level::Warning),
+                "warning: UPS {}: battery.runtime.low is {seconds}, and this machine stops within {} s of OB LB",
+                ups.name,
+                self.needed
             );
         }
     }
@@ -236,8 +238,8 @@ fn ask_all<R: Processes>(
 /// Tells that a UPS isn't known to say LB early enough.
 fn tell_unknown(ups: &Ups, err: &mut ErrorLines) {
     let _ = writeln!(
-        err,
-        "upsmon: UPS {}: battery.runtime.low isn't known",
+        err.begin(Level::Warning),
+        "UPS {}: battery.runtime.low isn't known",
         ups.name
     );
 }

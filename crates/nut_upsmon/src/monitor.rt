@@ -13,19 +13,20 @@ use crate::warning::read_and_warn;
 use crate::watching::{WatchFault, watch_in_turn};
 use linked_list_allocator::LocalHeap;
 use nut_conf::UpsmonConf;
+use nut_log::LogStream;
 use nut_poll::{ErrorLines, LossyLines};
 use nut_program::{Failure, Streams, hold_closed_streams, read_conf, refuse_start};
 use std::alloc::{Alloc, AllocError, Global};
 use std::convert::AsStr;
 use std::env::Env;
-use std::io::{Stderr, Stdout};
+use std::io::Stdout;
 use std::net::Net;
 use std::process::Processes;
 use std::rt::Files;
 use std::sync::Wait;
 use std::time::Clock;
 
-/// Runs upsmon. Returns its exit status.
+/// Runs upsmon, which writes to these streams. Returns its exit status.
 ///
 /// `words` are those of the command line `upsmon [--conf DIR] [-q] [--check]` or `upsmon [--conf DIR] -K`, the
 /// program's name first. It watches the UPSes of upsmon.conf until the machine has to be halted. The file is in the
@@ -57,19 +58,13 @@ use std::time::Clock;
 /// `upsmon: upsmon.conf: cannot read`, and below it the path and the reason; the file's first fault, as
 /// `upsmon: upsmon.conf:2: BadName`; `upsmon: out of memory`. If waiting for the sockets or reading the clock fails,
 /// upsmon ends with `upsmon: I/O failed` and status 1.
-pub fn run_upsmon<R, S: AsStr>(
-    rt: &R,
-    alloc: Global,
-    words: &[S],
-    out: Stdout,
-    mut err: Stderr,
-) -> u8
+pub fn run_upsmon<R, S: AsStr>(rt: &R, alloc: Global, words: &[S], mut streams: Streams) -> u8
 where
     R: Wait + Files + Net + Clock + Processes + Env + Alloc,
 {
-    match LossyLines::new(rt, alloc, "upsmon", err) {
-        Ok(mut told) => run_and_tell(rt, alloc, words, Streams { out, err }, &mut told),
-        Err(error) => refuse_start("upsmon", &error, &mut err),
+    match LossyLines::new(rt, alloc, streams.err) {
+        Ok(mut told) => run_and_tell(rt, alloc, words, streams, &mut told),
+        Err(error) => refuse_start(&error, &mut streams.err),
     }
 }
 
@@ -134,7 +129,7 @@ fn look_for_flag<R>(
     files: &R,
     alloc: Global,
     folder: &str,
-    out: Stdout,
+    out: LogStream<Stdout>,
     told: &mut ErrorLines,
 ) -> Result<u8, Failure<UpsmonFault>>
 where
@@ -170,7 +165,7 @@ fn check_file<R>(
     rt: &R,
     alloc: Global,
     folder: &str,
-    out: Stdout,
+    out: LogStream<Stdout>,
     told: &mut ErrorLines,
 ) -> Result<(), Failure<UpsmonFault>>
 where
@@ -189,7 +184,7 @@ fn check_config<R>(
     rt: &R,
     alloc: Global,
     config: &UpsmonConf,
-    mut out: Stdout,
+    mut out: LogStream<Stdout>,
     told: &mut ErrorLines,
 ) -> Result<(), Failure<UpsmonFault>>
 where

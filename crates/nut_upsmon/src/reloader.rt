@@ -9,6 +9,7 @@ use crate::changes::{Changes, line_of};
 use crate::starting::tell_start;
 use crate::warning::read_and_warn;
 use nut_conf::{Monitored, UpsdConf, UpsmonConf};
+use nut_log::{Level, Lines};
 use nut_monitor::{Known, Monitor, Phase};
 use nut_poll::{ErrorLines, Reports, text_of};
 use nut_program::{
@@ -164,7 +165,7 @@ impl Reloader {
 
     /// Returns the reports of upsmon, which are written to `err` unless they are to be quiet.
     pub fn reports<'e>(&self, err: &'e mut ErrorLines) -> Reports<'e> {
-        Reports::new("upsmon", err, !self.is_quiet)
+        Reports::new(err, !self.is_quiet)
     }
 
     /// Reads upsmon.conf if that was asked for and it is upsmon's turn. Returns the configuration to go on with, if
@@ -210,7 +211,7 @@ impl Reloader {
     /// Refuses the reload that was asked for or that waits, since a shutdown has begun.
     fn refuse(&mut self, is_asked: bool, err: &mut ErrorLines) {
         if self.waiting.take().is_some() || is_asked {
-            tell_not_reloaded("upsmon", &"a shutdown has begun", err);
+            tell_not_reloaded(&"a shutdown has begun", err);
         }
     }
 
@@ -220,7 +221,7 @@ impl Reloader {
         let waiting = match self.read_reload(files, former, err) {
             Ok(reload) => self.unless_same(reload, err),
             Err(fault) => {
-                tell_unread("upsmon", &fault, err);
+                tell_unread(&fault, err);
                 None
             }
         };
@@ -280,7 +281,10 @@ struct Obstacle<'a> {
 fn tell_wait(obstacle: Obstacle<'_>, err: &mut ErrorLines) {
     let name = text_of(&obstacle.line.written);
     let why = obstacle.why;
-    let _ = writeln!(err, "upsmon: not reloaded yet: UPS {name} {why}");
+    let _ = writeln!(
+        err.begin(Level::Notice),
+        "not reloaded yet: UPS {name} {why}"
+    );
 }
 
 /// Returns the first UPS that holds up a reload to this configuration, of those that it goes on watching.

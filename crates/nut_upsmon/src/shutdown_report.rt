@@ -1,6 +1,7 @@
 //! What the operator is told of a shutdown besides its notice.
 
 use nut_conf::{Monitored, Role};
+use nut_log::{Level, Lines};
 use nut_monitor::{Known, Monitor};
 use nut_monitor_spec::Communication;
 use nut_poll::{ErrorLines, text_of};
@@ -11,7 +12,7 @@ pub fn tell_beginning(monitor: &Monitor, err: &mut ErrorLines) {
     for (i, line) in monitor.config().monitors.lines.iter().enumerate() {
         if let Some(state) = monitor.known(i).and_then(state_of) {
             let name = text_of(&line.written);
-            let _ = writeln!(err, "upsmon: shutdown: UPS {name} {state}");
+            let _ = writeln!(err.begin(Level::Notice), "shutdown: UPS {name} {state}");
         }
     }
 }
@@ -33,11 +34,14 @@ fn tell_left_of(line: &Monitored, known: Known, err: &mut ErrorLines) {
     let name = text_of(&line.written);
     let others = known.logins.unwrap_or(0).saturating_sub(1);
     if !known.forced {
-        let _ = writeln!(err, "upsmon: shutdown: FSD on UPS {name} was not accepted");
+        let _ = writeln!(
+            err.begin(Level::Warning),
+            "shutdown: FSD on UPS {name} was not accepted"
+        );
     } else if others > 0 {
         let _ = writeln!(
-            err,
-            "upsmon: shutdown: other clients that are still logged in to UPS {name}: {others}"
+            err.begin(Level::Warning),
+            "shutdown: other clients that are still logged in to UPS {name}: {others}"
         );
     }
 }

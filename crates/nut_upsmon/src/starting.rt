@@ -2,6 +2,7 @@
 
 use crate::stopping::Stopping;
 use nut_conf::{Role, UpsmonConf};
+use nut_log::{Level, Leveled};
 use nut_poll::{ErrorLines, Reports, text_of};
 use std::fmt;
 
@@ -10,7 +11,7 @@ pub fn tell_start(config: &UpsmonConf, is_quiet: bool, err: &mut ErrorLines) {
     if is_quiet {
         return;
     }
-    tell_watched(config, &mut Reports::new("upsmon", err, true));
+    tell_watched(config, &mut Reports::new(err, true));
     let _ = Stopping::of(config).tell(err);
 }
 
@@ -45,5 +46,11 @@ impl<'a> fmt::Display for Watched<'a> {
             "UPS {}: watched as {role}, power value {}",
             self.target, self.power_value
         )
+    }
+}
+
+impl<'a> Leveled for Watched<'a> {
+    fn level(&self) -> Level {
+        Level::Info
     }
 }

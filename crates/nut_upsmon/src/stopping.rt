@@ -7,8 +7,8 @@ ghost use Rattle.nut_in_time.specs.InTime.{seen_by, to_halted};
 ghost use Rattle.nut_upsmon.specs.Stopping.{begins_within, is_led, prompt, stops_within as seconds_of};
 
 use nut_conf::{Monitored, Role, UpsmonConf};
+use nut_log::{Level, Lines};
 use nut_monitor::has_primary;
-use std::io::Write;
 use std::{fmt, io};
 
 /// The longest time for an answer, in seconds, that the bound and warnings assume.
@@ -49,8 +49,8 @@ impl Stopping {
     /// # Errors
     ///
     /// That of the writer.
-    pub fn tell<W: Write>(self, out: &mut W) -> io::Result<()> {
-        writeln!(out, "upsmon: {self}")
+    pub fn tell<W: Lines>(self, out: &mut W) -> io::Result<()> {
+        writeln!(out.begin(Level::Info), "{self}")
     }
 }
 

@@ -2,6 +2,7 @@
 
 use crate::halt::HaltFault;
 use crate::watching::WatchFault;
+use nut_log::LogStream;
 use nut_poll::ErrorLines;
 use nut_program::{Failure, FileFault, OwnFault};
 use std::fmt;
@@ -50,6 +51,10 @@ impl From<WatchFault> for Failure<UpsmonFault> {
 }
 
 /// Tells a failure. Returns the exit status of a program that ends with it.
-pub fn tell_failure(failure: Failure<UpsmonFault>, mut out: Stdout, told: &mut ErrorLines) -> u8 {
-    failure.tell("upsmon", &mut out, told)
+pub fn tell_failure(
+    failure: Failure<UpsmonFault>,
+    mut out: LogStream<Stdout>,
+    told: &mut ErrorLines,
+) -> u8 {
+    failure.tell(&mut out, told)
 }

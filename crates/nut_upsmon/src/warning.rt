@@ -119,13 +119,9 @@ fn tell_warnings(
     config: &UpsmonConf,
     err: &mut ErrorLines,
 ) -> Result<(), AllocError> {
-    warn(
-        "upsmon",
-        readable_file::<UpsmonConf>(files, alloc, folder)?,
-        err,
-    );
-    warn("upsmon", Warning::of_shutdown_command(config), err);
-    warn("upsmon", Warning::of_dead_time(config), err);
-    warn("upsmon", Warning::of_host_sync(config), err);
+    warn(readable_file::<UpsmonConf>(files, alloc, folder)?, err);
+    warn(Warning::of_shutdown_command(config), err);
+    warn(Warning::of_dead_time(config), err);
+    warn(Warning::of_host_sync(config), err);
     Ok(())
 }

@@ -89,7 +89,7 @@ where
     H: Follower,
     E: Told,
 {
-    let reports = Reports::new("upsmon", err.lines(), !is_quiet);
+    let reports = Reports::new(err.lines(), !is_quiet);
     let mut world = MioMonWorld::new(rt, alloc, herald, reports)?;
     let watched = watch_all(rt, &mut world);
     // dropped by a call, which keeps the proof of this function short

@@ -1,12 +1,15 @@
 //! The server of UPSes.
 #![tactic(auto)]
 
+use nut_log::LogStream;
 use nut_poll::{ErrorLines, LossyLines};
+use std::io::Stderr;
 use std::process::ExitCode;
 use std::{env, io};
 
 fn main(rt: HostRuntime) -> ExitCode {
-    let status = match start(&rt) {
+    let mut log = LogStream::of(&rt, "upsd", rt.stderr());
+    let status = match start(&rt, log) {
         Ok((words, mut err)) => nut_upsd::run_upsd(
             &rt,
             rt.alloc(),
@@ -15,14 +18,14 @@ fn main(rt: HostRuntime) -> ExitCode {
             &mut io::writer(&rt),
             &mut err,
         ),
-        Err(error) => nut_program::refuse_start("upsd", &error, &mut rt.stderr()),
+        Err(error) => nut_program::refuse_start(&error, &mut log),
     };
     ExitCode::from(status)
 }
 
 /// Returns the words of the command line, the program's name first, and standard error.
-fn start(rt: &HostRuntime) -> io::Result<(Vec<String>, ErrorLines)> {
+fn start(rt: &HostRuntime, log: LogStream<Stderr>) -> io::Result<(Vec<String>, ErrorLines)> {
     let words = env::args(rt)?.collect(rt.alloc())?;
-    let err = LossyLines::new(rt, rt.alloc(), "upsd", rt.stderr())?;
+    let err = LossyLines::new(rt, rt.alloc(), log)?;
     Ok((words, err))
 }

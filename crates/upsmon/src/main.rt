@@ -1,19 +1,19 @@
 //! The monitor of UPSes.
 #![tactic(auto)]
 
+use nut_log::LogStream;
+use nut_program::Streams;
 use std::process::ExitCode;
 use std::{env, io};
 
 fn main(rt: HostRuntime) -> ExitCode {
+    let mut streams = Streams {
+        out: LogStream::of(&rt, "upsmon", rt.stdout()),
+        err: LogStream::of(&rt, "upsmon", rt.stderr()),
+    };
     let status = match words(&rt) {
-        Ok(words) => nut_upsmon::run_upsmon(
-            &rt,
-            rt.alloc(),
-            words.as_slice(),
-            rt.stdout(),
-            rt.stderr(),
-        ),
-        Err(error) => nut_program::refuse_start("upsmon", &error, &mut rt.stderr()),
+        Ok(words) => nut_upsmon::run_upsmon(&rt, rt.alloc(), words.as_slice(), streams),
+        Err(error) => nut_program::refuse_start(&error, &mut streams.err),
     };
     ExitCode::from(status)
 }
