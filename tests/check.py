@@ -39,6 +39,7 @@ TESTS = (
     ("programs.upsmon_links", ("upsd", "dummy_ups", "upsc", "upsmon")),
     ("programs.upsmon_halting", ("upsd", "dummy_ups", "upsc", "upsmon")),
     ("programs.upsmon_reload", ("upsd", "dummy_ups", "upsc", "upsmon")),
+    ("programs.journal", ("upsd", "dummy_ups", "upsc", "upsmon")),
     ("programs.nutsim", ("nutsim", "rehearse")),
     ("programs.nutroom", ("nutsim",)),
     ("programs.install", ("upsd", "dummy_ups", "upsc", "upsrw", "upscmd", "upsmon", "nutsim")),

@@ -20,7 +20,7 @@ import subprocess
 import sys
 import tempfile
 
-from tests.support.harness import apart, cannot_read, ensure, expect, ROOT, Shimmed
+from tests.support.harness import FullPipe, apart, cannot_read, ensure, expect, ROOT, Shimmed
 from tests.support.monitored import FLAG, ON_BATTERY, QUICK, SHUTDOWN, Upstream, Watch, children_of, play, put_program
 from tests.support.room import ONLINE, STATUS, Room, heed_modes, state_of, until
 
@@ -54,35 +54,6 @@ def masked(bits):
         yield
     finally:
         os.umask(before)
-
-
-class FullPipe:
-    """A pipe that takes nothing more until it is read."""
-
-    def __init__(self):
-        self.reader, self.writer = os.pipe()
-        os.set_blocking(self.writer, False)
-        with contextlib.suppress(BlockingIOError):
-            while True:
-                os.write(self.writer, b"x" * 4096)
-        # the mode belongs to the pipe's end, which the program must find like any other
-        os.set_blocking(self.writer, True)
-
-    def __enter__(self):
-        return self
-
-    def __exit__(self, *_):
-        os.close(self.reader)
-        os.close(self.writer)
-
-    def read(self):
-        """Returns what the pipe holds."""
-        os.set_blocking(self.reader, False)
-        found = b""
-        with contextlib.suppress(BlockingIOError):
-            while True:
-                found += os.read(self.reader, 65536)
-        return found.lstrip(b"x")
 
 
 class Tests(Shimmed):

@@ -3,6 +3,7 @@ counted, and how much processor time programs take, which the benches use, too."
 
 import array
 import collections
+import contextlib
 import fcntl
 import functools
 import itertools
@@ -118,6 +119,35 @@ class Shimmed:
     def refusing_memory(self, file):
         """Returns the environment of a program for which no allocation succeeds while this file is there."""
         return {**os.environ, "LD_PRELOAD": self.shim, "REFUSE": "memory", "REFUSE_ONCE": file}
+
+
+class FullPipe:
+    """A pipe that takes nothing more until it is read."""
+
+    def __init__(self):
+        self.reader, self.writer = os.pipe()
+        os.set_blocking(self.writer, False)
+        with contextlib.suppress(BlockingIOError):
+            while True:
+                os.write(self.writer, b"x" * 4096)
+        # the mode belongs to the pipe's end, which the program must find like any other
+        os.set_blocking(self.writer, True)
+
+    def __enter__(self):
+        return self
+
+    def __exit__(self, *_):
+        os.close(self.reader)
+        os.close(self.writer)
+
+    def read(self):
+        """Returns what the pipe holds."""
+        os.set_blocking(self.reader, False)
+        found = b""
+        with contextlib.suppress(BlockingIOError):
+            while True:
+                found += os.read(self.reader, 65536)
+        return found.lstrip(b"x")
 
 
 def was_reached(count, at):
