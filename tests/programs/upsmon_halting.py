@@ -19,6 +19,7 @@ import stat
 import subprocess
 import sys
 import tempfile
+import time
 
 from tests.support.harness import FullPipe, apart, cannot_read, ensure, expect, ROOT, Shimmed
 from tests.support.monitored import FLAG, ON_BATTERY, QUICK, SHUTDOWN, Upstream, Watch, children_of, play, put_program
@@ -34,6 +35,9 @@ FOREIGN = "is not a flag of upsmon, and is left as it is"
 NO_SHELL = "upsmon: warning: the shell that is to run SHUTDOWNCMD cannot be started yet: "
 NOT_YET = "upsmon: SHUTDOWNCMD cannot be started yet: "
 NOT_STARTED = "upsmon: SHUTDOWNCMD cannot be started: "
+REPLACED = "upsmon: warning: there was no shell to run SHUTDOWNCMD, since it was ended or not started: another one waits now"
+CONTINUED = "upsmon: warning: the shell that is to run SHUTDOWNCMD was stopped by a signal: it is sent SIGCONT"
+UNTOLD = "upsmon: SHUTDOWNCMD has run; how it ended isn't known, since SIGCHLD is ignored"
 
 
 def fronts(lines, wanted):
@@ -501,8 +505,65 @@ class Tests(Shimmed):
         with self.halting(HALTED, "-q", delay=3) as (_, watch):
             watch.until_printed(SHUTDOWN)
             self.end_shell(watch)
+            until(lambda: watch.told() == [REPLACED], "that another shell waits")
             expect(watch.status(), 0, "status")
-            expect((watch.read("halted"), watch.told()), (b"", []), "another one runs SHUTDOWNCMD")
+            expect((watch.read("halted"), watch.told()), (b"", [REPLACED]), "another one runs SHUTDOWNCMD")
+
+    def test_shell_that_was_ended_long_before(self):
+        """Another shell waits in its place within a second or two, and what ended is waited for."""
+        with Upstream() as server, self.watch(f"MONITOR {server.target} 1 mon m1 primary\n{QUICK}{HALTED}", "-q") as watch:
+            until(lambda: STATUS in server.asked, "the status is asked for")
+            (ended,) = children_of(watch.process.pid)
+            self.end_shell(watch)
+            until(lambda: children_of(watch.process.pid) not in ([ended], []), "another shell waits")
+            expect(watch.told(), [REPLACED], "what is told")
+            server.statuses[b"su700"] = b"FSD"
+            expect((watch.status(), watch.read("halted")), (0, b""), "the halt")
+
+    def test_shell_that_was_stopped(self):
+        """A shell that is stopped alone is continued, and upsmon says so once for each time."""
+        with Upstream() as server, self.watch(f"MONITOR {server.target} 1 mon m1 primary\n{QUICK}{HALTED}", "-q") as watch:
+            until(lambda: STATUS in server.asked, "the status is asked for")
+            (shell,) = children_of(watch.process.pid)
+            for times in (1, 2):
+                os.kill(shell, signal.SIGSTOP)
+                until(lambda: watch.told() == [CONTINUED] * times, "that it is continued")
+                until(lambda: state_of(shell) == "S", "the shell goes on")
+                # until upsmon has looked at it again
+                time.sleep(2.5)
+            until(lambda: children_of(watch.process.pid) == [shell], "no other process is left")
+            server.statuses[b"su700"] = b"FSD"
+            expect((watch.status(), watch.read("halted")), (0, b""), "the halt")
+
+    def test_shell_that_is_stopped_at_the_halt(self):
+        """However often the shell is stopped while the machine is halted, SHUTDOWNCMD runs."""
+        with self.halting(HALTED, "-q", delay=1) as (_, watch):
+            watch.until_printed(SHUTDOWN)
+            (shell,) = children_of(watch.process.pid)
+            while watch.process.poll() is None:
+                with contextlib.suppress(ProcessLookupError):
+                    os.kill(shell, signal.SIGSTOP)
+                time.sleep(0.3)
+            expect((watch.status(), watch.read("halted")), (0, b""), "the halt")
+
+    def test_shell_that_stays_stopped(self):
+        """A shell that SIGCONT doesn't continue is ended after some seconds, and another one runs SHUTDOWNCMD."""
+        with self.halting(HALTED, "-q", delay=1) as (_, watch):
+            watch.until_printed(SHUTDOWN)
+            (shell,) = children_of(watch.process.pid)
+            while watch.process.poll() is None:
+                with contextlib.suppress(ProcessLookupError):
+                    os.kill(shell, signal.SIGSTOP)
+                time.sleep(0.001)
+            expect((watch.status(), watch.read("halted")), (0, b""), "the halt")
+
+    def test_ends_of_children_that_nobody_hears_of(self):
+        """If whoever starts upsmon ignores SIGCHLD, the system doesn't tell how SHUTDOWNCMD ended. It has run."""
+        ignore = {"preexec_fn": lambda: signal.signal(signal.SIGCHLD, signal.SIG_IGN)}
+        for command in (HALTED, 'SHUTDOWNCMD "touch FOLDER/halted; exit 3"\n'):
+            with self.halting(command, "-q", **ignore) as (_, watch):
+                expect((watch.status(), watch.read("halted")), (0, b""), "the halt")
+                expect(watch.told(), [UNTOLD], "what is told")
 
     def end_shell(self, watch):
         """Kills the shell that waits for the halt."""

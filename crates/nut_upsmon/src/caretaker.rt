@@ -9,13 +9,13 @@ use crate::starting::tell_start;
 use crate::watching::Follower;
 use linked_list_allocator::LocalHeap;
 use nut_conf::UpsmonConf;
-use nut_log::{Level, Lines, LogStream};
+use nut_log::LogStream;
 use nut_monitor::{Monitor, Notice, Phase};
 use nut_monitor_sockets::Herald;
 use nut_poll::{ErrorLines, LossyLines};
 use nut_program::{FileFault, Streams, tell_not_reloaded, tell_unread};
 use std::alloc::{AllocError, Global};
-use std::io::{Stdout, Write};
+use std::io::Stdout;
 use std::net::Net;
 use std::process::Processes;
 use std::rt::Files;
@@ -178,6 +178,7 @@ where
     fn second(&mut self, monitor: &Monitor) -> bool {
         self.follow(monitor);
         self.crier.second(&mut self.err);
+        self.halt.second(&mut self.err);
         match self.reloader.second(self.rt, monitor, &mut self.err) {
             Some(reload) => self.take_up(monitor.config(), reload),
             None => false,
@@ -206,17 +207,7 @@ where
     R: Files + Processes + Clock,
 {
     halt.ready_flag(config, told);
-    if let Err(error) = halt.make_ready() {
-        tell_not_ready(&error, told);
-    }
-}
-
-/// Tells that the shell for SHUTDOWNCMD can't be started, and why.
-fn tell_not_ready(error: &io::Error, told: &mut ErrorLines) {
-    let _ = writeln!(
-        told.begin(Level::Warning),
-        "warning: the shell that is to run SHUTDOWNCMD cannot be started yet: {error}"
-    );
+    halt.begin(told);
 }
 
 /// Makes a halt that of a configuration, and starts its shell. Returns whether it did. If not, why is told.

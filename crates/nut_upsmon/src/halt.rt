@@ -1,7 +1,8 @@
 //! Halting the machine.
 
 use crate::power_down_flag::{FlagFault, FlagState, PowerDownFlag};
-use crate::shutdown_command::{Full, ShutdownCommand};
+use crate::shutdown_command::{Full, ShellState, ShutdownCommand};
+use libc::ECHILD;
 use linked_list_allocator::LocalHeap;
 use nut_conf::UpsmonConf;
 use nut_log::{Level, Lines};
@@ -24,6 +25,12 @@ const TRIES: u32 = 30;
 
 /// The pause before each of these, in seconds.
 const PAUSE: u64 = 1;
+
+/// How often it is looked whether SHUTDOWNCMD has ended or is stopped, before only its end is waited for.
+const LOOKS: u32 = 50;
+
+/// The pause between these, in milliseconds. So a shell that stays stopped for five seconds is given up.
+const LOOK_PAUSE: u64 = 100;
 
 /// Why SHUTDOWNCMD didn't halt the machine.
 #[derive(Drop)]
@@ -68,6 +75,8 @@ pub struct Halt<'r, 'h, R: Processes> {
     heap: &'h LocalHeap,
     flag: Option<PowerDownFlag>,
     command: Option<ShutdownCommand<'r, 'h, R>>,
+    /// What was told last of the shell that waits, if that still holds.
+    told: Option<ShellState>,
 }
 
 impl<'r, 'h, R: Files + Processes + Clock> Halt<'r, 'h, R> {
@@ -79,6 +88,7 @@ impl<'r, 'h, R: Files + Processes + Clock> Halt<'r, 'h, R> {
             heap,
             flag: None,
             command: None,
+            told: None,
         }
     }
 
@@ -120,6 +130,35 @@ impl<'r, 'h, R: Files + Processes + Clock> Halt<'r, 'h, R> {
         match &mut self.command {
             Some(command) => command.make_ready(),
             None => Ok(()),
+        }
+    }
+
+    /// Starts the shell that will run SHUTDOWNCMD. If it cannot be started, why is written to `err`, and
+    /// [`second`](Halt::second) tries it again.
+    pub fn begin(&mut self, err: &mut ErrorLines) {
+        if let Err(error) = self.make_ready() {
+            self.told = Some(ShellState::Gone);
+            tell_not_ready(&error, err);
+        }
+    }
+
+    /// Looks after the shell that waits to run SHUTDOWNCMD, once a second. One that a signal has stopped is continued, and
+    /// in the place of one that was ended another is started. What was found is written to `err`, once for as long as it
+    /// lasts.
+    pub fn second(&mut self, err: &mut ErrorLines) {
+        let Some(command) = &mut self.command else {
+            return;
+        };
+        match command.look(self.rt) {
+            ShellState::Waits => self.told = None,
+            ShellState::Stopped => {
+                if self.told != Some(ShellState::Stopped) {
+                    self.told = Some(ShellState::Stopped);
+                    tell_stopped(err);
+                }
+                command.wake();
+            }
+            ShellState::Gone => replace_shell(command, &mut self.told, err),
         }
     }
 
@@ -261,22 +300,93 @@ fn shutdown_command<'r, 'h, R: Processes>(
     }
 }
 
+/// Starts a shell in the place of one that was ended. What came of it is told, unless it is as before.
+fn replace_shell<R: Processes>(
+    command: &mut ShutdownCommand<'_, '_, R>,
+    told: &mut Option<ShellState>,
+    err: &mut ErrorLines,
+) {
+    match command.make_ready() {
+        Ok(()) => tell_replaced(err),
+        Err(error) => {
+            if *told != Some(ShellState::Gone) {
+                *told = Some(ShellState::Gone);
+                tell_not_ready(&error, err);
+            }
+        }
+    }
+}
+
+/// Tells that the shell for SHUTDOWNCMD can't be started, and why.
+fn tell_not_ready(error: &io::Error, err: &mut ErrorLines) {
+    let _ = writeln!(
+        err.begin(Level::Warning),
+        "warning: the shell that is to run SHUTDOWNCMD cannot be started yet: {error}"
+    );
+}
+
+/// Tells that the shell for SHUTDOWNCMD is stopped.
+fn tell_stopped(err: &mut ErrorLines) {
+    let _ = writeln!(
+        err.begin(Level::Warning),
+        "warning: the shell that is to run SHUTDOWNCMD was stopped by a signal: it is sent SIGCONT"
+    );
+}
+
+/// Tells that another shell waits to run SHUTDOWNCMD.
+fn tell_replaced(err: &mut ErrorLines) {
+    let _ = writeln!(
+        err.begin(Level::Warning),
+        "warning: there was no shell to run SHUTDOWNCMD, since it was ended or not started: another one waits now"
+    );
+}
+
 /// Runs a command and waits for its end.
-fn run<R: Processes>(
-    clock: &impl Clock,
+fn run<R: Files + Processes + Clock>(
+    rt: &R,
     command: &mut ShutdownCommand<'_, '_, R>,
     out: &mut OutputLines,
     err: &mut ErrorLines,
 ) -> Result<(), HaltFault> {
-    start(clock, command, out, err)?;
-    wait_for(command)
+    start(rt, command, out, err)?;
+    if !keep_going(rt, command) {
+        let full = Full::of(out, err);
+        command.start_anew(full).map_err(HaltFault::NotStarted)?;
+    }
+    judge(command.wait(), err)
 }
 
-/// Waits for the end of a command.
-fn wait_for<R: Processes>(command: &mut ShutdownCommand<'_, '_, R>) -> Result<(), HaltFault> {
-    match command.wait() {
+/// Watches a command for some seconds, unless it ends before, and continues it if a signal has stopped it. Returns false
+/// if it is still stopped after that.
+fn keep_going<R: Files + Processes + Clock>(
+    rt: &R,
+    command: &mut ShutdownCommand<'_, '_, R>,
+) -> bool {
+    for _ in 0..LOOKS {
+        if !matches!(command.try_wait(), Ok(None)) {
+            return true;
+        }
+        if command.is_stopped(rt) {
+            command.wake();
+        }
+        thread::sleep(rt, Duration::from_millis(LOOK_PAUSE));
+    }
+    !command.is_stopped(rt)
+}
+
+/// Returns whether a command halted the machine, by how it ended. If whoever started upsmon has it ignore SIGCHLD, the
+/// system doesn't tell how: that is written to `err`, and the command counts as one that did, since it has run.
+fn judge(ended: io::Result<ExitStatus>, err: &mut ErrorLines) -> Result<(), HaltFault> {
+    match ended {
         Ok(status) if status.success() => Ok(()),
         Ok(status) => Err(HaltFault::Ended(status)),
+        Err(error) if error.raw_os_error() == Some(ECHILD) => {
+            let _ = writeln!(
+                err.begin(Level::Warning),
+                "SHUTDOWNCMD has run; how it ended isn't known, since SIGCHLD is ignored"
+            );
+            Ok(())
+        }
         Err(error) => Err(HaltFault::NotWaited(error)),
     }
 }

@@ -12,6 +12,7 @@ mod low_runtime;
 mod monitor;
 mod notify_command;
 mod power_down_flag;
+mod process_state;
 mod reloader;
 mod shutdown_command;
 mod shutdown_report;

@@ -3,12 +3,14 @@
 ghost use Rattle.std.specs.Prelude.{OnOk, IsSome};
 ghost use Rattle.std.specs.Io.KnownBytes.{Appends};
 
+use crate::process_state::{is_stopped, process_number};
 use linked_list_allocator::LocalHeap;
 use nut_poll::{ErrorLines, Outlet, OutputLines, shell_command, unstopped};
 use std::alloc::AllocError;
-use std::io;
 use std::io::{ErrorKind, Write};
 use std::process::{Child, Command, ExitStatus, OpenProcess, Processes, Stdio};
+use std::rt::Files;
+use std::{io, mem};
 
 /// The script of the shell: it waits for a line, and then becomes SHUTDOWNCMD, which is its first argument. A stream that
 /// the line names is /dev/null from then on. If the shell's input ends without a line, as when upsmon ends, it ends and
@@ -53,14 +55,31 @@ impl Full {
     }
 }
 
+/// The script of the shell that continues a process, whose number is its first argument.
+const CONTINUE: &str = unstopped!("kill -CONT \"$1\"");
+
+/// How the shell that waits to run SHUTDOWNCMD fares.
+#[derive(Clone, Copy, PartialEq, Eq)]
+pub enum ShellState {
+    /// It waits.
+    Waits,
+    /// A signal, for example SIGSTOP, has stopped it: it would run nothing.
+    Stopped,
+    /// It was ended, or none was started.
+    Gone,
+}
+
 /// SHUTDOWNCMD, run by a shell that was started before. So the machine can be halted even if no process can be started
 /// any more, for example for lack of memory.
 #[derive(Drop)]
 pub struct ShutdownCommand<'r, 'h, R: Processes> {
     processes: &'r R,
+    heap: &'h LocalHeap,
     command: Command<&'h LocalHeap>,
     /// The shell that waits or runs the command, if one was started.
     shell: Option<Child<R::Started>>,
+    /// The shell that was last started to continue that one. It ends by itself.
+    waker: Option<Child<R::Started>>,
 }
 
 impl<'r, 'h, R: Processes> ShutdownCommand<'r, 'h, R> {
@@ -76,8 +95,10 @@ impl<'r, 'h, R: Processes> ShutdownCommand<'r, 'h, R> {
     ) -> Result<ShutdownCommand<'r, 'h, R>, AllocError> {
         Ok(ShutdownCommand {
             processes,
+            heap,
             command: waiting_shell(heap, text)?,
             shell: None,
+            waker: None,
         })
     }
 
@@ -90,6 +111,43 @@ impl<'r, 'h, R: Processes> ShutdownCommand<'r, 'h, R> {
         let shell = self.command.spawn(self.processes)?;
         drop(self.shell.replace(shell));
         Ok(())
+    }
+
+    /// Returns how the shell that waits fares. One that was ended is forgotten, as is one that was to continue it.
+    pub fn look(&mut self, files: &impl Files) -> ShellState {
+        if !is_running(&mut self.waker) {
+            drop(self.waker.take());
+        }
+        if !is_running(&mut self.shell) {
+            drop(self.shell.take());
+            return ShellState::Gone;
+        }
+        if self.is_stopped(files) {
+            ShellState::Stopped
+        } else {
+            ShellState::Waits
+        }
+    }
+
+    /// Whether a signal has stopped the shell that waits or runs the command.
+    pub fn is_stopped(&self, files: &impl Files) -> bool {
+        match &self.shell {
+            Some(shell) => is_stopped(files, shell.id()),
+            None => false,
+        }
+    }
+
+    /// Sends SIGCONT to the shell that waits or runs the command, by another shell, which isn't waited for. One that was
+    /// started for this before and goes on is enough.
+    pub fn wake(&mut self) {
+        if is_running(&mut self.waker) {
+            return;
+        }
+        let Some(shell) = &self.shell else {
+            return;
+        };
+        let waker = start_waker(self.processes, self.heap, shell.id());
+        drop(mem::replace(&mut self.waker, waker));
     }
 
     /// Gives the command up. Returns the shell that waits, if there is one: it ends and runs nothing, since its input
@@ -129,6 +187,31 @@ impl<'r, 'h, R: Processes> ShutdownCommand<'r, 'h, R> {
         }
     }
 
+    /// Ends the shell that runs the command, and has another one run it.
+    ///
+    /// # Errors
+    ///
+    /// That of the system if another shell cannot be started, or ends at once.
+    pub fn start_anew(&mut self, full: Full) -> io::Result<()> {
+        if let Some(shell) = &mut self.shell {
+            let _ = shell.kill();
+        }
+        self.make_ready()?;
+        self.start_waiting(full)
+    }
+
+    /// Returns how the shell that runs the command ended, if it has.
+    ///
+    /// # Errors
+    ///
+    /// That of the system, or `NotFound` if none was started.
+    pub fn try_wait(&mut self) -> io::Result<Option<ExitStatus>> {
+        match &mut self.shell {
+            Some(shell) => shell.try_wait(),
+            None => Err(no_shell()),
+        }
+    }
+
     /// Waits for the end of the shell that runs the command.
     ///
     /// # Errors
@@ -140,6 +223,25 @@ impl<'r, 'h, R: Processes> ShutdownCommand<'r, 'h, R> {
             None => Err(no_shell()),
         }
     }
+}
+
+/// Whether there is a process that hasn't ended.
+fn is_running<P: OpenProcess>(process: &mut Option<Child<P>>) -> bool {
+    match process {
+        Some(process) => matches!(process.try_wait(), Ok(None)),
+        None => false,
+    }
+}
+
+/// Starts a shell that continues the process with this number. Returns `None` if it can't be started.
+fn start_waker<R: Processes>(
+    processes: &R,
+    heap: &LocalHeap,
+    process: u32,
+) -> Option<Child<R::Started>> {
+    let number = process_number(process);
+    let mut shell = shell_command(heap, CONTINUE, number.as_str()).ok()?;
+    shell.spawn(processes).ok()
 }
 
 fn no_shell() -> io::Error {
