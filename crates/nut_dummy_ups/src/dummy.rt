@@ -1,6 +1,6 @@
 //! dummy-ups: a driver without a device.
 
-use crate::driver_socket::{has_listener, listen_at};
+use crate::driver_socket::{ListenFault, has_listener, listen_at};
 use crate::dummy_driver::DummyDriver;
 use clap::{Arg, ArgMatches, Command};
 use mio::net::UnixListener;
@@ -32,7 +32,7 @@ enum DummyUpsFault<'a> {
     /// Another driver listens at this socket.
     InUse(&'a str),
     /// It is impossible to listen at this socket, for this reason.
-    Listen(&'a str, io::Error),
+    Listen(&'a str, ListenFault),
 }
 
 impl<'a> fmt::Display for DummyUpsFault<'a> {
@@ -43,8 +43,8 @@ impl<'a> fmt::Display for DummyUpsFault<'a> {
             DummyUpsFault::TooLong(file) => write!(f, "{file}: more than {FILE_MAX} bytes"),
             DummyUpsFault::Script(file, fault) => write!(f, "{file}:{fault}"),
             DummyUpsFault::InUse(socket) => write!(f, "{socket}: another driver listens there"),
-            DummyUpsFault::Listen(socket, error) => {
-                write!(f, "cannot listen on {socket}: {error}")
+            DummyUpsFault::Listen(socket, fault) => {
+                write!(f, "cannot listen on {socket}: {fault}")
             }
         }
     }
@@ -67,10 +67,10 @@ impl<'a> OwnFault for DummyUpsFault<'a> {
 /// Runs dummy-ups. Returns its exit status.
 ///
 /// `words` are those of the command line `dummy-ups FILE SOCKET`, the program's name first. The script in FILE is told,
-/// from now on, to one server at a time, which connects at SOCKET; a file of that name is removed if no other driver
-/// listens at it. The end of FILE says what kind the script is: `.dev` is told once, `.seq` round after round. The
-/// program ends if waiting for the socket or reading the clock fails; then `dummy-ups: I/O failed` is written, and the
-/// status is 1.
+/// from now on, to one server at a time, which connects at SOCKET. A socket of that name is removed if no other driver
+/// listens at it; any other file of that name stays. The end of FILE says what kind the script is: `.dev` is told once,
+/// `.seq` round after round. The program ends if waiting for the socket or reading the clock fails; then
+/// `dummy-ups: I/O failed` is written, and the status is 1.
 ///
 /// If clap refuses the words, its text is written to `err`, and the status is 2; the help and the version are written
 /// to `out`, with status 0. Before anything is told to a server, the first of these is written to `err`, with status 1:
@@ -234,11 +234,11 @@ fn listen<'a>(
     let listener = match has_listener(rt, socket) {
         Ok(true) => return Err(Failure::Own(DummyUpsFault::InUse(socket))),
         Ok(false) => listen_at(rt, socket),
-        Err(error) => Err(error),
+        Err(error) => Err(ListenFault::System(error)),
     };
     match listener {
         Ok(listener) => Ok(listener),
-        Err(error) => Err(Failure::Own(DummyUpsFault::Listen(socket, error))),
+        Err(fault) => Err(Failure::Own(DummyUpsFault::Listen(socket, fault))),
     }
 }
 
