@@ -6,6 +6,7 @@
 The last line is 'N passed, M failed'."""
 
 import contextlib
+import errno
 import os
 import re
 import subprocess
@@ -15,8 +16,9 @@ import threading
 import time
 from concurrent import futures
 
-from tests.support.harness import ensure, expect, Failed, Missing, needed, processor_time, refusal, run_tests, Shimmed
-from tests.support.room import DEVICE, Lines, NOT_CONNECTED, ONLINE, Room, SOON, STATUS, USERS, VERSION, accepted, first_lines, until
+from tests.support.harness import apart, ensure, expect, Failed, Missing, needed, processor_time, refusal, run_tests, Shimmed
+from tests.support.room import Client, DEVICE, Lines, NOT_CONNECTED, ONLINE, Room, SOON, STATUS, USERS, VERSION
+from tests.support.room import accepted, first_lines, stopped, until
 
 ONE = b'[su700]\ndesc = "Server room"\n'
 TWO = ONE + b"[old]\n"
@@ -663,3 +665,27 @@ def main():
 
 if __name__ == "__main__":
     sys.exit(main())
+    def test_dummy_without_memory(self):
+        """dummy-ups says each time that it closes a link for lack of memory, and serves the next server."""
+        once = os.path.join(self.folder, "arid")
+        told = "dummy-ups: link closed: out of memory"
+        with self.room() as room:
+            # what a dump says is more than what has been said before
+            room.write("su700.dev", DEVICE + b"".join(b"ambient.%d.status: x\n" % i for i in range(200)))
+            path = room.path("dummy-ups-su700")
+            driver = room.start([self.programs[1], room.path("su700.dev"), path], env=self.refusing_memory(once))
+            lines = Lines(driver)
+            with Client(path) as server:
+                expect(server.ask(b"PING\n"), b"PONG\n", "before")
+            open(once, "w").close()
+            for _ in range(2):
+                with Client(path) as server:
+                    server.send(b"DUMPALL\n")
+                    ensure(server.is_closed(), "a server whose dump finds no memory")
+                lines.next(told)
+            os.remove(once)
+            with Client(path) as server:
+                server.send(b"DUMPALL\n")
+                until(lambda: server.line() == b"DUMPDONE\n", "a dump")
+            expect((lines.lines, driver.poll()), ([told] * 2, None), "what is told")
+

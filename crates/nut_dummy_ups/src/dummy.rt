@@ -77,7 +77,8 @@ impl<'a> OwnFault for DummyUpsFault<'a> {
 /// `dummy-ups: FILE: unknown kind`; `dummy-ups: FILE: cannot read`, with the reason on a line of its own;
 /// `dummy-ups: FILE: more than 16777216 bytes`; the first fault of the script, as `dummy-ups: FILE:2: BadName`;
 /// `dummy-ups: SOCKET: another driver listens there`; `dummy-ups: cannot listen on SOCKET: WHY`; or
-/// `dummy-ups: out of memory` if memory cannot be allocated before.
+/// `dummy-ups: out of memory` if memory cannot be allocated before. Later, `dummy-ups: link closed: out of memory` is
+/// written each time that memory for an answer to the server is lacking; the server may connect again.
 pub fn run_dummy_ups<S: AsStr, O: Write, E: Write>(
     rt: &(impl Wait + Files + Net + Clock),
     alloc: Global,
@@ -85,55 +86,59 @@ pub fn run_dummy_ups<S: AsStr, O: Write, E: Write>(
     out: &mut O,
     err: &mut E,
 ) -> u8 {
-    match run(rt, alloc, words) {
+    match run(rt, alloc, words, err) {
         Ok(()) => 0,
         Err(failure) => failure.tell("dummy-ups", out, err),
     }
 }
 
-fn run<'a, S: AsStr>(
+fn run<'a, S: AsStr, E: Write>(
     rt: &(impl Wait + Files + Net + Clock),
     alloc: Global,
     words: &'a [S],
+    err: &mut E,
 ) -> Result<(), Failure<DummyUpsFault<'a>>> {
     let matches = command(alloc)?.try_get_matches_from(words)?;
-    run_matches(rt, alloc, &matches)
+    run_matches(rt, alloc, &matches, err)
 }
 
 /// Does what a command line asks for that clap has accepted.
-fn run_matches<'a>(
+fn run_matches<'a, E: Write>(
     rt: &(impl Wait + Files + Net + Clock),
     alloc: Global,
     matches: &ArgMatches<'a>,
+    err: &mut E,
 ) -> Result<(), Failure<DummyUpsFault<'a>>> {
     let file = matches.get_str("file").unwrap_or("");
     let socket = matches.get_str("socket").unwrap_or("");
-    tell_file(rt, alloc, file, socket)
+    tell_file(rt, alloc, file, socket, err)
 }
 
 /// Tells the script of a file to servers that connect at a socket.
-fn tell_file<'a>(
+fn tell_file<'a, E: Write>(
     rt: &(impl Wait + Files + Net + Clock),
     alloc: Global,
     file: &'a str,
     socket: &'a str,
+    err: &mut E,
 ) -> Result<(), Failure<DummyUpsFault<'a>>> {
     let script = read_script(rt, alloc, file)?;
     match Dummy::new(alloc, script, 0) {
-        Ok(dummy) => tell_at(rt, alloc, dummy, socket),
+        Ok(dummy) => tell_at(rt, alloc, dummy, socket, err),
         Err(_) => Err(Failure::Memory),
     }
 }
 
 /// Runs a dummy driver at a socket. The standard streams that are closed are held meanwhile.
-fn tell_at<'a>(
+fn tell_at<'a, E: Write>(
     rt: &(impl Wait + Files + Net + Clock),
     alloc: Global,
     dummy: Dummy,
     socket: &'a str,
+    err: &mut E,
 ) -> Result<(), Failure<DummyUpsFault<'a>>> {
     match listen_held(rt, alloc, socket) {
-        Ok((_held, listener)) => Ok(tell(rt, alloc, listener, dummy)?),
+        Ok((_held, listener)) => Ok(tell(rt, alloc, listener, dummy, err)?),
         Err(failure) => {
             // dropped by a call, which keeps the proof of this function short
             drop(dummy);
@@ -160,23 +165,28 @@ fn listen_held<'a, R: Files + Net>(
 }
 
 /// Runs a dummy driver whose servers connect to this listener, until a wait fails.
-fn tell(
+fn tell<E: Write>(
     rt: &(impl Wait + Net + Clock),
     alloc: Global,
     listener: UnixListener,
     dummy: Dummy,
+    err: &mut E,
 ) -> io::Result<()> {
     let mut driver = DummyDriver::new(rt, alloc, listener, dummy)?;
-    let told = turn_for_ever(rt, &mut driver);
+    let told = turn_for_ever(rt, &mut driver, err);
     // dropped by a call, which keeps the proof of this function short
     drop(driver);
     told
 }
 
 /// Lets a driver do what there is to do, until a wait fails.
-fn turn_for_ever(rt: &(impl Wait + Clock), driver: &mut DummyDriver) -> io::Result<()> {
+fn turn_for_ever<E: Write>(
+    rt: &(impl Wait + Clock),
+    driver: &mut DummyDriver,
+    err: &mut E,
+) -> io::Result<()> {
     for _ in rt.forever() {
-        driver.turn(rt)?;
+        driver.turn(rt, err)?;
     }
     unreachable!()
 }
