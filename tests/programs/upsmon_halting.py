@@ -1,6 +1,6 @@
 #!/usr/bin/env python3
-"""Starts upsmon, upsd and dummy-ups without what they need: readers of what they print, memory, a shell. The machine is halted
-all the same.
+"""Starts upsmon, upsd and dummy-ups without what they need: readers of what they print, memory, a stack, a shell. The machine is
+halted all the same, except by an upsmon that refuses to start.
 
     python3 -m tests.programs.upsmon_halting UPSD DUMMY_UPS UPSC UPSMON
 
@@ -22,7 +22,7 @@ import tempfile
 
 from tests.support.harness import apart, cannot_read, ensure, expect, ROOT, Shimmed
 from tests.support.monitored import FLAG, ON_BATTERY, QUICK, SHUTDOWN, Upstream, Watch, children_of, play, put_program
-from tests.support.room import ONLINE, STATUS, Room, heed_modes, state_of, until
+from tests.support.room import ONLINE, STATUS, Lines, Room, heed_modes, state_of, until
 
 WORD = FLAG.strip()
 HALTED = 'SHUTDOWNCMD "touch FOLDER/halted"\n'
@@ -34,6 +34,8 @@ FOREIGN = "is not a flag of upsmon, and is left as it is"
 NO_SHELL = "upsmon: warning: the shell that is to run SHUTDOWNCMD cannot be started yet: "
 NOT_YET = "upsmon: SHUTDOWNCMD cannot be started yet: "
 NOT_STARTED = "upsmon: SHUTDOWNCMD cannot be started: "
+# how much stack each daemon asks for, in KiB
+STACK = 512
 
 
 def fronts(lines, wanted):
@@ -44,6 +46,11 @@ def fronts(lines, wanted):
 def is_running(pid):
     """Whether a process exists and hasn't ended."""
     return state_of(pid) not in ("", "Z", "X")
+
+
+def stack(most):
+    """Returns what limits the stack of the program that is started next, in KiB."""
+    return functools.partial(resource.setrlimit, resource.RLIMIT_STACK, (most * 1024, most * 1024))
 
 
 @contextlib.contextmanager
@@ -115,6 +122,45 @@ class Tests(Shimmed):
         return done.returncode, done.stdout, done.stderr
 
     # From here on, each method whose name begins with 'test_' is a test.
+
+    def test_too_little_stack(self):
+        """A daemon that would be ended by SIGSEGV once its stack is full says so before anything else."""
+        none = os.path.join(self.folder, "none")
+        for name, *words in (
+            ("upsd", self.upsd, "--conf", none, "-s", none),
+            ("dummy-ups", self.dummy, none, none),
+            ("upsmon", self.upsmon, "--conf", none),
+            ("upsmon", self.upsmon, "--no-such-option"),
+        ):
+            for most in (128, 256, STACK - 1):
+                done = subprocess.run(words, stdin=subprocess.DEVNULL, capture_output=True, timeout=60, preexec_fn=stack(most))
+                told = f"{name}: the stack is limited to {most} KiB; {STACK} are needed\n"
+                expect((done.returncode, done.stdout, done.stderr.decode()), (1, b"", told), f"{words} with {most} KiB")
+
+    def test_enough_stack(self):
+        """Each daemon runs with the stack that it asks for: a dump of all that fits, long lists, a reload, a fault, a halt."""
+        with self.room() as room:
+            names = b"".join(b"ambient.%d.status: %s\n" % (i, b"x" * 400) for i in range(400))
+            with open(room.path("su700.dev"), "wb") as file:
+                file.write(names + b"ups.status: OL\n")
+            words = [self.dummy, room.path("su700.dev"), room.path("dummy-ups-su700")]
+            dummy = room.start(words, preexec_fn=stack(STACK))
+            upsd = room.upsd(preexec_fn=stack(STACK))
+            lines = Lines(upsd)
+            room.until(STATUS, ONLINE)
+            with room.client() as client:
+                client.log_in()
+                expect(len(client.list(b"LIST VAR su700\n")), 403, "a list")
+                expect(client.ask(b"INSTCMD su700 load.off\n"), b"OK\n", "a command")
+            for text, told in ((b"[su700]\n[b]\n", "upsd: reloaded: UPS b added"), (b"[a]\n[a]\n", "upsd: not reloaded: ups.conf:2")):
+                with open(room.path("ups.conf"), "wb") as file:
+                    file.write(text)
+                open(room.path("reload"), "w").close()
+                lines.next(told)
+            expect((dummy.poll(), upsd.poll()), (None, None), "the daemons that run")
+        conf = f"POWERDOWNFLAG FOLDER/flag\nNOTIFYCMD true\nNOTIFYFLAG FSD EXEC\n{HALTED}"
+        with self.halting(conf, preexec_fn=stack(STACK)) as (_, watch):
+            expect((watch.status(), watch.read("flag"), watch.read("halted")), (0, FLAG, b""), "a halt")
 
     def test_full_output_holds_up_no_halt(self):
         notices = "".join(f"NOTIFYFLAG {it} SYSLOG+EXEC\n" for it in ("ONBATT", "LOWBATT", "SHUTDOWN"))

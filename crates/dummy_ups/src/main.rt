@@ -6,6 +6,9 @@ use std::process::ExitCode;
 use std::{env, io};
 
 fn main(rt: HostRuntime) -> ExitCode {
+    if !nut_program::has_stack("dummy-ups", &mut rt.stderr()) {
+        return ExitCode::from(1);
+    }
     let status = match start(&rt) {
         Ok((words, mut err)) => nut_dummy_ups::run_dummy_ups(
             &rt,

@@ -10,6 +10,7 @@ mod reload_file;
 mod reload_report;
 mod streams;
 mod unknown;
+mod stack;
 mod warning;
 
 pub use arguments::refuse_start;
@@ -23,3 +24,4 @@ pub use reload_file::{Look, ReloadFile, Turn};
 pub use reload_report::ReloadReport;
 pub use streams::{Streams, hold_closed_streams};
 pub use warning::{Readable, readable_file, warn};
+pub use stack::{LowStack, has_stack};

@@ -6,6 +6,9 @@ use std::process::ExitCode;
 use std::{env, io};
 
 fn main(rt: HostRuntime) -> ExitCode {
+    if !nut_program::has_stack("upsd", &mut rt.stderr()) {
+        return ExitCode::from(1);
+    }
     let status = match start(&rt) {
         Ok((words, mut err)) => nut_upsd::run_upsd(
             &rt,

@@ -5,6 +5,9 @@ use std::process::ExitCode;
 use std::{env, io};
 
 fn main(rt: HostRuntime) -> ExitCode {
+    if !nut_program::has_stack("upsmon", &mut rt.stderr()) {
+        return ExitCode::from(1);
+    }
     let status = match words(&rt) {
         Ok(words) => nut_upsmon::run_upsmon(
             &rt,
