@@ -533,6 +533,65 @@ class Tests(Shimmed):
             expect(lines.count("upsd: cannot remove"), 0, "faults")
 
     def test_no_look_without_sockets(self):
+    def test_file_beside_the_sockets(self):
+        """A file in the folder of the sockets asks for a reload, too, and both files together are one request."""
+        with self.room() as room:
+            os.mkdir(room.path("sockets"))
+            beside = room.path("sockets/reload")
+            open(beside, "w").close()
+            upsd = room.start([self.programs[0], "--conf", room.folder, "-s", room.path("sockets")])
+            lines = room.lines = Lines(upsd)
+            lines.next("upsd: listening on ")
+            until(lambda: not os.path.exists(beside), "a file of before the start is removed")
+            time.sleep(LOOKS)
+            expect(lines.count("upsd: reloaded"), 0, "reloads by a file of before the start")
+            room.write("ups.conf", TWO)
+            open(beside, "w").close()
+            lines.next("upsd: reloaded: UPS old added")
+            ensure(not os.path.exists(beside), "the file stays")
+            room.reload(ONE, "upsd: reloaded: UPS old removed")
+            with stopped(upsd):
+                room.touch()
+                open(beside, "w").close()
+            lines.next(NOTHING)
+            time.sleep(LOOKS)
+            expect(lines.count("upsd: reloaded"), 3, "reloads by three requests, of which one is two files")
+            expect((room.is_asked(), os.path.exists(beside)), (False, False), "files that stay")
+            # upsmon has the folder of the files: that file is left to it, and is no second request meanwhile
+            room.write("upsmon.conf", b"MINSUPPLIES 0\n")
+            with stopped(upsd):
+                room.touch()
+                open(beside, "w").close()
+            lines.next(NOTHING)
+            expect((room.is_asked(), os.path.exists(beside)), (True, False), "files that stay where upsmon looks for one")
+            time.sleep(LOOKS)
+            expect(lines.count("upsd: reloaded"), 4, "reloads by four requests")
+            expect(lines.count("upsd: cannot remove"), 0, "faults")
+
+    def test_files_that_nobody_can_change(self):
+        """Where the folder of the files is read-only, the one of the sockets is not."""
+        with self.room() as room:
+            os.mkdir(room.path("sockets"))
+            os.mkdir(room.path("conf"))
+            for name in ("ups.conf", "upsd.users", "upsd.conf"):
+                os.rename(room.path(name), room.path(f"conf/{name}"))
+            open(room.path("conf/reload"), "w").close()
+            words = ["sh", "-c", 'mount --bind "$0" "$0" && mount -o remount,bind,ro "$0" && exec "$@"', room.path("conf")]
+            upsd = room.start([*apart("--mount", *words), self.programs[0], "--conf", room.path("conf"), "-s", room.path("sockets")])
+            lines = Lines(upsd)
+            lines.next("upsd: listening on ")
+            time.sleep(LOOKS)
+            for _ in range(3):
+                open(room.path("sockets/reload"), "w").close()
+                lines.next(NOTHING)
+                ensure(not os.path.exists(room.path("sockets/reload")), "the file stays")
+            expect(lines.count("upsd: cannot remove"), 0, "faults")
+            for _ in range(2):
+                os.utime(room.path("conf/reload"))
+                lines.next(NOTHING)
+            told = f"upsd: cannot remove {room.path('conf/reload')}: {os.strerror(errno.EROFS)}"
+            expect((lines.count(told), lines.count("upsd: reloaded")), (1, 5), "what can't be removed is told once")
+
         with self.room() as room:
             room.touch()
             done = subprocess.run([self.programs[0], "--stdio", "--conf", room.folder], input=VERSION, capture_output=True, timeout=60)

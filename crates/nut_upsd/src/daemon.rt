@@ -34,8 +34,8 @@ use std::time::Clock;
 /// trying again each second until that succeeds. It ends if waiting for the sockets or reading the clock fails; then
 /// `upsd: I/O failed` is written, and the status is 1.
 ///
-/// Once a second it looks for the file `reload` in the folder of `--conf`. If that is there, it is removed, and the files
-/// are read again. What then differs is written as `upsd: reloaded: ..`; listeners stay as they are. If a file has a
+/// Once a second it looks for the file `reload` in the folders of `--conf` and of `-s`. If one is there, it is removed, and
+/// the files are read again. What then differs is written as `upsd: reloaded: ..`; listeners stay as they are. If a file has a
 /// fault, it is written as `upsd: not reloaded: ups.conf:2: Repeated`, and nothing changes.
 ///
 /// `upsd --check` serves nothing: it reads the files of `--conf`, or else those in the folder of the variable
@@ -154,7 +154,7 @@ fn serve_folder<R: Wait + Files + Net + Clock>(
     options: &Options<'_>,
     err: &mut ErrorLines,
 ) -> Result<(), Failure<UpsdFault>> {
-    let reloading = Reloading::new(rt, alloc, options.conf)?;
+    let reloading = Reloading::new(rt, alloc, options.conf, options.sockets)?;
     let (settings, reloading) = paired(reloading.read(err), reloading)?;
     listen_and_serve(rt, alloc, settings, reloading, options, err)
 }
