@@ -275,6 +275,7 @@ class Tests(Shimmed):
                 client.log_in(b"mon", b"m1")
                 expect(client.ask(b"LOGIN su700\n"), b"OK\n", "LOGIN")
                 room.reload(b"[neu]\n\n[a/b]\n", "upsd: not reloaded: ups.conf:3: BadName")
+                room.lines.next("upsd: [a/b]: a name is meant")
                 expect(room.upses(), ["su700", "old"], "the old UPSes")
                 room.reload(b"[neu]\nvendorid = 1\n", "upsd: not reloaded: ups.conf:2: UnknownDirective")
                 room.lines.next("upsd: vendorid isn't taken here: see from-nut(7)")
@@ -532,7 +533,6 @@ class Tests(Shimmed):
             expect(lines.count("upsd: reloaded"), 3, "reloads")
             expect(lines.count("upsd: cannot remove"), 0, "faults")
 
-    def test_no_look_without_sockets(self):
     def test_file_beside_the_sockets(self):
         """A file in the folder of the sockets asks for a reload, too, and both files together are one request."""
         with self.room() as room:
@@ -592,6 +592,7 @@ class Tests(Shimmed):
             told = f"upsd: cannot remove {room.path('conf/reload')}: {os.strerror(errno.EROFS)}"
             expect((lines.count(told), lines.count("upsd: reloaded")), (1, 5), "what can't be removed is told once")
 
+    def test_no_look_without_sockets(self):
         with self.room() as room:
             room.touch()
             done = subprocess.run([self.programs[0], "--stdio", "--conf", room.folder], input=VERSION, capture_output=True, timeout=60)
@@ -664,6 +665,30 @@ class Tests(Shimmed):
             ensure(lines.count(client_told) <= 2, "clients are told too often")
             expect(lines.count(driver_told), 1, "drivers that are disconnected")
 
+    def test_dummy_without_memory(self):
+        """dummy-ups says each time that it closes a link for lack of memory, and serves the next server."""
+        once = os.path.join(self.folder, "arid")
+        told = "dummy-ups: link closed: out of memory"
+        with self.room() as room:
+            # what a dump says is more than what has been said before
+            room.write("su700.dev", DEVICE + b"".join(b"ambient.%d.status: x\n" % i for i in range(200)))
+            path = room.path("dummy-ups-su700")
+            driver = room.start([self.programs[1], room.path("su700.dev"), path], env=self.refusing_memory(once))
+            lines = Lines(driver)
+            with Client(path) as server:
+                expect(server.ask(b"PING\n"), b"PONG\n", "before")
+            open(once, "w").close()
+            for _ in range(2):
+                with Client(path) as server:
+                    server.send(b"DUMPALL\n")
+                    ensure(server.is_closed(), "a server whose dump finds no memory")
+                lines.next(told)
+            os.remove(once)
+            with Client(path) as server:
+                server.send(b"DUMPALL\n")
+                until(lambda: server.line() == b"DUMPDONE\n", "a dump")
+            expect((lines.lines, driver.poll()), ([told] * 2, None), "what is told")
+
     def test_each_allocation_refused_in_turn(self):
         """A reload that is refused memory changes nothing, or a driver is dialled a second later. The next one succeeds."""
         many = ONE + b"".join(b"[u%d]\n" % i for i in range(8))
@@ -724,27 +749,3 @@ def main():
 
 if __name__ == "__main__":
     sys.exit(main())
-    def test_dummy_without_memory(self):
-        """dummy-ups says each time that it closes a link for lack of memory, and serves the next server."""
-        once = os.path.join(self.folder, "arid")
-        told = "dummy-ups: link closed: out of memory"
-        with self.room() as room:
-            # what a dump says is more than what has been said before
-            room.write("su700.dev", DEVICE + b"".join(b"ambient.%d.status: x\n" % i for i in range(200)))
-            path = room.path("dummy-ups-su700")
-            driver = room.start([self.programs[1], room.path("su700.dev"), path], env=self.refusing_memory(once))
-            lines = Lines(driver)
-            with Client(path) as server:
-                expect(server.ask(b"PING\n"), b"PONG\n", "before")
-            open(once, "w").close()
-            for _ in range(2):
-                with Client(path) as server:
-                    server.send(b"DUMPALL\n")
-                    ensure(server.is_closed(), "a server whose dump finds no memory")
-                lines.next(told)
-            os.remove(once)
-            with Client(path) as server:
-                server.send(b"DUMPALL\n")
-                until(lambda: server.line() == b"DUMPDONE\n", "a dump")
-            expect((lines.lines, driver.poll()), ([told] * 2, None), "what is told")
-

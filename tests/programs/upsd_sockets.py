@@ -732,7 +732,7 @@ class Tests:
     def test_faults_of_files(self):
         with self.room(ups=b"[a]\n[a]\n") as room:
             found = self.run(self.programs[0], "--conf", room.folder, "-s", room.folder)
-            expect(found, (1, b"", b"upsd: ups.conf:2: Repeated\n"), "a fault of a file")
+            expect(found, (1, b"", b"upsd: ups.conf:2: Repeated\nupsd: [a]: a line before has it\n"), "a fault of a file")
 
     def test_faults_of_scripts(self):
         dummy = self.programs[1]

@@ -388,7 +388,8 @@ class Tests(Shimmed):
             self.file_of(FLAG)(flag)
             named = {**os.environ, "NUT_CONFPATH": folder}
             expect(self.key(folder, env=named, words=[]), (0, b"", b""), "NUT_CONFPATH")
-            expect(self.key(folder, "POLLFREQ x\n", env=named, words=[]), (1, b"", b"upsmon: upsmon.conf:2: BadNumber\n"), "a fault")
+            told = b"upsmon: upsmon.conf:2: BadNumber\nupsmon: x: a number from 1 to 1000000 is meant\n"
+            expect(self.key(folder, "POLLFREQ x\n", env=named, words=[]), (1, b"", told), "a fault")
             told = cannot_read("upsmon", "upsmon.conf", folder + "/none/upsmon.conf", errno.ENOENT)
             expect(self.key(folder, words=["--conf", folder + "/none"]), (1, b"", told.encode()), "no file")
             path = os.path.join(folder, "upsmon.conf")
@@ -408,20 +409,23 @@ class Tests(Shimmed):
             flag, other = (os.path.join(folder, it) for it in ("flag", "other"))
             self.file_of(FLAG)(flag)
             taken = "upsmon: CERTPATH isn't taken here: see from-nut(7)\n"
+            repeated = "upsmon: POWERDOWNFLAG: a line before has it\n"
+            power = "upsmon: the power values of the MONITOR lines sum to less than MINSUPPLIES, which is 1 unless it is set\n"
+            unread = "upsmon: the line can't be read as words: a quote is not closed\n"
             for conf, status, fault in (
                 (f"CERTPATH x\nPOWERDOWNFLAG {flag}\n", 0, f"2: UnknownDirective\n{taken}"),
                 (f"CERTPATH x\nPOWERDOWNFLAG {other}\n", 1, f"2: UnknownDirective\n{taken}"),
                 ("CERTPATH x\n", 1, f"2: UnknownDirective\n{taken}"),
-                (f'POWERDOWNFLAG "{flag}" # written otherwise\nNOTIFYCMD "x', 0, "3: Unreadable\n"),
+                (f'POWERDOWNFLAG "{flag}" # written otherwise\nNOTIFYCMD "x', 0, f"3: Unreadable\n{unread}"),
                 # the last line counts
-                (f"POWERDOWNFLAG {other}\nPOWERDOWNFLAG {flag}\n", 0, "3: Repeated\n"),
-                (f"POWERDOWNFLAG {flag}\nPOWERDOWNFLAG {other}\n", 1, "3: Repeated\n"),
+                (f"POWERDOWNFLAG {other}\nPOWERDOWNFLAG {flag}\n", 0, f"3: Repeated\n{repeated}"),
+                (f"POWERDOWNFLAG {flag}\nPOWERDOWNFLAG {other}\n", 1, f"3: Repeated\n{repeated}"),
                 # but none that has a fault itself, or that is something else
-                (f"POWERDOWNFLAG {flag}\nPOWERDOWNFLAG {other} x\n", 0, "3: BadForm\n"),
-                (f"POWERDOWNFLAG {flag}\nPOWERDOWNFLAG {'x' * 257}\n", 0, "3: PastLimit\n"),
+                (f"POWERDOWNFLAG {flag}\nPOWERDOWNFLAG {other} x\n", 0, '3: BadForm\nupsmon: POWERDOWNFLAG "FILE" is meant\n'),
+                (f"POWERDOWNFLAG {flag}\nPOWERDOWNFLAG {'x' * 257}\n", 0, "3: PastLimit\nupsmon: FILE: 1 to 256 bytes are meant\n"),
                 (f'POWERDOWNFLAG {flag}\n# POWERDOWNFLAG {other}\nNOTIFYCMD "POWERDOWNFLAG {other}"\nx\n', 0, None),
                 # a fault of the file as a whole
-                (f"POWERDOWNFLAG {flag}\nMINSUPPLIES 2\n", 0, "0: PastLimit\n"),
+                (f"POWERDOWNFLAG {flag}\nMINSUPPLIES 2\n", 0, f"0: PastLimit\n{power}"),
             ):
                 found, out, err = self.key(folder, conf)
                 expect((found, out), (status, b""), f"{conf}, which {err!r}")

@@ -4,13 +4,15 @@
 mod arguments;
 mod command_line;
 mod conf_file;
+mod directives;
 mod failure;
 mod folder;
+mod meant;
 mod reload_file;
 mod reload_report;
+mod stack;
 mod streams;
 mod unknown;
-mod stack;
 mod warning;
 
 pub use arguments::refuse_start;
@@ -22,6 +24,6 @@ pub use failure::{Failure, OwnFault, tell_not_reloaded, tell_unread};
 pub use folder::conf_folder;
 pub use reload_file::{Look, ReloadFile, Turn};
 pub use reload_report::ReloadReport;
+pub use stack::{LowStack, has_stack};
 pub use streams::{Streams, hold_closed_streams};
 pub use warning::{Readable, readable_file, warn};
-pub use stack::{LowStack, has_stack};
