@@ -508,6 +508,7 @@ class Tests(Shimmed):
                 ensure(room.is_asked(), "the file stays")
             expect(lines.count("upsd: reloaded"), 3, "reloads")
             expect(lines.count("upsd: cannot remove"), 1, "what can't be done is told once")
+            expect(lines.count("upsd: running as root"), 0, "what is told of the user")
 
     def test_folder_with_two_programs(self):
         """The file stays for a while, so that upsmon sees it too."""
