@@ -358,7 +358,8 @@ ADDRESS = "the name or the address of a host is meant, without brackets; a port 
 ROLE = "'primary' or 'secondary' is meant"
 MONITOR = "MONITOR UPS@HOST[:PORT] POWER USER PASSWORD primary|secondary is meant"
 POWER = "the power values of the MONITOR lines sum to less than MINSUPPLIES, which is 1 unless it is set"
-MENDED = "only printing ASCII is taken; mulgefa-check -i mends comments"
+ASCII = "only printing ASCII is taken"
+MENDED = f"{ASCII}; mulgefa-check -i mends comments"
 UNREAD = "the line can't be read as words: "
 LONG = "a line has at most 512 bytes"
 
@@ -387,9 +388,10 @@ MEANT = {
         (numbered(b"[s%d]\n", 33), "PastLimit", "ups.conf has at most 32 sections, and upsd.users 64"),
         # bytes, by the column of the first one
         (b"# Ger\xe4t\n", "Unreadable", f"byte 0xe4 at column 6: {MENDED}"),
-        (b"[a]\ndesc = \xc2\xa0\n", "Unreadable", f"byte 0xc2 at column 8: {MENDED}"),
-        (b'[a]\ndesc = "a\tb"\n', "Unreadable", f"byte 0x09 at column 10: {MENDED}"),
-        (b"[a]\n\x00\n", "Unreadable", f"byte 0x00 at column 1: {MENDED}"),
+        (b"[a] # Ger\xe4t\n", "Unreadable", f"byte 0xe4 at column 10: {ASCII}"),
+        (b"[a]\ndesc = \xc2\xa0\n", "Unreadable", f"byte 0xc2 at column 8: {ASCII}"),
+        (b'[a]\ndesc = "a\tb"\n', "Unreadable", f"byte 0x09 at column 10: {ASCII}"),
+        (b"[a]\n\x00\n", "Unreadable", f"byte 0x00 at column 1: {ASCII}"),
         (b'[a]\ndesc = "a\n', "Unreadable", f"{UNREAD}a quote is not closed"),
         (b"[a]\ndesc = a\\\n", "Unreadable", f"{UNREAD}a backslash stands at the end"),
         (b'[a]\ndesc = a"b"\n', "Unreadable", f"{UNREAD}a quote inside a word"),
@@ -413,8 +415,8 @@ MEANT = {
         (b"[a]\npassword = " + SECRET * 20, "PastLimit", "TEXT: 1 to 128 bytes are meant"),
         (b"[a]\npassword = x\npassword = %b\n" % SECRET, "Repeated", "password: a line before has it"),
         (b"password = %b\n" % SECRET, "OutsideSection", "password: a line [NAME] has to come before it"),
-        (b"[a]\npassword = %b\xfc\n" % SECRET, "Unreadable", "column 19: only printing ASCII is taken"),
-        (b"[a]\n  # Password = %b\xfc\n" % SECRET, "Unreadable", "column 23: only printing ASCII is taken"),
+        (b"[a]\npassword = %b\xfc\n" % SECRET, "Unreadable", f"column 19: {ASCII}"),
+        (b"[a]\n  # Password = %b\xfc\n" % SECRET, "Unreadable", f"column 23: {ASCII}"),
         (b'[a]\npassword = "%b\n' % SECRET, "Unreadable", f"{UNREAD}a quote is not closed"),
         (b"[a]\nPassword = %b\n" % SECRET, "UnknownDirective", "Password isn't taken here: see from-nut(7)"),
     ],
@@ -472,8 +474,8 @@ MEANT = {
         (b"MONITOR u@h m %b primary\n" % SECRET, "BadForm", MONITOR),
         (b"MONITOR u@h 1 m %b\n" % SECRET, "BadForm", MONITOR),
         (b"MONITOR u@h 1 m p primary\nMONITOR u@h 1 m %b primary\n" % SECRET, "Repeated", "u@h: a line before has it"),
-        (b"MONITOR u@h 1 m %b\xfc primary\n" % SECRET, "Unreadable", "column 24: only printing ASCII is taken"),
-        (b"#MONITOR u@h 1 m %b\xfc primary\n" % SECRET, "Unreadable", "column 25: only printing ASCII is taken"),
+        (b"MONITOR u@h 1 m %b\xfc primary\n" % SECRET, "Unreadable", f"column 24: {ASCII}"),
+        (b"#MONITOR u@h 1 m %b\xfc primary\n" % SECRET, "Unreadable", f"column 25: {MENDED}"),
     ],
     "cmdvartab": [
         (b"VARDESC a/b x\n", "BadName", f"a/b: {named(64)}"),

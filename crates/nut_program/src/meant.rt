@@ -42,13 +42,26 @@ fn meaning_of_byte(alloc: Global, line: &[u8]) -> Option<String> {
     let column = column_of_bad_byte(alloc, line)?;
     let byte = *line.get(column.checked_sub(1)?)?;
     let meaning = if may_hold_password(line) {
-        format!(in alloc; "column {column}: only printing ASCII is taken")
+        format!(in alloc;
+            "column {column}: only printing ASCII is taken{}",
+            hint(line)
+        )
     } else {
         format!(in alloc;
-            "byte {byte:#04x} at column {column}: only printing ASCII is taken; mulgefa-check -i mends comments"
+            "byte {byte:#04x} at column {column}: only printing ASCII is taken{}",
+            hint(line)
         )
     };
     meaning.ok()
+}
+
+/// Returns what to do about a line with a byte that may not stand there, if a program does it: a comment is mended.
+fn hint(line: &[u8]) -> &'static str {
+    if line.starts_with(b"#") {
+        "; mulgefa-check -i mends comments"
+    } else {
+        ""
+    }
 }
 
 /// Returns the column, counted from 1, of the first byte that may not stand in its place: the end of the shortest
@@ -129,7 +142,7 @@ fn meaning_of_repetition(
 /// Says what is meant in the place of the first value that isn't right. If all are, there are too many lines.
 fn meaning_of_values(alloc: Global, words: &Words<'_>, directive: &Directive) -> Option<String> {
     for (i, value) in directive.values.iter().enumerate() {
-        let place = directive.first + i;
+        let place = directive.first.saturating_add(i);
         if place < words.len() && !value.kind.has(words.get(place)) {
             return meaning_of_value(alloc, words.get(place), value, directive, i == 0);
         }
