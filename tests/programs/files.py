@@ -1,6 +1,6 @@
 #!/usr/bin/env python3
-"""Has the programs check configuration files: each fault with its line, which of two faults is reported, and each limit, at it
-and just past it.
+"""Has the programs check configuration files: each fault with its line, which of two faults is reported, each limit, at it and
+just past it, and what is said to be meant.
 
     python3 -m tests.programs.files UPSD UPSMON
 
@@ -346,6 +346,148 @@ FILES = {
 }
 
 
+def named(most):
+    """Returns what is meant in the place of a name that isn't one."""
+    return f"a name is meant, of 1 to {most} letters, digits, '.', '_' and '-'"
+
+
+TYPES = "'ONLINE', 'ONBATT', 'LOWBATT', 'FSD', 'COMMOK', 'COMMBAD', 'SHUTDOWN', 'REPLBATT' or 'NOCOMM'"
+FLAGS = "SYSLOG, WALL, EXEC and IGNORE are meant, with '+' between them"
+TARGET = "UPS@HOST[:PORT] is meant, HOST a name or an IPv4 address (an IPv6 address needs a name in /etc/hosts)"
+ADDRESS = "the name or the address of a host is meant, without brackets; a port is a word of its own"
+ROLE = "'primary' or 'secondary' is meant"
+MONITOR = "MONITOR UPS@HOST[:PORT] POWER USER PASSWORD primary|secondary is meant"
+POWER = "the power values of the MONITOR lines sum to less than MINSUPPLIES, which is 1 unless it is set"
+ASCII = "only printing ASCII is taken"
+MENDED = f"{ASCII}; mulgefa-check -i mends comments"
+UNREAD = "the line can't be read as words: "
+LONG = "a line has at most 512 bytes"
+
+# a password, which nothing ever shows
+SECRET = b"ge/heim"
+
+# For each file texts with a fault, the kind of the fault, and what is said to be meant.
+MEANT = {
+    "ups.conf": [
+        (b"[a]\n[a]\n", "Repeated", "[a]: a line before has it"),
+        (b"[a]\nport = x\nport = y\n", "Repeated", "port: a line before has it"),
+        (b"[a/b]\n", "BadName", f"[a/b]: {named(32)}"),
+        (b"[]\n", "BadName", f"[]: {named(32)}"),
+        (b"[a]\ndriver = a/\n", "BadName", f"a/: {named(32)}"),
+        (b'[a]\ndriver = ""\n', "BadName", f"NAME: {named(32)}"),
+        (b"[a]\ndriver = x y\n", "BadForm", "driver = NAME is meant"),
+        (b"[a]\nport /dev/x\n", "BadForm", 'port = "TEXT" is meant'),
+        (b"[a]\ndesc = two words\n", "BadForm", 'desc = "TEXT" is meant'),
+        (b"port = x\n", "OutsideSection", "port: a line [NAME] has to come before it"),
+        (b"maxretry = 3\n", "OutsideSection", "maxretry isn't taken here: see from-nut(7)"),
+        (b"[a]\nvendorid = 3\n", "UnknownDirective", "vendorid isn't taken here: see from-nut(7)"),
+        (b"[a]\nport=" + b"d" * 129, "PastLimit", "TEXT: 0 to 128 bytes are meant"),
+        (b"[a]\ndesc=" + b"d" * 129, "PastLimit", "TEXT: 0 to 128 bytes are meant"),
+        (b"[a]\n#" + b"#" * 512, "PastLimit", LONG),
+        (b"\n" * 1_048_577, "PastLimit", "a file has at most 1048576 bytes"),
+        (numbered(b"[s%d]\n", 33), "PastLimit", "ups.conf has at most 32 sections, and upsd.users 64"),
+        # bytes, by the column of the first one
+        (b"# Ger\xe4t\n", "Unreadable", f"byte 0xe4 at column 6: {MENDED}"),
+        (b"[a] # Ger\xe4t\n", "Unreadable", f"byte 0xe4 at column 10: {ASCII}"),
+        (b"[a]\ndesc = \xc2\xa0\n", "Unreadable", f"byte 0xc2 at column 8: {ASCII}"),
+        (b'[a]\ndesc = "a\tb"\n', "Unreadable", f"byte 0x09 at column 10: {ASCII}"),
+        (b"[a]\n\x00\n", "Unreadable", f"byte 0x00 at column 1: {ASCII}"),
+        (b'[a]\ndesc = "a\n', "Unreadable", f"{UNREAD}a quote is not closed"),
+        (b"[a]\ndesc = a\\\n", "Unreadable", f"{UNREAD}a backslash stands at the end"),
+        (b'[a]\ndesc = a"b"\n', "Unreadable", f"{UNREAD}a quote inside a word"),
+        (b'[a]\ndesc = "a"b\n', "Unreadable", f"{UNREAD}a byte right after a closing quote"),
+        (b"a " * 33, "Unreadable", f"{UNREAD}more than 32 words"),
+    ],
+    "upsd.users": [
+        (b"[a]\nupsmon master\n", "UnknownWord", f"master: {ROLE}"),
+        (b"[a]\nupsmon = primary\n", "BadForm", "upsmon primary or upsmon secondary is meant"),
+        (b"[a]\nactions = set\n", "UnknownWord", "set: 'SET' or 'FSD' is meant"),
+        (b"[a]\nactions SET\n", "BadForm", "actions = SET or actions = FSD is meant"),
+        (b"[a]\ninstcmds = a/b\n", "BadName", f"a/b: {named(64)}"),
+        (b"[a]\ninstcmds = a b\n", "BadForm", "instcmds = COMMAND or instcmds = ALL is meant"),
+        (b"[a]\n" + b"instcmds=x\n" * 129, "PastLimit", "at most 128 instcmds lines are taken"),
+        (b"[a]\nupsmon primary\nupsmon primary\n", "Repeated", "upsmon: a line before has it"),
+        (b"[a]\nallowfrom = x\n", "UnknownDirective", "allowfrom isn't taken here: see from-nut(7)"),
+        (numbered(b"[s%d]\n", 65), "PastLimit", "ups.conf has at most 32 sections, and upsd.users 64"),
+        # lines with a password
+        (b"[a]\npassword = %b x\n" % SECRET, "BadForm", 'password = "TEXT" is meant'),
+        (b"[a]\npassword %b\n" % SECRET, "BadForm", 'password = "TEXT" is meant'),
+        (b"[a]\npassword = " + SECRET * 20, "PastLimit", "TEXT: 1 to 128 bytes are meant"),
+        (b"[a]\npassword = x\npassword = %b\n" % SECRET, "Repeated", "password: a line before has it"),
+        (b"password = %b\n" % SECRET, "OutsideSection", "password: a line [NAME] has to come before it"),
+        (b"[a]\npassword = %b\xfc\n" % SECRET, "Unreadable", f"column 19: {ASCII}"),
+        (b"[a]\n  # Password = %b\xfc\n" % SECRET, "Unreadable", f"column 23: {ASCII}"),
+        (b'[a]\npassword = "%b\n' % SECRET, "Unreadable", f"{UNREAD}a quote is not closed"),
+        (b"[a]\nPassword = %b\n" % SECRET, "UnknownDirective", "Password isn't taken here: see from-nut(7)"),
+    ],
+    "upsd.conf": [
+        (b"LISTEN [::1]\n", "BadName", f"[::1]: {ADDRESS}"),
+        (b"LISTEN *\n", "BadName", f"*: {ADDRESS}"),
+        (b"LISTEN\n", "BadForm", "LISTEN ADDRESS [PORT] is meant"),
+        (b"LISTEN a 65536\n", "BadNumber", "65536: a number from 1 to 65535 is meant"),
+        (b"LISTEN a\n" * 17, "PastLimit", "at most 16 LISTEN lines are taken"),
+        (b"MAXAGE 86401\n", "BadNumber", "86401: a number from 1 to 86400 is meant"),
+        (b'MAXAGE ""\n', "BadNumber", "SECONDS: a number from 1 to 86400 is meant"),
+        (b"MAXAGE = 5\n", "BadForm", "MAXAGE SECONDS is meant"),
+        (b"MAXAGE 5\nMAXAGE 5\n", "Repeated", "MAXAGE: a line before has it"),
+        (b"MAXCONN 257\n", "BadNumber", "257: a number from 1 to 256 is meant"),
+        (b"MAXCONN\n", "BadForm", "MAXCONN NUMBER is meant"),
+        (b"STATEPATH x\n", "UnknownDirective", "STATEPATH isn't taken here: see from-nut(7)"),
+    ],
+    "upsmon.conf": [
+        (b"", "PastLimit", POWER),
+        (b"MINSUPPLIES 32001\n", "BadNumber", "32001: a number from 0 to 32000 is meant"),
+        (b"MINSUPPLIES\n", "BadForm", "MINSUPPLIES NUMBER is meant"),
+        (b"POLLFREQ 1000001\n", "BadNumber", "1000001: a number from 1 to 1000000 is meant"),
+        (b"DEADTIME 0\n", "BadNumber", "0: a number from 1 to 1000000 is meant"),
+        (b"RBWARNTIME 0\n", "BadNumber", "0: a number from 1 to 1000000 is meant"),
+        (b"NOCOMMWARNTIME 0\n", "BadNumber", "0: a number from 1 to 1000000 is meant"),
+        (b"HOSTSYNC 1000001\n", "BadNumber", "1000001: a number from 0 to 1000000 is meant"),
+        (b"FINALDELAY -1\n", "BadNumber", "-1: a number from 0 to 1000000 is meant"),
+        (b"FINALDELAY\n", "BadForm", "FINALDELAY SECONDS is meant"),
+        (b"SHUTDOWNCMD /sbin/shutdown -h\n", "BadForm", 'SHUTDOWNCMD "COMMAND" is meant'),
+        (b'SHUTDOWNCMD ""\n', "PastLimit", "COMMAND: 1 to 256 bytes are meant"),
+        (b"NOTIFYCMD a b\n", "BadForm", 'NOTIFYCMD "COMMAND" is meant'),
+        (b"NOTIFYCMD " + b"c" * 257, "PastLimit", "COMMAND: 1 to 256 bytes are meant"),
+        (b"POWERDOWNFLAG a b\n", "BadForm", 'POWERDOWNFLAG "FILE" is meant'),
+        (b"POWERDOWNFLAG " + b"c" * 257, "PastLimit", "FILE: 1 to 256 bytes are meant"),
+        (b"NOTIFYMSG ONLINE on line\n", "BadForm", 'NOTIFYMSG TYPE "TEXT" is meant'),
+        (b"NOTIFYMSG NOPARENT x\n", "UnknownWord", f"NOPARENT: {TYPES} is meant"),
+        (b"NOTIFYMSG FSD " + b"c" * 129, "PastLimit", "TEXT: 0 to 128 bytes are meant"),
+        (b"NOTIFYMSG FSD a\nNOTIFYMSG FSD b\n", "Repeated", "FSD: a line before has it"),
+        (b"NOTIFYFLAG ONLINE EXEC + WALL\n", "BadForm", "NOTIFYFLAG TYPE FLAG[+FLAG].. is meant"),
+        (b"NOTIFYFLAG ONLINE MAIL\n", "UnknownWord", f"MAIL: {FLAGS}"),
+        (b"NOTIFYFLAG TEST MAIL\n", "UnknownWord", f"TEST: {TYPES} is meant"),
+        (b"RUN_AS_USER nut\n", "UnknownDirective", "RUN_AS_USER isn't taken here: see from-nut(7)"),
+        (numbered(b"MONITOR u%d@h 1 m p primary\n", 33), "PastLimit", "at most 32 MONITOR lines are taken"),
+        # lines with a password, which may be in a wrong place
+        (b"MONITOR su700 1 m %b primary\n" % SECRET, "BadName", f"su700: {TARGET}"),
+        (b"MONITOR u@[::1] 1 m %b primary\n" % SECRET, "BadName", f"u@[::1]: {TARGET}"),
+        (b"MONITOR u@h %b m 1 primary\n" % SECRET, "BadNumber", "POWER: a number from 0 to 1000 is meant"),
+        (b"MONITOR u@h 1 %b m primary\n" % SECRET, "BadName", f"USER: {named(32)}"),
+        (b"MONITOR u@h 1 " + SECRET * 5 + b" m primary\n", "BadName", f"USER: {named(32)}"),
+        (b'MONITOR u@h 1 m "" primary\n', "PastLimit", "PASSWORD: 1 to 128 bytes are meant"),
+        (b"MONITOR u@h 1 m " + SECRET * 20 + b" primary\n", "PastLimit", "PASSWORD: 1 to 128 bytes are meant"),
+        (b"MONITOR u@h 1 m primary %b\n" % SECRET, "UnknownWord", f"ROLE: {ROLE}"),
+        (b"MONITOR u@h 1 m %b master\n" % SECRET, "UnknownWord", f"master: {ROLE}"),
+        (b"MONITOR u@h 1 m %b slave\n" % SECRET, "UnknownWord", f"slave: {ROLE}"),
+        (b"MONITOR u@h m %b primary\n" % SECRET, "BadForm", MONITOR),
+        (b"MONITOR u@h 1 m %b\n" % SECRET, "BadForm", MONITOR),
+        (b"MONITOR u@h 1 m p primary\nMONITOR u@h 1 m %b primary\n" % SECRET, "Repeated", "u@h: a line before has it"),
+        (b"MONITOR u@h 1 m %b\xfc primary\n" % SECRET, "Unreadable", f"column 24: {ASCII}"),
+        (b"#MONITOR u@h 1 m %b\xfc primary\n" % SECRET, "Unreadable", f"column 25: {MENDED}"),
+    ],
+    "cmdvartab": [
+        (b"VARDESC a/b x\n", "BadName", f"a/b: {named(64)}"),
+        (b"CMDDESC a two words\n", "BadForm", 'CMDDESC NAME "TEXT" is meant'),
+        (b"CMDDESC a " + b"x" * 129, "PastLimit", "TEXT: 0 to 128 bytes are meant"),
+        (b"VARDESC a x\nVARDESC a y\n", "Repeated", "a: a line before has it"),
+        (numbered(b"VARDESC v%d x\n", 1025), "PastLimit", "at most 1024 VARDESC lines are taken"),
+        (b"DESC a x\n", "UnknownDirective", "DESC isn't taken here: see from-nut(7)"),
+    ],
+}
+
+
 class Tests:
     def __init__(self, upsd, upsmon, folder):
         self.upsd, self.upsmon, self.folder = upsd, upsmon, folder
@@ -386,6 +528,20 @@ class Tests:
 
     def test_cmdvartab(self):
         self.compare("cmdvartab", self.upsd, ups_conf=b"", upsd_users=b"", upsd_conf=b"")
+
+    def test_what_is_meant(self):
+        """The second line of a fault. No password is in either."""
+        for name, rows in MEANT.items():
+            program, own = (self.upsmon, "upsmon") if name == "upsmon.conf" else (self.upsd, "upsd")
+            others = {it.replace(".", "_"): b"" for it in MEANT if it not in (name, "upsmon.conf")}
+            for text, kind, meant in rows:
+                status, out, err = self.checked(program, **{**others, name.replace(".", "_"): text})
+                what = f"{name}, {len(text)} bytes: {text[:60]!r}"
+                first, *rest = err.decode().splitlines()
+                is_fault = first.startswith(f"{own}: {name}:") and first.endswith(f": {kind}")
+                expect((status, out, is_fault), (1, b"", True), f"{what}: {first}")
+                expect(rest, [f"{own}: {meant}"], what)
+                ensure(SECRET[:4] not in err and b"\xfc" not in err and b"0xfc" not in err, f"{what}: a password is shown: {err!r}")
 
 
 def main():

@@ -192,7 +192,7 @@ class Tests:
         other = self.room(f"conf none\n{PAIR}{LOW}")
         self.refused(other, f"{os.path.dirname(other)}/none/ups.conf: cannot read: No such file or directory")
         write(folder, "m2.conf", "MONITOR su700@localhost 1 sec m2 tertiary\n")
-        self.refused(path, f"{folder}/m2.conf:1: UnknownWord")
+        self.refused(path, f"{folder}/m2.conf:1: UnknownWord\nnutroom: ROLE: 'primary' or 'secondary' is meant")
         write(folder, "m2.conf", "# nobody\n\nMONITOR su900@localhost 1 sec m2 secondary\n")
         self.refused(path, f"{folder}/m2.conf:3: ups.conf has no UPS su900")
         write(folder, "m2.conf", "MONITOR su700@localhost 1 sec m2 secondary\nPOLLFREQ 86401\n")
@@ -200,7 +200,7 @@ class Tests:
         write(folder, "m2.conf", "MINSUPPLIES 0\n")
         self.refused(path, f"{folder}/m2.conf:0: no UPS is watched")
         write(folder, "upsd.users", "password = x\n")
-        self.refused(path, f"{folder}/upsd.users:1: OutsideSection")
+        self.refused(path, f"{folder}/upsd.users:1: OutsideSection\nnutroom: password: a line [NAME] has to come before it")
         write(folder, "upsd.users", "maxretry = 3\n")
         self.refused(path, f"{folder}/upsd.users:1: OutsideSection\nnutroom: maxretry isn't taken here: see from-nut(7)")
 

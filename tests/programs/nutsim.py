@@ -377,7 +377,8 @@ class Tests:
         expect(self.run(room, missing), unreadable(missing, missing, errno.ENOENT), "no schedule")
         expect(self.run(room, room.folder), unreadable(room.folder, room.folder, errno.EISDIR), "a folder")
         schedule = self.write("turn/schedule", b"nonsense\n")
-        expect(self.run(room, schedule), (1, b"", b"nutsim: other.conf:1: UnknownWord\n"), "a monitor's file")
+        said = b"nutsim: other.conf:1: UnknownWord\nnutsim: ROLE: 'primary' or 'secondary' is meant\n"
+        expect(self.run(room, schedule), (1, b"", said), "a monitor's file")
         self.write("turn/other.conf", b"\nPOLLFREQALERT 5\n")
         said = b"nutsim: other.conf:2: UnknownDirective\nnutsim: POLLFREQALERT isn't taken here: see from-nut(7)\n"
         expect(self.run(room, schedule), (1, b"", said), "a directive of NUT's in a monitor's file")
@@ -387,7 +388,8 @@ class Tests:
         said = b"nutsim: upsd.conf:1: UnknownDirective\nnutsim: NONSENSE isn't taken here: see from-nut(7)\n"
         expect(self.run(room, missing), (1, b"", said), "the server's settings")
         self.write("turn/upsd.users", b"upsmon primary\n")
-        expect(self.run(room, missing), (1, b"", b"nutsim: upsd.users:1: OutsideSection\n"), "users")
+        said = b"nutsim: upsd.users:1: OutsideSection\nnutsim: upsmon: a line [NAME] has to come before it\n"
+        expect(self.run(room, missing), (1, b"", said), "users")
         path = os.path.join(room.folder, "ups.conf")
         os.remove(path)
         expect(self.run(room, missing), unreadable("ups.conf", path, errno.ENOENT), "UPSes")

@@ -6,6 +6,7 @@
 The last line is 'N passed, M failed'."""
 
 import contextlib
+import errno
 import os
 import re
 import subprocess
@@ -15,8 +16,9 @@ import threading
 import time
 from concurrent import futures
 
-from tests.support.harness import ensure, expect, Failed, Missing, needed, processor_time, refusal, run_tests, Shimmed
-from tests.support.room import DEVICE, Lines, NOT_CONNECTED, ONLINE, Room, SOON, STATUS, USERS, VERSION, accepted, first_lines, until
+from tests.support.harness import apart, ensure, expect, Failed, Missing, needed, processor_time, refusal, run_tests, Shimmed
+from tests.support.room import Client, DEVICE, Lines, NOT_CONNECTED, ONLINE, Room, SOON, STATUS, USERS, VERSION
+from tests.support.room import accepted, first_lines, stopped, until
 
 ONE = b'[su700]\ndesc = "Server room"\n'
 TWO = ONE + b"[old]\n"
@@ -273,6 +275,7 @@ class Tests(Shimmed):
                 client.log_in(b"mon", b"m1")
                 expect(client.ask(b"LOGIN su700\n"), b"OK\n", "LOGIN")
                 room.reload(b"[neu]\n\n[a/b]\n", "upsd: not reloaded: ups.conf:3: BadName")
+                room.lines.next("upsd: [a/b]: a name is meant")
                 expect(room.upses(), ["su700", "old"], "the old UPSes")
                 room.reload(b"[neu]\nvendorid = 1\n", "upsd: not reloaded: ups.conf:2: UnknownDirective")
                 room.lines.next("upsd: vendorid isn't taken here: see from-nut(7)")
@@ -505,6 +508,7 @@ class Tests(Shimmed):
                 ensure(room.is_asked(), "the file stays")
             expect(lines.count("upsd: reloaded"), 3, "reloads")
             expect(lines.count("upsd: cannot remove"), 1, "what can't be done is told once")
+            expect(lines.count("upsd: running as root"), 0, "what is told of the user")
 
     def test_folder_with_two_programs(self):
         """The file stays for a while, so that upsmon sees it too."""
@@ -529,6 +533,65 @@ class Tests(Shimmed):
             time.sleep(LOOKS)
             expect(lines.count("upsd: reloaded"), 3, "reloads")
             expect(lines.count("upsd: cannot remove"), 0, "faults")
+
+    def test_file_beside_the_sockets(self):
+        """A file in the folder of the sockets asks for a reload, too, and both files together are one request."""
+        with self.room() as room:
+            os.mkdir(room.path("sockets"))
+            beside = room.path("sockets/reload")
+            open(beside, "w").close()
+            upsd = room.start([self.programs[0], "--conf", room.folder, "-s", room.path("sockets")])
+            lines = room.lines = Lines(upsd)
+            lines.next("upsd: listening on ")
+            until(lambda: not os.path.exists(beside), "a file of before the start is removed")
+            time.sleep(LOOKS)
+            expect(lines.count("upsd: reloaded"), 0, "reloads by a file of before the start")
+            room.write("ups.conf", TWO)
+            open(beside, "w").close()
+            lines.next("upsd: reloaded: UPS old added")
+            ensure(not os.path.exists(beside), "the file stays")
+            room.reload(ONE, "upsd: reloaded: UPS old removed")
+            with stopped(upsd):
+                room.touch()
+                open(beside, "w").close()
+            lines.next(NOTHING)
+            time.sleep(LOOKS)
+            expect(lines.count("upsd: reloaded"), 3, "reloads by three requests, of which one is two files")
+            expect((room.is_asked(), os.path.exists(beside)), (False, False), "files that stay")
+            # upsmon has the folder of the files: that file is left to it, and is no second request meanwhile
+            room.write("upsmon.conf", b"MINSUPPLIES 0\n")
+            with stopped(upsd):
+                room.touch()
+                open(beside, "w").close()
+            lines.next(NOTHING)
+            expect((room.is_asked(), os.path.exists(beside)), (True, False), "files that stay where upsmon looks for one")
+            time.sleep(LOOKS)
+            expect(lines.count("upsd: reloaded"), 4, "reloads by four requests")
+            expect(lines.count("upsd: cannot remove"), 0, "faults")
+
+    def test_files_that_nobody_can_change(self):
+        """Where the folder of the files is read-only, the one of the sockets is not."""
+        with self.room() as room:
+            os.mkdir(room.path("sockets"))
+            os.mkdir(room.path("conf"))
+            for name in ("ups.conf", "upsd.users", "upsd.conf"):
+                os.rename(room.path(name), room.path(f"conf/{name}"))
+            open(room.path("conf/reload"), "w").close()
+            words = ["sh", "-c", 'mount --bind "$0" "$0" && mount -o remount,bind,ro "$0" && exec "$@"', room.path("conf")]
+            upsd = room.start([*apart("--mount", *words), self.programs[0], "--conf", room.path("conf"), "-s", room.path("sockets")])
+            lines = Lines(upsd)
+            lines.next("upsd: listening on ")
+            time.sleep(LOOKS)
+            for _ in range(3):
+                open(room.path("sockets/reload"), "w").close()
+                lines.next(NOTHING)
+                ensure(not os.path.exists(room.path("sockets/reload")), "the file stays")
+            expect(lines.count("upsd: cannot remove"), 0, "faults")
+            for _ in range(2):
+                os.utime(room.path("conf/reload"))
+                lines.next(NOTHING)
+            told = f"upsd: cannot remove {room.path('conf/reload')}: {os.strerror(errno.EROFS)}"
+            expect((lines.count(told), lines.count("upsd: reloaded")), (1, 5), "what can't be removed is told once")
 
     def test_no_look_without_sockets(self):
         with self.room() as room:
@@ -602,6 +665,30 @@ class Tests(Shimmed):
             lines.next("upsd: UPS su700: driver lost")
             ensure(lines.count(client_told) <= 2, "clients are told too often")
             expect(lines.count(driver_told), 1, "drivers that are disconnected")
+
+    def test_dummy_without_memory(self):
+        """dummy-ups says each time that it closes a link for lack of memory, and serves the next server."""
+        once = os.path.join(self.folder, "arid")
+        told = "dummy-ups: link closed: out of memory"
+        with self.room() as room:
+            # what a dump says is more than what has been said before
+            room.write("su700.dev", DEVICE + b"".join(b"ambient.%d.status: x\n" % i for i in range(200)))
+            path = room.path("dummy-ups-su700")
+            driver = room.start([self.programs[1], room.path("su700.dev"), path], env=self.refusing_memory(once))
+            lines = Lines(driver)
+            with Client(path) as server:
+                expect(server.ask(b"PING\n"), b"PONG\n", "before")
+            open(once, "w").close()
+            for _ in range(2):
+                with Client(path) as server:
+                    server.send(b"DUMPALL\n")
+                    ensure(server.is_closed(), "a server whose dump finds no memory")
+                lines.next(told)
+            os.remove(once)
+            with Client(path) as server:
+                server.send(b"DUMPALL\n")
+                until(lambda: server.line() == b"DUMPDONE\n", "a dump")
+            expect((lines.lines, driver.poll()), ([told] * 2, None), "what is told")
 
     def test_each_allocation_refused_in_turn(self):
         """A reload that is refused memory changes nothing, or a driver is dialled a second later. The next one succeeds."""

@@ -23,6 +23,11 @@ from tests.support.room import accepted, family_of, first_lines, free_port, has_
 # the setting of a network that keeps IPv4 out of a socket of IPv6
 ONLY_IPV6 = "/proc/sys/net/ipv6/bindv6only"
 
+# what upsd says at its start if it runs as root
+AS_ROOT = "upsd: running as root, which only a port below 1024 needs"
+# what dummy-ups says if a file that isn't a socket has the name of its socket
+NOT_A_SOCKET = "dummy-ups: cannot listen on %s: it is there, and isn't a socket\n"
+
 
 def with_hosts(path):
     """Returns the words that run a program for which this file takes the place of /etc/hosts."""
@@ -261,12 +266,46 @@ class Tests:
 
     def test_file_in_the_way_of_a_socket(self):
         with self.room() as room:
-            with open(room.path("dummy-ups-su700"), "w") as file:
+            path = room.path("dummy-ups-su700")
+            with open(path, "w") as file:
                 file.write("not a socket")
             room.upsd()
             expect(room.ask(STATUS), NOT_CONNECTED, "a file in place of a socket")
+            driver = room.dummy()
+            expect((driver.wait(SOON), driver.stderr.read().decode()), (1, NOT_A_SOCKET % path), "a driver where a file is")
+            os.remove(path)
             room.dummy()
             room.until(STATUS, ONLINE)
+
+    def test_dummy_removes_only_a_socket(self):
+        """Neither a plain file, nor a folder, nor a link, nor a pipe that has the name of the socket."""
+        with self.room() as room:
+            script, other = room.path("su700.dev"), room.path("other.dev")
+            for path in (script, other):
+                with open(path, "wb") as file:
+                    file.write(DEVICE)
+            os.mkdir(room.path("folder"))
+            os.mkfifo(room.path("pipe"))
+            room.listener("socket").close()
+            for name, to in (("link", other), ("broken-link", room.path("none")), ("socket-link", room.path("socket"))):
+                os.symlink(to, room.path(name))
+            before = {it.name: it.stat(follow_symlinks=False).st_ino for it in os.scandir(room.folder)}
+            for name in ("su700.dev", "other.dev", "folder", "pipe", "link", "broken-link", "socket-link"):
+                path = room.path(name)
+                expect(self.run(self.programs[1], script, path), (1, b"", (NOT_A_SOCKET % path).encode()), name)
+            after = {it.name: it.stat(follow_symlinks=False).st_ino for it in os.scandir(room.folder)}
+            expect(after, before, "what lies there")
+            for path in (script, other):
+                with open(path, "rb") as file:
+                    expect(file.read(), DEVICE, path)
+            # a socket that was left is replaced, and one at which a driver listens is not
+            path = room.path("socket")
+            driver = room.start([self.programs[1], script, path])
+            with Client(path) as server:
+                expect(server.ask(b"PING\n"), b"PONG\n", "a driver at the place of a socket that was left")
+                in_use = f"dummy-ups: {path}: another driver listens there\n".encode()
+                expect(self.run(self.programs[1], other, path), (1, b"", in_use), "another driver")
+                expect((driver.poll(), server.ask(b"PING\n")), (None, b"PONG\n"), "the first driver")
 
     def test_port_in_use(self):
         with self.room() as room, socket.socket() as other:
@@ -566,11 +605,11 @@ class Tests:
             lines = [
                 f"upsd: listening on 127.0.0.1:{room.port}",
                 f"upsd: UPS su700, driver at {socket_path}",
+                *([AS_ROOT] if os.geteuid() == 0 else []),
                 "upsd: UPS su700: driver connected",
                 "upsd: UPS su700: driver lost",
             ]
-            expect(told.lines[:4], lines, "notices")
-            expect(len(told.lines), 5, "a driver that is missed is told once")
+            expect(told.lines[:-1], lines, "notices, and before the last one that a driver is missed, once")
 
     def test_causes_for_which_a_driver_is_missed(self):
         """Each is told once, and again only if there was another one or a driver since."""
@@ -695,7 +734,7 @@ class Tests:
     def test_faults_of_files(self):
         with self.room(ups=b"[a]\n[a]\n") as room:
             found = self.run(self.programs[0], "--conf", room.folder, "-s", room.folder)
-            expect(found, (1, b"", b"upsd: ups.conf:2: Repeated\n"), "a fault of a file")
+            expect(found, (1, b"", b"upsd: ups.conf:2: Repeated\nupsd: [a]: a line before has it\n"), "a fault of a file")
 
     def test_faults_of_scripts(self):
         dummy = self.programs[1]
@@ -726,7 +765,7 @@ class Tests:
         with open(path, "wb") as file:
             file.write(DEVICE)
         for at, cause in (
-            (self.folder, why(errno.EADDRINUSE)),
+            (self.folder, "it is there, and isn't a socket"),
             (os.path.join(self.folder, "none", "at"), why(errno.ENOENT)),
             ("x" * 200, "path must be shorter than SUN_LEN"),
             ("", "invalid input parameter"),

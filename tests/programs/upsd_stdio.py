@@ -50,37 +50,43 @@ MIXED = [
 ]
 
 
-# A fault of each kind in each configuration file, which a start reports: the file's name, its text, and the message.
-# tests/programs/files.py has all the others.
+# what is meant in the place of a bad name, by how long it may be
+NAME_32, NAME_64 = (f"a name is meant, of 1 to {most} letters, digits, '.', '_' and '-'" for most in (32, 64))
+
+# A fault of each kind in each configuration file, which a start reports: the file's name, its text, and both lines of the
+# message. tests/programs/files.py has all the others.
 CONF_FAULTS = [
-    ("ups.conf", b"[a]\n[a]\n", "2: Repeated"),
-    ("ups.conf", b'[a]\ndesc = "x\n', "2: Unreadable"),
-    ("ups.conf", b"desc = x\n", "1: OutsideSection"),
-    ("ups.conf", b"[a]\ndesc =\n", "2: BadForm"),
-    ("ups.conf", b"[a]\nfoo = x\n", "2: UnknownDirective"),
-    ("ups.conf", b"\n# names\n[a/b]\n", "3: BadName"),
-    ("ups.conf", b"[" + b"a" * 33 + b"]\n", "1: PastLimit"),
-    ("upsd.users", b"[mon]\n[a]\n[mon]\n", "3: Repeated"),
-    ("upsd.users", b'[mon]\npassword = "x\n', "2: Unreadable"),
-    ("upsd.users", b"upsmon primary\n", "1: OutsideSection"),
-    ("upsd.users", b"[mon]\nupsmon = primary\n", "2: BadForm"),
-    ("upsd.users", b"[mon]\nallowfrom = x\n", "2: UnknownDirective"),
-    ("upsd.users", b"[mon]\ninstcmds = a/b\n", "2: BadName"),
-    ("upsd.users", b"[mon]\nupsmon tertiary\n", "2: UnknownWord"),
-    ("upsd.users", b'[mon]\npassword = ""\n', "2: PastLimit"),
-    ("upsd.conf", b"MAXAGE 15\nMAXAGE 16\n", "2: Repeated"),
-    ("upsd.conf", b"# \xff\n", "1: Unreadable"),
-    ("upsd.conf", b"MAXAGE\n", "1: BadForm"),
-    ("upsd.conf", b"CERTFILE x\n", "1: UnknownDirective"),
-    ("upsd.conf", b"LISTEN a_b 0\n", "1: BadName"),
-    ("upsd.conf", b"MAXAGE 15\nMAXAGE 0\n", "2: BadNumber"),
-    ("upsd.conf", b"LISTEN a\n" * 17, "17: PastLimit"),
-    ("cmdvartab", b"VARDESC a x\nCMDDESC a x\nVARDESC a y\n", "3: Repeated"),
-    ("cmdvartab", b'VARDESC a "x\n', "1: Unreadable"),
-    ("cmdvartab", b"# names\n\nVARDESC a x\nCMDDESC a x\nVARDESC b x\nVARDESC a\n", "6: BadForm"),
-    ("cmdvartab", b"\nvardesc a x\n", "2: UnknownDirective"),
-    ("cmdvartab", b"VARDESC a/b x\n", "1: BadName"),
-    ("cmdvartab", b"CMDDESC " + b"a" * 65 + b" x\n", "1: PastLimit"),
+    ("ups.conf", b"[a]\n[a]\n", "2: Repeated", "[a]: a line before has it"),
+    ("ups.conf", b'[a]\ndesc = "x\n', "2: Unreadable", "the line can't be read as words: a quote is not closed"),
+    ("ups.conf", b"desc = x\n", "1: OutsideSection", "desc: a line [NAME] has to come before it"),
+    ("ups.conf", b"[a]\ndesc =\n", "2: BadForm", 'desc = "TEXT" is meant'),
+    ("ups.conf", b"[a]\nfoo = x\n", "2: UnknownDirective", "foo isn't taken here: see from-nut(7)"),
+    ("ups.conf", b"\n# names\n[a/b]\n", "3: BadName", f"[a/b]: {NAME_32}"),
+    ("ups.conf", b"[" + b"a" * 33 + b"]\n", "1: PastLimit", f"[{'a' * 33}]: {NAME_32}"),
+    ("upsd.users", b"[mon]\n[a]\n[mon]\n", "3: Repeated", "[mon]: a line before has it"),
+    ("upsd.users", b'[mon]\npassword = "x\n', "2: Unreadable", "the line can't be read as words: a quote is not closed"),
+    ("upsd.users", b"upsmon primary\n", "1: OutsideSection", "upsmon: a line [NAME] has to come before it"),
+    ("upsd.users", b"[mon]\nupsmon = primary\n", "2: BadForm", "upsmon primary or upsmon secondary is meant"),
+    ("upsd.users", b"[mon]\nallowfrom = x\n", "2: UnknownDirective", "allowfrom isn't taken here: see from-nut(7)"),
+    ("upsd.users", b"[mon]\ninstcmds = a/b\n", "2: BadName", f"a/b: {NAME_64}"),
+    ("upsd.users", b"[mon]\nupsmon tertiary\n", "2: UnknownWord", "tertiary: 'primary' or 'secondary' is meant"),
+    ("upsd.users", b'[mon]\npassword = ""\n', "2: PastLimit", "TEXT: 1 to 128 bytes are meant"),
+    ("upsd.conf", b"MAXAGE 15\nMAXAGE 16\n", "2: Repeated", "MAXAGE: a line before has it"),
+    ("upsd.conf", b"# \xff\n", "1: Unreadable", "byte 0xff at column 3: only printing ASCII is taken; mulgefa-check -i mends comments"),
+    ("upsd.conf", b"MAXAGE\n", "1: BadForm", "MAXAGE SECONDS is meant"),
+    ("upsd.conf", b"CERTFILE x\n", "1: UnknownDirective", "CERTFILE isn't taken here: see from-nut(7)"),
+    (
+        "upsd.conf", b"LISTEN a_b 0\n", "1: BadName",
+        "a_b: the name or the address of a host is meant, without brackets; a port is a word of its own",
+    ),
+    ("upsd.conf", b"MAXAGE 15\nMAXAGE 0\n", "2: BadNumber", "0: a number from 1 to 86400 is meant"),
+    ("upsd.conf", b"LISTEN a\n" * 17, "17: PastLimit", "at most 16 LISTEN lines are taken"),
+    ("cmdvartab", b"VARDESC a x\nCMDDESC a x\nVARDESC a y\n", "3: Repeated", "a: a line before has it"),
+    ("cmdvartab", b'VARDESC a "x\n', "1: Unreadable", "the line can't be read as words: a quote is not closed"),
+    ("cmdvartab", b"# names\n\nVARDESC a x\nCMDDESC a x\nVARDESC b x\nVARDESC a\n", "6: BadForm", 'VARDESC NAME "TEXT" is meant'),
+    ("cmdvartab", b"\nvardesc a x\n", "2: UnknownDirective", "vardesc isn't taken here: see from-nut(7)"),
+    ("cmdvartab", b"VARDESC a/b x\n", "1: BadName", f"a/b: {NAME_64}"),
+    ("cmdvartab", b"CMDDESC " + b"a" * 65 + b" x\n", "1: PastLimit", f"{'a' * 65}: {NAME_64}"),
 ]
 
 
@@ -233,12 +239,9 @@ class Tests(Shimmed):
             expect((status, word in out, err), (0, True, b""), f"{args}")
 
     def test_conf_faults(self):
-        for name, text, fault in CONF_FAULTS:
+        for name, text, fault, meant in CONF_FAULTS:
             args = self.conf(**{name.replace(".", "_"): text})
-            if "UnknownDirective" in fault:
-                word = text.splitlines()[int(fault.split(":")[0]) - 1].split()[0].decode()
-                fault += f"\nupsd: {word} isn't taken here: see from-nut(7)"
-            wanted = (1, b"", f"upsd: {name}:{fault}\n".encode())
+            wanted = (1, b"", f"upsd: {name}:{fault}\nupsd: {meant}\n".encode())
             expect(self.run(args, b"LIST UPS\n"), wanted, f"{name}: {text[:40]!r}")
             expect(self.run(["--check", *args[1:]]), wanted, f"--check, {name}: {text[:40]!r}")
 
@@ -280,8 +283,8 @@ class Tests(Shimmed):
         bad = b"[a]\n[a]\n"
         users = os.path.join(self.folder, "conf", "upsd.users")
         for texts, fault in (
-            ({"ups_conf": bad, "upsd_users": None, "upsd_conf": None}, b"upsd: ups.conf:2: Repeated\n"),
-            ({"upsd_users": bad, "upsd_conf": None}, b"upsd: upsd.users:2: Repeated\n"),
+            ({"ups_conf": bad, "upsd_users": None, "upsd_conf": None}, b"upsd: ups.conf:2: Repeated\nupsd: [a]: a line before has it\n"),
+            ({"upsd_users": bad, "upsd_conf": None}, b"upsd: upsd.users:2: Repeated\nupsd: [a]: a line before has it\n"),
             ({"upsd_users": None, "upsd_conf": bad}, unreadable(users, errno.ENOENT)[2]),
             ({"upsd_conf": bad, "cmdvartab": b"VARDESC a"}, b"upsd: upsd.conf:1: UnknownDirective\nupsd: [a] isn't taken here: see from-nut(7)\n"),
         ):
@@ -293,8 +296,6 @@ class Tests(Shimmed):
             # before the first section, with a word that would be unknown in a section, too
             ("ups.conf", b"maxretry = 3\n[a]\n", "1: OutsideSection", "maxretry"),
             ("ups.conf", b"# ours\n\n  pollinterval=2", "3: OutsideSection", "pollinterval"),
-            ("ups.conf", b"driver = x\n", "1: OutsideSection", None),
-            ("upsd.users", b"upsmon primary\n", "1: OutsideSection", None),
             ("upsd.users", b"allowfrom = x\n", "1: OutsideSection", "allowfrom"),
             # as the reader reads it: without quotes and backslashes
             ("ups.conf", b'[a]\n"a b" = 1\n', "2: UnknownDirective", "a b"),
@@ -371,7 +372,8 @@ class Tests(Shimmed):
         with open(os.path.join(args[-1], "upsd.users"), "wb") as file:
             file.truncate(1 << 40)
         found = self.run(args, b"VER\n")
-        expect(found, (1, b"", b"upsd: upsd.users:0: PastLimit\n"), "a file of 1 TiB")
+        said = b"upsd: upsd.users:0: PastLimit\nupsd: a file has at most 1048576 bytes\n"
+        expect(found, (1, b"", said), "a file of 1 TiB")
 
     def test_conf_byte_by_byte(self):
         env = refusal(self.shim, "short-file-read", 1)

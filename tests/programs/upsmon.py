@@ -475,29 +475,30 @@ class Tests(Shimmed):
 
     def test_faults_of_files(self):
         line = "MONITOR su700@h 1 mon m1 primary\n"
-        for text, said in (
-            (None, None),
-            ("", "0: PastLimit"),
-            (line + "MINSUPPLIES 2\n", "0: PastLimit"),
-            ("MONITOR su700 1 mon m1 primary\n", "1: BadName"),
-            ("MONITOR su700@h 1 mon m1\n", "1: BadForm"),
-            ("MONITOR su700@h 1001 mon m1 primary\n", "1: BadNumber"),
-            ("MONITOR su700@h 1 mon m1 master\n", "1: UnknownWord"),
-            (line + "MONITOR su700@h:3493 1 mon m1 secondary\n", "2: Repeated"),
-            (line + "NOTIFYFLAG ONBATT PRINT\n", "2: UnknownWord"),
-            (line + "NOTIFYMSG NOPARENT x\n", "2: UnknownWord"),
-            (line + "\nPOLLFREQ 0\n", "3: BadNumber"),
-            (line + 'SHUTDOWNCMD ""\n', "2: PastLimit"),
-            (line + 'SHUTDOWNCMD "a\n', "2: Unreadable"),
-            (line + "CERTPATH x\n", "2: UnknownDirective"),
+        power = "the power values of the MONITOR lines sum to less than MINSUPPLIES, which is 1 unless it is set"
+        types = "'ONLINE', 'ONBATT', 'LOWBATT', 'FSD', 'COMMOK', 'COMMBAD', 'SHUTDOWN', 'REPLBATT' or 'NOCOMM'"
+        target = "UPS@HOST[:PORT] is meant, HOST a name or an IPv4 address (an IPv6 address needs a name in /etc/hosts)"
+        for text, said, meant in (
+            (None, None, None),
+            ("", "0: PastLimit", power),
+            (line + "MINSUPPLIES 2\n", "0: PastLimit", power),
+            ("MONITOR su700 1 mon m1 primary\n", "1: BadName", f"su700: {target}"),
+            ("MONITOR su700@h 1 mon m1\n", "1: BadForm", "MONITOR UPS@HOST[:PORT] POWER USER PASSWORD primary|secondary is meant"),
+            ("MONITOR su700@h 1001 mon m1 primary\n", "1: BadNumber", "POWER: a number from 0 to 1000 is meant"),
+            ("MONITOR su700@h 1 mon m1 master\n", "1: UnknownWord", "master: 'primary' or 'secondary' is meant"),
+            (line + "MONITOR su700@h:3493 1 mon m1 secondary\n", "2: Repeated", "su700@h:3493: a line before has it"),
+            (line + "NOTIFYFLAG ONBATT PRINT\n", "2: UnknownWord", "PRINT: SYSLOG, WALL, EXEC and IGNORE are meant, with '+' between them"),
+            (line + "NOTIFYMSG NOPARENT x\n", "2: UnknownWord", f"NOPARENT: {types} is meant"),
+            (line + "\nPOLLFREQ 0\n", "3: BadNumber", "0: a number from 1 to 1000000 is meant"),
+            (line + 'SHUTDOWNCMD ""\n', "2: PastLimit", "COMMAND: 1 to 256 bytes are meant"),
+            (line + 'SHUTDOWNCMD "a\n', "2: Unreadable", "the line can't be read as words: a quote is not closed"),
+            (line + "CERTPATH x\n", "2: UnknownDirective", "CERTPATH isn't taken here: see from-nut(7)"),
         ):
             with tempfile.TemporaryDirectory(dir=self.folder) as folder:
                 if text is not None:
                     with open(os.path.join(folder, "upsmon.conf"), "w") as file:
                         file.write(text)
-                if text is not None and "UnknownDirective" in said:
-                    said += "\nupsmon: CERTPATH isn't taken here: see from-nut(7)"
-                wanted = f"upsmon: upsmon.conf:{said}\n"
+                wanted = f"upsmon: upsmon.conf:{said}\nupsmon: {meant}\n"
                 if text is None:
                     wanted = cannot_read("upsmon", "upsmon.conf", os.path.join(folder, "upsmon.conf"), errno.ENOENT)
                 for words in ([], ["--check"], ["-K"]):

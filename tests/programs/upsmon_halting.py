@@ -1,6 +1,6 @@
 #!/usr/bin/env python3
-"""Starts upsmon, upsd and dummy-ups without what they need: readers of what they print, memory, a shell. The machine is halted
-all the same.
+"""Starts upsmon, upsd and dummy-ups without what they need: readers of what they print, memory, a stack, a shell. The machine is
+halted all the same, except by an upsmon that refuses to start.
 
     python3 -m tests.programs.upsmon_halting UPSD DUMMY_UPS UPSC UPSMON
 
@@ -23,7 +23,7 @@ import time
 
 from tests.support.harness import FullPipe, apart, cannot_read, ensure, expect, ROOT, Shimmed
 from tests.support.monitored import FLAG, ON_BATTERY, QUICK, SHUTDOWN, Upstream, Watch, children_of, play, put_program
-from tests.support.room import ONLINE, STATUS, Room, heed_modes, state_of, until
+from tests.support.room import ONLINE, STATUS, Lines, Room, heed_modes, state_of, until
 
 WORD = FLAG.strip()
 HALTED = 'SHUTDOWNCMD "touch FOLDER/halted"\n'
@@ -38,6 +38,8 @@ NOT_STARTED = "upsmon: SHUTDOWNCMD cannot be started: "
 REPLACED = "upsmon: warning: there was no shell to run SHUTDOWNCMD, since it was ended or not started: another one waits now"
 CONTINUED = "upsmon: warning: the shell that is to run SHUTDOWNCMD was stopped by a signal: it is sent SIGCONT"
 UNTOLD = "upsmon: SHUTDOWNCMD has run; how it ended isn't known, since SIGCHLD is ignored"
+# how much stack each daemon asks for, in KiB
+STACK = 512
 
 
 def fronts(lines, wanted):
@@ -48,6 +50,11 @@ def fronts(lines, wanted):
 def is_running(pid):
     """Whether a process exists and hasn't ended."""
     return state_of(pid) not in ("", "Z", "X")
+
+
+def stack(most):
+    """Returns what limits the stack of the program that is started next, in KiB."""
+    return functools.partial(resource.setrlimit, resource.RLIMIT_STACK, (most * 1024, most * 1024))
 
 
 @contextlib.contextmanager
@@ -90,6 +97,45 @@ class Tests(Shimmed):
         return done.returncode, done.stdout, done.stderr
 
     # From here on, each method whose name begins with 'test_' is a test.
+
+    def test_too_little_stack(self):
+        """A daemon that would be ended by SIGSEGV once its stack is full says so before anything else."""
+        none = os.path.join(self.folder, "none")
+        for name, *words in (
+            ("upsd", self.upsd, "--conf", none, "-s", none),
+            ("dummy-ups", self.dummy, none, none),
+            ("upsmon", self.upsmon, "--conf", none),
+            ("upsmon", self.upsmon, "--no-such-option"),
+        ):
+            for most in (128, 256, STACK - 1):
+                done = subprocess.run(words, stdin=subprocess.DEVNULL, capture_output=True, timeout=60, preexec_fn=stack(most))
+                told = f"{name}: the stack is limited to {most} KiB; {STACK} are needed\n"
+                expect((done.returncode, done.stdout, done.stderr.decode()), (1, b"", told), f"{words} with {most} KiB")
+
+    def test_enough_stack(self):
+        """Each daemon runs with the stack that it asks for: a dump of all that fits, long lists, a reload, a fault, a halt."""
+        with self.room() as room:
+            names = b"".join(b"ambient.%d.status: %s\n" % (i, b"x" * 400) for i in range(400))
+            with open(room.path("su700.dev"), "wb") as file:
+                file.write(names + b"ups.status: OL\n")
+            words = [self.dummy, room.path("su700.dev"), room.path("dummy-ups-su700")]
+            dummy = room.start(words, preexec_fn=stack(STACK))
+            upsd = room.upsd(preexec_fn=stack(STACK))
+            lines = Lines(upsd)
+            room.until(STATUS, ONLINE)
+            with room.client() as client:
+                client.log_in()
+                expect(len(client.list(b"LIST VAR su700\n")), 403, "a list")
+                expect(client.ask(b"INSTCMD su700 load.off\n"), b"OK\n", "a command")
+            for text, told in ((b"[su700]\n[b]\n", "upsd: reloaded: UPS b added"), (b"[a]\n[a]\n", "upsd: not reloaded: ups.conf:2")):
+                with open(room.path("ups.conf"), "wb") as file:
+                    file.write(text)
+                open(room.path("reload"), "w").close()
+                lines.next(told)
+            expect((dummy.poll(), upsd.poll()), (None, None), "the daemons that run")
+        conf = f"POWERDOWNFLAG FOLDER/flag\nNOTIFYCMD true\nNOTIFYFLAG FSD EXEC\n{HALTED}"
+        with self.halting(conf, preexec_fn=stack(STACK)) as (_, watch):
+            expect((watch.status(), watch.read("flag"), watch.read("halted")), (0, FLAG, b""), "a halt")
 
     def test_full_output_holds_up_no_halt(self):
         notices = "".join(f"NOTIFYFLAG {it} SYSLOG+EXEC\n" for it in ("ONBATT", "LOWBATT", "SHUTDOWN"))
@@ -317,7 +363,8 @@ class Tests(Shimmed):
             self.file_of(FLAG)(flag)
             named = {**os.environ, "NUT_CONFPATH": folder}
             expect(self.key(folder, env=named, words=[]), (0, b"", b""), "NUT_CONFPATH")
-            expect(self.key(folder, "POLLFREQ x\n", env=named, words=[]), (1, b"", b"upsmon: upsmon.conf:2: BadNumber\n"), "a fault")
+            told = b"upsmon: upsmon.conf:2: BadNumber\nupsmon: x: a number from 1 to 1000000 is meant\n"
+            expect(self.key(folder, "POLLFREQ x\n", env=named, words=[]), (1, b"", told), "a fault")
             told = cannot_read("upsmon", "upsmon.conf", folder + "/none/upsmon.conf", errno.ENOENT)
             expect(self.key(folder, words=["--conf", folder + "/none"]), (1, b"", told.encode()), "no file")
             path = os.path.join(folder, "upsmon.conf")
@@ -337,20 +384,23 @@ class Tests(Shimmed):
             flag, other = (os.path.join(folder, it) for it in ("flag", "other"))
             self.file_of(FLAG)(flag)
             taken = "upsmon: CERTPATH isn't taken here: see from-nut(7)\n"
+            repeated = "upsmon: POWERDOWNFLAG: a line before has it\n"
+            power = "upsmon: the power values of the MONITOR lines sum to less than MINSUPPLIES, which is 1 unless it is set\n"
+            unread = "upsmon: the line can't be read as words: a quote is not closed\n"
             for conf, status, fault in (
                 (f"CERTPATH x\nPOWERDOWNFLAG {flag}\n", 0, f"2: UnknownDirective\n{taken}"),
                 (f"CERTPATH x\nPOWERDOWNFLAG {other}\n", 1, f"2: UnknownDirective\n{taken}"),
                 ("CERTPATH x\n", 1, f"2: UnknownDirective\n{taken}"),
-                (f'POWERDOWNFLAG "{flag}" # written otherwise\nNOTIFYCMD "x', 0, "3: Unreadable\n"),
+                (f'POWERDOWNFLAG "{flag}" # written otherwise\nNOTIFYCMD "x', 0, f"3: Unreadable\n{unread}"),
                 # the last line counts
-                (f"POWERDOWNFLAG {other}\nPOWERDOWNFLAG {flag}\n", 0, "3: Repeated\n"),
-                (f"POWERDOWNFLAG {flag}\nPOWERDOWNFLAG {other}\n", 1, "3: Repeated\n"),
+                (f"POWERDOWNFLAG {other}\nPOWERDOWNFLAG {flag}\n", 0, f"3: Repeated\n{repeated}"),
+                (f"POWERDOWNFLAG {flag}\nPOWERDOWNFLAG {other}\n", 1, f"3: Repeated\n{repeated}"),
                 # but none that has a fault itself, or that is something else
-                (f"POWERDOWNFLAG {flag}\nPOWERDOWNFLAG {other} x\n", 0, "3: BadForm\n"),
-                (f"POWERDOWNFLAG {flag}\nPOWERDOWNFLAG {'x' * 257}\n", 0, "3: PastLimit\n"),
+                (f"POWERDOWNFLAG {flag}\nPOWERDOWNFLAG {other} x\n", 0, '3: BadForm\nupsmon: POWERDOWNFLAG "FILE" is meant\n'),
+                (f"POWERDOWNFLAG {flag}\nPOWERDOWNFLAG {'x' * 257}\n", 0, "3: PastLimit\nupsmon: FILE: 1 to 256 bytes are meant\n"),
                 (f'POWERDOWNFLAG {flag}\n# POWERDOWNFLAG {other}\nNOTIFYCMD "POWERDOWNFLAG {other}"\nx\n', 0, None),
                 # a fault of the file as a whole
-                (f"POWERDOWNFLAG {flag}\nMINSUPPLIES 2\n", 0, "0: PastLimit\n"),
+                (f"POWERDOWNFLAG {flag}\nMINSUPPLIES 2\n", 0, f"0: PastLimit\n{power}"),
             ):
                 found, out, err = self.key(folder, conf)
                 expect((found, out), (status, b""), f"{conf}, which {err!r}")

@@ -97,7 +97,8 @@ class Tests(Shimmed):
             watch.until_told(REFUSED + "upsmon.conf:1: BadNumber")
             watch.reload(line_of(server) + QUICK + NEW)
             until(lambda: server.asked.count(USERNAME) == 2, "the links begin anew")
-            expect(watch.lines("err"), [REFUSED + "upsmon.conf:1: BadNumber"], "what is told")
+            meant = "upsmon: x: a number from 1 to 1000000 is meant"
+            expect(watch.lines("err"), [REFUSED + "upsmon.conf:1: BadNumber", meant], "what is told")
 
     def test_nothing_changed(self):
         with Upstream() as server, self.watch(line_of(server) + QUICK + OLD) as watch:

@@ -1,6 +1,6 @@
 //! dummy-ups: a driver without a device.
 
-use crate::driver_socket::{has_listener, listen_at};
+use crate::driver_socket::{ListenFault, has_listener, listen_at};
 use crate::dummy_driver::DummyDriver;
 use clap::{Arg, ArgMatches, Command};
 use mio::net::UnixListener;
@@ -33,7 +33,7 @@ enum DummyUpsFault<'a> {
     /// Another driver listens at this socket.
     InUse(&'a str),
     /// It is impossible to listen at this socket, for this reason.
-    Listen(&'a str, io::Error),
+    Listen(&'a str, ListenFault),
 }
 
 impl<'a> fmt::Display for DummyUpsFault<'a> {
@@ -44,8 +44,8 @@ impl<'a> fmt::Display for DummyUpsFault<'a> {
             DummyUpsFault::TooLong(file) => write!(f, "{file}: more than {FILE_MAX} bytes"),
             DummyUpsFault::Script(file, fault) => write!(f, "{file}:{fault}"),
             DummyUpsFault::InUse(socket) => write!(f, "{socket}: another driver listens there"),
-            DummyUpsFault::Listen(socket, error) => {
-                write!(f, "cannot listen on {socket}: {error}")
+            DummyUpsFault::Listen(socket, fault) => {
+                write!(f, "cannot listen on {socket}: {fault}")
             }
         }
     }
@@ -68,17 +68,18 @@ impl<'a> OwnFault for DummyUpsFault<'a> {
 /// Runs dummy-ups. Returns its exit status.
 ///
 /// `words` are those of the command line `dummy-ups FILE SOCKET`, the program's name first. The script in FILE is told,
-/// from now on, to one server at a time, which connects at SOCKET; a file of that name is removed if no other driver
-/// listens at it. The end of FILE says what kind the script is: `.dev` is told once, `.seq` round after round. The
-/// program ends if waiting for the socket or reading the clock fails; then `dummy-ups: I/O failed` is written, and the
-/// status is 1.
+/// from now on, to one server at a time, which connects at SOCKET. A socket of that name is removed if no other driver
+/// listens at it; any other file of that name stays. The end of FILE says what kind the script is: `.dev` is told once,
+/// `.seq` round after round. The program ends if waiting for the socket or reading the clock fails; then
+/// `dummy-ups: I/O failed` is written, and the status is 1.
 ///
 /// If clap refuses the words, its text is written to `err`, and the status is 2; the help and the version are written
 /// to `out`, with status 0. Before anything is told to a server, the first of these is written to `err`, with status 1:
 /// `dummy-ups: FILE: unknown kind`; `dummy-ups: FILE: cannot read`, with the reason on a line of its own;
 /// `dummy-ups: FILE: more than 16777216 bytes`; the first fault of the script, as `dummy-ups: FILE:2: BadName`;
 /// `dummy-ups: SOCKET: another driver listens there`; `dummy-ups: cannot listen on SOCKET: WHY`; or
-/// `dummy-ups: out of memory` if memory cannot be allocated before.
+/// `dummy-ups: out of memory` if memory cannot be allocated before. Later, `dummy-ups: link closed: out of memory` is
+/// written each time that memory for an answer to the server is lacking; the server may connect again.
 pub fn run_dummy_ups<S: AsStr, O: Write, E: Lines>(
     rt: &(impl Wait + Files + Net + Clock),
     alloc: Global,
@@ -86,55 +87,59 @@ pub fn run_dummy_ups<S: AsStr, O: Write, E: Lines>(
     out: &mut O,
     err: &mut E,
 ) -> u8 {
-    match run(rt, alloc, words) {
+    match run(rt, alloc, words, err) {
         Ok(()) => 0,
         Err(failure) => failure.tell(out, err),
     }
 }
 
-fn run<'a, S: AsStr>(
+fn run<'a, S: AsStr, E: Lines>(
     rt: &(impl Wait + Files + Net + Clock),
     alloc: Global,
     words: &'a [S],
+    err: &mut E,
 ) -> Result<(), Failure<DummyUpsFault<'a>>> {
     let matches = command(alloc)?.try_get_matches_from(words)?;
-    run_matches(rt, alloc, &matches)
+    run_matches(rt, alloc, &matches, err)
 }
 
 /// Does what a command line asks for that clap has accepted.
-fn run_matches<'a>(
+fn run_matches<'a, E: Lines>(
     rt: &(impl Wait + Files + Net + Clock),
     alloc: Global,
     matches: &ArgMatches<'a>,
+    err: &mut E,
 ) -> Result<(), Failure<DummyUpsFault<'a>>> {
     let file = matches.get_str("file").unwrap_or("");
     let socket = matches.get_str("socket").unwrap_or("");
-    tell_file(rt, alloc, file, socket)
+    tell_file(rt, alloc, file, socket, err)
 }
 
 /// Tells the script of a file to servers that connect at a socket.
-fn tell_file<'a>(
+fn tell_file<'a, E: Lines>(
     rt: &(impl Wait + Files + Net + Clock),
     alloc: Global,
     file: &'a str,
     socket: &'a str,
+    err: &mut E,
 ) -> Result<(), Failure<DummyUpsFault<'a>>> {
     let script = read_script(rt, alloc, file)?;
     match Dummy::new(alloc, script, 0) {
-        Ok(dummy) => tell_at(rt, alloc, dummy, socket),
+        Ok(dummy) => tell_at(rt, alloc, dummy, socket, err),
         Err(_) => Err(Failure::Memory),
     }
 }
 
 /// Runs a dummy driver at a socket. The standard streams that are closed are held meanwhile.
-fn tell_at<'a>(
+fn tell_at<'a, E: Lines>(
     rt: &(impl Wait + Files + Net + Clock),
     alloc: Global,
     dummy: Dummy,
     socket: &'a str,
+    err: &mut E,
 ) -> Result<(), Failure<DummyUpsFault<'a>>> {
     match listen_held(rt, alloc, socket) {
-        Ok((_held, listener)) => Ok(tell(rt, alloc, listener, dummy)?),
+        Ok((_held, listener)) => Ok(tell(rt, alloc, listener, dummy, err)?),
         Err(failure) => {
             // dropped by a call, which keeps the proof of this function short
             drop(dummy);
@@ -161,23 +166,28 @@ fn listen_held<'a, R: Files + Net>(
 }
 
 /// Runs a dummy driver whose servers connect to this listener, until a wait fails.
-fn tell(
+fn tell<E: Lines>(
     rt: &(impl Wait + Net + Clock),
     alloc: Global,
     listener: UnixListener,
     dummy: Dummy,
+    err: &mut E,
 ) -> io::Result<()> {
     let mut driver = DummyDriver::new(rt, alloc, listener, dummy)?;
-    let told = turn_for_ever(rt, &mut driver);
+    let told = turn_for_ever(rt, &mut driver, err);
     // dropped by a call, which keeps the proof of this function short
     drop(driver);
     told
 }
 
 /// Lets a driver do what there is to do, until a wait fails.
-fn turn_for_ever(rt: &(impl Wait + Clock), driver: &mut DummyDriver) -> io::Result<()> {
+fn turn_for_ever<E: Lines>(
+    rt: &(impl Wait + Clock),
+    driver: &mut DummyDriver,
+    err: &mut E,
+) -> io::Result<()> {
     for _ in rt.forever() {
-        driver.turn(rt)?;
+        driver.turn(rt, err)?;
     }
     unreachable!()
 }
@@ -235,11 +245,11 @@ fn listen<'a>(
     let listener = match has_listener(rt, socket) {
         Ok(true) => return Err(Failure::Own(DummyUpsFault::InUse(socket))),
         Ok(false) => listen_at(rt, socket),
-        Err(error) => Err(error),
+        Err(error) => Err(ListenFault::System(error)),
     };
     match listener {
         Ok(listener) => Ok(listener),
-        Err(error) => Err(Failure::Own(DummyUpsFault::Listen(socket, error))),
+        Err(fault) => Err(Failure::Own(DummyUpsFault::Listen(socket, fault))),
     }
 }
 

@@ -2,8 +2,9 @@
 
 use mio::net::{UnixListener, UnixStream};
 use mio::{Events, Interest, Poll, Token};
-use nut_dummy::Dummy;
+use nut_dummy::{Dummy, DummyFault};
 use nut_io::{Piece, Written};
+use nut_log::{Level, Lines};
 use nut_poll::{Heard, Link, Seconds};
 use std::alloc::Global;
 use std::io;
@@ -14,6 +15,15 @@ use std::time::{Clock, Duration};
 const LISTENER: Token = Token(0);
 
 const SERVER: Token = Token(1);
+
+/// Why a link with a server ends.
+#[derive(Clone, Copy, PartialEq, Eq)]
+enum LinkEnd {
+    /// The server closed it, or it failed.
+    Lost,
+    /// Memory for an answer to the server could not be allocated.
+    OutOfMemory,
+}
 
 /// What a dummy driver still has to do.
 #[derive(Clone, Copy)]
@@ -67,15 +77,17 @@ impl DummyDriver {
     ///
     /// # Errors
     ///
-    /// The error of the wait or of the clock. A failure between the driver and its server only ends their link.
-    pub fn turn(&mut self, clock: &impl Clock) -> io::Result<()> {
+    /// The error of the wait or of the clock. A failure between the driver and its server only ends their link; that
+    /// memory was lacking for an answer is written to `err`.
+    pub fn turn<E: Lines>(&mut self, clock: &impl Clock, err: &mut E) -> io::Result<()> {
         self.wait(clock)?;
         self.let_in();
         let Some(link) = &mut self.link else {
             return Ok(());
         };
-        if !converse(link, &mut self.dummy, &mut self.tasks) {
+        if let Err(end) = converse(link, &mut self.dummy, &mut self.tasks) {
             self.link = None;
+            tell_end(end, err);
             self.let_in();
         }
         Ok(())
@@ -126,24 +138,36 @@ impl DummyDriver {
     }
 }
 
-/// Tells the dummy driver the moment and what its server sent, each only if nothing waits before it, and offers what
-/// then waits. Returns whether the server is still connected.
-fn converse<S: Read + Write>(link: &mut Link<S>, dummy: &mut Dummy, tasks: &mut Tasks) -> bool {
-    if !offer_waiting(link, dummy) {
-        return false;
+/// Writes why a link ended, if the driver itself closed it. What can't be written is dropped.
+fn tell_end<E: Lines>(end: LinkEnd, err: &mut E) {
+    if end == LinkEnd::OutOfMemory {
+        let _ = writeln!(err.begin(Level::Warning), "link closed: out of memory");
     }
+}
+
+/// Tells the dummy driver the moment and what its server sent, each only if nothing waits before it, and offers what
+/// then waits.
+///
+/// # Errors
+///
+/// Why the link has ended.
+fn converse<S: Read + Write>(
+    link: &mut Link<S>,
+    dummy: &mut Dummy,
+    tasks: &mut Tasks,
+) -> Result<(), LinkEnd> {
+    offer_waiting(link, dummy)?;
     if let Some(moment) = tasks.moment {
         if dummy.moment(moment).is_ok() {
             tasks.moment = None;
         }
-        if !offer_waiting(link, dummy) {
-            return false;
-        }
+        offer_waiting(link, dummy)?;
     }
     if !tasks.hear || dummy.waits() > 0 {
-        return true;
+        return Ok(());
     }
-    hear(link, dummy, tasks) && offer_waiting(link, dummy)
+    hear(link, dummy, tasks)?;
+    offer_waiting(link, dummy)
 }
 
 /// Returns a poll of a listener, and what is needed to wait for its events and for seconds.
@@ -160,29 +184,54 @@ fn watch(
     Ok((poll, events, seconds))
 }
 
-/// Reads one piece, and gives it to the dummy driver. Returns whether the server is still connected.
-fn hear<S: Read + Write>(link: &mut Link<S>, dummy: &mut Dummy, tasks: &mut Tasks) -> bool {
+/// Reads one piece, and gives it to the dummy driver.
+///
+/// # Errors
+///
+/// Why the link has ended.
+fn hear<S: Read + Write>(
+    link: &mut Link<S>,
+    dummy: &mut Dummy,
+    tasks: &mut Tasks,
+) -> Result<(), LinkEnd> {
     let mut piece = Piece::new();
     let heard = link.hear(&mut piece);
     tasks.hear = heard == Heard::Part;
     match heard {
-        Heard::Nothing => true,
-        Heard::End => false,
-        Heard::All | Heard::Part => dummy.server_bytes(piece.as_slice()).is_ok(),
+        Heard::Nothing => Ok(()),
+        Heard::End => Err(LinkEnd::Lost),
+        Heard::All | Heard::Part => give(piece.as_slice(), dummy),
     }
 }
 
-/// Offers bytes until nothing waits or no more is taken. Returns whether the server is still connected.
-fn offer_waiting<S: Read + Write>(link: &mut Link<S>, dummy: &mut Dummy) -> bool {
+/// Gives the dummy driver a piece that its server sent.
+///
+/// # Errors
+///
+/// Why the link has ended.
+fn give(piece: &[u8], dummy: &mut Dummy) -> Result<(), LinkEnd> {
+    match dummy.server_bytes(piece) {
+        Ok(()) => Ok(()),
+        Err(DummyFault::Memory(_)) => Err(LinkEnd::OutOfMemory),
+        Err(_) => Err(LinkEnd::Lost),
+    }
+}
+
+/// Offers bytes until nothing waits or no more is taken.
+///
+/// # Errors
+///
+/// Why the link has ended.
+fn offer_waiting<S: Read + Write>(link: &mut Link<S>, dummy: &mut Dummy) -> Result<(), LinkEnd> {
     for _ in 0..u64::MAX {
         if dummy.waits() == 0 {
-            return true;
+            return Ok(());
         }
         match link.offer(dummy.waiting()) {
             Written::Took(n) if dummy.took(n).is_ok() => {}
-            Written::Took(_) | Written::Failed => return false,
-            Written::Later => return true,
+            Written::Took(_) | Written::Failed => return Err(LinkEnd::Lost),
+            Written::Later => return Ok(()),
         }
     }
-    true
+    Ok(())
 }

@@ -1,5 +1,6 @@
 //! Configuration files in their folder.
 
+use crate::meant::meaning;
 use crate::unknown::unknown_word;
 use nut_conf::{
     ConfFault, Descriptions, FILE_MAX, FaultKind, UpsConf, UpsdConf, UpsmonConf, UsersConf,
@@ -81,8 +82,8 @@ impl ConfFile for Descriptions {
 pub enum FileFault<'a> {
     /// The file doesn't exist, isn't a plain file, may not be read, or a read failed. The remark has its path, and why.
     CannotRead(&'a str, Option<String>),
-    /// The file has this fault. There is a remark if the fault is the word of a directive that no line of the file may
-    /// have.
+    /// The file has this fault. The remark says what is meant, or that no line of the file may have the word of the
+    /// directive.
     Conf(&'a str, ConfFault, Option<String>),
     /// Memory could not be allocated.
     Memory,
@@ -100,7 +101,7 @@ impl<'a> fmt::Display for FileFault<'a> {
 
 impl<'a> FileFault<'a> {
     /// Returns what a line of its own is to say besides, such as `/etc/nut/ups.conf: No such file or directory (os
-    /// error 2)`, or `vendorid isn't taken here: see from-nut(7)`.
+    /// error 2)`, `vendorid isn't taken here: see from-nut(7)`, or `master: 'primary' or 'secondary' is meant`.
     pub fn remark(&self) -> Option<&str> {
         match self {
             FileFault::CannotRead(_, Some(remark)) | FileFault::Conf(_, _, Some(remark)) => Some(
@@ -205,10 +206,12 @@ fn conf_of<'a, C: ConfFile>(
 }
 
 /// Says where to read about the word of a directive at which a file has a fault, if no line of the file may have that
-/// word.
+/// word; else what is meant.
 fn remark_on<C: ConfFile>(alloc: Global, bytes: &[u8], fault: ConfFault) -> Option<String> {
-    let word = unknown_word::<C>(alloc, bytes, fault)?;
-    format!(in alloc; "{word} isn't taken here: see from-nut(7)").ok()
+    match unknown_word::<C>(alloc, bytes, fault) {
+        Some(word) => format!(in alloc; "{word} isn't taken here: see from-nut(7)").ok(),
+        None => meaning(alloc, bytes, fault),
+    }
 }
 
 /// Returns the bytes of a plain file, of a longer one the first `most`. No other file is opened: a pipe could block the

@@ -68,7 +68,7 @@ fn first_word(alloc: Global, line: &[u8]) -> Option<String>
 }
 
 /// Returns a line of a file, counted from 1.
-fn line_at(bytes: &[u8], number: u32) -> Option<&[u8]> {
+pub fn line_at(bytes: &[u8], number: u32) -> Option<&[u8]> {
     let before = number.checked_sub(1)?;
     bytes.split(|byte| *byte == b'\n').nth(before as usize)
 }

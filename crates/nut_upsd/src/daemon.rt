@@ -11,6 +11,7 @@ use crate::report::Report;
 use crate::stdio::serve_options;
 use crate::upsd_fault::{UpsdFault, exit_status};
 use clap::ArgMatches;
+use libc::geteuid;
 use mio::net::TcpListener;
 use nut_poll::{ErrorLines, Reports};
 use nut_program::{Failure, conf_folder, hold_closed_streams};
@@ -26,6 +27,9 @@ use std::rt::Files;
 use std::sync::Wait;
 use std::time::Clock;
 
+/// The number of the user root.
+const ROOT: u32 = 0;
+
 /// Runs upsd. Returns its exit status.
 ///
 /// `words` are those of the command line, the program's name first. `upsd --stdio ..` does what [`run_stdio`] does, which
@@ -34,18 +38,19 @@ use std::time::Clock;
 /// trying again each second until that succeeds. It ends if waiting for the sockets or reading the clock fails; then
 /// `upsd: I/O failed` is written, and the status is 1.
 ///
-/// Once a second it looks for the file `reload` in the folder of `--conf`. If that is there, it is removed, and the files
-/// are read again. What then differs is written as `upsd: reloaded: ..`; listeners stay as they are. If a file has a
+/// Once a second it looks for the file `reload` in the folders of `--conf` and of `-s`. If one is there, it is removed, and
+/// the files are read again. What then differs is written as `upsd: reloaded: ..`; listeners stay as they are. If a file has a
 /// fault, it is written as `upsd: not reloaded: ups.conf:2: Repeated`, and nothing changes.
 ///
 /// `upsd --check` serves nothing: it reads the files of `--conf`, or else those in the folder of the variable
 /// NUT_CONFPATH or in `/etc/nut`, as a start does, and writes of them what a start writes. The status is 0 if they have
 /// no fault.
 ///
-/// The addresses listened on, the UPSes served, drivers that connect and disconnect, and what a reload changes are
-/// written to `err`, a line each, but not with `-q`. Why nothing was reloaded, why a client can't be let in, that one is
-/// closed for lack of memory, and that everybody can read the passwords of upsd.users, is written even then. If it is
-/// impossible to listen at an address, `upsd: cannot listen on ADDRESS:PORT: WHY` is written, and the status is 1.
+/// The addresses listened on, the UPSes served, that it runs as root, drivers that connect and disconnect, and what a
+/// reload changes are written to `err`, a line each, but not with `-q`. Why nothing was reloaded, why a client can't be
+/// let in, that one is closed for lack of memory, and that everybody can read the passwords of upsd.users, is written even
+/// then. If it is impossible to listen at an address, `upsd: cannot listen on ADDRESS:PORT: WHY` is written, and the
+/// status is 1.
 ///
 /// [`run_stdio`]: crate::run_stdio
 pub fn run_upsd<S: AsStr, I: Read, O: Write>(
@@ -154,7 +159,7 @@ fn serve_folder<R: Wait + Files + Net + Clock>(
     options: &Options<'_>,
     err: &mut ErrorLines,
 ) -> Result<(), Failure<UpsdFault>> {
-    let reloading = Reloading::new(rt, alloc, options.conf)?;
+    let reloading = Reloading::new(rt, alloc, options.conf, options.sockets)?;
     let (settings, reloading) = paired(reloading.read(err), reloading)?;
     listen_and_serve(rt, alloc, settings, reloading, options, err)
 }
@@ -222,7 +227,7 @@ fn serve_listeners<R: Wait + Net + Clock, L: Reloader + Drop>(
     Ok(())
 }
 
-/// Reports the addresses listened on and the UPSes served.
+/// Reports the addresses listened on and the UPSes served, and whether this process runs as root.
 fn tell_start(listeners: &[TcpListener], drivers: &Drivers, reports: &mut Reports<'_>) {
     for listener in listeners {
         if let Ok(address) = listener.local_addr() {
@@ -233,5 +238,8 @@ fn tell_start(listeners: &[TcpListener], drivers: &Drivers, reports: &mut Report
         if let Some(driver) = driver {
             reports.tell(Report::Serving(driver.name(), driver.path()));
         }
+    }
+    if geteuid() == ROOT {
+        reports.tell(Report::AsRoot);
     }
 }

@@ -14,13 +14,18 @@ use std::rt::Files;
 /// upsd answers a request before upsmon does, whose new logins are then by the new users.
 const TURN: Turn = Turn::First;
 
-/// The folder of the files of upsd, which reads them at its start and when the file `reload` in that folder asks for it.
+/// The folder of the files of upsd, which reads them at its start and when a file `reload` asks for it, in that folder or
+/// in the one of the drivers' sockets: upsd can remove a file from the second one even where only root may write to the
+/// first one, or nobody.
 #[derive(Drop)]
 pub struct Reloading<'r, F> {
     files: &'r F,
     alloc: Global,
     folder: &'r str,
+    /// The file in the folder of the files.
     file: ReloadFile,
+    /// The file in the folder of the sockets, unless that is the same folder.
+    socket_file: Option<ReloadFile>,
     /// The LISTEN lines of the start.
     endpoints: Vec<Endpoint>,
     /// The configuration that was given last, until it is told what became of it.
@@ -37,19 +42,24 @@ struct Given {
 }
 
 impl<'r, F: Files> Reloading<'r, F> {
-    /// Returns the folder with this path. A request for a reload counts from now on.
+    /// Returns the folder with this path, beside the folder of the drivers' sockets. A request for a reload counts from now
+    /// on.
     ///
     /// # Errors
     ///
     /// [`AllocError`] if memory cannot be allocated.
-    pub fn new(files: &'r F, alloc: Global, folder: &'r str) -> Result<Self, AllocError> {
-        // upsmon may have the folder, too, if its file is there
-        let beside = UpsmonConf::file_name();
+    pub fn new(
+        files: &'r F,
+        alloc: Global,
+        folder: &'r str,
+        sockets: &str,
+    ) -> Result<Self, AllocError> {
         Ok(Reloading {
             files,
             alloc,
             folder,
-            file: ReloadFile::new(files, alloc, folder, beside, TURN)?,
+            file: file_in(files, alloc, folder)?,
+            socket_file: file_in_other(files, alloc, sockets, folder)?,
             endpoints: Vec::new(alloc),
             given: None,
         })
@@ -106,12 +116,55 @@ impl<'r, F: Files> Reloading<'r, F> {
     }
 }
 
+/// Returns the file `reload` of a folder.
+fn file_in(files: &impl Files, alloc: Global, folder: &str) -> Result<ReloadFile, AllocError> {
+    // upsmon may have the folder, too, if its file is there
+    ReloadFile::new(files, alloc, folder, UpsmonConf::file_name(), TURN)
+}
+
+/// Returns the file `reload` of a folder, unless that is this other one.
+fn file_in_other(
+    files: &impl Files,
+    alloc: Global,
+    folder: &str,
+    other: &str,
+) -> Result<Option<ReloadFile>, AllocError> {
+    if folder == other {
+        return Ok(None);
+    }
+    Ok(Some(file_in(files, alloc, folder)?))
+}
+
+/// Whether a file asks for a reload. That it can't be removed is reported.
+fn asks(files: &impl Files, file: &mut ReloadFile, reports: &mut Reports<'_>) -> bool {
+    match file.look(files) {
+        Look::Nothing => false,
+        Look::Asked => true,
+        Look::Stuck(error) => {
+            reports.tell(ReloadReport::Stuck(file.path(), error));
+            true
+        }
+    }
+}
+
+/// Whether one of the files asks for a reload. Both are looked at, so that together they are one request.
+fn any_asks(
+    files: &impl Files,
+    file: &mut ReloadFile,
+    socket_file: &mut Option<ReloadFile>,
+    reports: &mut Reports<'_>,
+) -> bool {
+    let is_asked = asks(files, file, reports);
+    match socket_file {
+        Some(socket_file) => asks(files, socket_file, reports) || is_asked,
+        None => is_asked,
+    }
+}
+
 impl<'r, F: Files> Reloader for Reloading<'r, F> {
     fn look(&mut self, server: &Server, reports: &mut Reports<'_>) -> Option<Box<Config>> {
-        match self.file.look(self.files) {
-            Look::Nothing => return None,
-            Look::Asked => {}
-            Look::Stuck(error) => reports.tell(ReloadReport::Stuck(self.file.path(), error)),
+        if !any_asks(self.files, &mut self.file, &mut self.socket_file, reports) {
+            return None;
         }
         match self.read_again(server, reports.err()) {
             Ok(config) => Some(config),

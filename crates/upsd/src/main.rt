@@ -9,6 +9,9 @@ use std::{env, io};
 
 fn main(rt: HostRuntime) -> ExitCode {
     let mut log = LogStream::of(&rt, "upsd", rt.stderr());
+    if !nut_program::has_stack(&mut log) {
+        return ExitCode::from(1);
+    }
     let status = match start(&rt, log) {
         Ok((words, mut err)) => nut_upsd::run_upsd(
             &rt,

@@ -11,6 +11,9 @@ fn main(rt: HostRuntime) -> ExitCode {
         out: LogStream::of(&rt, "upsmon", rt.stdout()),
         err: LogStream::of(&rt, "upsmon", rt.stderr()),
     };
+    if !nut_program::has_stack(&mut streams.err) {
+        return ExitCode::from(1);
+    }
     let status = match words(&rt) {
         Ok(words) => nut_upsmon::run_upsmon(&rt, rt.alloc(), words.as_slice(), streams),
         Err(error) => nut_program::refuse_start(&error, &mut streams.err),

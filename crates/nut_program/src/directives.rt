@@ -1,0 +1,446 @@
+//! What the directives of the configuration files take, for a remark on a fault.
+
+use nut_conf::{
+    Address, COMMAND_MAX, CONNECTIONS_MAX, DESCRIPTION_MAX, DESCRIPTIONS_MAX, DEVICE_MAX,
+    DRIVER_NAME_MAX, INSTCMDS_MAX, LISTENERS_MAX, MESSAGE_MAX, MONITORS_MAX, NoticeFlags,
+    PASSWORD_MAX, Target, USER_NAME_MAX,
+};
+use nut_words::{NAME_MAX, is_name, natural};
+use std::fmt;
+
+/// What a value of a directive is. It is displayed as what is meant in the place of a word that isn't one.
+#[derive(Clone, Copy)]
+pub enum Kind {
+    /// A UPS at the host of its server.
+    Target,
+    /// The name or the address of a host.
+    Address,
+    /// A name of at most so many bytes.
+    Name(usize),
+    /// A number, the least and the greatest.
+    Number(u32, u32),
+    /// A text, with the least and the greatest of its length in bytes.
+    Text(usize, usize),
+    /// One of these words.
+    Word(&'static [&'static str]),
+    /// What becomes of a notice.
+    Flags,
+}
+
+impl Kind {
+    /// Whether a word is such a value.
+    pub fn has(&self, word: &[u8]) -> bool {
+        match self {
+            Kind::Target => word.contains(&b'@') && Target::read(word).is_ok(),
+            Kind::Address => Address::read(word).is_some(),
+            Kind::Name(most) => is_name(word, *most),
+            Kind::Number(least, most) => is_between(word, *least, *most),
+            Kind::Text(least, most) => *least <= word.len() && word.len() <= *most,
+            Kind::Word(words) => words.iter().any(|it| it.as_bytes() == word),
+            Kind::Flags => NoticeFlags::read(word).is_ok(),
+        }
+    }
+}
+
+/// Whether a word is a number within these bounds.
+fn is_between(word: &[u8], least: u32, most: u32) -> bool {
+    match natural(word) {
+        Some(number) => least <= number && number <= most,
+        None => false,
+    }
+}
+
+impl fmt::Display for Kind {
+    fn fmt<W: fmt::Write>(&self, f: &mut fmt::Formatter<W>) -> fmt::Result {
+        match self {
+            Kind::Target => write!(
+                f,
+                "UPS@HOST[:PORT] is meant, HOST a name or an IPv4 address (an IPv6 address needs a name in /etc/hosts)"
+            ),
+            Kind::Address => write!(
+                f,
+                "the name or the address of a host is meant, without brackets; a port is a word of its own"
+            ),
+            Kind::Name(most) => write!(
+                f,
+                "a name is meant, of 1 to {most} letters, digits, '.', '_' and '-'"
+            ),
+            Kind::Number(least, most) => { write!(f, "a number from {least} to {most} is meant") }
+            Kind::Text(least, most) => write!(f, "{least} to {most} bytes are meant"),
+            Kind::Word(words) => write_words(words, f),
+            Kind::Flags => write!(
+                f,
+                "SYSLOG, WALL, EXEC and IGNORE are meant, with '+' between them"
+            ),
+        }
+    }
+}
+
+/// Writes that one of these words is meant.
+fn write_words<W: fmt::Write>(words: &[&str], f: &mut fmt::Formatter<W>) -> fmt::Result {
+    for (i, word) in words.iter().enumerate() {
+        let before = if i == 0 {
+            ""
+        } else if i < words.len() - 1 {
+            ", "
+        } else {
+            " or "
+        };
+        write!(f, "{before}'{word}'")?;
+    }
+    write!(f, " is meant")
+}
+
+/// A value of a directive, with what its line's form calls it.
+#[derive(Clone, Copy)]
+pub struct Value {
+    pub name: &'static str,
+    pub kind: Kind,
+}
+
+/// A directive of a configuration file.
+#[derive(Clone, Copy)]
+pub struct Directive {
+    /// Its first word.
+    pub word: &'static str,
+    /// What a line of it looks like.
+    pub form: &'static str,
+    /// The place of the first value among the words of a line, counted from 0.
+    pub first: usize,
+    /// The values, from left to right. The last one of LISTEN may be missing.
+    pub values: &'static [Value],
+    /// How many lines of it there may be, if that is limited: 1 for one that is allowed once.
+    pub lines: Option<usize>,
+    /// Whether one of the values is a password. Words of such a line aren't shown, since they may be in a wrong order.
+    pub has_password: bool,
+}
+
+/// Returns the directive with this word, of whatever file.
+pub fn directive_of(word: &[u8]) -> Option<&'static Directive> {
+    DIRECTIVES
+        .iter()
+        .find(|directive| directive.word.as_bytes() == word)
+}
+
+/// A time in seconds.
+const TIME: [Value; 1] = [Value {
+    name: "SECONDS",
+    kind: Kind::Number(1, 1_000_000),
+}];
+
+/// A time in seconds that may be 0.
+const TIME_OR_NONE: [Value; 1] = [Value {
+    name: "SECONDS",
+    kind: Kind::Number(0, 1_000_000),
+}];
+
+/// A command, or a path.
+const COMMAND: [Value; 1] = [Value {
+    name: "COMMAND",
+    kind: Kind::Text(1, COMMAND_MAX),
+}];
+
+/// A name with its description.
+const DESCRIBED: [Value; 2] = [
+    Value {
+        name: "NAME",
+        kind: Kind::Name(NAME_MAX),
+    },
+    Value {
+        name: "TEXT",
+        kind: Kind::Text(0, DESCRIPTION_MAX),
+    },
+];
+
+/// What a monitor is to its UPS.
+const ROLES: [&str; 2] = ["primary", "secondary"];
+
+/// The types of notices.
+const TYPES: [&str; 9] = [
+    "ONLINE", "ONBATT", "LOWBATT", "FSD", "COMMOK", "COMMBAD", "SHUTDOWN", "REPLBATT", "NOCOMM",
+];
+
+/// The directives of all files. No word is one of two files.
+static DIRECTIVES: [Directive; 25] = [
+    Directive {
+        word: "driver",
+        form: "driver = NAME",
+        first: 2,
+        values: &[Value {
+            name: "NAME",
+            kind: Kind::Name(DRIVER_NAME_MAX),
+        }],
+        lines: Some(1),
+        has_password: false,
+    },
+    Directive {
+        word: "port",
+        form: "port = \"TEXT\"",
+        first: 2,
+        values: &[Value {
+            name: "TEXT",
+            kind: Kind::Text(0, DEVICE_MAX),
+        }],
+        lines: Some(1),
+        has_password: false,
+    },
+    Directive {
+        word: "desc",
+        form: "desc = \"TEXT\"",
+        first: 2,
+        values: &[Value {
+            name: "TEXT",
+            kind: Kind::Text(0, DESCRIPTION_MAX),
+        }],
+        lines: Some(1),
+        has_password: false,
+    },
+    Directive {
+        word: "password",
+        form: "password = \"TEXT\"",
+        first: 2,
+        values: &[Value {
+            name: "TEXT",
+            kind: Kind::Text(1, PASSWORD_MAX),
+        }],
+        lines: Some(1),
+        has_password: true,
+    },
+    Directive {
+        word: "actions",
+        form: "actions = SET or actions = FSD",
+        first: 2,
+        values: &[Value {
+            name: "ACTION",
+            kind: Kind::Word(&["SET", "FSD"]),
+        }],
+        lines: None,
+        has_password: false,
+    },
+    Directive {
+        word: "instcmds",
+        form: "instcmds = COMMAND or instcmds = ALL",
+        first: 2,
+        values: &[Value {
+            name: "COMMAND",
+            kind: Kind::Name(NAME_MAX),
+        }],
+        lines: Some(INSTCMDS_MAX),
+        has_password: false,
+    },
+    Directive {
+        word: "upsmon",
+        form: "upsmon primary or upsmon secondary",
+        first: 1,
+        values: &[Value {
+            name: "ROLE",
+            kind: Kind::Word(&ROLES),
+        }],
+        lines: Some(1),
+        has_password: false,
+    },
+    Directive {
+        word: "LISTEN",
+        form: "LISTEN ADDRESS [PORT]",
+        first: 1,
+        values: &[
+            Value {
+                name: "ADDRESS",
+                kind: Kind::Address,
+            },
+            Value {
+                name: "PORT",
+                kind: Kind::Number(1, 65_535),
+            },
+        ],
+        lines: Some(LISTENERS_MAX),
+        has_password: false,
+    },
+    Directive {
+        word: "MAXAGE",
+        form: "MAXAGE SECONDS",
+        first: 1,
+        values: &[Value {
+            name: "SECONDS",
+            kind: Kind::Number(1, 86_400),
+        }],
+        lines: Some(1),
+        has_password: false,
+    },
+    Directive {
+        word: "MAXCONN",
+        form: "MAXCONN NUMBER",
+        first: 1,
+        values: &[Value {
+            name: "NUMBER",
+            kind: Kind::Number(1, CONNECTIONS_MAX),
+        }],
+        lines: Some(1),
+        has_password: false,
+    },
+    Directive {
+        word: "MONITOR",
+        form: "MONITOR UPS@HOST[:PORT] POWER USER PASSWORD primary|secondary",
+        first: 1,
+        values: &[
+            Value {
+                name: "UPS@HOST[:PORT]",
+                kind: Kind::Target,
+            },
+            Value {
+                name: "POWER",
+                kind: Kind::Number(0, 1_000),
+            },
+            Value {
+                name: "USER",
+                kind: Kind::Name(USER_NAME_MAX),
+            },
+            Value {
+                name: "PASSWORD",
+                kind: Kind::Text(1, PASSWORD_MAX),
+            },
+            Value {
+                name: "ROLE",
+                kind: Kind::Word(&ROLES),
+            },
+        ],
+        lines: Some(MONITORS_MAX),
+        has_password: true,
+    },
+    Directive {
+        word: "MINSUPPLIES",
+        form: "MINSUPPLIES NUMBER",
+        first: 1,
+        values: &[Value {
+            name: "NUMBER",
+            kind: Kind::Number(0, 32_000),
+        }],
+        lines: Some(1),
+        has_password: false,
+    },
+    Directive {
+        word: "SHUTDOWNCMD",
+        form: "SHUTDOWNCMD \"COMMAND\"",
+        first: 1,
+        values: &COMMAND,
+        lines: Some(1),
+        has_password: false,
+    },
+    Directive {
+        word: "NOTIFYCMD",
+        form: "NOTIFYCMD \"COMMAND\"",
+        first: 1,
+        values: &COMMAND,
+        lines: Some(1),
+        has_password: false,
+    },
+    Directive {
+        word: "POWERDOWNFLAG",
+        form: "POWERDOWNFLAG \"FILE\"",
+        first: 1,
+        values: &[Value {
+            name: "FILE",
+            kind: Kind::Text(1, COMMAND_MAX),
+        }],
+        lines: Some(1),
+        has_password: false,
+    },
+    Directive {
+        word: "POLLFREQ",
+        form: "POLLFREQ SECONDS",
+        first: 1,
+        values: &TIME,
+        lines: Some(1),
+        has_password: false,
+    },
+    Directive {
+        word: "DEADTIME",
+        form: "DEADTIME SECONDS",
+        first: 1,
+        values: &TIME,
+        lines: Some(1),
+        has_password: false,
+    },
+    Directive {
+        word: "RBWARNTIME",
+        form: "RBWARNTIME SECONDS",
+        first: 1,
+        values: &TIME,
+        lines: Some(1),
+        has_password: false,
+    },
+    Directive {
+        word: "NOCOMMWARNTIME",
+        form: "NOCOMMWARNTIME SECONDS",
+        first: 1,
+        values: &TIME,
+        lines: Some(1),
+        has_password: false,
+    },
+    Directive {
+        word: "HOSTSYNC",
+        form: "HOSTSYNC SECONDS",
+        first: 1,
+        values: &TIME_OR_NONE,
+        lines: Some(1),
+        has_password: false,
+    },
+    Directive {
+        word: "FINALDELAY",
+        form: "FINALDELAY SECONDS",
+        first: 1,
+        values: &TIME_OR_NONE,
+        lines: Some(1),
+        has_password: false,
+    },
+    Directive {
+        word: "NOTIFYMSG",
+        form: "NOTIFYMSG TYPE \"TEXT\"",
+        first: 1,
+        values: &[
+            Value {
+                name: "TYPE",
+                kind: Kind::Word(&TYPES),
+            },
+            Value {
+                name: "TEXT",
+                kind: Kind::Text(0, MESSAGE_MAX),
+            },
+        ],
+        lines: None,
+        has_password: false,
+    },
+    Directive {
+        word: "NOTIFYFLAG",
+        form: "NOTIFYFLAG TYPE FLAG[+FLAG]..",
+        first: 1,
+        values: &[
+            Value {
+                name: "TYPE",
+                kind: Kind::Word(&TYPES),
+            },
+            Value {
+                name: "FLAGS",
+                kind: Kind::Flags,
+            },
+        ],
+        lines: None,
+        has_password: false,
+    },
+    Directive {
+        word: "VARDESC",
+        form: "VARDESC NAME \"TEXT\"",
+        first: 1,
+        values: &DESCRIBED,
+        lines: Some(DESCRIPTIONS_MAX),
+        has_password: false,
+    },
+    Directive {
+        word: "CMDDESC",
+        form: "CMDDESC NAME \"TEXT\"",
+        first: 1,
+        values: &DESCRIBED,
+        lines: Some(DESCRIPTIONS_MAX),
+        has_password: false,
+    },
+];
