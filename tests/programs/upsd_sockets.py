@@ -34,6 +34,14 @@ def why(error):
     return f"{os.strerror(error)} (os error {error})"
 
 
+def logged_in(room):
+    """Returns a new client that is logged in."""
+    client = room.client()
+    client.log_in(b"mon", b"m1")
+    expect(client.ask(b"LOGIN su700\n"), b"OK\n", "LOGIN")
+    return client
+
+
 def put_listeners(room, hosts):
     """Has a room's upsd listen at these hosts alone, at the room's port."""
     with open(room.path("upsd.conf"), "w") as file:
@@ -472,9 +480,10 @@ class Tests:
         with self.room(conf=b"MAXCONN 2\n") as room:
             upsd = room.upsd("-q")
             until(room.serves, "the first connection has gone")
-            with room.client() as first:
+            # no client that is logged in makes way for another
+            with logged_in(room) as first:
                 expect(first.ask(b"VER\n"), VERSION, "the first")
-                with room.client() as second:
+                with logged_in(room) as second:
                     expect(second.ask(b"VER\n"), VERSION, "the second")
                     for _ in range(5):
                         with room.client() as third:
@@ -483,7 +492,7 @@ class Tests:
                 expect(first.ask(b"VER\n"), VERSION, "the first again")
                 # what is told is told at most once a second
                 time.sleep(1.5)
-                with room.client() as second:
+                with logged_in(room) as second:
                     expect(second.ask(b"VER\n"), VERSION, "the second again")
                     for _ in range(5):
                         with room.client() as third:
@@ -497,7 +506,7 @@ class Tests:
             clients = []
             try:
                 for _ in range(256):
-                    clients.append(room.client())
+                    clients.append(logged_in(room))
                 for client in clients:
                     expect(client.ask(b"VER\n"), VERSION, "one of 256")
                 with room.client() as more:

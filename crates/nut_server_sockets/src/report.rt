@@ -48,6 +48,9 @@ pub enum Report<'a> {
     ShutOut(io::Error),
     /// A client from this address was silent for this many seconds, and its connection is closed.
     Shed(IpAddr, u64),
+    /// The connection of a client from this address, which isn't logged in, is closed to let another in, because MAXCONN,
+    /// which is this, is reached.
+    MadeWay(IpAddr, usize),
     /// The connection of a client from this address is closed, because memory ran out at its request.
     Unanswered(IpAddr),
 }
@@ -71,6 +74,12 @@ impl<'a> fmt::Display for Report<'a> {
             Report::ShutOut(error) => write!(f, "cannot let a client in: {error}"),
             Report::Shed(address, seconds) => {
                 write!(f, "client {address} closed: silent for {seconds} s")
+            }
+            Report::MadeWay(address, most) => {
+                write!(
+                    f,
+                    "client {address} closed: it isn't logged in, and MAXCONN {most} is reached"
+                )
             }
             Report::Unanswered(address) => write!(f, "client {address} closed: out of memory"),
         }

@@ -114,6 +114,9 @@ impl Sockets {
         if let Some(number) = self.seat(server, &mut services.reports) {
             return Ok(Next::Close(number));
         }
+        if let Some(next) = self.admit(server, &mut services.reports) {
+            return Ok(next);
+        }
         if let Some(number) = self.shed(server, &mut services.reports) {
             return Ok(Next::Close(number));
         }
@@ -196,6 +199,29 @@ impl Sockets {
                 self.hindrances.tell_error(error, reports);
                 Some(number)
             }
+        }
+    }
+
+    /// Has the server told of a client that was accepted. If the server is full, one that isn't logged in is closed first,
+    /// so that nobody locks the monitors out; after a reload that lowered MAXCONN, one after the other is.
+    fn admit(&mut self, server: &Server, reports: &mut Reports<'_>) -> Option<Next>
+        ensures may { IfSome result (λ n. MayCome n server.now) }
+        ensures goes_on { IfSome result (λ n. n ≢ next.End) }
+    {
+        if self.door.has_guest()
+            && let Some(number) = server.makes_way()
+        {
+            self.turn_out(server, number, reports);
+            return Some(Next::Close(number));
+        }
+        let address = self.door.announce(server.opened())?;
+        Some(Next::Open(address_of(address)))
+    }
+
+    /// Closes the socket of a connection to let another client in, and reports it.
+    fn turn_out(&mut self, server: &Server, number: u64, reports: &mut Reports<'_>) {
+        if let Some(address) = self.clients.turn_out(number) {
+            self.hindrances.tell_way(address, server, reports);
         }
     }
 
@@ -329,10 +355,10 @@ impl Sockets {
                 .tell_error(io::Error::from(ErrorKind::OutOfMemory), reports);
             return None;
         }
-        match self.door.let_in(i, server.opened()) {
-            Ok(address) => {
+        match self.door.let_in(i) {
+            Ok(()) => {
                 self.rounds.ready.insert(Source::Listener(i).token());
-                Some(Next::Open(address_of(address)))
+                self.admit(server, reports)
             }
             Err(error) => {
                 if concerns_one(&error) {
