@@ -1,12 +1,13 @@
-//! The listeners, where clients connect.
+//! Where clients come in.
 
-use crate::source::Source;
-use mio::net::{TcpListener, TcpStream};
-use mio::{Interest, Registry};
+use crate::listeners::Listeners;
+use mio::Registry;
+use mio::net::TcpStream;
+use nut_poll::Reports;
 use nut_server::Server;
 use std::io;
 use std::io::ErrorKind;
-use std::net::IpAddr;
+use std::net::{IpAddr, Net};
 
 /// A client that was accepted from a listener.
 #[derive(Drop)]
@@ -34,10 +35,10 @@ pub enum Admission {
     Refused,
 }
 
-/// The listeners of a server.
+/// The listeners of a server, and the client that comes in.
 #[derive(Drop)]
 pub struct Door {
-    listeners: Vec<TcpListener>,
+    listeners: Listeners,
     /// The client that was accepted last, as long as the server hasn't been told of it.
     guest: Option<Guest>,
     arrival: Option<Arrival>,
@@ -49,16 +50,18 @@ impl Door {
     /// # Errors
     ///
     /// The error of a registration.
-    pub fn new(registry: &Registry, mut listeners: Vec<TcpListener>) -> io::Result<Door> {
-        for (i, listener) in listeners.iter_mut().enumerate() {
-            let token = Source::Listener(i).token();
-            registry.register(listener, token, Interest::READABLE)?;
-        }
+    pub fn new(registry: &Registry, mut listeners: Listeners) -> io::Result<Door> {
+        listeners.register(registry)?;
         Ok(Door {
             listeners,
             guest: None,
             arrival: None,
         })
+    }
+
+    /// Tries again to listen at the hosts of which this machine had no address.
+    pub fn try_again(&mut self, net: &impl Net, registry: &Registry, reports: &mut Reports<'_>) {
+        self.listeners.try_again(net, registry, reports);
     }
 
     /// Accepts the next client that waits at a listener, and keeps it until the server is told of it.
@@ -67,10 +70,7 @@ impl Door {
     ///
     /// `WouldBlock` if none waits, or else why the client can't be accepted.
     pub fn let_in(&mut self, i: usize) -> io::Result<()> {
-        let Some(listener) = self.listeners.get(i) else {
-            return Err(io::Error::from(ErrorKind::WouldBlock));
-        };
-        let (stream, peer) = listener.accept()?;
+        let (stream, peer) = self.listeners.accept(i)?;
         let _ = stream.set_nodelay(true);
         let address = peer.ip().to_canonical();
         self.guest = Some(Guest { stream, address });

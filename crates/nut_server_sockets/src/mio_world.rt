@@ -8,10 +8,10 @@ ghost use Rattle.nut_poll.specs.Late.{is_noted};
 ghost use Rattle.nut_server_sockets.specs.Untold.{untold};
 
 use crate::drivers::Drivers;
+use crate::listeners::Listeners;
 use crate::reloader::Reloader;
 use crate::sockets::{Services, Sockets};
 use arrayvec::ArrayVec;
-use mio::net::TcpListener;
 use nut_conf::{CONNECTIONS_MAX, UPSES_MAX};
 use nut_io::{Fault, Piece, Written};
 use nut_poll::{Reports, note_written};
@@ -66,7 +66,7 @@ impl<'r, 'e, R: Net + Clock, L: Reloader + Drop> MioWorld<'r, 'e, R, L> {
     pub fn new(
         rt: &'r R,
         alloc: Global,
-        listeners: Vec<TcpListener>,
+        listeners: Listeners,
         drivers: Drivers,
         reports: Reports<'e>,
         reloader: L,

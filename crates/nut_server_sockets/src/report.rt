@@ -1,6 +1,6 @@
 //! What is reported of drivers and clients.
 
-use std::net::IpAddr;
+use std::net::{IpAddr, SocketAddr};
 use std::{fmt, io};
 
 /// How the link to a driver ended.
@@ -28,6 +28,10 @@ impl End {
 /// An event at the sockets of a server.
 #[derive(Drop)]
 pub enum Report<'a> {
+    /// Clients may connect to this address.
+    Listening(SocketAddr),
+    /// It is impossible to listen at this host and port yet, for this reason.
+    NotListening(&'a str, u16, &'a io::Error),
     /// The driver of a UPS is connected.
     Connected(&'a str),
     /// The driver of a UPS can't be reached.
@@ -58,6 +62,10 @@ pub enum Report<'a> {
 impl<'a> fmt::Display for Report<'a> {
     fn fmt<W: fmt::Write>(&self, f: &mut fmt::Formatter<W>) -> fmt::Result {
         match self {
+            Report::Listening(address) => write!(f, "listening on {address}"),
+            Report::NotListening(host, port, error) => {
+                write!(f, "cannot listen on {host}:{port} yet: {error}")
+            }
             Report::Connected(name) => write!(f, "UPS {name}: driver connected"),
             Report::Missed(name, error) => write!(f, "UPS {name}: no driver yet: {error}"),
             Report::Ended(name, end) => write!(f, "UPS {name}: driver {}", end.text()),

@@ -11,12 +11,12 @@ use crate::door::{Admission, Door, Guest, concerns_one};
 use crate::driver::Driver;
 use crate::drivers::Drivers;
 use crate::hindrances::Hindrances;
+use crate::listeners::Listeners;
 use crate::reloader::Reloader;
 use crate::report::{End, Report};
 use crate::source::Source;
 use crate::stall::Stall;
 use mio::Events;
-use mio::net::TcpListener;
 use nut_conf::LISTENERS_MAX;
 use nut_io::{Piece, Written};
 use nut_poll::{Heard, Ready, Reports, Rounds, SOCKETS_MAX, may_be_read};
@@ -73,7 +73,7 @@ impl Sockets {
     pub fn new(
         rt: &(impl Net + Clock),
         alloc: Global,
-        listeners: Vec<TcpListener>,
+        listeners: Listeners,
         drivers: Drivers,
     ) -> io::Result<Sockets> {
         let stall = Stall::new(alloc)?;
@@ -128,6 +128,9 @@ impl Sockets {
         }
         if let Some(moment) = self.wait(services.rt)? {
             self.begin_second(server, moment, &mut services.reports);
+            let registry = self.rounds.registry();
+            self.door
+                .try_again(services.rt, registry, &mut services.reports);
             return Ok(Next::Moment(moment));
         }
         match self.look(server, piece, services.rt, &mut services.reports) {

@@ -1,13 +1,10 @@
 //! What upsd reports at its start.
 
 use std::fmt;
-use std::net::SocketAddr;
 
 /// A service that upsd has begun.
 #[derive(Drop)]
 pub enum Report<'a> {
-    /// Clients may connect to this address.
-    Listening(SocketAddr),
     /// A UPS is served: its name, and the path of its driver's socket.
     Serving(&'a str, &'a str),
 }
@@ -15,7 +12,6 @@ pub enum Report<'a> {
 impl<'a> fmt::Display for Report<'a> {
     fn fmt<W: fmt::Write>(&self, f: &mut fmt::Formatter<W>) -> fmt::Result {
         match self {
-            Report::Listening(address) => write!(f, "listening on {address}"),
             Report::Serving(name, path) => write!(f, "UPS {name}, driver at {path}"),
         }
     }
