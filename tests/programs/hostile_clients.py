@@ -21,7 +21,7 @@ import tempfile
 import time
 
 from tests.support.harness import build_library, cannot_read, ensure, expect, processor_time, run_tests
-from tests.support.room import NOT_CONNECTED, ONLINE, SOON, STATUS, VERSION, Client, Room, accepted, said, stopped, until
+from tests.support.room import NOT_CONNECTED, ONLINE, SOON, STATUS, VERSION, Client, Lines, Room, accepted, said, stopped, until
 
 # the default of MAXCONN
 MOST = 256
@@ -34,7 +34,8 @@ GREEDY_MAX_KIB = MOST * (570 + 64 + 32)
 LONG = b"ups.status: OL\n" + b"".join(b"ambient.%d.status: %s\n" % (i, b"x" * 100) for i in range(200))
 STALE = b"ERR DATA-STALE\n"
 SILENT = "upsd: client 127.0.0.1 closed: silent for {} s"
-FULL = f"upsd: cannot let a client in: MAXCONN {MOST} is reached"
+FULL = "upsd: cannot let a client in: MAXCONN {} is reached"
+MADE_WAY = "upsd: client 127.0.0.1 closed: it isn't logged in, and MAXCONN {} is reached"
 LOG_IN = b"USERNAME mon\nPASSWORD m1\nLOGIN su700\n"
 
 
@@ -182,9 +183,10 @@ class Tests:
             with closing([room.client() for _ in range(MOST - 1)]) as clients, room.client() as speaker:
                 expect(speaker.ask(b"VER\n"), VERSION, "a client that speaks")
                 with room.client() as more:
-                    ensure(more.is_closed(), "a server that is full takes one more")
-                drip = clients[0]
-                waiting = list(clients)
+                    expect(more.ask(b"VER\n"), VERSION, "one more than there may be")
+                ensure(clients[0].is_closed(), "the one that came first makes way")
+                drip = clients[1]
+                waiting = clients[1:]
                 while waiting and time.monotonic() < begun + 60:
                     expect(speaker.ask(b"VER\n"), VERSION, "a client that speaks all the time")
                     with contextlib.suppress(OSError):
@@ -197,7 +199,66 @@ class Tests:
                 expect(room.serves(), True, "a new client is served")
                 expect(speaker.ask(b"VER\n"), VERSION, "a client that spoke all the time")
             told = [line for line in said(upsd) if "client" in line]
-            expect(told, [FULL] + [SILENT.format(60)] * (MOST - 1), "what is told of it")
+            expect(told, [MADE_WAY.format(MOST)] + [SILENT.format(60)] * (MOST - 2), "what is told of it")
+
+    def test_strangers_lock_no_monitor_out(self):
+        """Strangers hold all places, and send an empty line now and then. Each that calls again makes way for the next."""
+        with self.room(conf=b"MAXCONN 4\n") as room:
+            room.upsd()
+            with closing([room.client() for _ in range(4)]) as strangers:
+                for stranger in strangers:
+                    expect(stranger.ask(b"\nVER\n"), VERSION, "a stranger")
+                with self.logged_in(room) as monitor:
+                    for made_way in range(20):
+                        strangers.append(room.client())
+                        expect(strangers[-1].ask(b"\nVER\n"), VERSION, "a stranger that calls again")
+                        ensure(strangers[made_way + 1].is_closed(), "the stranger that was there for longest makes way")
+                        expect(monitor.ask(b"VER\n"), VERSION, "a monitor that is logged in")
+                ensure(strangers[0].is_closed(), "the first made way for the monitor")
+
+    def test_who_makes_way(self):
+        """A client with a wrong password, then one without a name, then one with the right name and password; nobody who is
+        logged in."""
+        with self.room(conf=b"MAXCONN 4\n") as room:
+            lines = Lines(room.upsd("-q"))
+            with contextlib.ExitStack() as stack:
+                there = [stack.enter_context(self.logged_in(room))]
+                known, wrong, nameless = (stack.enter_context(room.client()) for _ in range(3))
+                known.log_in()
+                wrong.log_in(b"admin", b"wrong")
+                expect(nameless.ask(b"VER\n"), VERSION, "a client that gives no name")
+                for who, gone in (("a wrong password", wrong), ("no name", nameless), ("the right password", known)):
+                    there.append(stack.enter_context(self.logged_in(room)))
+                    ensure(gone.is_closed(), f"a client with {who} makes way")
+                    for client in there if gone is known else [*there, known]:
+                        expect(client.ask(b"VER\n"), VERSION, f"another client, once that with {who} has made way")
+
+                def is_told():
+                    with room.client() as more:
+                        ensure(more.is_closed(), "a client is let in though all places are taken by logins")
+                    return lines.count(FULL.format(4))
+
+                until(is_told, "a refusal is told")
+                for client in there:
+                    expect(client.ask(b"VER\n"), VERSION, "one that is logged in")
+            until(room.serves, "the others have gone")
+
+    def test_what_is_told_of_those_that_make_way(self):
+        with self.room(conf=b"MAXCONN 4\n") as room:
+            upsd, begun = room.upsd("-q"), time.monotonic()
+            before = descriptors(upsd.pid)
+            with closing([]) as clients:
+                for _ in range(500):
+                    clients.append(room.client())
+                    expect(clients[-1].ask(b"VER\n"), VERSION, "a client that calls")
+                    if len(clients) > 4:
+                        # it has made way, and is closed here only now
+                        clients.pop(0).close()
+                ensure(descriptors(upsd.pid) <= before + 5, "those that made way leave no descriptor")
+            took = time.monotonic() - begun
+            told = said(upsd)
+            expect(set(told), {MADE_WAY.format(4)}, "what is told")
+            ensure(len(told) <= took + 2, f"{len(told)} lines in {took:.1f} s")
 
     def test_silent_login(self):
         """Ten minutes of the server's clock last twelve seconds here."""

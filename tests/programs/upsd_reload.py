@@ -388,7 +388,8 @@ class Tests(Shimmed):
             clients = [room.client() for _ in range(4)]
             try:
                 for client in clients:
-                    expect(client.ask(b"VER\n"), VERSION, "a client")
+                    client.log_in(b"mon", b"m1")
+                    expect(client.ask(b"LOGIN su700\n"), b"OK\n", "LOGIN")
                 room.write("upsd.conf", listen % room.port + b"MAXAGE 30\nMAXCONN 2\n")
                 room.reload(None, "upsd: reloaded: MAXAGE 30, MAXCONN 2")
                 for client in clients:
@@ -406,6 +407,24 @@ class Tests(Shimmed):
             finally:
                 for client in clients:
                     client.close()
+
+    def test_fewer_places_than_clients(self):
+        """After a reload that lowers MAXCONN nobody is closed until a client calls; then as many make way as it takes."""
+        with self.room() as room:
+            room.serve()
+            with contextlib.ExitStack() as stack:
+                clients = [stack.enter_context(room.client()) for _ in range(6)]
+                clients[1].log_in(b"mon", b"m1")
+                expect(clients[1].ask(b"LOGIN su700\n"), b"OK\n", "LOGIN")
+                room.write("upsd.conf", b"LISTEN 127.0.0.1 %d\nMAXCONN 3\n" % room.port)
+                room.reload(None, "upsd: reloaded: MAXCONN 3")
+                for client in clients:
+                    expect(client.ask(b"VER\n"), VERSION, "a client that is past MAXCONN")
+                more = stack.enter_context(room.client())
+                for client in (more, clients[1], clients[5]):
+                    expect(client.ask(b"VER\n"), VERSION, "a new client, one that is logged in, and the last without login")
+                for client in (clients[0], *clients[2:5]):
+                    expect(client.is_closed(), True, "a client that came before makes way")
 
     def test_listeners_stay(self):
         with self.room() as room:

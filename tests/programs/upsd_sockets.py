@@ -18,7 +18,8 @@ import time
 
 from tests.support.harness import Failed, Missing, apart, cannot_read, expect, processor_time, run_tests
 from tests.support.room import Client, DEVICE, Lines, NOT_CONNECTED, ONLINE, Room, SOON, STATUS, VERSION
-from tests.support.room import accepted, family_of, first_lines, free_port, has_ipv6, heed_modes, raise_loopback, said, until
+from tests.support.room import accepted, connected, family_of, first_lines, free_port, give_address, has_ipv6, heed_modes, raise_loopback
+from tests.support.room import said, until
 
 # the setting of a network that keeps IPv4 out of a socket of IPv6
 ONLY_IPV6 = "/proc/sys/net/ipv6/bindv6only"
@@ -37,6 +38,14 @@ def with_hosts(path):
 def why(error):
     """Returns how programs say an error of the system's."""
     return f"{os.strerror(error)} (os error {error})"
+
+
+def logged_in(room):
+    """Returns a new client that is logged in."""
+    client = room.client()
+    client.log_in(b"mon", b"m1")
+    expect(client.ask(b"LOGIN su700\n"), b"OK\n", "LOGIN")
+    return client
 
 
 def put_listeners(room, hosts):
@@ -368,6 +377,28 @@ class Tests:
             found = self.run(self.programs[0], "--conf", room.folder, "-s", room.folder)
             said = f"upsd: cannot listen on 192.0.2.1:3493: {why(errno.EADDRNOTAVAIL)}\n".encode()
             expect(found, (1, b"", said), "an address of another machine")
+            put_listeners(room, ("198.51.100.1", "192.0.2.1"))
+            found = self.run(self.programs[0], "--conf", room.folder, "-s", room.folder)
+            said = f"upsd: cannot listen on 198.51.100.1:{room.port}: {why(errno.EADDRNOTAVAIL)}\n".encode()
+            expect(found, (1, b"", said), "two addresses of other machines")
+            with socket.create_server(("127.0.0.1", room.port)):
+                put_listeners(room, ("198.51.100.1", "127.0.0.1"))
+                found = self.run(self.programs[0], "--conf", room.folder, "-s", room.folder)
+                said = f"upsd: cannot listen on 127.0.0.1:{room.port}: {why(errno.EADDRINUSE)}\n".encode()
+                expect(found, (1, b"", said), "an address of another machine, and one that is in use")
+
+    def play_inside(self, name):
+        """Plays a test of `Inside` in a network of its own."""
+        inside = [sys.executable, "-m", "tests.programs.upsd_sockets", "--inside", name, self.folder, *self.all_programs]
+        status, out, err = self.run(*apart("--net"), *inside)
+        if status:
+            raise Failed((out + err).decode().strip())
+
+    def test_address_that_comes_late(self):
+        self.play_inside("play_late_address")
+
+    def test_late_address_that_is_in_use(self):
+        self.play_inside("play_late_address_in_use")
 
     def test_several_listeners(self):
         port = free_port()
@@ -462,14 +493,10 @@ class Tests:
         """This program plays the test again in a network of its own, where a socket of IPv6 takes no clients of IPv4."""
         if not has_ipv6():
             raise Missing("this machine has no IPv6")
-        command = apart("--net")
-        status, _, err = self.run(*command, "sh", "-c", f"echo 1 >{ONLY_IPV6}")
+        status, _, err = self.run(*apart("--net"), "sh", "-c", f"echo 1 >{ONLY_IPV6}")
         if status:
             raise Missing(f"the network can't be set up: {err.decode().strip()}")
-        inside = [sys.executable, "-m", "tests.programs.upsd_sockets", "--inside", self.folder, *self.all_programs]
-        status, out, err = self.run(*command, *inside)
-        if status:
-            raise Failed((out + err).decode().strip())
+        self.play_inside("play_ipv6_alone")
 
     def test_same_host_at_two_ports(self):
         port = free_port()
@@ -511,9 +538,10 @@ class Tests:
         with self.room(conf=b"MAXCONN 2\n") as room:
             upsd = room.upsd("-q")
             until(room.serves, "the first connection has gone")
-            with room.client() as first:
+            # no client that is logged in makes way for another
+            with logged_in(room) as first:
                 expect(first.ask(b"VER\n"), VERSION, "the first")
-                with room.client() as second:
+                with logged_in(room) as second:
                     expect(second.ask(b"VER\n"), VERSION, "the second")
                     for _ in range(5):
                         with room.client() as third:
@@ -522,7 +550,7 @@ class Tests:
                 expect(first.ask(b"VER\n"), VERSION, "the first again")
                 # what is told is told at most once a second
                 time.sleep(1.5)
-                with room.client() as second:
+                with logged_in(room) as second:
                     expect(second.ask(b"VER\n"), VERSION, "the second again")
                     for _ in range(5):
                         with room.client() as third:
@@ -536,7 +564,7 @@ class Tests:
             clients = []
             try:
                 for _ in range(256):
-                    clients.append(room.client())
+                    clients.append(logged_in(room))
                 for client in clients:
                     expect(client.ask(b"VER\n"), VERSION, "one of 256")
                 with room.client() as more:
@@ -825,9 +853,60 @@ class Tests:
 
 
 class Inside(Tests):
-    """The test that is played in a network where a socket of IPv6 takes no clients of IPv4."""
+    """The tests that are played in a network of their own."""
 
-    def play(self):
+    def starts_without(self, room):
+        """Starts upsd, which can listen at one address, and not yet at another. Returns its lines."""
+        put_listeners(room, ("192.0.2.1", "127.0.0.1"))
+        lines = Lines(room.upsd("-q"))
+        told = lines.next("upsd: cannot listen")
+        expect(told, f"upsd: cannot listen on 192.0.2.1:{room.port} yet: {why(errno.EADDRNOTAVAIL)}", "what is told of it")
+        expect(room.ask(b"VER\n"), VERSION, "at the other address")
+        return lines
+
+    def play_late_address(self):
+        raise_loopback()
+        with self.room() as room:
+            lines = self.starts_without(room)
+            with room.client() as client:
+                # it is tried several times
+                time.sleep(3)
+                expect(lines.count("upsd: cannot listen"), 1, "how often it is told")
+                give_address("192.0.2.1")
+                for host in ("192.0.2.1", "127.0.0.1"):
+                    with until(lambda host=host: connected((host, room.port)), f"upsd listens at {host}") as other:
+                        other.sendall(b"VER\n")
+                        expect(other.recv(100), VERSION, f"at {host}")
+                expect(client.ask(b"VER\n"), VERSION, "a client that was there before")
+        with self.room() as room:
+            # without -q each is told when it comes
+            put_listeners(room, ("127.0.0.1", "198.51.100.1"))
+            lines = Lines(room.upsd())
+            missing = f"upsd: cannot listen on 198.51.100.1:{room.port} yet: {why(errno.EADDRNOTAVAIL)}"
+            until(lambda: len(lines.lines) > 2, "it begins to serve")
+            expect(lines.lines[:2], [f"upsd: listening on 127.0.0.1:{room.port}", missing], "what is told at the start")
+            give_address("198.51.100.1")
+            expect(lines.next("upsd: listening on 198"), f"upsd: listening on 198.51.100.1:{room.port}", "what is told then")
+
+    def play_late_address_in_use(self):
+        """Another program listens at the address before it comes. upsd tells it, and listens there once that program is gone."""
+        raise_loopback()
+        free_bind = 15
+        with self.room() as room, socket.socket() as other:
+            lines = self.starts_without(room)
+            other.setsockopt(socket.SOL_IP, free_bind, 1)
+            other.bind(("192.0.2.1", room.port))
+            other.listen()
+            give_address("192.0.2.1")
+            told = lines.next("upsd: cannot listen")
+            expect(told, f"upsd: cannot listen on 192.0.2.1:{room.port} yet: {why(errno.EADDRINUSE)}", "what is told of it")
+            other.close()
+            with until(lambda: connected(("192.0.2.1", room.port)), "upsd listens there") as client:
+                client.sendall(b"VER\n")
+                expect(client.recv(100), VERSION, "once the other program is gone")
+
+    def play_ipv6_alone(self):
+        """A socket of IPv6 takes no clients of IPv4."""
         raise_loopback()
         with open(ONLY_IPV6, "w") as file:
             file.write("1")
@@ -856,8 +935,8 @@ class Inside(Tests):
 
 def main():
     if sys.argv[1] == "--inside":
-        folder, *programs = sys.argv[2:]
-        Inside(*programs, folder).play()
+        name, folder, *programs = sys.argv[2:]
+        getattr(Inside(*programs, folder), name)()
         return 0
     programs, names = map(os.path.abspath, sys.argv[1:5]), sys.argv[5:]
     # 256 clients, and what else is open

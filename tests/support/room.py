@@ -63,6 +63,13 @@ def raise_loopback():
         fcntl.ioctl(any_socket, set_flags, struct.pack("16sh14x", b"lo", flags | up))
 
 
+def give_address(address):
+    """Gives the loopback interface of this network, one made by `unshare`, this IPv4 address too."""
+    set_address = 0x8916
+    with socket.socket(socket.AF_INET, socket.SOCK_DGRAM) as any_socket:
+        fcntl.ioctl(any_socket, set_address, struct.pack("16sH2x4s8x", b"lo:1", socket.AF_INET, socket.inet_aton(address)))
+
+
 def family_of(host):
     """Returns the family of an address that is written with colons or without."""
     return socket.AF_INET6 if ":" in host else socket.AF_INET

@@ -25,6 +25,7 @@ pub mod ShortNames
 pub mod Arrives
 pub mod Heard
 pub mod Settled
+pub mod Seats
 pub mod Limited
 pub mod NamedApart
 mod WholeLine

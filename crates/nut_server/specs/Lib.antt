@@ -1,4 +1,5 @@
 pub mod Arrival
 pub mod Settling
+pub mod Seats
 pub mod Configured
 pub mod inside

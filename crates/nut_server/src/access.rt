@@ -5,6 +5,7 @@ ghost use Rattle.nut_server_spec.specs.Answer as definitions;
 ghost use Rattle.nut_server_spec.specs.Answer.{has_right, is_primary, refused, ups_number, with_credentials, with_right};
 ghost use Rattle.nut_server_spec.specs.Configuration.{user_named};
 ghost use Rattle.nut_server_spec.specs.machine.Machine.{caller_of};
+ghost use Rattle.nut_server.specs.Seats.{are_right};
 ghost use Rattle.nut_server.specs.inside.Access.{allows};
 
 use crate::config::{Config, User};
@@ -77,6 +78,22 @@ pub fn credentials(caller: &Connection) -> Result<(&[u8], &[u8]), Refusal>
         return Err(Refusal::PasswordRequired);
     };
     Ok((user, password))
+}
+
+/// Whether the client gave the name of a user and the password of that user.
+pub fn has_right_credentials(config: &Config, caller: &Connection) -> bool
+    ensures { result ≡ are_right config.now.users caller.now.user caller.now.password }
+{
+    let Some(name) = caller.user() else {
+        return false;
+    };
+    let Some(password) = caller.password() else {
+        return false;
+    };
+    match config.find_user(name) {
+        Some(user) => user.has_password(password),
+        None => false,
+    }
 }
 
 /// Returns the number of the UPS with this name, if the client may use the right on it.

@@ -5,10 +5,10 @@
 //! unsettled, so unsettled connections are found without a look into the slots. If their count is 0, there is no need
 //! to look at the keys either.
 
-ghost use Rattle.std.specs.Prelude.{◌≡◌, ◌<◌, ◌≤◌, ℕ, [], ◌∷◌, ◌++◌, Some, None, IfOk, IfNone, IfSome, OnOk, OnErr, cond, count_by, drop, filter, find, length, map, nat_le, not, ◌&&◌, option_map, remove, slice_get, slice_set, vec_capacity};
+ghost use Rattle.std.specs.Prelude.{◌≡◌, ◌<◌, ◌≤◌, ℕ, false, [], ◌∷◌, ◌++◌, Some, None, IfOk, IfNone, IfSome, OnOk, OnErr, cond, count_by, drop, filter, find, length, map, nat_le, not, ◌&&◌, option_map, remove, slice_get, slice_set, vec_capacity};
 ghost use Rattle.nut_words.specs.Lines.{Text};
 ghost use Rattle.nut_server_spec.specs.Content.{Session};
-ghost use Rattle.nut_server_spec.specs.Acceptance.{session_of};
+ghost use Rattle.nut_server_spec.specs.Acceptance.{has_login, session_of};
 ghost use Rattle.nut_server_spec.specs.Answer.{guests_of};
 ghost use Rattle.nut_server_spec.specs.Numbering.{is_to_cleared};
 ghost use Rattle.nut_server_spec.specs.laws.Laws.{IsRising, IsUpTo};
@@ -19,8 +19,11 @@ ghost use Rattle.nut_server.specs.inside.Fates.{fate_in};
 ghost use Rattle.nut_words.specs.Hearing.{IsRest};
 ghost use Rattle.nut_server.specs.inside.Inside.{numbers_of};
 ghost use Rattle.nut_server.specs.inside.Place.{Stands};
+ghost use Rattle.nut_server.specs.Seats.{has_no_login, is_stranger, longest_without_login};
 ghost use Rattle.nut_server.specs.Settling.{IsNextUnsettled, settles};
 
+use crate::access::has_right_credentials;
+use crate::config::Config;
 use crate::connection::Connection;
 use crate::effect::Effect;
 use crate::reloading::Reloading;
@@ -75,6 +78,20 @@ fn mark(order: &mut Vec<Key>, count: &mut usize, at: usize, unsettled: bool)
         (false, false) | (true, true) => {}
     }
     order[at] = Key { unsettled, ..key };
+}
+
+/// Whether the client isn't logged in.
+fn has_no_login(connection: &Connection) -> bool
+    ensures { result ≡ has_no_login connection.now }
+{
+    connection.login().is_none()
+}
+
+/// Whether the client isn't logged in, and hasn't given the name and the password of a user.
+fn is_stranger(config: &Config, connection: &Connection) -> bool
+    ensures { result ≡ is_stranger config.now.users connection.now }
+{
+    has_no_login(connection) && !has_right_credentials(config, connection)
 }
 
 /// The open connections, by rising number, with room for [`CONNECTIONS_MAX`].
@@ -204,6 +221,46 @@ impl Connections {
         ensures { IsNextUnsettled self.now least result }
     {
         self.find_unsettled(least)
+    }
+
+    /// Returns the number of the first connection of a stranger: a client that isn't logged in, and hasn't given the name
+    /// and the password of a user.
+    fn first_stranger(&self, config: &Config) -> Option<u64>
+        ensures { result ≡ option_map (λ k. k.number) (find (is_stranger config.now.users) self.now) }
+    {
+        for index in 0..self.len() {
+            let connection = self.at(index);
+            if is_stranger(config, connection) {
+                return Some(connection.number());
+            }
+        }
+        None
+    }
+
+    /// Returns the number of the first connection whose client isn't logged in.
+    fn first_without_login(&self) -> Option<u64>
+        ensures { result ≡ option_map (λ k. k.number) (find has_no_login self.now) }
+    {
+        for index in 0..self.len() {
+            let connection = self.at(index);
+            if has_no_login(connection) {
+                return Some(connection.number());
+            }
+        }
+        None
+    }
+
+    /// Returns the number of the connection that makes way for a new one: the first of a stranger; if there is none, the
+    /// first without login.
+    pub fn longest_without_login(&self, config: &Config) -> Option<u64>
+        ensures value { result ≡ option_map (λ k. k.number) (longest_without_login config.now.users self.now) }
+        ensures not_logged_in { IfSome result (λ c. has_login (session_of c self.now) ≡ false) }
+    {
+        let _order = &self.order;
+        match self.first_stranger(config) {
+            Some(number) => Some(number),
+            None => self.first_without_login(),
+        }
     }
 
     /// Adds a connection whose number is greater than those of all others. There is room for it.

@@ -14,6 +14,7 @@ ghost use Rattle.nut_server_spec.specs.laws.Limits.{AreWithin, IsWithin, most_wa
 ghost use Rattle.nut_server_spec.specs.Outcome.{IsAnswer, after};
 ghost use Rattle.nut_server_spec.specs.machine.MachineOutcome.{Answers, content_after};
 ghost use Rattle.nut_server.specs.Arrival.{event_of};
+ghost use Rattle.nut_server.specs.Seats.{makes_way};
 ghost use Rattle.nut_server.specs.Settling.{IsNextUnsettled, IsNextWaiting};
 
 use crate::address::address_of;
@@ -395,6 +396,19 @@ impl Server {
         ensures fits { IfSome result (λ c. c < u64.MAX) }
     {
         self.connections.first_unsettled(least)
+    }
+
+    /// Returns the number of the connection that is to be closed if a client calls: of those whose clients aren't logged in
+    /// the one that was opened first; those whose clients gave the name and the password of a user come last. Returns `None`
+    /// if a connection can be opened as it is, if all clients are logged in, or if [`OPENED_MAX`] connections were opened.
+    pub fn makes_way(&self) -> Option<u64>
+        ensures value { result ≡ makes_way self.now }
+        ensures not_logged_in { IfSome result (λ c. has_login (session_of c self.now.sessions) ≡ false) }
+    {
+        if self.connections.len() < self.config.most_connections() || self.opened >= OPENED_MAX {
+            return None;
+        }
+        self.connections.longest_without_login(&self.config)
     }
 
     /// Returns the least number, from `least` on, of a UPS for whose driver bytes wait.

@@ -146,6 +146,13 @@ impl Clients {
         None
     }
 
+    /// Closes the socket of a connection to let another client in. Returns the address of its client.
+    pub fn turn_out(&mut self, number: u64) -> Option<IpAddr> {
+        let key = self.keys.remove(&number)?;
+        let client = self.sockets.try_remove(key)?;
+        Some(client.address())
+    }
+
     /// Closes the socket of a connection. Returns the address of its client if that is unanswered.
     pub fn close(&mut self, number: u64) -> Option<IpAddr> {
         let key = self.keys.remove(&number)?;

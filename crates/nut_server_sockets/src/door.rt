@@ -1,12 +1,13 @@
-//! The listeners, where clients connect.
+//! Where clients come in.
 
-use crate::source::Source;
-use mio::net::{TcpListener, TcpStream};
-use mio::{Interest, Registry};
+use crate::listeners::Listeners;
+use mio::Registry;
+use mio::net::TcpStream;
+use nut_poll::Reports;
 use nut_server::Server;
 use std::io;
 use std::io::ErrorKind;
-use std::net::IpAddr;
+use std::net::{IpAddr, Net};
 
 /// A client that was accepted from a listener.
 #[derive(Drop)]
@@ -17,7 +18,7 @@ pub struct Guest {
     pub address: IpAddr,
 }
 
-/// A client that was accepted from a listener, before the server has said whether it accepts the connection.
+/// A client that the server was told of, before it has said whether it accepts the connection.
 #[derive(Drop)]
 struct Arrival {
     guest: Guest,
@@ -25,7 +26,7 @@ struct Arrival {
     opened: u64,
 }
 
-/// What became of the client that was accepted last.
+/// What became of the client that the server was told of last.
 #[derive(Drop)]
 pub enum Admission {
     /// The server accepted the connection and gave it this number.
@@ -34,10 +35,12 @@ pub enum Admission {
     Refused,
 }
 
-/// The listeners of a server.
+/// The listeners of a server, and the client that comes in.
 #[derive(Drop)]
 pub struct Door {
-    listeners: Vec<TcpListener>,
+    listeners: Listeners,
+    /// The client that was accepted last, as long as the server hasn't been told of it.
+    guest: Option<Guest>,
     arrival: Option<Arrival>,
 }
 
@@ -47,36 +50,48 @@ impl Door {
     /// # Errors
     ///
     /// The error of a registration.
-    pub fn new(registry: &Registry, mut listeners: Vec<TcpListener>) -> io::Result<Door> {
-        for (i, listener) in listeners.iter_mut().enumerate() {
-            let token = Source::Listener(i).token();
-            registry.register(listener, token, Interest::READABLE)?;
-        }
+    pub fn new(registry: &Registry, mut listeners: Listeners) -> io::Result<Door> {
+        listeners.register(registry)?;
         Ok(Door {
             listeners,
+            guest: None,
             arrival: None,
         })
     }
 
-    /// Accepts the next client that waits at a listener, and returns its address. `opened` is the number of connections
-    /// opened before.
+    /// Tries again to listen at the hosts of which this machine had no address.
+    pub fn try_again(&mut self, net: &impl Net, registry: &Registry, reports: &mut Reports<'_>) {
+        self.listeners.try_again(net, registry, reports);
+    }
+
+    /// Accepts the next client that waits at a listener, and keeps it until the server is told of it.
     ///
     /// # Errors
     ///
     /// `WouldBlock` if none waits, or else why the client can't be accepted.
-    pub fn let_in(&mut self, i: usize, opened: u64) -> io::Result<IpAddr> {
-        let Some(listener) = self.listeners.get(i) else {
-            return Err(io::Error::from(ErrorKind::WouldBlock));
-        };
-        let (stream, peer) = listener.accept()?;
+    pub fn let_in(&mut self, i: usize) -> io::Result<()> {
+        let (stream, peer) = self.listeners.accept(i)?;
         let _ = stream.set_nodelay(true);
         let address = peer.ip().to_canonical();
-        let guest = Guest { stream, address };
-        self.arrival = Some(Arrival { guest, opened });
-        Ok(address)
+        self.guest = Some(Guest { stream, address });
+        Ok(())
     }
 
-    /// Returns what became of the client that was accepted last, if that is new.
+    /// Whether a client was accepted of which the server hasn't been told.
+    pub fn has_guest(&self) -> bool {
+        self.guest.is_some()
+    }
+
+    /// Returns the address of a client of which the server hasn't been told, and is told now. `opened` is the number of
+    /// connections opened before.
+    pub fn announce(&mut self, opened: u64) -> Option<IpAddr> {
+        let guest = self.guest.take()?;
+        let address = guest.address;
+        self.arrival = Some(Arrival { guest, opened });
+        Some(address)
+    }
+
+    /// Returns what became of the client that the server was told of last, if that is new.
     pub fn admission(&mut self, server: &Server) -> Option<Admission> {
         let Arrival { guest, opened } = self.arrival.take()?;
         let number = server.opened();

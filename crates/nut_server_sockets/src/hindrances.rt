@@ -1,4 +1,4 @@
-//! What keeps clients out, and the lack of memory that closes their connections: each cause is reported once.
+//! What keeps clients out, and what closes their connections: a lack of memory, or clients that call when the server is full.
 
 ghost use Rattle.std.specs.Prelude.{◌≡◌, ◌↔◌, IsTrue, true, false};
 
@@ -10,8 +10,8 @@ use std::io;
 use std::io::ErrorKind;
 use std::net::IpAddr;
 
-/// Which causes that keep clients out or close their connections were reported since a client was let in. At most one
-/// report is made in a second, so that clients that come and go don't fill a log.
+/// Which causes that keep clients out or close their connections were reported since a client was let in: each is reported
+/// once until then. At most one report is made in a second, so that clients that come and go don't fill a log.
 #[derive(Drop)]
 pub struct Hindrances {
     /// Whether it was reported that the server refuses clients.
@@ -51,6 +51,15 @@ impl Hindrances {
     pub fn tell_refusal(&mut self, server: &Server, reports: &mut Reports<'_>) {
         if note(&mut self.has_told_refusal, &mut self.has_told) {
             reports.warn(refusal_by(server));
+        }
+    }
+
+    /// Reports that the connection of a client from this address is closed to let another in.
+    pub fn tell_way(&mut self, address: IpAddr, server: &Server, reports: &mut Reports<'_>) {
+        if !self.has_told {
+            self.has_told = true;
+            let most = server.config().most_connections();
+            reports.warn(Report::MadeWay(address, most));
         }
     }
 

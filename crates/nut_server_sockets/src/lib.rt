@@ -7,8 +7,10 @@ mod clients;
 mod door;
 mod driver;
 mod drivers;
+mod dual_stack;
 mod hindrances;
 mod keepalive;
+mod listeners;
 mod mio_world;
 mod reloader;
 mod report;
@@ -18,5 +20,6 @@ mod stall;
 
 pub use driver::Driver;
 pub use drivers::Drivers;
+pub use listeners::{Listeners, Missing};
 pub use mio_world::MioWorld;
 pub use reloader::Reloader;

@@ -8,10 +8,10 @@ ghost use Rattle.nut_poll.specs.Late.{is_noted};
 ghost use Rattle.nut_server_sockets.specs.Untold.{untold};
 
 use crate::drivers::Drivers;
+use crate::listeners::Listeners;
 use crate::reloader::Reloader;
 use crate::sockets::{Services, Sockets};
 use arrayvec::ArrayVec;
-use mio::net::TcpListener;
 use nut_conf::{CONNECTIONS_MAX, UPSES_MAX};
 use nut_io::{Fault, Piece, Written};
 use nut_poll::{Reports, note_written};
@@ -28,9 +28,10 @@ const LATE_MAX: usize = CONNECTIONS_MAX as usize;
 /// The world of a server whose clients connect over TCP, and whose drivers listen on Unix sockets.
 ///
 /// One thread watches all sockets. A `Moment` comes each second, counted from the start. After it comes a new
-/// configuration, if the reloader has one. Then the drivers are looked at, and one that isn't connected is dialled. A
-/// client that the server has no room for is accepted and closed at once. A client that is silent for too long is
-/// closed: after 60 seconds in which it neither sent a line nor took some of an answer, or 600 if it is logged in.
+/// configuration, if the reloader has one. Then the drivers are looked at, and one that isn't connected is dialled. If the
+/// server is full, the connection of [`Server::makes_way`] is closed for a client that calls; if there is none, that client
+/// is accepted and closed at once. A client that is silent for too long is closed: after 60 seconds in which it neither
+/// sent a line nor took some of an answer, or 600 if it is logged in.
 ///
 /// The world never ends. Only `next` returns a fault, that of the wait for the sockets or of the clock: a failure of
 /// one socket concerns no other. The world keeps no record.
@@ -65,7 +66,7 @@ impl<'r, 'e, R: Net + Clock, L: Reloader + Drop> MioWorld<'r, 'e, R, L> {
     pub fn new(
         rt: &'r R,
         alloc: Global,
-        listeners: Vec<TcpListener>,
+        listeners: Listeners,
         drivers: Drivers,
         reports: Reports<'e>,
         reloader: L,

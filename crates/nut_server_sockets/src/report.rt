@@ -1,7 +1,7 @@
 //! What is reported of drivers and clients.
 
 use nut_log::{Level, Leveled};
-use std::net::IpAddr;
+use std::net::{IpAddr, SocketAddr};
 use std::{fmt, io};
 
 /// How the link to a driver ended.
@@ -37,6 +37,10 @@ impl End {
 /// An event at the sockets of a server.
 #[derive(Drop)]
 pub enum Report<'a> {
+    /// Clients may connect to this address.
+    Listening(SocketAddr),
+    /// It is impossible to listen at this host and port yet, for this reason.
+    NotListening(&'a str, u16, &'a io::Error),
     /// The driver of a UPS is connected.
     Connected(&'a str),
     /// The driver of a UPS can't be reached.
@@ -57,6 +61,9 @@ pub enum Report<'a> {
     ShutOut(io::Error),
     /// A client from this address was silent for this many seconds, and its connection is closed.
     Shed(IpAddr, u64),
+    /// The connection of a client from this address, which isn't logged in, is closed to let another in, because MAXCONN,
+    /// which is this, is reached.
+    MadeWay(IpAddr, usize),
     /// The connection of a client from this address is closed, because memory ran out at its request.
     Unanswered(IpAddr),
 }
@@ -64,6 +71,10 @@ pub enum Report<'a> {
 impl<'a> fmt::Display for Report<'a> {
     fn fmt<W: fmt::Write>(&self, f: &mut fmt::Formatter<W>) -> fmt::Result {
         match self {
+            Report::Listening(address) => write!(f, "listening on {address}"),
+            Report::NotListening(host, port, error) => {
+                write!(f, "cannot listen on {host}:{port} yet: {error}")
+            }
             Report::Connected(name) => write!(f, "UPS {name}: driver connected"),
             Report::Missed(name, error) => write!(f, "UPS {name}: no driver yet: {error}"),
             Report::Ended(name, end) => write!(f, "UPS {name}: driver {}", end.text()),
@@ -81,6 +92,12 @@ impl<'a> fmt::Display for Report<'a> {
             Report::Shed(address, seconds) => {
                 write!(f, "client {address} closed: silent for {seconds} s")
             }
+            Report::MadeWay(address, most) => {
+                write!(
+                    f,
+                    "client {address} closed: it isn't logged in, and MAXCONN {most} is reached"
+                )
+            }
             Report::Unanswered(address) => write!(f, "client {address} closed: out of memory"),
         }
     }
@@ -89,14 +106,19 @@ impl<'a> fmt::Display for Report<'a> {
 impl<'a> Leveled for Report<'a> {
     fn level(&self) -> Level {
         match self {
-            Report::Connected(_) | Report::Fresh(_) | Report::Shed(..) => Level::Info,
+            Report::Listening(_)
+            | Report::Connected(_)
+            | Report::Fresh(_)
+            | Report::Shed(..) => Level::Info,
             Report::Ended(_, end) => end.level(),
-            Report::Missed(..)
+            Report::NotListening(..)
+            | Report::Missed(..)
             | Report::Stale(_)
             | Report::Forced(_)
             | Report::Full(_)
             | Report::Spent(_)
             | Report::ShutOut(_)
+            | Report::MadeWay(..)
             | Report::Unanswered(_) => Level::Warning,
         }
     }

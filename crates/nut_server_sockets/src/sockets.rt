@@ -11,12 +11,12 @@ use crate::door::{Admission, Door, Guest, concerns_one};
 use crate::driver::Driver;
 use crate::drivers::Drivers;
 use crate::hindrances::Hindrances;
+use crate::listeners::Listeners;
 use crate::reloader::Reloader;
 use crate::report::{End, Report};
 use crate::source::Source;
 use crate::stall::Stall;
 use mio::Events;
-use mio::net::TcpListener;
 use nut_conf::LISTENERS_MAX;
 use nut_io::{Piece, Written};
 use nut_poll::{Heard, Ready, Reports, Rounds, SOCKETS_MAX, may_be_read};
@@ -73,7 +73,7 @@ impl Sockets {
     pub fn new(
         rt: &(impl Net + Clock),
         alloc: Global,
-        listeners: Vec<TcpListener>,
+        listeners: Listeners,
         drivers: Drivers,
     ) -> io::Result<Sockets> {
         let stall = Stall::new(alloc)?;
@@ -114,6 +114,9 @@ impl Sockets {
         if let Some(number) = self.seat(server, &mut services.reports) {
             return Ok(Next::Close(number));
         }
+        if let Some(next) = self.admit(server, &mut services.reports) {
+            return Ok(next);
+        }
         if let Some(number) = self.shed(server, &mut services.reports) {
             return Ok(Next::Close(number));
         }
@@ -125,6 +128,9 @@ impl Sockets {
         }
         if let Some(moment) = self.wait(services.rt)? {
             self.begin_second(server, moment, &mut services.reports);
+            let registry = self.rounds.registry();
+            self.door
+                .try_again(services.rt, registry, &mut services.reports);
             return Ok(Next::Moment(moment));
         }
         match self.look(server, piece, services.rt, &mut services.reports) {
@@ -196,6 +202,29 @@ impl Sockets {
                 self.hindrances.tell_error(error, reports);
                 Some(number)
             }
+        }
+    }
+
+    /// Has the server told of a client that was accepted. If the server is full, one that isn't logged in is closed first,
+    /// so that nobody locks the monitors out; after a reload that lowered MAXCONN, one after the other is.
+    fn admit(&mut self, server: &Server, reports: &mut Reports<'_>) -> Option<Next>
+        ensures may { IfSome result (λ n. MayCome n server.now) }
+        ensures goes_on { IfSome result (λ n. n ≢ next.End) }
+    {
+        if self.door.has_guest()
+            && let Some(number) = server.makes_way()
+        {
+            self.turn_out(server, number, reports);
+            return Some(Next::Close(number));
+        }
+        let address = self.door.announce(server.opened())?;
+        Some(Next::Open(address_of(address)))
+    }
+
+    /// Closes the socket of a connection to let another client in, and reports it.
+    fn turn_out(&mut self, server: &Server, number: u64, reports: &mut Reports<'_>) {
+        if let Some(address) = self.clients.turn_out(number) {
+            self.hindrances.tell_way(address, server, reports);
         }
     }
 
@@ -329,10 +358,10 @@ impl Sockets {
                 .tell_error(io::Error::from(ErrorKind::OutOfMemory), reports);
             return None;
         }
-        match self.door.let_in(i, server.opened()) {
-            Ok(address) => {
+        match self.door.let_in(i) {
+            Ok(()) => {
                 self.rounds.ready.insert(Source::Listener(i).token());
-                Some(Next::Open(address_of(address)))
+                self.admit(server, reports)
             }
             Err(error) => {
                 if concerns_one(&error) {

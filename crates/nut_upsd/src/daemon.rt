@@ -12,12 +12,11 @@ use crate::stdio::serve_options;
 use crate::upsd_fault::{UpsdFault, exit_status};
 use clap::ArgMatches;
 use libc::geteuid;
-use mio::net::TcpListener;
 use nut_poll::{ErrorLines, Reports};
 use nut_program::{Failure, conf_folder, hold_closed_streams};
 use nut_server::{Config, Server};
 use nut_server_loop::serve;
-use nut_server_sockets::{Drivers, MioWorld, Reloader};
+use nut_server_sockets::{Drivers, Listeners, MioWorld, Reloader};
 use std::alloc::{Alloc, Global};
 use std::convert::AsStr;
 use std::env::Env;
@@ -49,8 +48,11 @@ const ROOT: u32 = 0;
 /// The addresses listened on, the UPSes served, that it runs as root, drivers that connect and disconnect, and what a
 /// reload changes are written to `err`, a line each, but not with `-q`. Why nothing was reloaded, why a client can't be
 /// let in, that one is closed for lack of memory, and that everybody can read the passwords of upsd.users, is written even
-/// then. If it is impossible to listen at an address, `upsd: cannot listen on ADDRESS:PORT: WHY` is written, and the
-/// status is 1.
+/// then.
+///
+/// If this machine doesn't have an address of a LISTEN line, `upsd: cannot listen on ADDRESS:PORT yet: WHY` is written, and
+/// it is tried again each second. If it has none of any line, or it is impossible to listen at one for any other reason,
+/// `upsd: cannot listen on ADDRESS:PORT: WHY` is written, and the status is 1.
 ///
 /// [`run_stdio`]: crate::run_stdio
 pub fn run_upsd<S: AsStr, I: Read, O: Write>(
@@ -190,7 +192,7 @@ fn serve_config<R: Wait + Net + Clock, L: Reloader + Drop>(
     rt: &R,
     alloc: Global,
     config: Config,
-    listeners: Vec<TcpListener>,
+    listeners: Listeners,
     reloader: L,
     options: &Options<'_>,
     err: &mut ErrorLines,
@@ -209,7 +211,7 @@ fn serve_listeners<R: Wait + Net + Clock, L: Reloader + Drop>(
     rt: &R,
     alloc: Global,
     server: &mut Server,
-    listeners: Vec<TcpListener>,
+    listeners: Listeners,
     reloader: L,
     options: &Options<'_>,
     err: &mut ErrorLines,
@@ -227,13 +229,10 @@ fn serve_listeners<R: Wait + Net + Clock, L: Reloader + Drop>(
     Ok(())
 }
 
-/// Reports the addresses listened on and the UPSes served, and whether this process runs as root.
-fn tell_start(listeners: &[TcpListener], drivers: &Drivers, reports: &mut Reports<'_>) {
-    for listener in listeners {
-        if let Ok(address) = listener.local_addr() {
-            reports.tell(Report::Listening(address));
-        }
-    }
+/// Reports the addresses listened on, those that will be tried again, the UPSes served, and whether this process runs as
+/// root.
+fn tell_start(listeners: &Listeners, drivers: &Drivers, reports: &mut Reports<'_>) {
+    listeners.tell(reports);
     for driver in drivers.as_slice() {
         if let Some(driver) = driver {
             reports.tell(Report::Serving(driver.name(), driver.path()));

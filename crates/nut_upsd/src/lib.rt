@@ -5,7 +5,6 @@ mod changes;
 mod command_line;
 mod configuration;
 mod daemon;
-mod dual_stack;
 mod listeners;
 mod reloading;
 mod report;

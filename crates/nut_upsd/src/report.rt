@@ -2,13 +2,10 @@
 
 use nut_log::{Level, Leveled};
 use std::fmt;
-use std::net::SocketAddr;
 
 /// A service that upsd has begun, or how it runs.
 #[derive(Drop)]
 pub enum Report<'a> {
-    /// Clients may connect to this address.
-    Listening(SocketAddr),
     /// A UPS is served: its name, and the path of its driver's socket.
     Serving(&'a str, &'a str),
     /// This process runs as root. The unit names another user.
@@ -18,9 +15,8 @@ pub enum Report<'a> {
 impl<'a> fmt::Display for Report<'a> {
     fn fmt<W: fmt::Write>(&self, f: &mut fmt::Formatter<W>) -> fmt::Result {
         match self {
-            Report::Listening(address) => write!(f, "listening on {address}"),
             Report::Serving(name, path) => write!(f, "UPS {name}, driver at {path}"),
-            Report::AsRoot => { write!(f, "running as root, which only a port below 1024 needs") }
+            Report::AsRoot => write!(f, "running as root, which only a port below 1024 needs"),
         }
     }
 }
@@ -28,7 +24,7 @@ impl<'a> fmt::Display for Report<'a> {
 impl<'a> Leveled for Report<'a> {
     fn level(&self) -> Level {
         match self {
-            Report::Listening(_) | Report::Serving(..) => Level::Info,
+            Report::Serving(..) => Level::Info,
             Report::AsRoot => Level::Warning,
         }
     }
