@@ -1,5 +1,5 @@
 # Completion of upsc, upsrw and upscmd in bash: UPSes, variables, values and commands are asked of the server that the words
-# name, or of this machine's. What a server says is never expanded by the shell. Of nutroom, options and files.
+# name, or of this machine's. What a server says is never expanded by the shell. Of upsmon and nutroom, options and files.
 
 # Only an answer that comes at once is taken.
 _mulgefa_ask() {
@@ -46,8 +46,9 @@ _mulgefa_choices() {
         upsc::-*) printf '%s\n' -j -l -L -c -h --help -V --version ;;
         upsrw::-*) printf '%s\n' -s -w -u -p -h --help -V --version ;;
         upscmd::-*) printf '%s\n' -l -w -u -p -h --help -V --version ;;
+        upsmon::-*) printf '%s\n' --conf -q --check --fsd -K -h --help -V --version ;;
         nutroom::-*) printf '%s\n' -n -s --svg --steps --run --nutsim -h --help -V --version ;;
-        nutroom:*) ;;
+        nutroom:* | upsmon:*) ;;
         upsrw:-s:*=*) _mulgefa_rows "${named[1]-}" | _mulgefa_settings "${current%%=*}" ;;
         upsrw:-s:*) _mulgefa_rows "${named[1]-}" | _mulgefa_settings "" ;;
         *:-?:*) ;;
@@ -99,8 +100,10 @@ _mulgefa_complete() {
 _mulgefa_upsc() { _mulgefa_complete upsc -; }
 _mulgefa_upsrw() { _mulgefa_complete upsrw sup; }
 _mulgefa_upscmd() { _mulgefa_complete upscmd up; }
+_mulgefa_upsmon() { _mulgefa_complete upsmon -; }
 _mulgefa_nutroom() { _mulgefa_complete nutroom ns; }
 complete -F _mulgefa_upsc upsc
 complete -F _mulgefa_upsrw upsrw
 complete -F _mulgefa_upscmd upscmd
+complete -o default -F _mulgefa_upsmon upsmon
 complete -o default -F _mulgefa_nutroom nutroom

@@ -36,6 +36,7 @@ TESTS = (
     ("programs.upsd_reload", ("upsd", "dummy_ups")),
     ("programs.hostile_clients", ("upsd", "dummy_ups")),
     ("programs.upsmon", ("upsd", "dummy_ups", "upsc", "upsmon")),
+    ("programs.upsmon_fsd", ("upsd", "dummy_ups", "upsc", "upsmon")),
     ("programs.upsmon_links", ("upsd", "dummy_ups", "upsc", "upsmon")),
     ("programs.upsmon_halting", ("upsd", "dummy_ups", "upsc", "upsmon")),
     ("programs.upsmon_reload", ("upsd", "dummy_ups", "upsc", "upsmon")),

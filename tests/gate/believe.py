@@ -30,6 +30,8 @@ PROMISES = (
     ("The tools", "`run_upsc`, `run_upsrw`, `run_upscmd` and their targets: what is asked, printed and dialed", (
         ("nut_client", None, ("run_upsc", "run_upsrw", "run_upscmd", "upsc_target", "upsrw_target", "upscmd_target")),
         ("nut_client", "output.rt", ("Output.*",)), ("nut_client", "stream.rt", ("Stream.*",)))),
+    ("A shutdown by hand", "`force_shutdown`: what is asked to force a shutdown, and how that ends", (
+        ("nut_client", None, ("force_shutdown",)), ("nut_client", "stream.rt", ("Stream.*",)))),
     ("The dummy driver", "`Script::read`, `Dummy::server_bytes`, and the laws over whole histories of a dummy driver", (
         ("nut_dummy", None, ("Script.read", "Dummy.new", "Dummy.server_bytes", "looks_back", "dump_is_the_table")),)),
     ("A room", "`Fleet::new`, `Fleet::play` and `rooms_hold`: what every schedule of one server and its monitors leads to", (

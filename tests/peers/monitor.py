@@ -12,9 +12,21 @@ import sys
 import tempfile
 
 from tests.support.harness import expect, run_tests
-from tests.support.monitored import BATTERY_LOW, ESTABLISHED, FLAG, FORCED, LOST, ON_BATTERY, QUICK, SHUTDOWN, USERS, Watch
+from tests.support.monitored import (
+    BATTERY_LOW,
+    ESTABLISHED,
+    FLAG,
+    FORCED,
+    LOST,
+    ON_BATTERY,
+    QUICK,
+    SHUTDOWN,
+    USERS,
+    Watch,
+    put_program,
+)
 from tests.peers.server import NutRoom, needed
-from tests.support.room import until
+from tests.support.room import ONLINE, STATUS, until
 
 ADMIN = b"[admin]\npassword = pw\nactions = SET\ninstcmds = ALL\n"
 HALTS = 'POWERDOWNFLAG FOLDER/flag\nSHUTDOWNCMD "touch FOLDER/halted"\n'
@@ -87,6 +99,44 @@ class Tests:
                 expect((set(guest.lines()) <= wanted, guest.lines()[-1]), (True, SHUTDOWN), "what the secondary prints")
                 expect(guest.read("flag"), None, "a secondary writes no POWERDOWNFLAG")
                 expect((primary.read("flag"), primary.read("halted")), (FLAG, b""), "the primary's halt")
+
+    def force(self, folder):
+        """Forces the shutdown that the upsmon.conf of this folder names. Returns the status, and what is written to both streams."""
+        words = [self.upsmon, "--fsd", "--conf", folder]
+        done = subprocess.run(words, stdin=subprocess.DEVNULL, capture_output=True, text=True, timeout=60)
+        return done.returncode, done.stdout, done.stderr
+
+    def test_shutdown_by_hand(self):
+        with self.room() as room:
+            target = self.begin(room, b"ups.status: OL\n")
+            numlogins = b"GET NUMLOGINS su700\n"
+            # until NUT's server has heard its driver, it shows WAIT
+            room.until(STATUS, ONLINE)
+            with self.watch(target, ("mon", "wrong", "primary"), QUICK) as stranger:
+                refused = (1, "", f"upsmon: {target}: FSD failed: ACCESS-DENIED\n")
+                expect(self.force(stranger.folder), refused, "a wrong password")
+            with self.watch(target, ("mon", "m1", "primary"), QUICK + HALTS) as watch:
+                room.until(numlogins, b"NUMLOGINS su700 1\n")
+                expect(self.force(watch.folder), (0, f"{target}: FSD set\n", ""), "the shutdown is forced")
+                expect(watch.status(20), 0, "status of the monitor that runs")
+                expect(watch.lines(), [FORCED % target, SHUTDOWN], "what it prints")
+                expect((watch.read("flag"), watch.read("halted")), (FLAG, b""), "the halt")
+            expect(room.tool("upsc", "ROOM", "ups.status"), (0, "FSD OL\n"), "what NUT's upsc shows")
+            room.until(numlogins, b"NUMLOGINS su700 0\n")
+
+    def test_upssched_forces_a_shutdown(self):
+        """NUT's upssched as NOTIFYCMD, whose CMDSCRIPT calls this upsmon."""
+        with self.room() as room:
+            target = self.begin(room, b"ups.status: OB\n")
+            upssched, nut = needed("upssched", "nut-client"), room.path("nut")
+            script, conf = os.path.join(nut, "cmdscript"), os.path.join(nut, "upssched.conf")
+            with open(conf, "w") as file:
+                file.write(f"CMDSCRIPT {script}\nPIPEFN {nut}/pipe\nLOCKFN {nut}/lock\nAT ONBATT * START-TIMER early-shutdown 1\n")
+            execs = f'NOTIFYFLAG ONBATT EXEC\nNOTIFYCMD "NUT_CONFPATH={nut} {upssched}"\n'
+            with self.watch(target, ("mon", "m1", "primary"), QUICK + HALTS + execs) as watch:
+                put_program(script, f"case $1 in early-shutdown) {self.upsmon} --fsd --conf {watch.folder} ;; esac")
+                expect(watch.status(20), 0, "status")
+                expect((watch.read("flag"), watch.read("halted")), (FLAG, b""), "the halt")
 
     def test_driver_that_comes_and_goes(self):
         with self.room() as room:

@@ -91,6 +91,9 @@ COMPLETIONS = {
     "upscmd -u admin -p pw su700 load.of": ["load.off"],
     "upscmd -u admin -p ": [],
     "upscmd -u": ["-u"],
+    "upsmon -": ["--conf", "-q", "--check", "--fsd", "-K", "-h", "--help", "-V", "--version"],
+    "upsmon --f": ["--fsd"],
+    "upsmon --conf /etc": [],
     "nutroom -": ["-n", "-s", "--svg", "--steps", "--run", "--nutsim", "-h", "--help", "-V", "--version"],
     "nutroom -n 5 --s": ["--svg", "--steps"],
     "nutroom -s ": [],
@@ -119,7 +122,7 @@ def wanted_files():
         files[f"share/man/man8/{program}.8"] = 0o644
         if program in UNITS:
             files[f"lib/systemd/system/{UNITS[program]}"] = 0o644
-        if program in TOOLS:
+        if program in (*TOOLS, "upsmon"):
             files[f"share/bash-completion/completions/{program}"] = 0o644
     files.update({f"share/man/man{page[-1]}/{page}": 0o644 for page in PAGES})
     files.update({f"share/mulgefa/examples/{example}": 0o644 for example in EXAMPLES})

@@ -8,3 +8,4 @@ pub mod Endings
 pub mod Places
 pub mod Commands
 pub mod Refused
+pub mod InTurn

@@ -4,6 +4,7 @@ pub mod Json
 pub mod Script
 pub mod CommandLine
 pub mod Tool
+pub mod Forcing
 pub mod inside
 pub mod laws
 pub mod examples

@@ -1,6 +1,7 @@
 //! Connecting to a server over TCP, and the limits in time of a connection.
 use crate::destination::Destination;
 use crate::stream::ByteStream;
+use nut_conf::{Host, Port};
 use std::net::{Net, OpenStream, TcpStream, ToSocketAddrs};
 use std::time::Duration;
 use std::{io, str};
@@ -11,15 +12,20 @@ const ACCEPT_SECONDS: u64 = 10;
 /// For how many seconds a read waits for the server to send something, and a write for it to take something.
 const SILENCE_SECONDS: u64 = 10;
 
-/// Connects to a server over TCP, with TCP_NODELAY, so that what is sent goes out at once. The addresses of its host
-/// are tried in turn, each for at most 10 seconds; how long the host's name is looked up is left to the resolver. A
-/// read or a write over the connection fails if the server sends or takes nothing for 10 seconds. `None` if there is no
-/// destination, its host is not UTF-8 or has no address, no address accepts a connection in time, or the system doesn't
-/// let these options be set.
+/// Connects to a destination, as [`dial_host`] does. `None` also if there is none.
 pub fn dial<R: Net>(net: &R, destination: Option<Destination>) -> Option<ByteStream<R::Stream>> {
     let destination = destination?;
-    let host = str::from_utf8(destination.host.as_bytes()).ok()?;
-    let stream = connect(net, host, destination.port.number)?;
+    dial_host(net, &destination.host, destination.port)
+}
+
+/// Connects to a server over TCP, with TCP_NODELAY, so that what is sent goes out at once. The addresses of its host
+/// are tried in turn, each for at most 10 seconds; how long the host's name is looked up is left to the resolver. A
+/// read or a write over the connection fails if the server sends or takes nothing for 10 seconds. `None` if the host is
+/// not UTF-8 or has no address, no address accepts a connection in time, or the system doesn't let these options be
+/// set.
+pub fn dial_host<R: Net>(net: &R, host: &Host, port: Port) -> Option<ByteStream<R::Stream>> {
+    let host = str::from_utf8(host.as_bytes()).ok()?;
+    let stream = connect(net, host, port.number)?;
     set_options(&stream).ok()?;
     Some(ByteStream::new(stream))
 }

@@ -58,8 +58,8 @@ impl From<LinkFault> for Failure {
 }
 
 impl Failure {
-    /// Returns what is written of it to standard error, after `Error: `.
-    pub(crate) fn reason(&self) -> &[u8]
+    /// Returns what is written of it to standard error: a tool writes it after `Error: `.
+    pub fn reason(&self) -> &[u8]
         ensures { result.now ≡ reason self.now }
     {
         match self {

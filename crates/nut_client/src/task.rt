@@ -189,7 +189,7 @@ fn words_of(outcome: Outcome) -> Result<Fields, Failure>
 }
 
 /// Succeeds if the server answered `OK`, be it with a number or without one, else returns the failure.
-fn done_of(outcome: Outcome) -> Result<(), Failure>
+pub(crate) fn done_of(outcome: Outcome) -> Result<(), Failure>
     ensures { IsDone outcome result }
 {
     match outcome {

@@ -14,6 +14,8 @@ pub enum Task {
     LookForFlag,
     /// Check upsmon.conf.
     Check,
+    /// Force the shutdown of the UPSes of the primary lines.
+    Force,
     /// Watch, and tell nothing of UPSes and servers that come and go if that is to be quiet.
     Watch { is_quiet: bool },
 }
@@ -50,6 +52,8 @@ fn task_of(matches: &ArgMatches<'_>) -> Task {
         Task::LookForFlag
     } else if matches.get_flag("check") {
         Task::Check
+    } else if matches.get_flag("fsd") {
+        Task::Force
     } else {
         Task::Watch {
             is_quiet: matches.get_flag("quiet"),
@@ -57,8 +61,9 @@ fn task_of(matches: &ArgMatches<'_>) -> Task {
     }
 }
 
-/// Returns the command line of upsmon: to watch, to check its file, and to look for POWERDOWNFLAG.
+/// Returns the command line of upsmon: to watch, to check its file, to force a shutdown, and to look for POWERDOWNFLAG.
 fn upsmon_command<'a>(alloc: Global) -> Result<Command<'a>, AllocError> {
+    let force = force(alloc)?;
     let kill_power = kill_power(alloc)?;
     let command = Command::new(alloc, "upsmon")
         .version("profile 1.3")
@@ -75,6 +80,7 @@ fn upsmon_command<'a>(alloc: Global) -> Result<Command<'a>, AllocError> {
             "Watch nothing: say the first fault of upsmon.conf, or how soon this machine stops",
         ),
     );
+    let command = with(command, force);
     with(command, kill_power)
 }
 
@@ -99,11 +105,20 @@ fn conf_of_upsmon<'a>(alloc: Global) -> Arg<'a> {
     )
 }
 
+fn force<'a>(alloc: Global) -> Result<Arg<'a>, AllocError> {
+    Arg::new(alloc, "fsd")
+        .long("fsd")
+        .action(ArgAction::SetTrue)
+        .help("Watch nothing: force the shutdown of the UPSes of the primary MONITOR lines")
+        .conflicts_with("check")
+}
+
 fn kill_power<'a>(alloc: Global) -> Result<Arg<'a>, AllocError> {
     Arg::new(alloc, "killpower")
         .short('K')
         .action(ArgAction::SetTrue)
         .help("Watch nothing: the status is 0 if POWERDOWNFLAG is set, else 1")
         .conflicts_with("quiet")?
-        .conflicts_with("check")
+        .conflicts_with("check")?
+        .conflicts_with("fsd")
 }

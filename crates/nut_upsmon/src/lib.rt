@@ -7,6 +7,7 @@ mod changes;
 mod command_line;
 mod crier;
 mod faulty_file;
+mod forcing;
 mod halt;
 mod low_runtime;
 mod monitor;

@@ -3,6 +3,7 @@
 use crate::caretaker::Caretaker;
 use crate::command_line::{Order, Task, order_of};
 use crate::faulty_file::{flag_despite, flag_of};
+use crate::forcing::force_shutdowns;
 use crate::halt::{clear_left_flag, halt_heap};
 use crate::low_runtime::check_low_runtimes;
 use crate::power_down_flag::{FlagState, PowerDownFlag};
@@ -28,8 +29,10 @@ use std::time::Clock;
 
 /// Runs upsmon, which writes to these streams. Returns its exit status.
 ///
-/// `words` are those of the command line `upsmon [--conf DIR] [-q] [--check]` or `upsmon [--conf DIR] -K`, the
-/// program's name first. It watches the UPSes of upsmon.conf until the machine has to be halted. The file is in the
+/// `words` are those of the command line `upsmon [--conf DIR] [-q] [--check]`, `upsmon [--conf DIR] --fsd` or
+/// `upsmon [--conf DIR] -K`, the program's name first.
+///
+/// It watches the UPSes of upsmon.conf until the machine has to be halted. The file is in the
 /// folder DIR, or else in that of the variable NUT_CONFPATH, or in `/etc/nut`. If a server isn't linked, upsmon tries
 /// to connect again each second, or after longer pauses if links end before the server serves. A notice is printed on
 /// `out` as one line if its flags have SYSLOG or WALL, and NOTIFYCMD is run with it if they have EXEC; with IGNORE
@@ -42,7 +45,9 @@ use std::time::Clock;
 /// has a fault, that is written to `err`, and the last line POWERDOWNFLAG without a fault counts. With `--check`
 /// nothing is watched either: upsmon reads upsmon.conf, writes what it should set otherwise, prints on `out` how soon
 /// this machine stops, and asks the servers whether their UPSes report LB early enough for that. The status is 0 if the
-/// file has no fault.
+/// file has no fault. With `--fsd` nothing is watched either: upsmon sets FSD at the server of each primary MONITOR line,
+/// and writes what became of it, on `out` that it is set and on `err` why it isn't. The status is 0 if all of them
+/// accepted it; without such a line that is written to `err`, with status 1.
 ///
 /// When somebody makes the file `reload` in the folder, upsmon reads upsmon.conf again. If the file has a fault, the halt
 /// that it sets can't be prepared, or a shutdown has begun, upsmon says so on `err` and watches as before. A UPS that
@@ -118,6 +123,7 @@ where
     match order.task {
         Task::LookForFlag => return look_for_flag(rt, alloc, folder, streams.out, told),
         Task::Check => check_file(rt, alloc, folder, streams.out, told)?,
+        Task::Force => return force(rt, alloc, folder, streams, told),
         Task::Watch { is_quiet } => guard(rt, alloc, folder, is_quiet, streams, told)?,
     }
     Ok(0)
@@ -193,6 +199,25 @@ where
     Stopping::of(config).tell(&mut out)?;
     check_low_runtimes(rt, alloc, config, told)?;
     Ok(())
+}
+
+/// Forces the shutdown of the UPSes of the primary lines of upsmon.conf in this folder. Returns the exit status: 0 if all
+/// their servers accepted it, else 1.
+fn force<R>(
+    rt: &R,
+    alloc: Global,
+    folder: &str,
+    streams: Streams,
+    told: &mut ErrorLines,
+) -> Result<u8, Failure<UpsmonFault>>
+where
+    R: Wait + Files + Net,
+{
+    let config = read_config(rt, alloc, folder)?;
+    let forced = force_shutdowns(rt, alloc, &config, streams, told);
+    // dropped by a call, which keeps the proof of this function short
+    drop(config);
+    Ok(u8::from(!forced?))
 }
 
 /// Watches the UPSes of upsmon.conf in this folder until the machine has to be halted, and halts it.

@@ -13,6 +13,8 @@ use std::io::Stdout;
 pub enum UpsmonFault {
     /// upsmon.conf gives no configuration.
     File(FileFault<'static>),
+    /// No MONITOR line of upsmon.conf is primary, so this machine may force no shutdown.
+    NoPrimary,
     /// The machine wasn't halted.
     Halt(HaltFault),
 }
@@ -21,6 +23,7 @@ impl fmt::Display for UpsmonFault {
     fn fmt<W: fmt::Write>(&self, f: &mut fmt::Formatter<W>) -> fmt::Result {
         match self {
             UpsmonFault::File(fault) => write!(f, "{fault}"),
+            UpsmonFault::NoPrimary => write!(f, "upsmon.conf: no MONITOR line is primary"),
             UpsmonFault::Halt(fault) => write!(f, "{fault}"),
         }
     }
@@ -30,7 +33,7 @@ impl OwnFault for UpsmonFault {
     fn remark(&self) -> Option<&str> {
         match self {
             UpsmonFault::File(fault) => fault.remark(),
-            UpsmonFault::Halt(_) => None,
+            UpsmonFault::NoPrimary | UpsmonFault::Halt(_) => None,
         }
     }
 }

@@ -2,6 +2,7 @@
 use Rattle.std.specs.Prelude.{◌≡◌, ◌⊎◌, ◌<◌, ℕ, zero, suc, List, length, [], ◌∷◌, ◌++◌, codes, Option, Some, None, Result, Ok, Err}
 use Rattle.clap.specs.declared.error.kind.ErrorKind.TheVariants as kinds
 use Rattle.nut_client.specs.CommandLine.{CommandLine, line_of, target_of}
+use Rattle.nut_client.specs.Forcing.{forcing_queries, in_turn}
 use Rattle.nut_client.specs.Script.{Script, script}
 use Rattle.nut_client.specs.Tool.{Ends, Failed, Printed, ending, run_of}
 use Rattle.nut_client.specs.declared.failure.Failure.{Failure}
@@ -59,6 +60,10 @@ numbered = codes "OK\nOK\nOK\nOK TRACKING 7\n"
 abbrev pub set_queries : List ℕ
 set_queries = codes "USERNAME a\nPASSWORD p\nSET TRACKING ON\nSET VAR u v \"5\"\n"
 
+-- a shutdown by hand
+abbrev pub forces_u : Script
+forces_u = in_turn (forcing_queries (codes "u") (codes "a") (codes "p"))
+
 -- a text so many times
 abbrev pub times : ℕ → List ℕ → List ℕ
 times zero text = []
@@ -88,6 +93,9 @@ pub record RunExamples : Type 0 where
   pub still_pending : ending (run_of set_v (numbered ++ times 10 (codes "TRACKING 7 PENDING\n"))).standing ≡ Err failures.ConnectionLost
   pub untracked : run_of set_v (codes "OK\nOK\nOK\nOK\n") ≡ record { queries = set_queries; standing = Failed failures.Untracked }
   pub never_tracks : run_of set_v (codes "OK\nOK\nERR INVALID-ARGUMENT\n") ≡ record { queries = codes "USERNAME a\nPASSWORD p\nSET TRACKING ON\n"; standing = Failed (failures.Refused (codes "INVALID-ARGUMENT")) }
+  pub forced : run_of forces_u (codes "OK\nOK\nOK\nOK PRIMARY-GRANTED\nOK FSD-SET\n") ≡ record { queries = codes "USERNAME a\nPASSWORD p\nLOGIN u\nPRIMARY u\nFSD u\n"; standing = Printed [] }
+  pub no_primary : run_of forces_u (codes "OK\nOK\nOK\nERR ACCESS-DENIED\nOK\n") ≡ record { queries = codes "USERNAME a\nPASSWORD p\nLOGIN u\nPRIMARY u\n"; standing = Failed (failures.Refused (codes "ACCESS-DENIED")) }
+  pub not_answered : ending (run_of forces_u (codes "OK\nOK\nOK\nOK\nOK FSD-SET")).standing ≡ Err failures.ConnectionLost
   -- Every run over a stream with these bytes ends so, unless memory or the connection is lacking.
   pub decided : (result : Result (List ℕ) Failure) (left before after : Option (List ℕ)) → (e : Ends value_of_v result (Some (codes "VAR u v \"1 2\"\nERR DATA-STALE\nVA")) left before after)
       → (result ≡ Err failures.Memory)

@@ -55,5 +55,8 @@ returns-clause-runs c = record {
   still_pending = refl;
   untracked = refl;
   never_tracks = refl;
+  forced = refl;
+  no_primary = refl;
+  not_answered = refl;
   decided = λ result left before after ends. all_bytes _ _ _ left before after ends;
 }

@@ -1,0 +1,74 @@
+//! Forcing the shutdown of a UPS by hand.
+ghost use Rattle.std.specs.Prelude.{◌≡◌, [], IfErr, IfOk};
+ghost use Rattle.std.specs.Io.KnownBytes.{append_known};
+ghost use Rattle.nut_client.specs.Forcing.{forcing_queries, in_turn, query_lines, without_text};
+ghost use Rattle.nut_client.specs.Tool.{Ends};
+ghost use Rattle.nut_link.specs.Link.{fresh};
+ghost use Rattle.nut_client.specs.declared.failure.Failure.TheVariants.{ConnectionLost};
+
+use crate::conversation::Conversation;
+use crate::failure::Failure;
+use crate::stream::Stream;
+use crate::task::done_of;
+use nut_proto::{Request, Word};
+use std::alloc::Global;
+use std::sync::Wait;
+
+/// Forces the shutdown of the UPS of this name, as this user: asks USERNAME, PASSWORD, LOGIN, PRIMARY and FSD, each once
+/// the query before it was answered `OK`. The login lasts until the connection is closed, so close it at once: a primary
+/// that waits for other machines counts it.
+///
+/// # Errors
+///
+/// `Refused` with the name of the error if the server refuses a query; `BadAnswer` if a line doesn't answer the query;
+/// `BadQuery` if a query isn't writable; `ConnectionLost` if the connection ends or fails before the last answer: if FSD
+/// was sent, the server may have accepted it; `Memory` if memory cannot be allocated.
+pub fn force_shutdown<S: Stream>(
+    rt: &impl Wait,
+    alloc: Global,
+    ups: Word<'_>,
+    user: Word<'_>,
+    password: Word<'_>,
+    stream: &mut S,
+) -> Result<(), Failure>
+    ensures ends { Ends (in_turn (forcing_queries ups.entry user.entry password.entry)) (without_text result)
+        (S.remaining stream.old) (S.remaining stream.new) (S.taken stream.old) (S.taken stream.new) }
+    ensures asked { IfOk result (λ _. S.taken stream.new ≡ append_known (S.taken stream.old) (query_lines (forcing_queries ups.entry user.entry password.entry))) }
+    ensures lost { IfErr result (λ failure. failure ≡ ConnectionLost → S.has_ended stream.new) }
+{
+    let mut conversation = Conversation::new(alloc);
+    let queries = [
+        Request::Username { name: user },
+        Request::Password { password },
+        Request::Login { ups: ups.copy() },
+        Request::Primary { ups: ups.copy() },
+        Request::Fsd { ups },
+    ];
+    ask_in_turn(rt, &mut conversation, stream, &queries)
+}
+
+/// Asks these queries over a conversation in which nothing has been said, each once the one before it was answered `OK`.
+fn ask_in_turn<S: Stream>(
+    rt: &impl Wait,
+    conversation: &mut Conversation,
+    stream: &mut S,
+    queries: &[Request<'_>],
+) -> Result<(), Failure>
+    requires link { conversation.old.link ≡ fresh }
+    requires unread { conversation.old.unread ≡ [] }
+    ensures ends { Ends (in_turn queries.now) (without_text result)
+        (S.remaining stream.old) (S.remaining stream.new) (S.taken stream.old) (S.taken stream.new) }
+    ensures asked { IfOk result (λ _. S.taken stream.new ≡ append_known (S.taken stream.old) (query_lines queries.now)) }
+    ensures lost { IfErr result (λ failure. failure ≡ ConnectionLost → S.has_ended stream.new) }
+{
+    for query in queries {
+        let outcome = match conversation.ask(rt, stream, query) {
+            Ok(outcome) => outcome,
+            Err(failure) => return Err(failure),
+        };
+        if let Err(failure) = done_of(outcome) {
+            return Err(failure);
+        }
+    }
+    Ok(())
+}

@@ -1,0 +1,247 @@
+#!/usr/bin/env python3
+"""Forces shutdowns by 'upsmon --fsd', at upsd with dummy-ups and at servers that the tests play.
+
+    python3 -m tests.programs.upsmon_fsd UPSD DUMMY_UPS UPSC UPSMON
+
+The last line is 'N passed, M failed'."""
+
+import contextlib
+import errno
+import os
+import socket
+import subprocess
+import sys
+import tempfile
+import time
+
+from tests.support.harness import Shimmed, cannot_read, ensure, expect, refusals
+from tests.support.monitored import FLAG, FORCED, QUICK, SHUTDOWN, USERS, ByteByByte, Closing, Rubbish, Silent, Upstream, Watch, play
+from tests.support.room import STATUS, Room, free_port, until
+
+PASSWORD = "not-to-be-shown"
+QUERIES = [b"USERNAME mon", f"PASSWORD {PASSWORD}".encode(), b"LOGIN su700", b"PRIMARY su700", b"FSD su700"]
+NO_PRIMARY = "upsmon: upsmon.conf: no MONITOR line is primary\n"
+
+
+class Answering(Upstream):
+    """It answers a query in its own way, and others as any server."""
+
+    def __init__(self, answers):
+        super().__init__()
+        self.answers = answers
+
+    def answer(self, line):
+        return self.answers.get(line.split()[0]) or super().answer(line)
+
+
+class OneByOne(Upstream):
+    """It notes what a client has sent before its last query was answered."""
+
+    early = b""
+
+    def send(self, end, data):
+        time.sleep(0.2)
+        with contextlib.suppress(BlockingIOError):
+            self.early += end.recv(4096, socket.MSG_PEEK | socket.MSG_DONTWAIT)
+        super().send(end, data)
+
+
+def line_of(target, user="mon", password=PASSWORD, role="primary"):
+    return f"MONITOR {target} 1 {user} {password} {role}\n"
+
+
+def is_set(target):
+    return f"{target}: FSD set\n"
+
+
+def failed(target, why):
+    return f"upsmon: {target}: FSD failed: {why}\n"
+
+
+class Tests(Shimmed):
+    def __init__(self, programs, folder):
+        self.upsd, self.dummy, self.upsc, self.upsmon = programs
+        self.folder = folder
+
+    @contextlib.contextmanager
+    def room(self, **options):
+        """A room with a server and a driver for su700."""
+        with Room((self.upsd, self.dummy), self.folder, **options) as room:
+            with open(room.path("upsd.users"), "wb") as file:
+                file.write(USERS)
+            room.dummy()
+            room.upsd()
+            room.until(STATUS, b'VAR su700 ups.status "OL"\n')
+            yield room
+
+    def force(self, conf, *words, **options):
+        """Runs upsmon with such a file to force shutdowns. Returns the status, and what it writes to both streams."""
+        with tempfile.TemporaryDirectory(dir=self.folder) as folder:
+            if conf is not None:
+                with open(os.path.join(folder, "upsmon.conf"), "w") as file:
+                    file.write(conf)
+            words = [self.upsmon, "--fsd", "--conf", folder, *words]
+            done = subprocess.run(words, stdin=subprocess.DEVNULL, capture_output=True, text=True, timeout=60, **options)
+            ensure(PASSWORD not in done.stdout + done.stderr, "the password is shown")
+            return done.returncode, done.stdout, done.stderr.replace(folder, "FOLDER")
+
+    def status(self, target):
+        """Returns the status that upsc shows."""
+        return subprocess.run([self.upsc, target, "ups.status"], capture_output=True, timeout=60).stdout
+
+    # From here on, each method whose name begins with 'test_' is a test.
+
+    def test_shutdown_is_forced(self):
+        with self.room() as room:
+            target = f"su700@127.0.0.1:{room.port}"
+            halts = 'POWERDOWNFLAG FOLDER/flag\nSHUTDOWNCMD "touch FOLDER/halted"\n'
+            line = line_of(target, password="m1")
+            with Watch(self.upsmon, self.folder, line + QUICK + halts) as watch:
+                room.until(b"GET NUMLOGINS su700\n", b"NUMLOGINS su700 1\n")
+                expect(self.force(line), (0, is_set(target), ""), "what is told")
+                expect(self.status(target), b"FSD OL\n", "the status")
+                expect(watch.status(), 0, "the monitor that runs halts")
+                expect(watch.lines(), [FORCED % target, SHUTDOWN], "what it prints")
+                expect((watch.read("flag"), watch.read("halted")), (FLAG, b""), "the halt")
+            # it is set already, and nobody watches
+            expect(self.force(line), (0, is_set(target), ""), "once more")
+
+    def test_login_is_gone(self):
+        """No primary that waits for the others waits for whoever forced the shutdown."""
+        with self.room() as room:
+            expect(self.force(line_of(f"su700@127.0.0.1:{room.port}", password="m1"))[0], 0, "status")
+            room.until(b"GET NUMLOGINS su700\n", b"NUMLOGINS su700 0\n", within=1)
+
+    def test_several_lines(self):
+        """Each primary line counts, in the order of the file, and no other."""
+        with self.room(ups=b"[su700]\n[b]\n[c]\n") as room, Upstream() as other:
+            for ups in "bc":
+                room.dummy(ups=ups)
+                room.until(b"GET VAR %s ups.status\n" % ups.encode(), b'VAR %s ups.status "OL"\n' % ups.encode())
+            a, b, c = (f"{ups}@localhost:{room.port}" for ups in ("su700", "b", "c"))
+            conf = line_of(b, password="m1") + line_of(other.target, role="secondary") + line_of(c, "guest", "g1", "secondary")
+            found = self.force(f"MINSUPPLIES 0\nPOLLFREQ 1\n{conf}{line_of(a, password='m1')}")
+            expect(found, (0, is_set(b) + is_set(a), ""), "what is told")
+            expect([self.status(it) for it in (a, b, c)], [b"FSD OL\n", b"FSD OL\n", b"OL\n"], "the statuses")
+            expect(other.asked, [], "what the server of a secondary line is asked")
+
+    def test_one_server_is_down(self):
+        """A server that fails keeps no other from being asked."""
+        down = f"su700@127.0.0.1:{free_port()}"
+        with Upstream() as first, Closing() as closing, Rubbish() as rubbish, Upstream() as last:
+            targets = [it.target for it in (first, closing, rubbish, last)]
+            found = self.force("".join(map(line_of, [down, *targets])))
+            told = failed(down, "connection failed") + failed(targets[1], "connection lost") + failed(targets[2], "bad answer")
+            expect(found, (1, is_set(targets[0]) + is_set(targets[3]), told), "what is told")
+            for server in (first, last):
+                expect(b"".join(server.asked).splitlines(), QUERIES, "what a server is asked")
+
+    def test_silent_server(self):
+        with Silent() as silent, Upstream() as server:
+            begun = time.monotonic()
+            found = self.force(line_of(silent.target) + line_of(server.target))
+            expect(found, (1, is_set(server.target), failed(silent.target, "connection lost")), "what is told")
+            ensure(9 < time.monotonic() - begun < 20, "a server that doesn't answer is given up after 10 seconds")
+            expect(silent.asked, [b"USERNAME mon\n"], "what it is asked")
+
+    def test_queries_come_one_by_one(self):
+        with OneByOne() as server, ByteByByte() as slow:
+            expect(self.force(line_of(server.target))[0], 0, "status")
+            expect((b"".join(server.asked).splitlines(), server.early), (QUERIES, b""), "what is asked")
+            expect(self.force(line_of(slow.target)), (0, is_set(slow.target), ""), "a server that sends byte by byte")
+
+    def test_answers(self):
+        """Whatever query isn't answered OK, it is the last."""
+        for answer, why in (
+            (b"ERR ACCESS-DENIED\n", "ACCESS-DENIED"),
+            (b"ERR DRIVER-NOT-CONNECTED\nOK\n", "DRIVER-NOT-CONNECTED"),
+            (b'VAR su700 ups.status "OL"\n', "bad answer"),
+            (b"NOK\n", "bad answer"),
+            (b'OK "\n', "bad answer"),
+        ):
+            for at, query in enumerate(QUERIES):
+                with Answering({query.split()[0]: answer}) as server:
+                    found = self.force(line_of(server.target))
+                    expect(found, (1, "", failed(server.target, why)), f"{answer} to {query}")
+                    expect(b"".join(server.asked).splitlines(), QUERIES[: at + 1], f"what is asked if {query} gets {answer}")
+
+    def test_refusals(self):
+        with self.room() as room:
+            place = f"127.0.0.1:{room.port}"
+            for ups, user, password, why in (
+                ("su700", "mon", "wrong", "ACCESS-DENIED"),
+                ("su700", "nobody", "m1", "ACCESS-DENIED"),
+                ("su700", "guest", "g1", "ACCESS-DENIED"),
+                ("none", "mon", "m1", "UNKNOWN-UPS"),
+            ):
+                target = f"{ups}@{place}"
+                found = self.force(line_of(target, user, password))
+                expect(found, (1, "", failed(target, why)), f"{user} at {ups}")
+            expect(self.status(f"su700@{place}"), b"OL\n", "the status")
+
+    def test_file_without_a_primary_line(self):
+        with Upstream() as server:
+            expect(self.force(line_of(server.target, role="secondary")), (1, "", NO_PRIMARY), "a secondary line alone")
+            expect(self.force("MINSUPPLIES 0\n"), (1, "", NO_PRIMARY), "no line")
+            expect(server.asked, [], "what its server is asked")
+
+    def test_faults_of_the_file(self):
+        missing = cannot_read("upsmon", "upsmon.conf", "FOLDER/upsmon.conf", errno.ENOENT)
+        expect(self.force(None), (1, "", missing), "no file")
+        with Upstream() as server:
+            found = self.force(f"{line_of(server.target)}POLLFREQ 0\n")
+            expect(found, (1, "", "upsmon: upsmon.conf:2: BadNumber\n"), "a fault")
+            expect(server.asked, [], "what the server is asked")
+
+    def test_folder_of_the_environment(self):
+        with Upstream() as server, tempfile.TemporaryDirectory(dir=self.folder) as folder:
+            with open(os.path.join(folder, "upsmon.conf"), "w") as file:
+                file.write(line_of(server.target))
+            done = subprocess.run([self.upsmon, "--fsd"], capture_output=True, timeout=60, env={**os.environ, "NUT_CONFPATH": folder})
+            expect((done.returncode, done.stdout.decode(), done.stderr), (0, is_set(server.target), b""), "NUT_CONFPATH")
+
+    def test_command_lines(self):
+        with Upstream() as server:
+            for words in (["-K"], ["--check"], ["--fsd"], ["more"]):
+                status, out, err = self.force(line_of(server.target), *words)
+                expect((status, out, err != ""), (2, "", True), f"{words}")
+            expect(server.asked, [], "what the server is asked")
+            expect(self.force(line_of(server.target), "-q"), (0, is_set(server.target), ""), "-q")
+
+    def test_output_that_is_closed(self):
+        """All servers are asked, whoever reads what is told, and none is sent it."""
+        down = f"su700@127.0.0.1:{free_port()}"
+        reader, writer = os.pipe()
+        os.close(reader)
+        try:
+            for streams in (
+                {"stdout": writer, "stderr": writer},
+                {"preexec_fn": lambda: (os.close(1), os.close(2))},
+                {"preexec_fn": lambda: os.closerange(0, 3)},
+            ):
+                with Upstream() as server, tempfile.TemporaryDirectory(dir=self.folder) as folder:
+                    with open(os.path.join(folder, "upsmon.conf"), "w") as file:
+                        file.write(line_of(down) + line_of(server.target))
+                    done = subprocess.run([self.upsmon, "--fsd", "--conf", folder], timeout=60, **streams)
+                    expect(done.returncode, 1, f"status with {streams}")
+                    expect(b"".join(server.asked).splitlines(), QUERIES, f"what the server is asked with {streams}")
+        finally:
+            os.close(writer)
+
+    def test_memory_refused(self):
+        """Each allocation is refused in turn: FSD is set and told, or what failed is told and the status is 1."""
+        with Upstream() as server:
+            reasons = ["upsmon: out of memory\n", *(failed(server.target, why) for why in ("out of memory", "connection failed"))]
+            for at, env, is_reached in refusals(self.shim):
+                status, out, err = self.force(line_of(server.target), env={**os.environ, **env})
+                if status == 1:
+                    expect((out, err in reasons), ("", True), f"allocation {at}: {err!r}")
+                else:
+                    expect((status, out, err), (0, is_set(server.target), ""), f"allocation {at}")
+                if not is_reached():
+                    break
+            ensure(at > 10, f"{at - 1} allocations were seen")
+
+
+if __name__ == "__main__":
+    sys.exit(play(Tests))
