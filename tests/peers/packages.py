@@ -27,7 +27,7 @@ TOLD = [
     "upsd.users:%d: UnknownWord: actions = set",
     "upsd.users:%d: UnknownWord: upsmon master",
     "upsmon.conf:%d: UnknownDirective: POLLFREQALERT 5",
-    "upsmon.conf:%d: UnknownWord: MONITOR su700@localhost 1 monuser .. master",
+    "upsmon.conf:%d: UnknownWord: MONITOR su700@localhost 1 .. master",
     "upsmon.conf:%d: UnknownDirective: RUN_AS_USER root",
 ]
 
@@ -77,8 +77,11 @@ class Tests:
         try:
             self.nut_serves(machine)
             before = {name: machine.read(f"/etc/nut/{name}") for name in os.listdir(machine.path("/etc/nut"))}
+            enabled = self.enabled_units_of_nut(machine)
             nut = machine.do("id nut")
             self.exchange(machine)
+            self.is_served_here(machine)
+            machine.restart()
             self.is_served_here(machine)
             self.reloads(machine)
             self.starts_again_after_hangup(machine)
@@ -90,7 +93,12 @@ class Tests:
                 if name != "su700.dev":
                     expect(found == text, True, f"what {name} was is kept")
             expect(machine.do("id nut"), nut, "the user nut")
+            expect(self.enabled_units_of_nut(machine), enabled, "what is enabled of NUT after the way back")
+            machine.restart()
+            self.nut_serves(machine)
             machine.do("dpkg --purge mulgefa-server mulgefa-client")
+            expect(self.enabled_units_of_nut(machine), enabled, "what is enabled of NUT after a purge")
+            machine.restart()
             self.nut_serves(machine)
             left = machine.do("find / -xdev -name '*mulgefa*' -not -path '/root/*' -not -path '/proc/*' -not -path '/sys/*'").split()
             expect([it for it in left if not it.startswith(("/var/log/", "/var/cache/", "/run/systemd/", "/var/lib/dpkg/info/"))], [], "what a purge leaves")
@@ -145,6 +153,10 @@ class Tests:
             expect(machine.do(f"systemctl is-active {unit} || true"), "active\n", unit)
         ensure("2.8.0" in self.version(machine), "NUT's own server answers")
 
+    def enabled_units_of_nut(self, machine):
+        """Returns what is enabled of NUT's units, so that it starts at the next boot."""
+        return {unit: machine.run(f"systemctl is-enabled {unit}")[1] for unit in ("nut-server", "nut-monitor", "nut-driver@su700", "nut-driver-enumerator", "nut.target")}
+
     def version(self, machine):
         """Returns the version that the server at the port reports."""
         return machine.do("python3 -c 'import socket; s = socket.create_connection((\"127.0.0.1\", 3493)); s.sendall(b\"VER\\n\"); print(s.recv(200).decode())'")
@@ -155,7 +167,7 @@ class Tests:
         expect(status, 1, f"mulgefa-check: {said}")
         for wanted in TOLD:
             name, text = wanted.split(":%d: ")
-            directive = text.split(": ")[1].replace(" .. ", " m1 ")
+            directive = text.split(": ")[1].replace(" .. ", " monuser m1 ")
             number = [i + 1 for i, it in enumerate(machine.read(f"/etc/nut/{name}").splitlines()) if it.strip() == directive]
             expect(len(number), 1, f"lines that are {directive}")
             ensure(f"/etc/nut/{wanted % number[0]}\n" in said, f"{wanted % number[0]} isn't told: {said}")
