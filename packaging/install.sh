@@ -65,7 +65,7 @@ part_of() {
             ;;
     esac
     case ${1##*/} in
-        upsd | upsd.* | *-upsd.service | dummy-ups | dummy-ups.* | *-dummy-ups@.service | ups.conf* | su700.dev | *nut-drivers*) echo server ;;
+        upsd | upsd.* | *-upsd.service | dummy-ups | dummy-ups.* | *-dummy-ups@.service | ups.conf* | su700.dev | *nut-drivers* | until-ready) echo server ;;
         *) echo client ;;
     esac
 }
@@ -127,6 +127,7 @@ done
 put 755 tools/nutroom bin/nutroom
 put 644 man/nutroom.8 share/man/man8/nutroom.8
 put 644 packaging/completions.bash share/bash-completion/completions/nutroom
+put 755 packaging/until-ready lib/mulgefa/until-ready
 put 755 packaging/mulgefa-check sbin/mulgefa-check
 put 644 man/mulgefa-check.8 share/man/man8/mulgefa-check.8
 for page in man/*.5; do

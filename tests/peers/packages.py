@@ -83,6 +83,7 @@ class Tests:
             self.is_served_here(machine)
             machine.restart()
             self.is_served_here(machine)
+            self.nothing_was_lost_at_the_boot(machine)
             self.reloads(machine)
             self.starts_again_after_hangup(machine)
             self.client_sees_an_upgrade(machine)
@@ -196,6 +197,12 @@ class Tests:
         # NUT's own module for Python is a client that was kept
         said = machine.do("""python3 -c 'import PyNUT; print(PyNUT.PyNUTClient().GetUPSVars("su700")[b"ups.model"])'""")
         expect(said, "b'Peer'\n", "NUT's module for Python")
+
+    def nothing_was_lost_at_the_boot(self, machine):
+        """Each program has found the one that it asks at once."""
+        said = machine.do("journalctl --boot --output cat --unit mulgefa-upsd --unit mulgefa-upsmon")
+        for words in ("no driver yet", "no server yet", "lost", "refused"):
+            ensure(words not in said, f"{words!r} at a boot: {said}")
 
     def reloads(self, machine):
         """upsd reads its files again, though its user can't write to the folder, and upsmon looks for the same file."""

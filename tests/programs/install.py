@@ -55,6 +55,49 @@ esac
 """,
 }
 
+# Calls of the script that units wait by, in a room whose driver starts late.
+UNTIL_READY = """
+ip link set lo up || exit 77
+until_ready=$prefix/lib/mulgefa/until-ready
+socket=$PWD/dummy-ups-su700
+trap 'kill $(jobs -p)' EXIT
+late_driver() {
+    sleep 1
+    exec "$prefix/lib/mulgefa/dummy-ups" su700.dev "$socket"
+}
+end() {
+    kill $1
+    wait $1
+}
+
+late_driver &
+driver=$!
+"$until_ready" $driver driver "$socket"
+echo "the socket of a late driver: $(test -S "$socket" && echo there)"
+end $driver
+rm "$socket"
+
+"$prefix/sbin/upsd" --conf . -s . -q &
+server=$!
+late_driver &
+"$until_ready" $server server
+echo "the status of a late driver: $("$prefix/bin/upsc" su700 ups.status)"
+end $server
+
+echo 'LISTEN 127.0.0.1 24931' > upsd.conf
+"$prefix/sbin/upsd" --conf . -s . -q &
+"$until_ready" $! server
+echo "a server elsewhere: $?"
+
+true &
+ended=$!
+wait $ended
+"$until_ready" $ended driver none
+echo "a driver that ended: $?"
+"$until_ready" $ended server
+echo "a server that ended: $?"
+"""
+
 # What is offered after a line.
 COMPLETIONS = {
     "upsc ": ["su700", "su900"],
@@ -111,7 +154,8 @@ def folder_of(program):
 
 def wanted_files():
     """Returns the files that are installed, with their modes."""
-    files = {"lib/sysusers.d/mulgefa.conf": 0o644, "sbin/mulgefa-check": 0o755, "bin/nutroom": 0o755, "share/bash-completion/completions/nutroom": 0o644}
+    files = {"lib/sysusers.d/mulgefa.conf": 0o644, "share/bash-completion/completions/nutroom": 0o644}
+    files.update({script: 0o755 for script in ("sbin/mulgefa-check", "bin/nutroom", "lib/mulgefa/until-ready")})
     files.update({f"share/mulgefa/{page}": 0o644 for page in ("from-nut.md", "room.md", "room.svg")})
     files.update({f"share/mulgefa/rooms/five/{file}": 0o644 for file in ROOM_FILES})
     for program in programs():
@@ -681,6 +725,24 @@ class Tests:
                 text = file.read()
             expect(("Restart=on-failure\nRestartSec=5\n" in text, "RestartForceExitStatus=SIGHUP\n" in text), (True, True), f"{unit}: when it starts again")
             ensure("network-online" not in text, f"{unit} waits for a network")
+
+    def test_units_wait_until_they_answer(self):
+        """What starts after a driver or a server finds its socket or its values, and waits for none that has ended or listens
+        elsewhere."""
+        needed("ip", "iproute2")
+        if not {"upsd", "dummy-ups", "upsc"} <= set(self.built):
+            raise Missing("no built programs were handed in")
+        prefix = self.installed("ready")
+        room = os.path.join(self.folder, "waiting")
+        shutil.copytree(os.path.join(ROOT, "examples"), room)
+        done = subprocess.run(
+            [*apart("--net"), "bash", "-c", UNTIL_READY], cwd=room, stdin=subprocess.DEVNULL, capture_output=True, timeout=120,
+            env={**os.environ, "prefix": prefix},
+        )
+        if done.returncode == 77:
+            raise Missing("no network of its own can be had")
+        wanted = "the socket of a late driver: there\nthe status of a late driver: OL\na server elsewhere: 0\na driver that ended: 0\na server that ended: 0\n"
+        expect((done.returncode, done.stdout.decode()), (0, wanted), done.stderr.decode())
 
     def test_monitor_has_the_mounts_of_its_machine(self):
         """What SHUTDOWNCMD unmounts has to be unmounted for the whole machine."""

@@ -22,7 +22,7 @@ from tests.support.harness import ensure, expect, needed, ROOT, run_tests
 
 PACKAGES = ("mulgefa-client", "mulgefa-server")
 # the files of each section of the manual, and the examples, that belong to the server
-SERVERS = ("upsd", "dummy-ups", "ups.conf", "upsd.conf", "upsd.users", "su700.dev")
+SERVERS = ("upsd", "dummy-ups", "ups.conf", "upsd.conf", "upsd.users", "su700.dev", "until-ready")
 NAMES_OF_UNITS = {"nut-server.service": "mulgefa-upsd.service", "nut-monitor.service": "mulgefa-upsmon.service", "nut-client.service": "mulgefa-upsmon.service"}
 
 # what a fresh Debian changes by itself while packages are installed and removed
