@@ -85,7 +85,8 @@ class Tests:
             self.is_served_here(machine)
             self.nothing_was_lost_at_the_boot(machine)
             self.reloads(machine)
-            self.starts_again_after_hangup(machine)
+            self.refuses_to_reload_faults(machine)
+            self.goes_on_after_hangup(machine)
             self.client_sees_an_upgrade(machine)
             self.halts(machine)
             self.bring_back(machine)
@@ -214,15 +215,28 @@ class Tests:
             machine.wait_for("upsc -l 2> /dev/null", names)
         expect(machine.do("systemctl show -p MainPID mulgefa-upsd"), before, "the process of upsd")
 
-    def starts_again_after_hangup(self, machine):
-        """To systemd SIGHUP is an ordinary end; scripts send it to have NUT's programs read their files."""
-        units = ("mulgefa-upsd", "mulgefa-upsmon", "mulgefa-dummy-ups@su700")
-        before = {unit: int(machine.do(f"systemctl show -p NRestarts --value {unit}")) for unit in units}
-        machine.do(f"systemctl kill -s HUP {' '.join(units)}")
-        for unit, count in before.items():
-            machine.wait_for(f"systemctl show -p NRestarts --value {unit}", str(count + 1))
-        machine.wait_for("upsc su700 ups.status 2> /dev/null", "OL")
-        machine.wait_for("upsc -c su700 2> /dev/null", "127.0.0.1")
+    def refuses_to_reload_faults(self, machine):
+        for unit, name, line in (("mulgefa-upsd", "upsd.users", "upsd: upsd.users:{}: UnknownDirective"), ("mulgefa-upsmon", "upsmon.conf", "upsmon: upsmon.conf:{}: UnknownDirective")):
+            machine.wait_for("ls /etc/nut/reload 2> /dev/null", "")
+            text = machine.read(f"/etc/nut/{name}")
+            machine.write(f"/etc/nut/{name}", text + "faulty\n")
+            status, said = machine.run(f"systemctl reload {unit}")
+            ensure(status != 0, f"a reload of {name} with a fault: {said}")
+            told = line.format(len(text.splitlines()) + 1)
+            ensure(told in machine.do(f"systemctl status {unit}"), f"the status of {unit} doesn't show {told}")
+            expect(machine.run("ls /etc/nut/reload")[0], 2, "a reload is asked for")
+            machine.write(f"/etc/nut/{name}", text)
+            machine.do(f"systemctl reload {unit}")
+        machine.wait_for("upsc -c su700", "127.0.0.1")
+
+    def goes_on_after_hangup(self, machine):
+        """Scripts send SIGHUP to have NUT's programs read their files. It reaches all processes of a unit."""
+        # upsc runs now and then
+        processes = "systemctl status mulgefa-upsd mulgefa-upsmon mulgefa-dummy-ups@su700 | grep -E '─[0-9]+ ' | grep -v upsc"
+        before = machine.do(processes)
+        machine.do("systemctl kill -s HUP mulgefa-upsd mulgefa-upsmon mulgefa-dummy-ups@su700 && sleep 1")
+        expect(machine.do(processes), before, "the processes")
+        machine.wait_for("upsc -c su700", "127.0.0.1")
 
     def client_sees_an_upgrade(self, machine):
         before = machine.do("systemctl show -p MainPID mulgefa-upsd mulgefa-upsmon mulgefa-dummy-ups@su700")

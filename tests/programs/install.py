@@ -7,12 +7,14 @@ A file is used in place of a program that isn't given. The last line is 'N passe
 
 import os
 import re
+import shlex
 import shutil
 import signal
 import stat
 import subprocess
 import sys
 import tempfile
+import time
 
 from tests.support.harness import apart, ensure, expect, Failed, Missing, needed, ROOT, run_tests
 
@@ -704,7 +706,7 @@ class Tests:
             with open(os.path.join(prefix, "lib/systemd/system", UNITS[program])) as file:
                 text = file.read()
             expect("@PREFIX@" in text or "@CONFDIR@" in text, False, f"{program}: places left open")
-            started = re.findall(r"^ExecStart=(\S+)", text, re.MULTILINE)
+            started = re.findall(r"^ExecStart=/usr/bin/env --ignore-signal=HUP (\S+)", text, re.MULTILINE)
             expect(started, [os.path.join(prefix, folder_of(program), program)], f"{program} is started")
             expect(os.access(started[0], os.X_OK), True, f"{started[0]} can be run")
             expect(re.findall("^Environment=NUT_CONFPATH=(.*)$", text, re.MULTILINE), ["/etc/nut"], f"{program}: the folder of the configuration")
@@ -719,11 +721,11 @@ class Tests:
             expect(("=/srv/ups\n" in text, "/etc/nut" in text), (True, False), f"{program}: another folder")
 
     def test_units_start_again_and_wait_for_no_network(self):
-        """To systemd SIGHUP is no failure. A network may come up long after a power failure."""
+        """A network may come up long after a power failure."""
         for unit in UNITS.values():
             with open(os.path.join(ROOT, "packaging", unit)) as file:
                 text = file.read()
-            expect(("Restart=on-failure\nRestartSec=5\n" in text, "RestartForceExitStatus=SIGHUP\n" in text), (True, True), f"{unit}: when it starts again")
+            ensure("Restart=on-failure\nRestartSec=5\n" in text, f"{unit}: when it starts again")
             ensure("network-online" not in text, f"{unit} waits for a network")
 
     def test_units_wait_until_they_answer(self):
@@ -743,6 +745,74 @@ class Tests:
             raise Missing("no network of its own can be had")
         wanted = "the socket of a late driver: there\nthe status of a late driver: OL\na server elsewhere: 0\na driver that ended: 0\na server that ended: 0\n"
         expect((done.returncode, done.stdout.decode()), (0, wanted), done.stderr.decode())
+
+    def run_by_unit(self, prefix, program, setting, room):
+        """Starts what a setting of a unit runs, with a room in place of the folders that it names. Returns the processes."""
+        with open(os.path.join(prefix, "lib/systemd/system", UNITS[program])) as file:
+            commands = re.findall(f"^{setting}=[-+]?(.*)$", file.read(), re.MULTILINE)
+        env = {**os.environ, "NUT_CONFPATH": room}
+        for command in commands:
+            words = [it.replace("${NUT_CONFPATH}", room).replace("/run/nut", room) for it in shlex.split(command.replace("%i.${KIND}", "su700.dev").replace("%i", "su700"))]
+            yield subprocess.Popen(words, env=env, stdin=subprocess.DEVNULL, stdout=subprocess.PIPE, stderr=subprocess.STDOUT, start_new_session=True)
+
+    def test_units_ignore_hangup(self):
+        """SIGHUP to all processes of a unit ends none of them, and keeps no machine from being stopped."""
+        if not {"upsd", "dummy-ups", "upsmon"} <= set(self.built):
+            raise Missing("no built programs were handed in")
+        prefix = self.installed("hangup")
+        room = os.path.join(self.folder, "hung up")
+        shutil.copytree(os.path.join(ROOT, "examples"), room)
+        with open(os.path.join(room, "upsd.conf"), "w") as file:
+            file.write("LISTEN 127.0.0.1 24932\n")
+        with open(os.path.join(room, "upsmon.conf"), "w") as file:
+            file.write('MONITOR su700@127.0.0.1:24932 1 monuser m1 primary\nSHUTDOWNCMD "echo halted"\nFINALDELAY 0\nHOSTSYNC 0\nPOLLFREQ 1\n')
+        with open(os.path.join(room, "su700.dev"), "w") as file:
+            file.write("ups.status: OL\n")
+        running = {}
+        try:
+            for program in UNITS:
+                (running[program],) = self.run_by_unit(prefix, program, "ExecStart", room)
+                time.sleep(1)
+            for process in running.values():
+                os.killpg(process.pid, signal.SIGHUP)
+            time.sleep(1)
+            expect([program for program, process in running.items() if process.poll() is not None], [], "what SIGHUP ended")
+            running["dummy-ups"].kill()
+            running["dummy-ups"].wait()
+            with open(os.path.join(room, "su700.dev"), "w") as file:
+                file.write("ups.status: OB LB\n")
+            (running["dummy-ups"],) = self.run_by_unit(prefix, "dummy-ups", "ExecStart", room)
+            said = running["upsmon"].communicate(timeout=60)[0].decode()
+            expect((running["upsmon"].returncode, said.splitlines()[-1]), (0, "halted"), f"the halt: {said}")
+        finally:
+            for process in running.values():
+                process.kill()
+                process.communicate()
+
+    def test_units_refuse_to_reload_faults(self):
+        """A reload by a unit fails at a fault, names the line, and asks for nothing."""
+        if not {"upsd", "upsmon"} <= set(self.built):
+            raise Missing("no built programs were handed in")
+        prefix = self.installed("reload")
+        room = os.path.join(self.folder, "reloaded")
+        shutil.copytree(os.path.join(ROOT, "examples"), room)
+        for program, name in (("upsd", "upsd.conf"), ("upsmon", "upsmon.conf")):
+            for fault, status in (("", 0), ("FAULTY\n", 1)):
+                with open(os.path.join(ROOT, "examples", name)) as file:
+                    text = file.read()
+                with open(os.path.join(room, name), "w") as file:
+                    file.write(fault + text)
+                ended = []
+                for process in self.run_by_unit(prefix, program, "ExecReload", room):
+                    said = process.communicate(timeout=60)[0].decode()
+                    ended.append((process.returncode, f"{program}: {name}:1: UnknownDirective\n" in said))
+                    if process.returncode:
+                        break
+                expect(ended[-1], (status, bool(fault)), f"a reload by the unit of {program}: {said}")
+                expect(os.path.exists(os.path.join(room, "reload")), not fault, "a reload is asked for")
+                if not fault:
+                    os.remove(os.path.join(room, "reload"))
+            shutil.copy(os.path.join(ROOT, "examples", name), room)
 
     def test_monitor_has_the_mounts_of_its_machine(self):
         """What SHUTDOWNCMD unmounts has to be unmounted for the whole machine."""
