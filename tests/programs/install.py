@@ -483,6 +483,35 @@ class Tests:
         note = "note: a MONITOR line has SU700, and ups.conf has su700: the case of letters counts; see from-nut(7)\n"
         expect(self.check(folder), (0, note), "what it notes")
 
+    def test_check_tells_a_command_that_others_may_write(self):
+        """NOTIFYCMD runs as root, so whoever can write to it, or replace it, is root."""
+        if os.geteuid() != 0:
+            raise Missing("only root has files that nobody else may write to")
+        scripts = os.path.join(self.folder, "scripts")
+        os.makedirs(os.path.join(scripts, "kept"))
+        os.makedirs(os.path.join(scripts, "shared"))
+        for name in ("kept/notify", "kept/writable", "kept/theirs", "shared/notify"):
+            with open(os.path.join(scripts, name), "w") as file:
+                file.write("#!/bin/sh\n")
+        os.symlink("../shared/notify", os.path.join(scripts, "kept/link"))
+        os.chmod(os.path.join(scripts, "shared"), 0o777)
+        os.chmod(os.path.join(scripts, "kept/writable"), 0o722)
+        os.chown(os.path.join(scripts, "kept/theirs"), 12345, 0)
+        kept = f"{scripts}/kept"
+        for number, (command, told) in enumerate((
+            ('"logger -t upsmon"', ()),
+            (f"{kept}/notify", ()),
+            (f'"{kept}/notify -x" # {kept}/writable', ()),
+            (f"{kept}/writable", (f"{kept}/writable", f"{kept}/writable")),
+            (f'"/bin/sh {kept}/theirs"', (f"{kept}/theirs", f"{kept}/theirs")),
+            (f"{kept}/link", (f"{kept}/link", f"{scripts}/shared")),
+            (f"{scripts}/shared/notify", (f"{scripts}/shared/notify", f"{scripts}/shared")),
+            (f"{scripts}/shared/none", (f"{scripts}/shared/none", f"{scripts}/shared")),
+        )):
+            folder = self.nuts_files(f"command{number}", upsmon_conf=f"MINSUPPLIES 0\nNOTIFYCMD {command}\n")
+            note = "note: NOTIFYCMD runs {} as root here, and others than root may write to {}; see from-nut(7)\n".format(*told) if told else ""
+            expect(self.check("--upsmon", folder), (0, note), f"what it notes of {command}")
+
     def test_check_shows_no_passwords(self):
         """Neither those of lines that are taken nor those of others."""
         users = "[mon]\n Password = secret1\n pasword = secret2\n password secret3\n upsmon master\n"
