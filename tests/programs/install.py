@@ -565,6 +565,42 @@ class Tests:
         told = f"{folder}/upsd.conf:1: BadNumber: LISTEN 2001:470::1 99999\n    upsd.conf(5) says what may stand there\n"
         expect(self.check(folder), (1, told), "an address that has colons itself")
 
+    def test_check_proposes_addresses(self):
+        """All addresses, and IPv6 in brackets, as upsd takes them; upsmon takes no address of IPv6."""
+        lines = 'LISTEN *\nLISTEN "*" 24938 # all\nLISTEN *:24939\nLISTEN [::1]\nLISTEN [2001:470::1]:24940\nLISTEN "[2001:470::1]" 24941\n'
+        written = 'LISTEN ::\nLISTEN "::" 24938 # all\nLISTEN :: 24939\nLISTEN ::1\nLISTEN 2001:470::1 24940\nLISTEN "2001:470::1" 24941\n'
+        folder = self.nuts_files("addresses", upsd_conf=lines)
+        to = os.path.join(self.folder, "addresses-changed")
+        status, said = self.check("--upsd", "-w", to, folder)
+        with open(os.path.join(to, "upsd.conf")) as file:
+            expect((status, file.read()), (0, written), f"what it wrote: {said}")
+        ensure("BadName: LISTEN *\n    change it to: LISTEN ::\n" in said, f"what it tells: {said}")
+        folder = self.nuts_files("bracketed", upsmon_conf="MINSUPPLIES 0\nMONITOR su700@[::1]:3493 1 mon secret primary\n")
+        told = f"{folder}/upsmon.conf:2: BadName: MONITOR su700@[::1]:3493 1 .. primary\n"
+        told += "    a host is a name or an IPv4 address: give this one a name in /etc/hosts, and write that here\n"
+        expect(self.check("--upsmon", folder), (1, told), "what it tells of an address in a MONITOR line")
+
+    def test_check_changes_comments_alone(self):
+        """Bytes past ASCII that nobody reads go; others are left to people."""
+        folder = self.nuts_files("comments", upsd_conf=' #\tB\u00fcro\nMAXAGE 15 # \u00b0C\n', ups_conf='[u]\n desc = "a # b" # \u00fc\n')
+        to = os.path.join(self.folder, "comments-changed")
+        expect(self.check("--upsd", "-w", to, folder)[0], 0, "mulgefa-check -w")
+        for name, text in (("upsd.conf", " #\tB??ro\nMAXAGE 15 # ??C\n"), ("ups.conf", '[u]\n desc = "a # b" # ??\n')):
+            with open(os.path.join(to, name)) as file:
+                expect(file.read(), text, f"what it wrote as {name}")
+        folder = self.nuts_files("words", ups_conf='[u]\n desc = "B\u00fcro # 1"\n')
+        told = f'{folder}/ups.conf:2: Unreadable: desc = "B\u00fcro # 1"\n    ups.conf(5) says what may stand there\n'
+        expect(self.check("--upsd", folder), (1, told), "a byte that is read")
+
+    def test_check_takes_out_a_type_of_notice(self):
+        lines = 'MINSUPPLIES 0\nNOTIFYFLAG NOPARENT SYSLOG+WALL\nNOTIFYMSG "NOPARENT" "upsmon parent process died"\nNOTIFYFLAG ONBATT EXEC\n'
+        folder = self.nuts_files("types", upsmon_conf=lines)
+        to = os.path.join(self.folder, "types-changed")
+        status, said = self.check("--upsmon", "-w", to, folder)
+        with open(os.path.join(to, "upsmon.conf")) as file:
+            expect((status, file.read()), (0, "MINSUPPLIES 0\n\n\nNOTIFYFLAG ONBATT EXEC\n"), f"what it wrote: {said}")
+        ensure("NOTIFYFLAG NOPARENT SYSLOG+WALL\n    take it out: not taken: " in said, f"what it tells: {said}")
+
     def test_check_tells_every_line(self):
         folder = self.nuts_files(
             "told",
