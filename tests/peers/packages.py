@@ -206,25 +206,26 @@ class Tests:
             ensure(words not in said, f"{words!r} at a boot: {said}")
 
     def reloads(self, machine):
-        """upsd reads its files again, though its user can't write to the folder, and upsmon looks for the same file."""
+        """upsd reads its files again, though its user can't write to their folder, and by the monitor's reload too."""
         before = machine.do("systemctl show -p MainPID mulgefa-upsd")
         text = machine.read("/etc/nut/ups.conf")
         for added, names in (("[spare]\n", "su700\nspare"), ("", "su700")) * 3:
             machine.write("/etc/nut/ups.conf", text + added)
-            machine.do("systemctl reload mulgefa-upsd")
+            machine.do("systemctl reload " + ("mulgefa-upsd" if added else "mulgefa-upsmon"))
             machine.wait_for("upsc -l 2> /dev/null", names)
+            machine.wait_for("ls /run/nut/reload /etc/nut/reload 2> /dev/null", "")
         expect(machine.do("systemctl show -p MainPID mulgefa-upsd"), before, "the process of upsd")
 
     def refuses_to_reload_faults(self, machine):
         for unit, name, line in (("mulgefa-upsd", "upsd.users", "upsd: upsd.users:{}: UnknownDirective"), ("mulgefa-upsmon", "upsmon.conf", "upsmon: upsmon.conf:{}: UnknownDirective")):
-            machine.wait_for("ls /etc/nut/reload 2> /dev/null", "")
+            machine.wait_for("ls /run/nut/reload /etc/nut/reload 2> /dev/null", "")
             text = machine.read(f"/etc/nut/{name}")
             machine.write(f"/etc/nut/{name}", text + "faulty\n")
             status, said = machine.run(f"systemctl reload {unit}")
             ensure(status != 0, f"a reload of {name} with a fault: {said}")
             told = line.format(len(text.splitlines()) + 1)
             ensure(told in machine.do(f"systemctl status {unit}"), f"the status of {unit} doesn't show {told}")
-            expect(machine.run("ls /etc/nut/reload")[0], 2, "a reload is asked for")
+            expect(machine.run("ls /run/nut/reload /etc/nut/reload 2> /dev/null")[1], "", "a reload is asked for")
             machine.write(f"/etc/nut/{name}", text)
             machine.do(f"systemctl reload {unit}")
         machine.wait_for("upsc -c su700", "127.0.0.1")
