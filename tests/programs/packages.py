@@ -209,7 +209,7 @@ class Tests:
                     text = file.read()
                 excluded = re.findall(r"^Conflicts=(.*)$", text, re.MULTILINE)
                 expect([it for it in excluded if it in NAMES_OF_UNITS], [], f"{unit} excludes itself")
-                ensure("@" not in re.sub(r"@%i|ups@|@system-service|@privileged|@resources|@module", "", text), f"{unit}: a place left open")
+                ensure("@" not in re.sub(r"@%i|ups@|@system-service|@privileged|@resources|@module|@debug|@cpu-emulation|@obsolete", "", text), f"{unit}: a place left open")
 
     def test_lintian(self):
         lintian = needed("lintian", "lintian")
