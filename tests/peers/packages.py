@@ -107,6 +107,36 @@ class Tests:
         finally:
             machine.stop()
 
+    def test_faults_that_nobody_has_changed(self):
+        """NUT's files still have to be changed when the packages replace it: apt's last lines and the units say so, and the services
+        run once that is done. An upgrade ends no service for a fault that came later."""
+        machine = Booted(self.nut_installed("unchanged"))
+        try:
+            self.nut_serves(machine)
+            said = machine.do("apt-get install ./mulgefa-server_*.deb ./mulgefa-client_*.deb").splitlines()
+            told = [i for i, line in enumerate(said) if "can't run until this is changed" in line]
+            expect(len(told), 2, f"services that can't run: {said}")
+            for line in ("/etc/nut/upsmon.conf", "until it does, nothing stops this machine in a power failure", "until it does, nobody gets the status of its UPSes"):
+                ensure(line in "\n".join(said[told[0] - 20 :]), f"{line} isn't among the last lines: {said}")
+            ensure(not [line for line in said[told[0] :] if line.startswith(("Setting up", "Unpacking"))], f"what comes later: {said}")
+            for unit, line in (("mulgefa-upsd", "upsd: ups.conf:"), ("mulgefa-upsmon", "upsmon: upsmon.conf:")):
+                ensure("status=1/FAILURE" in machine.run(f"systemctl status {unit}")[1], f"{unit} fails visibly")
+                ensure(line in machine.do(f"journalctl --unit {unit} --lines 20"), f"the journal of {unit} says why")
+            machine.do("systemctl enable --now mulgefa-dummy-ups@su700")
+            machine.do("mulgefa-check -i")
+            machine.wait_for("upsc su700 ups.status 2> /dev/null", "OL")
+            machine.wait_for("upsc -c su700 2> /dev/null", "127.0.0.1")
+            for name in ("ups.conf", "upsmon.conf"):
+                machine.write(f"/etc/nut/{name}", "faulty\n" + machine.read(f"/etc/nut/{name}"))
+            units = "systemctl show -p MainPID mulgefa-upsd mulgefa-upsmon"
+            before = machine.do(units)
+            said = machine.do("cd /root/later && apt-get install ./mulgefa-server_*.deb ./mulgefa-client_*.deb")
+            expect(machine.do(units), before, "the processes")
+            for line in ("/etc/nut/ups.conf:1: OutsideSection: faulty ..", "mulgefa-upsmon.service still runs its earlier program: 'systemctl restart mulgefa-upsmon.service' changes that"):
+                ensure(line in said.splitlines(), f"{line} isn't told: {said}")
+        finally:
+            machine.stop()
+
     def test_drivers_of_nut_stay(self):
         """A driver of NUT, with a directive that isn't known here, from a package made of NUT's own. It needs no device,
         since it copies what another driver tells."""
@@ -254,11 +284,22 @@ class Tests:
         machine.wait_for("ls /root/halted 2> /dev/null", "/root/halted", 60)
         expect(machine.do("cat /run/killpower"), "upsmon-shutdown-file\n", "POWERDOWNFLAG")
         machine.do("upsmon -K")
+        self.upgrade_keeps_a_forced_shutdown(machine)
         machine.write("/etc/nut/su700.dev", DEVICE.format("OL"))
         # FSD is kept by the server, and ends with it
         machine.do("systemctl stop mulgefa-upsmon && systemctl restart mulgefa-dummy-ups@su700 mulgefa-upsd")
         machine.do("rm /root/halted && systemctl start mulgefa-upsmon")
         machine.wait_for("upsc su700 ups.status 2> /dev/null", "OL")
+
+    def upgrade_keeps_a_forced_shutdown(self, machine):
+        """The server that knows of it runs on, and no monitor is started, which would halt the machine."""
+        units = "systemctl show -p MainPID mulgefa-upsd mulgefa-upsmon mulgefa-dummy-ups@su700"
+        before = machine.do(units)
+        said = machine.do("apt-get install --reinstall /root/later/mulgefa-server_*.deb /root/later/mulgefa-client_*.deb")
+        expect(machine.do(units), before, "the processes")
+        expect(machine.do("upsc su700 ups.status"), "FSD OB LB\n", "the status")
+        told = "mulgefa-upsd.service still runs its earlier program: 'systemctl restart mulgefa-upsd.service' changes that"
+        ensure(told in said.splitlines(), f"what apt tells: {said}")
 
     def bring_back(self, machine):
         for command in shown_commands(1):
