@@ -56,7 +56,7 @@ if [ $# -eq 0 ]; then
 fi
 
 # part_of TARGET: the package that a file belongs to, by its name. What both packages need is the client's, since the server's
-# wants it.
+# wants it, and so is the page of ups.conf, which says how all files are read.
 part_of() {
     case $1 in
         share/mulgefa/rooms/* | share/mulgefa/schedules/*)
@@ -65,7 +65,7 @@ part_of() {
             ;;
     esac
     case ${1##*/} in
-        upsd | upsd.* | *-upsd.service | dummy-ups | dummy-ups.* | *-dummy-ups@.service | ups.conf* | su700.dev | *nut-drivers* | until-ready) echo server ;;
+        upsd | upsd.* | *-upsd.service | dummy-ups | dummy-ups.* | *-dummy-ups@.service | ups.conf | su700.dev | *nut-drivers* | until-ready) echo server ;;
         *) echo client ;;
     esac
 }

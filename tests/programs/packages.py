@@ -32,7 +32,8 @@ UNSTEADY = re.compile(r"var/(lib/(dpkg|apt|systemd/deb-systemd-helper)|cache|log
 def package_of(path):
     """Returns the package that an installed file belongs to."""
     name = os.path.basename(path)
-    if path.startswith(("share/mulgefa/rooms/", "share/mulgefa/schedules/")):
+    # the page says how all files are read
+    if path.startswith(("share/mulgefa/rooms/", "share/mulgefa/schedules/")) or name == "ups.conf.5":
         return "mulgefa-client"
     for of in SERVERS:
         if name in (of, f"{of}.5", f"{of}.8") or name in (f"mulgefa-{of}.service", f"mulgefa-{of}@.service"):
@@ -175,7 +176,7 @@ class Tests:
                 ensure(nuts in fields[field].split(", "), f"{name}: {field}: {fields[field]}")
             # otherwise dpkg would remove NUT's package after unpacking this one, and the same files with it: its /sbin/upsd is
             # our /usr/sbin/upsd
-            ensure("Replaces" not in fields, f"{name} replaces files")
+            ensure("nut" not in fields.get("Replaces", ""), f"{name} replaces files of NUT")
             # a program is built with the system's C library
             if any(package_of(f"bin/{program}") == name for program in self.packages.built):
                 ensure("libc6" in fields["Depends"], f"{name}: Depends: {fields['Depends']}")
